@@ -34,10 +34,10 @@ impl Case {
         }
     }
 
-    /// Appends what is told of a line, and the line. `case,..` begins a case. These lines tell what a check says of a report:
-    /// `whole` of the report so far; `field,N,K,TEXT` of that with TEXT in place of field K of record N, both counted from 1;
-    /// `put,N,RECORD` with another record in place of record N; `add,N,RECORD` with one before record N; `drop,N` without record N;
-    /// `swap,N` with record N behind the one after it; `cut,N` of its first N records. Any other line is a record of the report.
+    /// Appends the answer to a line, and the line. `case,..` begins a case. These lines ask what a check says of a report: `whole` of the
+    /// report so far; `field,N,K,TEXT` of the report with TEXT in place of field K of record N, both counted from 1; `put,N,RECORD` with
+    /// another record in place of record N; `add,N,RECORD` with a record before record N; `drop,N` without record N; `swap,N` with record N
+    /// after the one that follows it; `cut,N` of its first N records. Any other line is a record of the report.
     pub fn line(&mut self, line: &[u8], text: &mut Vec<u8>) -> Result<(), AllocError> {
         let row = fields_of(self.alloc, line)?;
         self.row(row, text)?;
@@ -46,7 +46,7 @@ impl Case {
         Ok(())
     }
 
-    // Begins a case, appends what is told of a report with a fault, or takes a record.
+    // Begins a case, appends what is said of a report with a fault, or takes a record.
     fn row(&mut self, row: Row, text: &mut Vec<u8>) -> Result<(), AllocError> {
         match word_of(field(&row, 0)) {
             Word::Case => self.begin(),
@@ -77,7 +77,7 @@ impl Case {
         }
     }
 
-    // Appends what stands in place of the record of a number.
+    // Appends what is put in place of the record of a number.
     fn append_between(
         &self,
         word: Word,
@@ -96,7 +96,7 @@ impl Case {
         }
     }
 
-    // The report without the records from a place on, as many as are left out, and with other bytes there.
+    // The report without this many records from a place on, and with other bytes there.
     fn around(&self, place: usize, left_out: usize, between: &[u8]) -> Result<Vec<u8>, AllocError> {
         let mut report = Vec::new(self.alloc);
         for i in 0..self.records.len() {
@@ -113,7 +113,7 @@ impl Case {
         Ok(report)
     }
 
-    // Appends the record at a place, and nothing where there is none.
+    // Appends the record at a place, or nothing if there is none.
     fn append_record(&self, place: usize, bytes: &mut Vec<u8>) -> Result<(), AllocError> {
         if place < self.records.len() {
             append_fields(self.records.at(place), 0, bytes)?;
@@ -137,7 +137,7 @@ impl Case {
     }
 }
 
-// Pushes the fields of a record, and for the one that a row names those that it gives.
+// Pushes the fields of a record, and in place of the field that a row names those that the row gives.
 fn push_changed(whole: &Row, row: &Row, changed: &mut Row) -> Result<(), AllocError> {
     for i in 0..whole.len() {
         if i + 1 == number(field(row, 2)) {
@@ -156,7 +156,7 @@ fn before(record: usize) -> usize {
     if record > 0 { record - 1 } else { 0 }
 }
 
-// The number that a field writes, and 0 where it writes none of a record or a field.
+// The number that a field writes, or 0 if it doesn't write the number of a record or a field.
 fn number(field: &[u8]) -> usize {
     match read_whole(field, 0, 99_999) {
         Some(number) => usize::try_from(number).unwrap_or(0),

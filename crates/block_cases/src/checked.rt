@@ -8,7 +8,7 @@ const MOST_AT_ONCE: usize = 4_096;
 
 const ROOM: usize = 65_536;
 
-/// Appends the name of the status with which a check of a report ends and the rows that it writes, each with a blank behind it.
+/// Appends the name of the status with which a check of a report ends and the rows that it writes, each followed by a space.
 pub fn append_checked(
     alloc: Global,
     report: Vec<u8>,
@@ -27,7 +27,7 @@ fn check_into(alloc: Global, report: Vec<u8>, sink: &mut MemSink) -> Result<Stat
     Ok(run(alloc, &words, &mut source, sink))
 }
 
-// Appends a name and rows, each with a blank behind it.
+// Appends a name and rows, each followed by a space.
 fn append_told(name: &[u8], rows: &[u8], text: &mut Vec<u8>) -> Result<(), AllocError> {
     text.extend_from_slice(name)?;
     text.push(b' ')?;

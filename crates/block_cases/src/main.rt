@@ -1,6 +1,6 @@
-//! What a check says of reports with a fault: each line again, with the name of the run's status and the rows that it wrote in front.
+//! What a check says of reports with a fault: each line again, preceded by the name of the run's status and the rows that it wrote.
 //!
-//! The reports and their faults stand in `stdin`, and what is to be said of each, worked by another program, in `stdout`.
+//! The reports and their faults are in `stdin`, and what should be said of each, worked out by another program, is in `stdout`.
 #![tactic(auto)]
 
 mod case;

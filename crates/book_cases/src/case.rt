@@ -1,4 +1,4 @@
-// A case: a book, and the lines that ask it.
+// A case: a book, and the lines that are put to it.
 
 ghost use Rattle.std.specs.Prelude.{◌<◌, length, IfSome};
 ghost use Rattle.pb_book.specs.Rows.{periods_of};
@@ -37,9 +37,9 @@ impl Case {
         })
     }
 
-    /// Appends the answer to a line, and the line. `case,..` begins a case; `try,RECORD` asks for the answer to a record after the
-    /// stored ones, which stay as they are; `plain` asks for the plain rows; `edits,PERIOD` for the edits that touch a period;
-    /// `touched,PERIOD` whether the row stored last takes it out. Any other line is a record that the book takes.
+    /// Appends the answer to a line, and the line. `case,..` begins a case; `try,RECORD` asks for the answer to a record after the stored
+    /// ones, which stay as they are; `plain` asks for the plain rows; `edits,PERIOD` asks for the edits that touch a period;
+    /// `touched,PERIOD` asks whether the row stored last takes it out. Any other line is a record that the book takes.
     pub fn line(&mut self, line: &[u8], text: &mut Vec<u8>) -> Result<(), AllocError> {
         let row = fields_of(self.alloc, line)?;
         self.row(&row, text)?;
@@ -189,7 +189,7 @@ fn is(field: &[u8], word: &[u8]) -> bool {
     field == word
 }
 
-// Appends a word and a blank.
+// Appends a word and a space.
 fn tell(text: &mut Vec<u8>, word: &[u8]) -> Result<(), AllocError> {
     text.extend_from_slice(word)?;
     text.push(b' ')?;

@@ -1,6 +1,6 @@
-//! What a book answers to the records of cases: each line again, with the answer in front.
+//! What a book answers to the records of cases: each line again, preceded by the answer.
 //!
-//! The cases stand in `stdin`, and their answers, which come from outside, in `stdout`.
+//! The cases are in `stdin`, and their answers, which come from outside, in `stdout`.
 #![tactic(auto)]
 
 mod case;

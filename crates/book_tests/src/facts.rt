@@ -87,7 +87,7 @@ fn all_places(facts: &Facts) -> [Option<Places>; 3] {
     ]
 }
 
-// What is wrong with a fact; `None` of none.
+// What is wrong with a fact; `None` if there is no fact.
 fn fault(facts: &Facts, fact: Option<Fact>) -> Option<Option<FactFault>> {
     Some(facts.judge(&fact?))
 }

@@ -6,7 +6,7 @@ use pb_site::Version;
 use std::alloc::{AllocError, Global};
 use std::test::Fail;
 
-// Appends the line of the effect that a record asks to be stored in a session of a version, if it asks that.
+// Appends the line of the effect that a record asks to be stored in a session of a version, if it asks for one.
 fn write_again(
     alloc: Global,
     version: Option<Version>,

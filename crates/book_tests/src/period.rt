@@ -1,4 +1,4 @@
-// What no clause says: that calls succeed where memory is ample. What periods measured is data, in examples/worked.
+// What no clause says: that calls succeed if memory is ample. What periods measured is data, in examples/worked.
 
 use pb_book::{Accepted, Book};
 use pb_graph::Graph;

@@ -123,7 +123,7 @@ fn days_in_service(rt: HostRuntime) -> Result<(), Fail> {
     Ok(())
 }
 
-// Of some days, whether the service has all of them and any of them, the first and the last that it has, and the days at whose end a
+// For some days: whether the service has all of them and any of them, the first and the last that it has, and the days at whose end a
 // tank's content opens and closes.
 fn over(service: Option<Service>, first: u8, last: u8) -> ((bool, bool), (i32, i32), (i32, i32)) {
     let first = i32::from(first);

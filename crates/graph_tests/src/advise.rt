@@ -142,7 +142,7 @@ fn assert_least(
     Ok(())
 }
 
-// The same of a graph drawn by lot.
+// The same for a graph drawn by lot.
 fn assert_least_by_lot(rt: &impl Abort, alloc: Global, seed: u32) -> Result<(), AllocError> {
     let (streams, costs) = drawn(seed);
     let g = graph_of(rt, alloc, 4, &streams)?;

@@ -36,7 +36,7 @@ fn rank_and_marks(
     Ok((forest.rank(), marks))
 }
 
-// The flows that balance, by those of the streams that the forest of these streams doesn't hold.
+// The balanced flows, by the flows of the streams that aren't in the forest of these streams.
 fn flows_of(
     rt: &impl Abort,
     alloc: Global,
@@ -101,7 +101,7 @@ fn assert_path(
     Ok(())
 }
 
-// The walks of a forest of three nodes that the plain one of the same streams makes.
+// The walks of a forest of three nodes, whose one stream is the plain one of the same streams.
 fn assert_plain_paths(
     rt: &impl Abort,
     alloc: Global,
@@ -124,7 +124,7 @@ fn assert_plain_paths(
     assert_path(rt, alloc, forest, 0, 1, None)
 }
 
-/// Of the same streams the plain one leads from unit to unit, and none leads from the environment to a unit.
+/// Among the same streams the plain one leads from unit to unit, and none leads from the environment to a unit.
 #[test]
 fn paths_by_a_plain_stream(rt: HostRuntime) -> Result<(), AllocError> {
     let g = graph_of(&rt, rt.alloc(), 3, &BESIDE)?;
@@ -148,7 +148,7 @@ fn one_unit_three_meters(rt: HostRuntime) -> Result<(), AllocError> {
     Ok(())
 }
 
-/// A unit with two streams out of it, whose ends have three streams more: each branch takes what its lower end's balance asks.
+/// A unit with two streams out of it, whose ends have three more streams: each branch takes what the balance at its lower end requires.
 #[test]
 fn branches_from_the_leaves(rt: HostRuntime) -> Result<(), AllocError> {
     let streams = [
@@ -164,7 +164,7 @@ fn branches_from_the_leaves(rt: HostRuntime) -> Result<(), AllocError> {
     Ok(())
 }
 
-/// A cycle of units that the environment has no part in, two streams between the environment and a unit, and a unit alone.
+/// A cycle of units that the environment has no part in, two streams between the environment and a unit, and an isolated unit.
 #[test]
 fn several_trees(rt: HostRuntime) -> Result<(), AllocError> {
     let streams = [
@@ -231,7 +231,7 @@ fn assert_as_searched(rt: &impl Abort, alloc: Global, g: &Graph) -> Result<(), A
     assert_all_as_searched(rt, alloc, g, &near, &forest, &marks)
 }
 
-/// Two trees, of which one has a branch of three streams and one of two from one node, and a unit alone.
+/// Two trees, one of which has a branch of three streams and one of two from one node, and an isolated unit.
 #[test]
 fn paths_as_searched(rt: HostRuntime) -> Result<(), AllocError> {
     let alloc = rt.alloc();

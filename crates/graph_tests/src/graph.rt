@@ -147,7 +147,7 @@ fn copies(rt: HostRuntime) -> Result<(), AllocError> {
     Ok(())
 }
 
-// The streams beside a node, and the nodes that B joins.
+// The streams at a node, and the nodes that B joins.
 fn assert_reached(rt: &impl Abort, alloc: Global, g: &Graph) -> Result<(), AllocError> {
     assert!(rt; g.len() == 3 && g.nodes() == 3);
     let near = Neighbours::of(alloc, g)?;
@@ -157,7 +157,7 @@ fn assert_reached(rt: &impl Abort, alloc: Global, g: &Graph) -> Result<(), Alloc
     Ok(())
 }
 
-// No path over B from env to U, and one of a step from V to U.
+// No path over B from env to U, and a path of one step from V to U.
 fn assert_paths(rt: &impl Abort, alloc: Global, g: &Graph) -> Result<(), AllocError> {
     assert!(rt; g.len() == 3 && g.nodes() == 3);
     let marks = [false, true, false];
@@ -280,7 +280,7 @@ fn results(alloc: Global, member: Member) -> Result<List<StreamResult>, AllocErr
     Ok(streams)
 }
 
-/// A balance tested.
+/// The nodal tests of one balance.
 fn nodal_tests(alloc: Global) -> Result<List<NodalTest>, AllocError> {
     let mut nodal = List::new(alloc);
     nodal.push(NodalTest {
@@ -293,7 +293,7 @@ fn nodal_tests(alloc: Global) -> Result<List<NodalTest>, AllocError> {
     Ok(nodal)
 }
 
-/// A stage of the line, with a balance tested; its streams have cuts of this member.
+/// A stage of the line, with one balance tested; its streams have cuts of this member.
 fn stage(
     rt: &impl Abort,
     alloc: Global,
@@ -373,14 +373,14 @@ fn add_stages(
     Ok(())
 }
 
-/// That many stages of the line.
+/// This many stages of the line.
 fn stages_of(rt: &impl Abort, alloc: Global, count: u32) -> Result<List<Stage>, AllocError> {
     let mut stages = List::new(alloc);
     add_stages(rt, alloc, &mut stages, count)?;
     Ok(stages)
 }
 
-// Whether a study of that many stages of the line, with these meters taken, is a well formed one of this graph.
+// Whether a study of this many stages of the line, with these meters taken, is a well-formed study of this graph.
 fn is_study_of(
     rt: &impl Abort,
     alloc: Global,
@@ -437,7 +437,7 @@ fn alike_both_ways(g: &Graph, other: &Graph) -> (bool, bool) {
     (g.alike(other), other.alike(g))
 }
 
-// Whether the graph is alike to one of these streams, and the other way round.
+// Whether the graph and the graph of these streams are alike, in both orders.
 fn are_alike(
     rt: &impl Abort,
     alloc: Global,

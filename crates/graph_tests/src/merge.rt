@@ -17,7 +17,7 @@ fn metered(from: u32, to: u32, variance: i128) -> Stream {
     stream(from, to, Some(Meas { value: 0, variance }))
 }
 
-/// The number of each node's group, and of each group its least node, whether it is free, and its variance.
+/// The number of each node's group, and for each group its least node, whether it is free, and its variance.
 fn check(rt: &impl Abort, groups: &Groups, numbers: &[u32], rows: &[(u32, bool, i128)]) {
     assert_eq!(rt; groups.numbers(), numbers);
     assert_eq!(rt; groups.count() as usize, rows.len());
@@ -50,7 +50,7 @@ fn groups_are(
     Ok(())
 }
 
-/// A part apart from the environment, a meter beside a plain stream, and streams that join groups in any order.
+/// A part separate from the environment, a meter beside a plain stream, and streams that join groups in any order.
 #[test]
 fn groups(rt: HostRuntime) -> Result<(), AllocError> {
     let apart = [metered(1, 2, 1), metered(2, 1, 1)];

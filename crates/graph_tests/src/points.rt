@@ -12,7 +12,7 @@ use pb_points::{Cuts, Points};
 use std::alloc::{AllocError, Global};
 use std::process::Abort;
 
-// Marks the unmeasured streams but the j-th.
+// Marks the unmeasured streams except the j-th.
 fn others(alloc: Global, streams: &[Stream], j: u32) -> Result<Vec<bool>, AllocError>
     requires { length streams.now ≤ most_streams }
     ensures { IfOk result (λ marks. length marks.items ≡ length streams.now) }
@@ -24,7 +24,7 @@ fn others(alloc: Global, streams: &[Stream], j: u32) -> Result<Vec<bool>, AllocE
     Ok(marks)
 }
 
-// The points say of a stream what a search of the graph finds, and a measured one has the boundary of what is found.
+// The points say of a stream what a search of the graph finds, and a measured stream has the boundary of what is found.
 fn assert_stream_as_searched(
     rt: &impl Abort,
     alloc: Global,
@@ -53,7 +53,7 @@ fn assert_stream_as_searched(
     Ok(())
 }
 
-// The same of each stream.
+// The same for each stream.
 fn assert_streams_as_searched(
     rt: &impl Abort,
     alloc: Global,
@@ -93,7 +93,7 @@ fn assert_as_searched(rt: &impl Abort, alloc: Global, g: &Graph) -> Result<(), A
     assert_cuts_as_searched(rt, alloc, g, &near, &points)
 }
 
-/// A tree with a stream from a leaf up, two parallel streams, meters, and a tree that the environment isn't in.
+/// A tree with a stream from a leaf up, two parallel streams, meters, and a tree without the environment.
 #[test]
 fn as_searched(rt: HostRuntime) -> Result<(), AllocError> {
     let alloc = rt.alloc();

@@ -14,8 +14,8 @@ use std::process::Abort;
 // An arc of a plant: its ends, whether it is a tank's inventory, and its days of service.
 type Row = (u32, u32, bool, Option<(i32, i32)>);
 
-// What a window is to have: its nodes by name with their numbers in the plant, its streams by name with their ends, and the days
-// of its contents.
+// What a window should have: its nodes by name with their numbers in the plant, its streams by name with their ends, and the days of its
+// contents.
 struct Case {
     name: &'static str,
     nodes: u32,
@@ -338,7 +338,7 @@ fn units(alloc: Global) -> Result<Vec<Row>, AllocError> {
     Ok(rows)
 }
 
-// The window of that many days of these units.
+// The window of this many days of these units.
 fn window_of_units(
     rt: &impl Abort,
     alloc: Global,
@@ -348,7 +348,7 @@ fn window_of_units(
     window_by(rt, alloc, 100, &rows, true, days)
 }
 
-// How many nodes and streams it has.
+// The numbers of its nodes and streams.
 fn size_of(
     rt: &impl Abort,
     alloc: Global,
@@ -358,7 +358,7 @@ fn size_of(
     Ok((window.nodes.len(), window.streams.len()))
 }
 
-/// As many nodes as a graph may have, and a period more.
+/// As many nodes as a graph may have, and one more period.
 #[test]
 fn greatest_window(rt: HostRuntime) {
     let ten = size_of(&rt, rt.alloc(), &[(1, 1); 10]);

@@ -10,13 +10,13 @@ use pb_limits::MOST_STREAMS;
 use pb_rows::{read_whole, whole_bytes};
 use std::alloc::{AllocError, Global};
 
-/// The gap that is asked, in thousandths of a standard deviation, and the sweeps that are allowed.
+/// The gap that is asked for, in thousandths of a standard deviation, and the sweeps that are allowed.
 const GAP: u32 = 10;
 
 const SWEEPS: u32 = 20;
 
-// The streams of a line in turn, until there are as many as a graph has at most. A stream is `in` or `out`, its value and its
-// variance, with commas between; `None` if the line has another form or is beyond the limits.
+// The streams of a line in turn, until there are as many as a graph may have. A stream is `in` or `out`, its value and its variance, with
+// commas between; `None` if the line has another form or is beyond the limits.
 fn graph_of(alloc: Global, line: &[u8]) -> Result<Option<Graph>, AllocError> {
     let mut turn = Vec::new(alloc);
     if append_streams(alloc, line, &mut turn)? {
@@ -57,7 +57,7 @@ fn full_graph(alloc: Global, turn: &[Stream]) -> Result<Option<Graph>, AllocErro
     }
 }
 
-// Appends these streams in turn, until there are as many as a graph has at most. False if there are none or one is beyond the limits.
+// Appends these streams in turn, until there are as many as a graph may have. False if there are none or one is beyond the limits.
 fn fill(graph: &mut Graph, turn: &[Stream]) -> Result<bool, AllocError> {
     if turn.is_empty() {
         return Ok(false);

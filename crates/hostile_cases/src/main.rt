@@ -1,7 +1,7 @@
 //! Graphs of the environment and one unit, with as many streams as there may be and the most extreme values and variances: how the
 //! solver ends, whether the flows balance, and whether the stage of the study passes its check.
 //!
-//! The streams stand in `stdin`, those of a graph in a line, and what is to come out of each, worked by another program, in `stdout`.
+//! The streams of each graph are a line of `stdin`, and what should come out of it, worked out by another program, is a line of `stdout`.
 #![tactic(auto)]
 
 mod extremes;

@@ -1,4 +1,4 @@
-// A case: a session, and the lines that ask it.
+// A case: a session, and the lines that are put to it.
 
 ghost use Rattle.std.specs.Prelude.{◌≡◌, ◌<◌, ◌↔◌, length, Contains, IfSome, IsTrue};
 ghost use Rattle.pb_book.specs.Rows.{periods_of};
@@ -50,10 +50,10 @@ impl Case {
         })
     }
 
-    /// Appends the answer to a line, and the line. `case,..` begins a case, and `rounds,..` one with rounds of elimination;
-    /// `try,RECORD` asks for the answer to a record after those taken, which stay as they are; `study,PERIOD` for the number of
-    /// stages and the flows of the study that is kept of a period; `classes` for the kept classes of the streams. Any other line
-    /// is a record that the session takes.
+    /// Appends the answer to a line, and the line. `case,..` begins a case, and `rounds,..` one with rounds of elimination; `try,RECORD`
+    /// asks for the answer to a record after those taken, which stay as they are; `study,PERIOD` asks for the number of stages and the
+    /// flows of the study that is kept for a period; `classes` asks for the kept classes of the streams. Any other line is a record that
+    /// the session takes.
     pub fn line(&mut self, line: &[u8], text: &mut Vec<u8>) -> Result<(), AllocError> {
         let row = fields_of(self.alloc, line)?;
         self.row(&row, text)?;
@@ -102,7 +102,7 @@ impl Case {
         try_record(self.alloc, &mut session, &record, text)
     }
 
-    // Whether a report has the text of the one after the plain rows alone.
+    // Whether a report has the text of the report after only the plain rows.
     fn tell_same(&self, added: &[u8], report: &Row, text: &mut Vec<u8>) -> Result<(), AllocError> {
         let plain = self.plain_report(report)?;
         tell(
@@ -115,13 +115,13 @@ impl Case {
         )
     }
 
-    // What a report adds after the plain rows alone.
+    // What a report adds after only the plain rows.
     fn plain_report(&self, report: &Row) -> Result<Vec<u8>, AllocError> {
         let mut session = self.plain_session()?;
         added_by(self.alloc, &mut session, report)
     }
 
-    // A session that has taken the plain rows alone.
+    // A session that has taken only the plain rows.
     fn plain_session(&self) -> Result<Box<Session>, AllocError> {
         let plain = self.session.book().plain(self.alloc)?;
         self.session_after(&plain)
@@ -251,7 +251,7 @@ fn fields_from(alloc: Global, row: &Row, from: usize) -> Result<Row, AllocError>
     Ok(fields)
 }
 
-// What is asked of the studies.
+// What the studies are asked for.
 fn asked(eliminates: bool) -> Options
     ensures { AreOptions result }
 {
@@ -305,7 +305,7 @@ fn is(field: &[u8], word: &[u8]) -> bool {
     field == word
 }
 
-// Appends a word and a blank.
+// Appends a word and a space.
 fn tell(text: &mut Vec<u8>, word: &[u8]) -> Result<(), AllocError> {
     text.extend_from_slice(word)?;
     text.push(b' ')?;

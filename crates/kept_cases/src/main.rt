@@ -1,6 +1,6 @@
-//! Of which periods a session keeps a study after each record of cases: each line again, after the names of the kept periods.
+//! The periods whose studies a session keeps after each record of cases: each line again, preceded by the names of these periods.
 //!
-//! The cases stand in `stdin`, and their answers, which come from outside, in `stdout`.
+//! The cases are in `stdin`, and their answers, which come from outside, in `stdout`.
 #![tactic(auto)]
 
 mod case;

@@ -6,7 +6,7 @@ use std::io;
 use std::io::{Read, Write};
 use std::test::Fail;
 
-// Whether these bytes are what is read of them by takes of at most that many, of which one fails; 0 names none.
+// Whether these bytes are read whole, by takes of at most this many bytes, one of which fails; 0 for none.
 fn reads_whole(
     alloc: Global,
     bytes: &[u8],
@@ -39,7 +39,7 @@ fn reads_to_the_end(rt: HostRuntime) -> Result<(), Fail> {
     Ok(())
 }
 
-// Whether a report is written whole by puts of at most that many bytes, of which one fails, and whether the sink then holds these bytes.
+// Whether a report is written whole by puts of at most this many bytes, one of which fails, and whether the sink then holds these bytes.
 fn writes_whole(
     alloc: Global,
     room: usize,
@@ -105,7 +105,7 @@ fn adapts_writers(rt: HostRuntime) {
     assert_eq!(rt; broken, Err(SinkFailed), "a writer that takes no byte");
 }
 
-// A writer that takes one byte a call.
+// A writer that takes one byte per call.
 #[derive(Drop)]
 struct OneByte {
     taken: Vec<u8>,
@@ -155,7 +155,7 @@ fn reader_that_fails_in_mid_stream_is_a_fault(rt: HostRuntime) -> Result<(), Fai
     Ok(())
 }
 
-// Takes five bytes, then the others, and asks on after the last: how many come first and last, and whether all are these.
+// Takes five bytes, then the others, and asks again after the last: how many come first and last, and whether all are these.
 fn taken(
     alloc: Global,
     source: &mut SureSource,

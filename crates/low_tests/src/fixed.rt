@@ -159,7 +159,7 @@ fn half_widths(rt: HostRuntime) {
     assert_eq!(rt; half_width(1 << 63, 1 << 63, 0), 1 << 86);
 }
 
-// The exponent and the sum of the squares of that many items of 2^89.
+// The exponent and the sum of the squares of this many items of 2^89.
 fn greatest_items(alloc: Global, count: usize) -> Result<(u32, i128), AllocError>
     requires { count < 2 ^ 13 }
 {

@@ -106,7 +106,7 @@ fn writes_whole_numbers(rt: HostRuntime) -> Result<(), Fail> {
     Ok(())
 }
 
-// Whether a field is read as a name of its bytes, and equals none of others.
+// Whether a field is read as a name of its bytes, which equals the name read from them again and no other.
 fn is_name(field: &[u8]) -> bool {
     match Name::read(field) {
         Some(name) => {
@@ -174,7 +174,7 @@ fn lists_names(rt: HostRuntime) -> Result<(), Fail> {
     Ok(())
 }
 
-// The row has just these fields.
+// The row has exactly these fields.
 fn assert_fields(rt: &impl Abort, row: &Row, fields: &[&[u8]]) {
     assert_eq!(rt; row.len(), fields.len(), "the length of {fields:?}");
     for (i, field) in fields.iter().enumerate() {
@@ -182,7 +182,7 @@ fn assert_fields(rt: &impl Abort, row: &Row, fields: &[&[u8]]) {
     }
 }
 
-// The record at a place has these fields and that many of them filled.
+// The record at a place has these fields, this many of which are filled.
 fn assert_record(rt: &impl Abort, rows: &Rows, place: usize, fields: &[&[u8]], filled: usize) {
     assert!(rt; place < rows.len(), "the record {place}");
     assert_fields(rt, rows.at(place), fields);
@@ -193,7 +193,7 @@ fn assert_record(rt: &impl Abort, rows: &Rows, place: usize, fields: &[&[u8]], f
     );
 }
 
-// Just these records, with what is filled of each.
+// There are exactly these records, with this many filled fields each.
 fn assert_records(rt: &impl Abort, rows: &Rows, records: &[(&[&[u8]], usize)]) {
     assert_eq!(rt; rows.len(), records.len(), "the records");
     for (place, (fields, filled)) in records.iter().enumerate() {
@@ -216,7 +216,7 @@ fn reads_records(rt: HostRuntime) -> Result<(), Fail> {
     Ok(())
 }
 
-// The next record has these fields and that many of them filled; after the last there is none.
+// The next record has these fields, this many of which are filled; after the last there is none.
 fn assert_next(
     rt: &impl Abort,
     records: &mut Records,
@@ -233,7 +233,7 @@ fn assert_next(
     Ok(())
 }
 
-// Takes each record, and asks on after the last.
+// Takes each record, and asks again after the last.
 fn assert_taken(rt: &impl Abort, records: &mut Records) -> Result<(), AllocError> {
     assert_eq!(rt; records.taken(), 0);
     let table: [(&[&[u8]], usize, usize); 4] = [
@@ -296,7 +296,7 @@ fn makes_rows(rt: HostRuntime) -> Result<(), Fail> {
     Ok(())
 }
 
-// A row that is cleared and takes a number holds that number alone.
+// A row that is cleared and takes a number holds only that number.
 fn assert_number(
     rt: &impl Abort,
     row: &mut Row,
@@ -323,7 +323,7 @@ fn clears_rows(rt: HostRuntime) -> Result<(), Fail> {
     Ok(())
 }
 
-// A row but for its end: a text, a number, a text in quotes and an empty one.
+// A row except for its end: a text, a number, a text in quotes and an empty one.
 fn write_fields(writer: &mut RowWriter) -> Result<(), AllocError> {
     writer.field(b"edit")?;
     writer.whole(9)?;
@@ -331,7 +331,7 @@ fn write_fields(writer: &mut RowWriter) -> Result<(), AllocError> {
     writer.field(b"")
 }
 
-// Writes two rows, and says whether there is no byte before the first one's end.
+// Writes two rows, and returns whether no byte is there before the first one's end.
 fn write_two_rows(writer: &mut RowWriter) -> Result<bool, AllocError> {
     write_fields(writer)?;
     let is_held = writer.bytes().is_empty();
@@ -377,7 +377,7 @@ fn reads_reasons(rt: HostRuntime) {
     }
 }
 
-// The next record's fields take the place of the row's; after the last the row is empty.
+// The fields of the next record replace those of the row; after the last record the row is empty.
 fn assert_fill(
     rt: &impl Abort,
     records: &mut Records,

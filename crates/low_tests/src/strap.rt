@@ -7,7 +7,7 @@ use std::alloc::Global;
 use std::process::Abort;
 use std::test::Fail;
 
-// A table of nothing at 0, and of another point.
+// A table with a point of level 0 and volume 0, and another point.
 fn of_two(alloc: Global, mm: i64, ml: i64) -> Result<Strap, Fail>
     requires level { IsLevel mm }
     requires volume { IsVolume ml }
@@ -91,7 +91,7 @@ fn greatest(rt: HostRuntime) -> Result<(), Fail> {
     Ok(())
 }
 
-// Whether an empty table takes as many points as fit, and is full after the last alone.
+// Whether an empty table takes as many points as fit, and is full only after the last.
 fn is_filled(strap: &mut Strap) -> Result<bool, Fail> {
     let mut has_room = strap.is_empty();
     for level in 0..2_000u32 {

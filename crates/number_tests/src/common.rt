@@ -38,7 +38,7 @@ pub fn graph_of(
     Ok(g)
 }
 
-/// What a solution is to say: how the sweeps ended, the gap, the degrees of freedom, and the statistic.
+/// What a solution should say: how the sweeps ended, the gap, the degrees of freedom, and the statistic.
 #[derive(Clone, Copy)]
 pub struct Numbers {
     pub solved: Solved,

@@ -61,7 +61,7 @@ fn assert_alike(rt: &impl Abort, one: &Study, other: &Study) {
     assert_at(rt, "flow of stream", 0, flow, 101_000_000);
 }
 
-/// A study of a graph is alike to the one from its classes.
+/// The study of a graph and the study from its classes are alike.
 fn assert_as_from_classes(
     rt: &impl Abort,
     alloc: Global,
@@ -79,7 +79,7 @@ fn assert_as_from_classes(
     Ok(())
 }
 
-/// The same of a graph without critical values.
+/// The same for a graph without critical values.
 fn assert_both_ways(rt: &impl Abort, alloc: Global, g: &Graph) -> Result<(), AllocError> {
     let options = Options {
         gap: 10,

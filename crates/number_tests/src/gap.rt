@@ -10,7 +10,7 @@ use pb_graph::{Bounds, Graph, Member, Solved};
 use std::alloc::AllocError;
 use std::process::Abort;
 
-/// What a solver is to answer at a gap with at most so many sweeps.
+/// What a solver should answer at a gap with at most this many sweeps.
 #[derive(Clone, Copy)]
 struct Run<'a> {
     gap: u32,
@@ -23,7 +23,7 @@ struct Run<'a> {
 /// A measured stream with a sign, and the bounds of its flow with that sign.
 type Bound = (u32, i8, i128, i128);
 
-/// Solves, and says how that ended.
+/// Solves, and returns how that ended.
 fn solved(rt: &impl Abort, solver: &mut Solver, g: &Graph, gap: u32, sweeps: u32) -> Numbers
     requires { solver.old.graph ≡ g.now }
     ensures { solver.new.graph ≡ g.now }

@@ -1,4 +1,4 @@
--- Sets of streams without cycle: a part of one, and one stream more.
+-- Sets of streams without a cycle: a part of a set, and one more stream.
 use Rattle.std.proofs.Common.{◌≡◌, ◌∙◌, ℕ, Bool, true, false, not, ◌==◌, List, Some, slice_get, ap, sym, subst, inl, inr}
 use Rattle.std.proofs.lemmas.Bool.{cases_eq, and_parts, and_from, not-true, eq-eqb}
 use Rattle.pb_graph.specs.declared.records.Stream.{Stream}
@@ -7,13 +7,13 @@ use Rattle.pb_graph.proofs.WalkLemmas.{some_same, ends_is, reach_one, reach_both
 use Rattle.pb_graph.proofs.ReachLemmas.{IsPartBut, more_cases}
 use Rattle.pb_forest.specs.Laws.{except, IsAcyclic, IsPart}
 
--- a part of a set without cycle has none
+-- a part of a set without a cycle has no cycle
 pub acyclic_part : (ss : List Stream) (some may : ℕ → Stream → Bool) → IsPart ss some may → IsAcyclic ss may → IsAcyclic ss some
 acyclic_part ss some may part acyclic j s at ok r =
     acyclic j s at (part j s at ok)
     (reach_more (except j some) (except j may) ss s.from s.to (λ k t here both. let parts = and_parts (some k t) (not (k == j)) both in and_from _ _ (part k t here parts.0) parts.1) r)
 
--- one stream more, if the others do not join its ends, makes no cycle
+-- one more stream, if the others do not join its ends, makes no cycle
 pub acyclic_more : (ss : List Stream) (x y : ℕ → Stream → Bool) (i : ℕ) (u : Stream) → slice_get ss i ≡ Some u → (Reaches (ends_of x ss) u.from u.to → ⊥)
     → IsPartBut ss i y x → IsAcyclic ss x → IsAcyclic ss y
 acyclic_more ss x y i u at_u apart but acyclic j s at ok r = elim (cases_eq j i) [

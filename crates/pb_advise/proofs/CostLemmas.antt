@@ -36,7 +36,7 @@ pub cost_none : (costs : List ℤ) → cost_of costs [] ≡ pos 0
 cost_none [] = refl
 cost_none (c ∷ costs) = refl
 
--- of some of them
+-- the cost of some of the marked streams
 pub cost_part : (costs : List ℤ) (some marks : List Bool) → ((k : ℕ) → pos 0 ≤ℤ item costs k) → ((k : ℕ) → get_or some k false ≡ true → get_or marks k false ≡ true)
     → cost_of costs some ≤ℤ cost_of costs marks
 cost_part [] some marks least part = omega (arith, ints)

@@ -1,4 +1,4 @@
--- A stream that leaves a set without cycle can be replaced by one of any walk that joins its ends.
+-- A stream that leaves a set without a cycle can be replaced by one of any walk that joins its ends.
 use Rattle.std.proofs.Common.{◌≡◌, ◌∙◌, ℕ, zero, suc, Bool, true, false, not, ◌==◌, List, [], ◌∷◌, Some, slice_get, get_or, set, ap, sym, refl, subst, inl, inr}
 use Rattle.std.proofs.lemmas.Bool.{cases_Bool, cases_eq, and_parts, and_from, not_from_false, ne_eqb}
 use Rattle.std.proofs.lemmas.List.{get_or-set_other}
@@ -44,7 +44,7 @@ less_at marks f = set marks f false
 abbrev pub swapped : List Bool → ℕ → ℕ → List Bool
 swapped marks f e = set (set marks f false) e true
 
--- what is marked but for one stream is what is marked without it
+-- what is marked once one stream's mark is removed is what was marked, without that stream
 less_part : (ss : List Stream) (marks : List Bool) (f k : ℕ) (t : Stream) → is_open (less_at marks f) k t ≡ true → except f (is_open marks) k t ≡ true
 less_part ss marks f k t ok = elim (cases_eq k f) [
   | inl same ↦ cc_same (cases_size marks f) same
@@ -59,7 +59,7 @@ less_part ss marks f k t ok = elim (cases_eq k f) [
     cc_same : get_or (set marks f false) f false ≡ false → k ≡ f → except f (is_open marks) k t ≡ true
     cc_same gone same = cc (sym ok ∙ ap (λ (i : ℕ). get_or (set marks f false) i false) same ∙ gone)
 
--- The exchange: a marked stream f of a set without cycle, and a walk over other streams that joins its ends. One stream of the walk
+-- The exchange: a marked stream f of a set without a cycle, and a walk over other streams that joins its ends. One stream of the walk
 -- takes the place of f, and the set still has no cycle.
 pub record Exchanged (ss : List Stream) (marks : List Bool) (may : ℕ → Stream → Bool) (f : ℕ) : Type 0 where
   pub e : ℕ

@@ -1,4 +1,4 @@
--- An advice speaks of streams of its graph alone, and its numbers are within their ranges.
+-- An advice refers only to streams of its graph, and its numbers are within their ranges.
 use Rattle.std.proofs.Common.{◌≡◌, suc, ◌*◌, ◌<◌, ℤ, pos, ◌≤ℤ◌, Bool, true, false, List, [], ◌∷◌, length, All, get_or, subst, sym, arith}
 use Rattle.std.proofs.lemmas.Int.{ints}
 use Rattle.std.proofs.lemmas.List.Elements.{All-from_recursion}

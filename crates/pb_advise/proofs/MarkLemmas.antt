@@ -1,4 +1,4 @@
--- The marks that the labels of the parts decide, one stream after the other, and that they are the advised choice.
+-- The marks that the labels of the parts decide, one stream after another, and that they are the advised choice.
 use Rattle.std.proofs.Common.{◌≡◌, ◌≢◌, ◌∙◌, ℕ, zero, suc, ◌+◌, ◌<◌, ◌≤◌, ℤ, Bool, true, false, ◌==◌, ◌||◌, List, [], ◌∷◌, ◌++◌, length, take, Some, slice_get, get_or, ap, sym, refl, subst, inl, inr, arith}
 use Rattle.std.specs.List.{list_any}
 use Rattle.std.proofs.lemmas.Bool.{cases_Bool, cases_eq, cases_lt, or_cases, or_left, or_right, not-true, not_from_false, eq-eqb, eqb-true}
@@ -30,7 +30,7 @@ any_more k (x ∷ xs) c = ap (λ (b : Bool). (x.1 == k) || b) (any_more k xs c) 
 taken_more : (list : List Candidate) (p k : ℕ) (s : Stream) → p < length list → is_among list (p + 1) k s ≡ (is_among list p k s || (taken_at list p == k))
 taken_more list p k s lt = ap (λ (l : List Candidate). list_any (λ (d : Candidate). d.1 == k) l) (take_more list p (0, 0) lt) ∙ any_more k (take p list) (get_or list p (0, 0))
 
--- a stream is taken before the p-th exactly where it is an earlier one
+-- a stream is taken before the p-th exactly when it is an earlier one
 pub taken_by : (list : List Candidate) (p q : ℕ) (s : Stream) → q < p → p ≤ length list → is_among list p (taken_at list q) s ≡ true
 taken_by list zero q s less le = absurd (omega (arith, less))
 taken_by list (suc p) q s less le =

@@ -1,4 +1,4 @@
--- The meters, one stream after the other.
+-- The meters, one stream after another.
 use Rattle.std.proofs.Common.{◌≡◌, ◌∙◌, ℕ, zero, suc, ◌+◌, ◌<◌, ◌≤◌, ℤ, pos, ◌+ℤ◌, Bool, true, false, List, [], ◌∷◌, ◌++◌, length, take, get_or, ap, ap₂, sym, refl, subst, arith}
 use Rattle.std.specs.List.{AllByRecursion}
 use Rattle.std.proofs.lemmas.Int.{ints}
@@ -13,7 +13,7 @@ use Rattle.pb_advise.specs.Advice.{marked_from, streams_of, metered_streams, IsC
 use Rattle.pb_advise.specs.Order.{AreMetersBefore}
 use Rattle.pb_advise.proofs.CostLemmas.{cost_none}
 
--- ---- one mark more
+-- ---- one more mark
 marked_on : (i : ℕ) (marks : List Bool) → marked_from i (marks ++ true ∷ []) ≡ marked_from i marks ++ (i + length marks) ∷ []
 marked_on i [] = ap (λ (n : ℕ). n ∷ []) (omega arith)
 marked_on i (true ∷ marks) = ap (λ (l : List ℕ). i ∷ l) (marked_on (i + 1) marks ∙ ap (λ (n : ℕ). marked_from (i + 1) marks ++ n ∷ []) (omega arith))
@@ -47,7 +47,7 @@ take_all zero (x ∷ xs) le = absurd (omega (arith, le))
 take_all (suc n) [] le = refl
 take_all (suc n) (x ∷ xs) le = ap (λ (l : List Bool). x ∷ l) (take_all n xs (omega (arith, le)))
 
--- ---- one stream more
+-- ---- one more stream
 pub meters_stay : (g : ProcessGraph) (costs : List ℤ) (chosen : List Bool) (j : ℕ) (advice : Advice) → j < length chosen
     → get_or chosen j false ≡ false → AreMetersBefore g costs chosen j advice → AreMetersBefore g costs chosen (j + 1) advice
 meters_stay g costs chosen j advice lt off are =

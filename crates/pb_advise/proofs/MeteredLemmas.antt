@@ -104,7 +104,7 @@ walk_up may more chosen ss a b (t ∷ rest) pass (c, e, w) =
       walk_up may more chosen ss c b rest pass w,
     )
 
--- ---- the metered graph keeps the limits
+-- ---- the metered graph is within the limits
 metered_ends : (nodes : ℕ) (m : Bool) (s : Stream) → IsStream nodes s → IsStream nodes (metered m s)
 metered_ends nodes true s is = record { from = is.from; to = is.to; apart = is.apart }
 metered_ends nodes false s is = is

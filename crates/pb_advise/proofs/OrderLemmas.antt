@@ -1,4 +1,4 @@
--- The order in which the code takes streams: what its list keeps, and that the sorted one is in order.
+-- The order in which the code takes streams: what its list keeps, and that the sorted list is in order.
 use Rattle.std.proofs.Common.{◌≡◌, ◌≢◌, ◌∙◌, ◌⊎◌, nat_lt, cond, Less, Equal, Greater, ℕ, zero, suc, ◌+◌, ◌<◌, ◌≤◌, ℤ, pos, ◌-ℤ◌, ◌≤ℤ◌, ◌<ℤ◌, unsigned_abs, Bool, true, false, not, ◌==◌, List, [], ◌∷◌, ◌++◌, length, Some, slice_get, get_or, ap, sym, refl, subst, inl, inr, arith, length-append}
 use Rattle.std.specs.List.{All, AllByRecursion, IsDistinct}
 use Rattle.std.specs.Ordering.{is_lt, nat_cmp, ordering_then}

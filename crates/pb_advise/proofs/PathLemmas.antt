@@ -14,11 +14,11 @@ use Rattle.pb_forest.proofs.ForestLaws.{spans_law, acyclic_law, part_law}
 use Rattle.pb_advise.specs.Choice.{with_meters, stays_unmeasured}
 use Rattle.pb_advise.proofs.MeteredLemmas.{metered_ends_of, stays_from, stays_bare, walk_down, walk_up}
 
--- ---- a step begins where it does in the graph
+-- ---- a step begins at the same node as in the graph
 begins : (nodes : ℕ) (chosen : List Bool) (ss : List Stream) → begin_of nodes (with_meters chosen ss) ≡ begin_of nodes ss
 begins nodes chosen ss = λ i t. first_or nodes (metered_ends_of chosen ss t i)
 
--- ---- held unmeasured streams join what streams that stay unmeasured do
+-- ---- held unmeasured streams join what streams that stay unmeasured join
 pub held_joins : (chosen held : List Bool) (ss : List Stream) (a b : ℕ) → IsForest (with_meters chosen ss) held
     → Reaches (ends_of (stays_unmeasured chosen) ss) a b → Reaches (ends_of (held_unmeasured held) (with_meters chosen ss)) a b
 held_joins chosen held ss a b forest (steps, w) =

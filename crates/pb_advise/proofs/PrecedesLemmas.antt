@@ -1,5 +1,5 @@
--- The order by falling cost, and the advised choice: what preceding streams join, those of them that stay unmeasured join; the streams
--- that stay unmeasured have no cycle; there is one such choice.
+-- The order by falling cost, and the advised choice: nodes that preceding streams join are joined by the preceding streams that stay
+-- unmeasured; the streams that stay unmeasured have no cycle; there is one such choice.
 use Rattle.std.proofs.Common.{◌≡◌, ◌≢◌, ◌∙◌, ◌⊎◌, ℕ, zero, suc, ◌+◌, ◌<◌, ◌≤◌, ℤ, ◌<ℤ◌, ◌≤ℤ◌, int_lt, int_le, nat_lt, Bool, true, false, not, ◌&&◌, ◌||◌, ◌==◌, List, [], ◌∷◌, length, Some, None, slice_get, get_or, ap, ap₂, sym, refl, subst, inl, inr, arith, if◌then◌else◌}
 use Rattle.std.proofs.lemmas.Bool.{cases_Bool, cases_eq, cases_lt, and_parts, and_from, or_left, or_right, or_cases, not-true, not_from_false, eq-eqb, eqb-true, ltb-true, lt-ltb}
 use Rattle.std.proofs.lemmas.Int.{ints}
@@ -146,7 +146,7 @@ rank_less costs ss j k t at dearer =
       | inr off ↦ off
     ]) dearer
 
--- ---- what preceding streams join, those of them that stay unmeasured join
+-- ---- nodes that preceding streams join are joined by those that stay unmeasured
 -- the streams that stay unmeasured and precede stream j
 abbrev pub stays_before : List ℤ → List Bool → ℕ → ℕ → Stream → Bool
 stays_before costs chosen j k t = stays_unmeasured chosen k t && precedes costs j k t
@@ -337,7 +337,7 @@ one_choice g costs one other a b =
           ∙ sym (off_unless (get_or other j false) (is_measured s) measured (b.choice.bare j s at))
     ])
 
--- no stream precedes itself, and no two each other
+-- no stream precedes itself, and no two precede each other
 pub precedes_not : (costs : List ℤ) (j k : ℕ) (t : Stream) → k ≡ j → precedes costs j k t ≡ true → ⊥
 precedes_not costs j k t same on =
     outranks_not (item costs j) j (subst (λ (n : ℕ). Outranks (item costs j) (item costs n) j n) same (precedes_says costs j k t on).1)

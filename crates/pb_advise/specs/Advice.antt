@@ -28,7 +28,7 @@ pub record IsAdvisedChoice (graph : ProcessGraph) (costs : List ℤ) (chosen : L
   pub decided : (j : ℕ) (stream : Stream) → slice_get graph.streams j ≡ Some stream → is_measured stream ≡ false
       → (get_or chosen j false ≡ true) ↔ Reaches (ends_of (precedes costs j) graph.streams) stream.from stream.to
 
--- the places of the marked items, in order, if the first has this place
+-- the places of the marked items, in order; the first item has this place
 abbrev pub marked_from : ℕ → List Bool → List ℕ
 marked_from place [] = []
 marked_from place (true ∷ marks) = place ∷ marked_from (place + 1) marks
@@ -42,8 +42,8 @@ streams_of chosen = marked_from 0 chosen
 abbrev pub metered_streams : List Meter → List ℕ
 metered_streams meters = map (λ (meter : Meter). meter.stream) meters
 
--- The cycle of a chosen stream: the stream forward, and then the walk of streams that stay unmeasured from its `to` end to its `from`
--- end without a node twice (a fundamental cycle of graph theory; Deo, Graph Theory with Applications, chapter 3).
+-- The cycle of a chosen stream: the stream forward, and then the walk of streams that stay unmeasured from its `to` end to its `from` end,
+-- in which no node appears twice (a fundamental cycle of graph theory; Deo, Graph Theory with Applications, chapter 3).
 pub record IsChosenCycle (graph : ProcessGraph) (chosen : List Bool) (j : ℕ) (steps : List Step) : Type 0 where
   pub s : Stream
   pub at : slice_get graph.streams j ≡ Some s
@@ -86,13 +86,13 @@ pub record IsCheapest (graph : ProcessGraph) (costs : List ℤ) (advice : Advice
   pub suffices : Suffices graph chosen
   pub least : (other : List Bool) → IsChoice graph other → Suffices graph other → advice.total ≤ℤ cost_of costs other
 
--- a meter speaks of streams of the graph alone, and its cost is a cost
+-- a meter refers only to streams of the graph, and its cost is within the limits of a cost
 pub record IsMeterWithin (graph : ProcessGraph) (meter : Meter) : Type 0 where
   pub stream : meter.stream < length graph.streams
   pub cost : IsCost meter.cost
   pub steps : All (IsStep graph) meter.steps
 
--- The form of an advice: what those who write it stand on.
+-- The form of an advice, on which code that writes it relies.
 pub record IsAdviceWithin (graph : ProcessGraph) (advice : Advice) : Type 0 where
   pub meters : All (IsMeterWithin graph) advice.meter
   pub least : pos 0 ≤ℤ advice.total

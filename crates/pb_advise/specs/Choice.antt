@@ -46,7 +46,7 @@ stays_unmeasured chosen k stream = unmeasured k stream && not (get_or chosen k f
 abbrev pub most_cost : ℕ
 most_cost = 10 ^ 12
 
--- a cost of a meter, in whatever unit
+-- a cost of a meter, in any unit
 abbrev pub IsCost : ℤ → Type 0
 IsCost cost = (pos 0 ≤ℤ cost) × (cost ≤ℤ pos most_cost)
 

@@ -7,7 +7,7 @@ use Rattle.pb_advise.specs.declared.advice.Advice.{Advice}
 use Rattle.pb_advise.specs.Choice.{IsChoice, Suffices, AreCosts, stays_unmeasured, cost_of, most_cost}
 use Rattle.pb_advise.specs.Advice.{IsAdvice, IsAdviceWithin, IsCheapest, ShowsChoice}
 
--- the constant of the code is the number of the definition
+-- the constant of the code equals the number of the definition
 abbrev pub CostLimitLaw : Type 0
 CostLimitLaw = MOST_COST ≡ pos most_cost
 
@@ -36,7 +36,7 @@ OneAdviceLaw = (graph : ProcessGraph) (costs : List ℤ) (one other : Advice)
 abbrev pub SomeAdviceLaw : Type 0
 SomeAdviceLaw = (graph : ProcessGraph) (costs : List ℤ) → (advice : Advice) × IsAdvice graph costs advice
 
--- an advice speaks of streams of its graph alone, and its numbers are within their ranges
+-- an advice refers only to streams of its graph, and its numbers are within their ranges
 abbrev pub AdviceFormLaw : Type 0
 AdviceFormLaw = (graph : ProcessGraph) (costs : List ℤ) (advice : Advice) → IsProcessGraph graph → AreCosts graph costs
     → IsAdvice graph costs advice → IsAdviceWithin graph advice

@@ -1,4 +1,4 @@
--- Inside. The order in which the code takes streams, and what it has found of the first of them.
+-- Inside. The order in which the code takes streams, and what it knows about the first ones.
 use Rattle.std.specs.Prelude.{◌≡◌, ◌≢◌, ℕ, ◌<◌, ℤ, ◌-ℤ◌, ◌==◌, Bool, true, false, List, length, take, Option, None, ◌*◌, ◌≤ℤ◌, Some, slice_get, get_or, pos, unsigned_abs}
 use Rattle.std.specs.List.{AllByRecursion, list_any}
 use Rattle.pb_integers.specs.Sums.{item}
@@ -10,7 +10,7 @@ use Rattle.pb_advise.specs.declared.advice.Advice.{Advice}
 use Rattle.pb_advise.specs.Choice.{most_cost, cost_of, stays_unmeasured}
 use Rattle.pb_advise.specs.Advice.{precedes, streams_of, metered_streams, IsMeter, IsChosenCycle}
 
--- how much the cost of a stream is below the greatest one, and the place of the stream
+-- by how much the cost of a stream is below the greatest cost, and the place of the stream
 abbrev pub Candidate : Type 0
 Candidate = ℕ × ℕ
 
@@ -39,7 +39,7 @@ pub record IsOrder (costs : List ℤ) (streams : List Stream) (list : List Candi
 abbrev pub is_among : List Candidate → ℕ → ℕ → Stream → Bool
 is_among list p k stream = list_any (λ (c : Candidate). c.1 == k) (take p list)
 
--- each place is that of a stream, and no two are one
+-- each place is that of a stream, and no two are the same
 pub record ArePlaces (streams : List Stream) (list : List Candidate) : Type 0 where
   pub there : (p : ℕ) → p < length list → taken_at list p < length streams
   pub differ : (p q : ℕ) → p < q → q < length list → taken_at list p ≢ taken_at list q

@@ -43,8 +43,8 @@ fn forward_then(alloc: Global, stream: u32, back: &[Step]) -> Result<List<Step>,
     Ok(List::from_vec(steps))
 }
 
-// The cycle that a chosen stream makes with streams that stay unmeasured; None if the stream isn't chosen. The forest is that of the
-// graph with meters on the chosen streams, whose unmeasured streams are those that stay so.
+// The cycle that a chosen stream makes with streams that stay unmeasured; None if the stream isn't chosen. The forest is that of the graph
+// with meters on the chosen streams, whose unmeasured streams are those that stay unmeasured.
 fn cycle_of(
     alloc: Global,
     graph: &Graph,
@@ -102,9 +102,9 @@ fn meters_of(
 
 /// The cheapest metering of a graph: which unmeasured streams to meter, at these costs, so that every stream is observable.
 ///
-/// Among the choices that cost the least it is the one that takes streams by falling cost, the earlier first among equals, and
-/// leaves a stream without meter unless those before it join its ends. The work is in proportion to nodes and streams (and to
-/// their sorting), to the steps of the cycles, and to the joins, at most as many as nodes, each of which goes over the nodes.
+/// Among the choices that cost the least, this one takes streams by falling cost, the earlier first among equals, and leaves a stream
+/// without a meter unless the streams before it join its ends. The work is proportional to the numbers of nodes and streams (and to sorting
+/// the streams), to the steps of the cycles, and to the joins. There are at most as many joins as nodes, and each goes over the nodes.
 pub fn advise(alloc: Global, graph: &Graph, costs: &[i64]) -> Result<Advice, AllocError>
     requires { AreCosts graph.now costs.now }
     ensures advice { IfOk result (IsAdvice graph.now costs.now) }

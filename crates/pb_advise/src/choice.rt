@@ -30,8 +30,8 @@ fn choose(streams: &[Stream], order: &[(u64, u32)], parts: &mut Parts, chosen: &
 
 /// The advised choice, as one mark for each stream.
 ///
-/// The streams are sorted once, and the parts that the streams so far make are kept, so that each of at most as many joins as
-/// nodes goes over the nodes (Kruskal 1956).
+/// The streams are sorted once, and the parts that the streams so far make are kept. There are at most as many joins as nodes, and each
+/// goes over the nodes (Kruskal 1956).
 pub fn advised_choice(alloc: Global, graph: &Graph, costs: &[i64]) -> Result<Vec<bool>, AllocError>
     requires { AreCosts graph.now costs.now }
     ensures choice { IfOk result (λ chosen. IsAdvisedChoice graph.now costs.now chosen.items) }

@@ -2,7 +2,7 @@
 
 ghost use Rattle.pb_advise.specs.Laws.{AdviceFormLaw, CheapestLaw, CostLimitLaw, CyclesLaw, OneAdviceLaw, SomeAdviceLaw, SufficesLaw};
 
-/// The constant of the greatest cost is the number of its definition.
+/// The constant of the greatest cost equals the number of its definition.
 pub fn cost_limit_law()
     ensures { CostLimitLaw }
 {}
@@ -32,7 +32,7 @@ pub fn some_advice_law()
     ensures { SomeAdviceLaw }
 {}
 
-/// An advice speaks of streams of its graph alone, and its numbers are within their ranges.
+/// An advice refers only to streams of its graph, and its numbers are within their ranges.
 pub fn advice_form_law()
     ensures { AdviceFormLaw }
 {}

@@ -1,7 +1,7 @@
 //! The cheapest metering of a process graph: which unmeasured streams to meter, so that every stream is observable at least
 //! cost (Narasimhan and Jordache, "Data Reconciliation and Gross Error Detection", chapter 10).
 //!
-//! The laws stand on empty functions, whose contracts state them for the crates above.
+//! The laws are the contracts of empty functions, which state them for the crates above.
 #![tactic(auto)]
 
 mod advice;

@@ -8,7 +8,7 @@ use crate::limits::MOST_COST;
 use pb_graph::Stream;
 use std::alloc::{AllocError, Global};
 
-// The unmeasured streams in order, each after how much its cost is below the greatest one.
+// The unmeasured streams in order, each preceded by how far its cost is below the greatest one.
 fn candidates(
     alloc: Global,
     streams: &[Stream],
@@ -29,8 +29,8 @@ fn candidates(
     Ok(list)
 }
 
-/// The unmeasured streams by falling cost, the earlier first among those that cost the same. Each stands after how much its cost
-/// is below the greatest one.
+/// The unmeasured streams by falling cost, the earlier first among those that cost the same. Each is preceded by how far its cost is below
+/// the greatest one.
 pub fn by_falling_cost(
     alloc: Global,
     streams: &[Stream],

@@ -19,7 +19,7 @@ use Rattle.pb_assay.specs.Component.{component_stream, component_of, component_s
 pub some_is : {B : Type 0} (a b : B) → Some a ≡ Some b → a ≡ b
 some_is a b is = ap (λ o. unwrap_or o a) is
 
--- what is left from a place on, with the stream at the place first
+-- the rest from a place on, with the stream at the place first
 next : (ss : List Stream) (rs : List StreamResult) (gs : List (Option Grade)) (j : ℕ) (r : StreamResult) (g : Option Grade) (s : Stream)
     → Some s ≡ option_map (component_stream r g) (slice_get ss j) → slice_get rs j ≡ Some r → slice_get gs j ≡ Some g
     → component_streams (drop j ss) (drop j rs) (drop j gs) ≡ s ∷ component_streams (drop (j + 1) ss) (drop (j + 1) rs) (drop (j + 1) gs)
@@ -55,7 +55,7 @@ streams_each (s ∷ ss) [] gs e f = omega (arith, e)
 streams_each (s ∷ ss) (r ∷ rs) [] e f = omega (arith, f)
 streams_each (s ∷ ss) (r ∷ rs) (g ∷ gs) e f = let more = streams_each ss rs gs (omega (arith, e)) (omega (arith, f)) in omega (arith, more)
 
--- the graph of all of them
+-- the graph of all these streams
 abbrev pub made_graph : ProcessGraph → List StreamResult → List (Option Grade) → ProcessGraph
 made_graph graph rs gs = record { nodes = graph.nodes; streams = component_streams graph.streams rs gs }
 
@@ -88,7 +88,7 @@ position_none (x ∷ xs) fails =
     let end = position_or_len_is (λ over. over) (x ∷ xs) (length (x ∷ xs)) false (omega arith) (λ k lt. fails k lt) (λ past. absurd (omega arith)) in
     rw (end, not_below (length (x ∷ xs)) (length (x ∷ xs)) (omega arith)) refl
 
--- the marks before a place, and the one at it
+-- the marks before a place, and the mark at it
 pub one_below : (marks : List Bool) (j : ℕ) → ((k : ℕ) → k < j → get_or marks k false ≡ false) → get_or marks j false ≡ false → (k : ℕ) → k < j + 1 → get_or marks k false ≡ false
 one_below marks j before here k lt = elim (cases_Bool (nat_lt k j)) [
   | inl passes ↦ before k (ltb-true k j passes)

@@ -1,4 +1,4 @@
--- What the variance of the grams answers for.
+-- What the variance of the grams covers.
 use Rattle.std.proofs.Common.{◌≡◌, ◌+◌, ◌^◌, ℤ, pos, ◌+ℤ◌, ◌-ℤ◌, ◌*ℤ◌, ◌≤ℤ◌, [], ◌∷◌, refl, sym, subst, arith}
 use Rattle.std.proofs.lemmas.Int.{ints}
 use Rattle.pb_integers.proofs.Order.{le_by_eq, le_trans, mul_mono_both, mul_mono_left, mul_nonneg, root_mono, square_mono, square_pos}

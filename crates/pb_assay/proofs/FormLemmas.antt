@@ -1,4 +1,4 @@
--- The component graph keeps the limits of a process graph.
+-- The component graph is within the limits of a process graph.
 use Rattle.std.specs.Prelude.{option_map, All, IfSome}
 use Rattle.std.proofs.Common.{◌≡◌, ◌∙◌, ◌<◌, ℕ, zero, suc, ℤ, false, List, [], ◌∷◌, length, get_or, Option, Some, None, sym, arith, subst}
 use Rattle.std.specs.Option.{option_map_or}

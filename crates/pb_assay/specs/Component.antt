@@ -11,7 +11,7 @@ use Rattle.pb_assay.specs.declared.component.ComponentFault.{ComponentFault}
 use Rattle.pb_assay.specs.declared.component.ComponentFault.TheVariants.{NoMemory, Over}
 use Rattle.pb_assay.specs.Grade.{IsCarried, carried, carries_too_much}
 
--- the grade by which a stream is measured: its own, unless its flow is unobservable and so isn't known
+-- the grade by which a stream is measured: the stream's grade, unless its flow is unobservable and so isn't known
 abbrev pub counted_grade : Class → Option Grade → Option Grade
 counted_grade Unobservable grade = None
 counted_grade class grade = grade
@@ -24,7 +24,7 @@ component_stream printed grade stream = record {
   meas = option_map (carried printed.flow) (counted_grade printed.classified.class grade);
 }
 
--- a stream to be measured that is over the limits
+-- a stream that is to be measured is over the limits
 abbrev pub is_component_over : StreamResult → Option Grade → Bool
 is_component_over printed grade = option_map_or (carries_too_much printed.flow) (counted_grade printed.classified.class grade) false
 
@@ -36,7 +36,7 @@ component_streams (stream ∷ streams) (result ∷ printed) [] = []
 component_streams (stream ∷ streams) (result ∷ printed) (grade ∷ grades) =
     component_stream result grade stream ∷ component_streams streams printed grades
 
--- which of them are over the limits
+-- which of these streams are over the limits
 abbrev pub component_overs : List StreamResult → List (Option Grade) → List Bool
 component_overs [] grades = []
 component_overs (result ∷ printed) [] = []
@@ -58,7 +58,7 @@ abbrev pub NamesAStreamOf : ProcessGraph → ComponentFault → Type 0
 NamesAStreamOf graph (Over stream) = stream < length graph.streams
 NamesAStreamOf graph NoMemory = Unit {0}
 
--- A stream of the component graph, by meaning: the stream's ends, measured exactly if it has a grade and isn't unobservable, and then by
+-- A stream of the component graph, by meaning: the stream's ends, measured exactly when it has a grade and isn't unobservable, and then by
 -- what its printed flow carries.
 pub record IsComponentStream (printed : StreamResult) (grade : Option Grade) (stream component : Stream) : Type 0 where
   pub from : component.from ≡ stream.from

@@ -17,8 +17,8 @@ pub record IsGrade (grade : Grade) : Type 0 where
 abbrev pub carried_grams : ℤ → Grade → ℤ
 carried_grams flow grade = floor_div (flow *ℤ grade.ppm) (pos (10 ^ 6))
 
--- The variance of these grams: that of the grade times the square of the flow, rounded up, and one squared gram more for the rounding
--- of the grams, so that none is 0. The flow counts as exact.
+-- The variance of these grams: that of the grade times the square of the flow, rounded up, plus one squared gram for the rounding of the
+-- grams, so that no variance is 0. The flow counts as exact.
 abbrev pub carried_variance : ℤ → Grade → ℤ
 carried_variance flow grade = ceil_div ((flow *ℤ flow) *ℤ grade.variance) (pos (10 ^ 12)) +ℤ pos 1
 
@@ -26,12 +26,12 @@ carried_variance flow grade = ceil_div ((flow *ℤ flow) *ℤ grade.variance) (p
 abbrev pub carried : ℤ → Grade → Meas
 carried flow grade = record { value = carried_grams flow grade; variance = carried_variance flow grade }
 
--- the flow is above the limit of a value, or the variance above its own
+-- the flow is above the limit of a value, or the variance above the limit of a variance
 abbrev pub carries_too_much : ℤ → Grade → Bool
 carries_too_much flow grade = nat_lt most_value (unsigned_abs flow) || int_lt (pos most_variance) (carried_variance flow grade)
 
--- The same by meaning: the greatest whole grams that are no more than the flow's part by its grade, and a variance that is more by one
--- than the least whole squared grams that are no less than what the grade's variance makes.
+-- The same by meaning: the greatest whole number of grams that is no more than the flow's part by its grade, and a variance that is one
+-- more than the least whole number of squared grams that is no less than what the grade's variance makes.
 pub record IsCarried (flow : ℤ) (grade : Grade) (meas : Meas) : Type 0 where
   pub grams : IsFloor (flow *ℤ grade.ppm) (pos (10 ^ 6)) meas.value
   pub variance : IsCeiling ((flow *ℤ flow) *ℤ grade.variance) (pos (10 ^ 12)) (meas.variance -ℤ pos 1)

@@ -13,19 +13,19 @@ ComponentLaw = (graph component : ProcessGraph) (printed : List StreamResult) (g
     → length printed ≡ length graph.streams → length grades ≡ length graph.streams
     → component_of graph printed grades ≡ Ok component → IsComponentGraph graph printed grades component
 
--- the component graph of a process graph is one
+-- the component graph of a process graph is a process graph
 abbrev pub ComponentFormLaw : Type 0
 ComponentFormLaw = (graph component : ProcessGraph) (printed : List StreamResult) (grades : List (Option Grade)) → IsProcessGraph graph
     → length printed ≡ length graph.streams → length grades ≡ length graph.streams → All (λ (grade : Option Grade). IfSome grade IsGrade) grades
     → component_of graph printed grades ≡ Ok component → IsProcessGraph component
 
--- the stream that is named as over the limits is the first that is
+-- the stream that is named as over the limits is the first one over the limits
 abbrev pub FirstOverLaw : Type 0
 FirstOverLaw = (graph : ProcessGraph) (printed : List StreamResult) (grades : List (Option Grade)) (j : ℕ)
     → component_of graph printed grades ≡ Err (Over j) → IsFirstOver printed grades j
 
--- What the variance answers for: if the square of the error of a grade is at most k times its variance, the square of the error of the
--- grams is at most k + 1 times theirs, their rounding included.
+-- What the variance covers: if the square of the error of a grade is at most k times its variance, the square of the error of the grams,
+-- including their rounding, is at most k + 1 times theirs.
 abbrev pub ErrorLaw : Type 0
 ErrorLaw = (flow ppm : ℤ) (grade : Grade) (k : ℕ) → IsGrade grade
     → squared (ppm -ℤ grade.ppm) ≤ℤ (pos k *ℤ grade.variance)

@@ -80,8 +80,8 @@ fn measured(flow: i128, grade: Grade) -> Meas
     }
 }
 
-/// What a flow carries of a component by its grade, in grams, as a measurement; `None` exactly if the flow is above the limit of a
-/// value (a limit asked first, so that its square stays within 128 bits) or the variance above its own.
+/// What a flow carries of a component by its grade, in grams, as a measurement; `None` exactly when the flow is above the limit of a value
+/// (which is tested first, so that its square stays within 128 bits) or the variance is above the limit of a variance.
 pub fn carried_by(flow: i128, grade: Grade) -> Option<Meas>
     requires { IsGrade grade }
     ensures value { IfSome result (λ meas. meas ≡ carried flow grade) }

@@ -84,9 +84,9 @@ fn stream_of(
 
 /// The component graph of a period: its graph, with each stream measured by what its printed flow carries of the component.
 ///
-/// `printed` is what the last stage of the period's study says of each stream, and `grades` has the grade of each stream of which
-/// there is an assay. A stream is measured exactly if it has a grade and isn't unobservable. The first one to be measured that is
-/// above the limits is named by its place in the graph, at which its declared name stands among the names of the streams.
+/// `printed` is what the last stage of the period's study says of each stream, and `grades` has the grade of each stream that has an assay.
+/// A stream is measured exactly when it has a grade and isn't unobservable. The first stream to be measured that is above the limits is
+/// named by its place in the graph; its declared name is at the same place among the names of the streams.
 pub fn component_graph(
     alloc: Global,
     graph: &Graph,

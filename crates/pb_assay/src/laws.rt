@@ -12,12 +12,12 @@ pub fn component_form_law()
     ensures { ComponentFormLaw }
 {}
 
-/// The stream that is named as over the limits is the first one to be measured that is.
+/// The stream that is named as over the limits is the first one to be measured that is over them.
 pub fn first_over_law()
     ensures { FirstOverLaw }
 {}
 
-/// What the variance of the grams answers for: the error of the grade and the rounding.
+/// What the variance of the grams covers: the error of the grade and the rounding.
 pub fn error_law()
     ensures { ErrorLaw }
 {}

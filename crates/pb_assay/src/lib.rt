@@ -4,7 +4,7 @@
 //! Flows are reconciled first and count as exact here. A bilinear reconciliation adjusts flows and grades at once
 //! (Narasimhan and Jordache, "Data Reconciliation and Gross Error Detection", chapter 4).
 //!
-//! The laws stand on empty functions, whose contracts state them for the crates above.
+//! The laws are the contracts of empty functions, which state them for the crates above.
 #![tactic(auto)]
 
 mod carried;

@@ -34,7 +34,7 @@ fewer_behind at records behind (unreadable number fault) found =
 
 -- ---- something is found
 
--- what is found in the records behind a block, and so with it
+-- what is found in the records after a block, and so with it
 with_block : (at : ℕ) (records rest : List Record) (block : Block) → IsFound records block rest → IsPassedBlock block ⊎ HasFault block.stage block.gap block.sweeps
     → (findings : List Finding) × AreFindings (at + (length records - length rest)) rest findings → (findings : List Finding) × AreFindings at records findings
 with_block at records rest block found (inl passes) (findings, are) = (passed block ∷ findings, (rest, (found, passes), are))
@@ -72,7 +72,7 @@ abbrev fault_of : (block : Block) (test : Test) (place : Place) (stated found : 
     → HasFault block.stage block.gap block.sweeps
 fault_of block test place stated found is = record { test = test; place = place; stated = stated; found = found; is = is }
 
--- what is found first, and what is left behind it
+-- what is found first, and what is left after it
 record Same (one other : Finding) (behind left : List Record) : Type 0 where
   finding : one ≡ other
   rest : behind ≡ left
@@ -121,7 +121,7 @@ same_found law at records (unreadable number fault) (unreadable another cause) b
     let faults : fault ≡ cause = cc e in
     record { finding = λ i. unreadable (numbers i) (faults i); rest = p.1 ∙ sym q.1 }
 
--- where nothing is to be found nothing is found
+-- if nothing is to be found, nothing is found
 none_found : NextLaw → (at : ℕ) (records : List Record) (finding : Finding) (behind : List Record) → IsNext at records NoBlock → Finds at records finding behind → ⊥
 none_found next at records (passed block) behind none found = let e = next.only at records NoBlock (Found block behind) none found.0 in cc e
 none_found next at records (failed block test place stated what) behind none found = let e = next.only at records NoBlock (Found block behind) none found.0 in cc e

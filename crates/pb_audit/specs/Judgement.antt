@@ -1,5 +1,5 @@
--- Statement. The judgement of a report by its own numbers, wherever it came from: what is found of each of its blocks, and the first
--- row that can't be read.
+-- Statement. The judgement of a report by its own numbers, wherever it came from: what is found about each of its blocks, and the first row
+-- that can't be read.
 use Rattle.std.specs.Prelude.{◌≡◌, ℕ, ℤ, ◌+◌, ◌-◌, Bool, true, false, List, [], ◌∷◌, ◌++◌, length, map, All}
 use Rattle.std.specs.List.{list_any}
 use Rattle.pb_readback.specs.declared.block.Block.{Block}
@@ -21,11 +21,11 @@ pub data Finding : Type 0 where
   failed : Block → Test → Place → ℤ → ℤ → Finding
   unreadable : ℕ → RowFault → Finding
 
--- a block passes all tests, by the gap and the sweeps that it was reported with
+-- a block passes all tests, at the gap and the sweeps that it was reported with
 abbrev pub IsPassedBlock : Block → Type 0
 IsPassedBlock block = IsPassed block.stage block.gap block.sweeps
 
--- what is found next in the records behind so many, and those that are judged behind it: behind a row that can't be read none is
+-- what is found next in the records, which come after this many, and those that are judged after it: none, after a row that can't be read
 abbrev pub Finds : ℕ → List (List (List ℕ)) → Finding → List (List (List ℕ)) → Type 0
 Finds at records (passed block) behind = IsNext at records (Found block behind) × IsPassed block.stage block.gap block.sweeps
 Finds at records (failed block test place stated found) behind =
@@ -38,7 +38,7 @@ Finds at records (unreadable number fault) behind =
 abbrev pub FindsNothing : ℕ → List (List (List ℕ)) → Type 0
 FindsNothing at records = IsNext at records NoBlock
 
--- All that is found in the records behind so many, in order.
+-- All that is found in the records, which come after this many, in order.
 abbrev pub AreFindings : ℕ → List (List (List ℕ)) → List Finding → Type 0
 AreFindings at records [] = IsNext at records NoBlock
 AreFindings at records (finding ∷ findings) =
@@ -63,7 +63,7 @@ finding_row (unreadable number fault) = unreadable_row number fault
 abbrev pub text_of_findings : List Finding → List ℕ
 text_of_findings findings = text_in Csv (map finding_row findings)
 
--- a block that passes is certified, and its state is converged exactly where its gap is met
+-- a block that passes is certified, and its state is converged exactly when its gap is met
 abbrev pub IsCertifiedFinding : Finding → Type 0
 IsCertifiedFinding (passed block) = IsSound block.stage block.gap
 IsCertifiedFinding finding = Unit {0}

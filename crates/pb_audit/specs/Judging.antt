@@ -1,4 +1,4 @@
--- Inside. The verdict on one block, and the places that its names know.
+-- Inside. The verdict on one block, and the places that have names.
 use Rattle.std.specs.Prelude.{◌≡◌, ◌<◌, ℕ, List, [], ◌∷◌, ◌++◌, length}
 use Rattle.pb_rows.specs.declared.name.Names.{Names}
 use Rattle.pb_readback.specs.declared.block.Block.{Block}

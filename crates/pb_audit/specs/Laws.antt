@@ -1,14 +1,14 @@
--- Statement. Records have one judgement, each block that gets a yes is certified, and one's own reports get nothing else.
+-- Statement. Records have one judgement, each block that gets a yes is certified, and the program's own reports get nothing else.
 use Rattle.std.specs.Prelude.{◌≡◌, ◌<◌, ℕ, List, [], length, map, All}
 use Rattle.pb_readback.specs.declared.block.Block.{Block}
 use Rattle.pb_readback.specs.Next.{AreBlocks}
 use Rattle.pb_audit.specs.Judgement.{AreFindings, Finding, Finds, FindsNothing, IsCertifiedFinding, IsPassedBlock, passed}
 
--- something is found in records, or nothing
+-- the findings in records exist; there may be none
 abbrev pub SomeFindingsLaw : Type 0
 SomeFindingsLaw = (at : ℕ) (records : List (List (List ℕ))) → (findings : List Finding) × AreFindings at records findings
 
--- and nothing else
+-- and they are unique
 abbrev pub OneFindingsLaw : Type 0
 OneFindingsLaw =
     (at : ℕ) (records : List (List (List ℕ))) (one other : List Finding)
@@ -20,17 +20,17 @@ CertifiedFindingsLaw =
     (at : ℕ) (records : List (List (List ℕ))) (findings : List Finding) → AreFindings at records findings
     → All IsCertifiedFinding findings
 
--- behind what is found fewer records are left
+-- after a finding fewer records are left
 abbrev pub FewerLaw : Type 0
 FewerLaw =
     (at : ℕ) (records behind : List (List (List ℕ))) (finding : Finding) → Finds at records finding behind
     → length behind < length records
 
--- nothing is found where no record is left
+-- nothing is found if no record is left
 abbrev pub NothingLaw : Type 0
 NothingLaw = (at : ℕ) → FindsNothing at []
 
--- where records are blocks that pass, and rows between them, nothing else is found
+-- if records are blocks that pass, and rows between them, nothing else is found
 abbrev pub PassedLaw : Type 0
 PassedLaw =
     (at : ℕ) (records : List (List (List ℕ))) (blocks : List Block) → AreBlocks records blocks → All IsPassedBlock blocks

@@ -6,7 +6,7 @@ use Rattle.pb_audit.specs.declared.judge.Judged.{Judged}
 use Rattle.pb_audit.specs.declared.judge.Judged.TheVariants.{Passed, Failed, Unreadable}
 use Rattle.pb_audit.specs.Judgement.{Finding, Finds, FindsNothing, failed, passed, text_of_findings, unreadable}
 
--- what kind of finding it is
+-- the kind of a finding
 abbrev pub judged_of : Finding → Judged
 judged_of (passed block) = Passed
 judged_of (failed block test place stated found) = Failed

@@ -1,5 +1,5 @@
--- Statement. The rows of a check: one for each block, and one for a record that can't be read. Words of tests and of faults stand in
--- the order of their codes, which begin at 1.
+-- Statement. The rows of a check: one for each block, and one for a record that can't be read. Words of tests and of faults are in the
+-- order of their codes, which begin at 1.
 use Rattle.std.specs.Prelude.{ℕ, ◌-◌, ℤ, pos, [], ◌∷◌}
 use Rattle.pb_rows.specs.declared.name.Names.{Names}
 use Rattle.pb_form.specs.Value.{Value, Missing, Name, Number, Word}
@@ -14,7 +14,7 @@ use Rattle.pb_check.specs.Verdict as tests
 use Rattle.pb_report.specs.Names.{name_at}
 use Rattle.pb_report.specs.Row.{OutputRow, row_of}
 
--- the name of the node or the stream at a place, and none of the whole stage
+-- the name of the node or the stream at a place; missing for the whole stage
 abbrev pub place_name : Names → Place → Value
 place_name names (Node node) = Name (name_at names.nodes node)
 place_name names (Stream stream) = Name (name_at names.streams stream)
@@ -24,8 +24,8 @@ place_name names Whole = Missing
 abbrev pub yes_row : Block → OutputRow
 yes_row block = row_of kind.Yes (Name block.period ∷ Number (pos block.round) ∷ [])
 
--- the row of a block that fails: its period and its round, the first test that it fails, where, what is stated there, and what the
--- rule gives
+-- the row of a block that fails: its period and its round, the first test that it fails, the place where it fails, what is stated there,
+-- and what the rule gives
 abbrev pub no_row : Block → Test → Place → ℤ → ℤ → OutputRow
 no_row block test place stated found =
     row_of kind.No

@@ -19,12 +19,12 @@ pub enum Judged {
     Passed,
     /// A block fails a test: its row is `no`.
     Failed,
-    /// A row can't be read: its row is `unreadable`, and nothing is judged behind it.
+    /// A row can't be read: its row is `unreadable`, and nothing is judged after it.
     Unreadable,
 }
 
-/// Reads the next block of a report, judges it, and appends its row; or the row of a record that can't be read. `None` where
-/// neither is left. After an `Err`, out of memory, `out` is as it was, and no record counts as taken that wasn't given.
+/// Reads the next block of a report, judges it, and appends its row; or the row of a record that can't be read. `None` if neither is left.
+/// If memory runs out, `out` is unchanged, and only records that were given count as taken.
 pub fn judge_next(
     alloc: Global,
     records: &mut Records,

@@ -5,8 +5,8 @@ ghost use Rattle.pb_audit.specs.Laws.{CertifiedFindingsLaw, FewerLaw, NothingLaw
 use pb_check::{one_verdict_law, some_verdict_law, sound_law};
 use pb_readback::{formed_law, next_law};
 
-/// The law that something is found in records, or nothing, and nothing else; so the judgement of a report is settled. Behind what is
-/// found fewer records are left, and where none is left nothing is found.
+/// The law that the findings in records exist and are unique, so the judgement of a report is settled. After a finding fewer records are
+/// left, and if none is left nothing is found.
 pub fn findings_law()
     ensures some { SomeFindingsLaw }
     ensures one { OneFindingsLaw }
@@ -19,8 +19,7 @@ pub fn findings_law()
     one_verdict_law();
 }
 
-/// The law that each block that passes is certified, wherever it came from, and that its state is converged exactly where its gap is
-/// met.
+/// The law that each block that passes is certified, wherever it came from, and that its state is converged exactly when its gap is met.
 pub fn certified_law()
     ensures { CertifiedFindingsLaw }
 {
@@ -28,7 +27,7 @@ pub fn certified_law()
     sound_law();
 }
 
-/// The law that in records that are blocks which pass, and rows between them, nothing else is found.
+/// The law that if records are blocks that pass, and rows between them, nothing else is found.
 pub fn passed_law()
     ensures { PassedLaw }
 {}

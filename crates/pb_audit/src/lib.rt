@@ -1,7 +1,7 @@
 //! The judgement of reports by their own numbers, wherever they came from.
 //!
-//! [`judge_next`] reads the next block of a report, judges it, and gives its row: `yes`, or `no` with the first test that it fails.
-//! At a row that can't be read it gives `unreadable`, and nothing is judged behind it. Nothing but the block in hand is kept.
+//! [`judge_next`] reads the next block of a report, judges it, and gives its row: `yes`, or `no` with the first test that it fails. At a
+//! row that can't be read it gives `unreadable`, and nothing is judged after it. Only the current block is kept.
 #![tactic(auto)]
 
 mod judge;

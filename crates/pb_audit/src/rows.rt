@@ -105,7 +105,7 @@ fn unreadable_values(at: u32, fault: RowFault) -> [Value<'static>; 4]
     ]
 }
 
-// The name of the node or the stream at a place, and nothing for the whole stage.
+// The name of the node or the stream at a place; missing for the whole stage.
 fn place_name<'a>(names: &'a Names, place: Place) -> Value<'a>
     requires { IsPlaceOf names.now place }
     ensures { value_as holds.Name result ≡ place_name names.now place }

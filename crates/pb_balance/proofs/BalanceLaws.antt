@@ -1,4 +1,4 @@
--- What crates above may cite of balanced flows: the laws; the price that tells a side; and what a walk takes and turns round.
+-- What crates above may cite of balanced flows: the laws; the price that identifies a side; and what a walk takes and turns round.
 pub use Rattle.pb_balance.proofs.PriceLemmas.{priced_sums, balanced_sum, env_balances}
 pub use Rattle.pb_balance.proofs.CutLemmas.{boundary_sum, cut_determines, unit_price, side_price}
 pub use Rattle.pb_balance.proofs.CycleLemmas.{cycle_frees}

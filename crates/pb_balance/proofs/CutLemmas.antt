@@ -106,7 +106,7 @@ cancel_left a b c d e h = omega (arith, ints, e, h)
 cancel_right : (a b c d : ℤ) → a +ℤ b ≡ c +ℤ d → b ≡ d → a ≡ c
 cancel_right a b c d e h = omega (arith, ints, e, h)
 
--- what the price rises along a stream
+-- the rise of the price along a stream
 abbrev rise : (ℕ → ℤ) → Stream → ℤ
 rise p s = p s.to -ℤ p s.from
 

@@ -1,4 +1,4 @@
--- A closed walk of unmeasured streams but one leaves that one free: any amount may circulate along it.
+-- A closed walk in which all streams but one are unmeasured leaves that one free: any amount may circulate along it.
 use Rattle.std.proofs.Common.{◌≡◌, ◌≢◌, ◌∙◌, ℕ, ◌<◌, pos, Bool, true, false, List, [], ◌∷◌, length, Some, None, slice_get, IsSome, refl, sym, ap, inl, inr, arith}
 use Rattle.std.specs.List.{AllByRecursion}
 use Rattle.std.proofs.lemmas.Bool.{cases_eq, ne_eqb}
@@ -36,7 +36,7 @@ round_balanced g may a steps w = record {
   even = λ n lt. round_net may g.streams n a steps w;
 }
 
--- what circulates, and no flow at all, tell stream j apart
+-- what circulates and no flow at all differ on stream j
 pub round_frees : (g : ProcessGraph) (j : ℕ) (may : ℕ → Stream → Bool) (a : ℕ) (steps : List Step) → Walks (ends_of may g.streams) a steps a
     → AreUnmeasuredBut j g.streams steps → item (turns g.streams steps) j ≢ pos 0 → IsFree g j
 round_frees g j may a steps w others some =

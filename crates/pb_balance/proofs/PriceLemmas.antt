@@ -17,7 +17,7 @@ sum_below-sub : (f g : ℕ → ℤ) (n : ℕ) → sum_below (λ k. f k -ℤ g k)
 sum_below-sub f g zero = refl
 sum_below-sub f g (suc n) = let e = sum_below-sub f g n in omega (arith, ints, e)
 
--- a flow that counts at one node alone
+-- a flow that counts at one node only
 abbrev at_end : ℕ → ℤ → ℕ → ℤ
 at_end m x n = cond (m == n) x (pos 0)
 
@@ -72,7 +72,7 @@ same_price price (s ∷ ss) (x ∷ xs) same =
     let none : (price s.to -ℤ price s.from) *ℤ x ≡ pos 0 = ap (λ (z : ℤ). z *ℤ x) level ∙ zero_mul x in
     omega (arith, ints, rest, none)
 
--- flows that balance at every node but the environment balance there too
+-- flows that balance at every node except the environment balance there too
 pub env_balances : (g : ProcessGraph) (xs : List ℤ) → IsProcessGraph g → length xs ≡ length g.streams
     → ((n : ℕ) → 0 < n → n < g.nodes → net_of n g.streams xs ≡ pos 0) → IsBalanced g xs
 env_balances g xs is each others =

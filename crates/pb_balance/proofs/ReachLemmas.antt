@@ -17,7 +17,7 @@ use Rattle.pb_balance.proofs.CutLemmas.{member_stream, cut_determines}
 use Rattle.pb_balance.proofs.TurnLemmas.{takes, first_taken}
 use Rattle.pb_balance.proofs.CycleLemmas.{AreUnmeasuredBut, round_frees}
 
--- ---- where it is reached
+-- ---- if it is reached
 -- a walk over the other unmeasured streams does not take stream j, and no measured one
 -- a stream that is not measured has no measurement
 pub no_meas : (s : Stream) → is_measured s ≡ false → s.meas ≡ None
@@ -44,7 +44,7 @@ reached_frees g j s at (steps, w) =
     (s.from, ends_is any_stream ss j s false at refl, walk_more (unmeasured_but j) any_stream ss s.from s.to steps (λ k u f h. refl) w) in
     round_frees g j any_stream s.to (back ∷ steps) whole ((λ ne u f. absurd (ne refl)), facts.1) (first_taken ss back steps (slice_get_within ss j s at) facts.0)
 
--- ---- where it is not reached
+-- ---- if it is not reached
 -- the set that is reached is closed: an unmeasured stream other than j has both ends in it or none
 both_or_none : (g : ProcessGraph) (j a k : ℕ) (s : Stream) (side : List Bool) → IsReach (ends_of (unmeasured_but j) g.streams) g.nodes a side
     → slice_get g.streams k ≡ Some s → unmeasured_but j k s ≡ true → is_in side s.from ≡ is_in side s.to
@@ -80,7 +80,7 @@ first_all : (P : Member → Type 0) (o : Option Member) (rest : List Member) →
 first_all P None rest each all = all
 first_all P (Some m) rest each all = (each m refl, all)
 
--- what each member has, where each stream with one end in the side has it
+-- what each member has, if each stream with one end in the side has it
 members_all : (P : Member → Type 0) (side : List Bool) (i : ℕ) (ss : List Stream)
     → ((k : ℕ) (s : Stream) (m : Member) → slice_get ss k ≡ Some s → member_at side (i + k) s ≡ Some m → P m) → AllByRecursion P (members_from side i ss)
 members_all P side i [] each = tt
@@ -122,7 +122,7 @@ side_cuts_off g j s side at reach out =
           (ap (member_at side (0 + k)) (some_same (sym there ∙ ap (slice_get g.streams) (omega arith) ∙ at_t)) ∙ crosses));
     }
 
--- two vectors that tell a stream apart show that it is not determined
+-- two vectors that differ on a stream show that it is not determined
 pub not_both : (g : ProcessGraph) (j : ℕ) → IsDetermined g j → IsFree g j → ⊥
 not_both g j determined (xs, ys, apart) = apart.differ (determined xs ys apart.one apart.other apart.agree)
 

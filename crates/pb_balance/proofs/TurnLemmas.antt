@@ -124,7 +124,7 @@ no_gap b = omega (arith, ints)
 gap_sum : (a b c : ℤ) → (c -ℤ a) +ℤ (b -ℤ c) ≡ b -ℤ a
 gap_sum a b c = omega (arith, ints)
 
--- a walk takes one unit from where it begins to where it ends
+-- a walk takes one unit from the node where it begins to the node where it ends
 pub walk_net : (may : ℕ → Stream → Bool) (ss : List Stream) (n a b : ℕ) (steps : List Step) → Walks (ends_of may ss) a steps b
     → net_of n ss (turns ss steps) ≡ unit_at b n -ℤ unit_at a n
 walk_net may ss n a b [] w = net_zeros n ss ∙ no_gap (unit_at b n) ∙ ap (λ (m : ℕ). unit_at b n -ℤ unit_at m n) (sym w)

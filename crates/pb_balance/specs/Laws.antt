@@ -22,8 +22,8 @@ PricedSumLaw = (graph : ProcessGraph) (price : ℕ → ℤ) (flows : List ℤ) �
 abbrev pub BalancedSumLaw : Type 0
 BalancedSumLaw = (graph : ProcessGraph) (price : ℕ → ℤ) (flows : List ℤ) → IsProcessGraph graph → IsBalanced graph flows → priced_streams price graph.streams flows ≡ pos 0
 
--- Flows that balance at every node but the environment are balanced: one balance follows from the others (Mah, Stanley and
--- Downing 1976).
+-- Flows that balance at every node except the environment are balanced: one balance follows from the others (Mah, Stanley and Downing
+-- 1976).
 abbrev pub BalancedButEnvLaw : Type 0
 BalancedButEnvLaw =
     (graph : ProcessGraph) (flows : List ℤ) → IsProcessGraph graph → length flows ≡ length graph.streams
@@ -43,7 +43,7 @@ abbrev pub CycleLaw : Type 0
 CycleLaw = (graph : ProcessGraph) (stream_id : ℕ) (steps : List Step) → IsProcessGraph graph → GoesRound graph stream_id steps → IsFree graph stream_id
 
 -- What decides between the two: the nodes that the `from` end of a stream reaches over the other unmeasured streams. The stream is
--- determined exactly where its `to` end isn't among them, and then their boundary cuts it off; it is free exactly where it is.
+-- determined exactly when its `to` end isn't among them, and then their boundary cuts it off; it is free exactly when its `to` end is.
 pub record IsDecidedBy (graph : ProcessGraph) (stream_id : ℕ) (stream : Stream) (side : List Bool) : Type 0 where
   pub determined : IsDetermined graph stream_id ↔ (is_in side stream.to ≡ false)
   pub free : IsFree graph stream_id ↔ (is_in side stream.to ≡ true)
@@ -61,6 +61,6 @@ CertificateLaw = (graph : ProcessGraph) (stream_id : ℕ) (classified : Classifi
 abbrev pub EachClassLaw : Type 0
 EachClassLaw = (graph : ProcessGraph) (stream_id : ℕ) → IsProcessGraph graph → stream_id < length graph.streams → (class : Class) × IsClassOf graph stream_id class
 
--- a stream has one class
+-- a stream has only one class
 abbrev pub OneClassLaw : Type 0
 OneClassLaw = (graph : ProcessGraph) (stream_id : ℕ) (one other : Class) → IsClassOf graph stream_id one → IsClassOf graph stream_id other → one ≡ other

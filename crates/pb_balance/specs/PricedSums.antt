@@ -11,7 +11,7 @@ use Rattle.pb_graph.specs.Prices.{rise_of}
 abbrev pub priced_nodes : (ℕ → ℤ) → ProcessGraph → List ℤ → ℤ
 priced_nodes price graph flows = sum_below (λ n. price n *ℤ net_of n graph.streams flows) graph.nodes
 
--- the sum over the streams of what the price rises along the stream, times its flow
+-- the sum over the streams of the rise of the price along the stream times its flow
 abbrev pub priced_streams : (ℕ → ℤ) → List Stream → List ℤ → ℤ
 priced_streams price [] flows = pos 0
 priced_streams price (stream ∷ streams) [] = pos 0

@@ -2,13 +2,13 @@
 
 ghost use Rattle.pb_balance.specs.Laws.{PricedSumLaw, BalancedSumLaw, BoundarySumLaw, CutLaw, CycleLaw, ReachLaw, CertificateLaw, OneClassLaw, EachClassLaw, BalancedButEnvLaw};
 
-/// A sum over the nodes of price times net flow is a sum over the streams, which is 0 where the flows balance.
+/// A sum over the nodes of price times net flow is a sum over the streams, which is 0 if the flows balance.
 pub fn priced_sum_law()
     ensures nodes { PricedSumLaw }
     ensures balanced { BalancedSumLaw }
 {}
 
-/// Flows that balance at every node but the environment balance at the environment too.
+/// Flows that balance at every node except the environment balance at the environment too.
 pub fn env_balance_law()
     ensures { BalancedButEnvLaw }
 {}
@@ -28,8 +28,8 @@ pub fn cycle_law()
     ensures { CycleLaw }
 {}
 
-/// A stream is determined exactly where its `from` end doesn't reach its `to` end over the other unmeasured streams, and free
-/// exactly where it does.
+/// A stream is determined exactly when its `from` end doesn't reach its `to` end over the other unmeasured streams, and free exactly when
+/// it does.
 pub fn reach_law()
     ensures { ReachLaw }
 {}
@@ -39,7 +39,7 @@ pub fn certificate_law()
     ensures { CertificateLaw }
 {}
 
-/// Each stream has a class, and has one.
+/// Each stream has a class, and only one.
 pub fn one_class_law()
     ensures some { EachClassLaw }
     ensures one { OneClassLaw }

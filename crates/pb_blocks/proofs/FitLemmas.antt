@@ -54,7 +54,7 @@ pub count_at : (columns : List Column) (values : List Value) (place : ℕ) (key 
 count_at columns values place key lo hi bound optional fit at le =
     within_more lo hi bound (optional_at values place) le (number_between columns values place key (pos lo) (pos hi) optional fit at)
 
--- the same of a number whose range was asked apart
+-- the same for a number whose range was checked separately
 pub counted : (lo hi bound : ℕ) (number : Option ℤ) → pos lo ≤ℤ unwrap_or number (pos 0) → unwrap_or number (pos 0) ≤ℤ pos hi → hi ≤ bound
     → IfSome number (LiesWithin (pos 0) (pos bound))
 counted lo hi bound None least most le = tt

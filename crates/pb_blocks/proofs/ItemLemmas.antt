@@ -17,7 +17,7 @@ place_found test xs place found = elim (cases_Bool (nat_lt (position_or_len test
   | inr outside ↦ let e = rw outside at found in cc e
 ]
 
--- where it gives none, the place is the length
+-- if it gives none, the place is the length
 pub place_of_none : {A : Type 0} (test : A → Bool) (xs : List A) → position test xs ≡ None → position_or_len test xs ≡ length xs
 place_of_none test xs none = elim (cases_Bool (nat_lt (position_or_len test xs) (length xs))) [
   | inl within ↦ let e = rw within at none in cc e
@@ -34,7 +34,7 @@ one_item test (byte ∷ text) none = elim (cases_Bool (test byte)) [
       slice_split-cons_no test byte text later ∙ ap (onto_first byte) rest
 ]
 
--- an item with more behind it
+-- an item with more after it
 pub first_of_more : (text : List ℕ) (end : ℕ) → end ≡ position_or_len (λ byte. byte == space) text → end < length text
     → slice_split (λ byte. byte == space) text
     ≡ take end text ∷ slice_split (λ byte. byte == space) (take (length text - (end + 1)) (drop (end + 1) text))
@@ -88,7 +88,7 @@ name_later byte text name = rw name (omega arith)
 
 -- ---- where names and items end
 
--- where bytes of a name are followed by the end of an item, it ends there
+-- if bytes of a name are followed by the end of an item, the item ends there
 pub ends_behind_name : (text : List ℕ) (n : ℕ) → n ≤ length text → list_all is_name_byte (take n text) ≡ true → ends_at text n ≡ true → item_end text ≡ n
 ends_behind_name [] zero le all ends = refl
 ends_behind_name [] (suc n) le all ends = absurd (omega (arith, le))
@@ -98,7 +98,7 @@ ends_behind_name (byte ∷ text) (suc n) le all ends =
     item_later byte text (not_space byte parts.0)
     ∙ ap suc (ends_behind_name text n (omega (arith, le)) parts.1 (sym (ends_later byte text n) ∙ ends))
 
--- all bytes before the end of a name are those of a name
+-- all bytes before the end of a name are bytes of a name
 pub all_in_name : (text : List ℕ) → list_all is_name_byte (take (name_end text) text) ≡ true
 all_in_name [] = refl
 all_in_name (byte ∷ text) = elim (cases_Bool (is_name_byte byte)) [
@@ -135,7 +135,7 @@ first_item text = elim (cases_Bool (nat_lt (item_end text) (length text))) [
   | inr outside ↦ (_, only_item text (item_end text) refl (grind (arith, outside)))
 ]
 
--- where the first item isn't a part, not all items are
+-- if the first item isn't a part, not all items are
 pub no_part : (text : List ℕ) → is_part (take (item_end text) text) ≡ false
     → list_all is_part (slice_split (λ byte. byte == space) text) ≡ (length (slice_split (λ byte. byte == space) text) == 0)
 no_part text other =
@@ -168,7 +168,7 @@ is_whole text end is within whole =
     let form : has_name_length (take end text) ≡ true = rw long third.0 in
     (sym (ends_behind_name text end within all third.1), and_from _ _ form all)
 
--- the same of a name that is at hand
+-- the same for a given name
 pub ends_behind : (text name : List ℕ) → is_name name ≡ true → take (length name) text ≡ name → length name ≤ length text → ends_at text (length name) ≡ true
     → item_end text ≡ length name
 ends_behind text name form front within ends =

@@ -10,14 +10,14 @@ use Rattle.pb_form.specs.Telling.{agrees, has_words, is_of, schema_told, told_at
 use Rattle.pb_form.specs.declared.fault.FormFault.{FormFault}
 use Rattle.pb_form.specs.declared.fault.FormFault.TheVariants as form
 
--- the place of the one item that there is
+-- the place of the only item
 alone : {A : Type 0} (test : A → Bool) (x : A) → position test (x ∷ []) ≡ (if test x then Some 0 else None)
 alone test x = elim (cases_Bool (test x)) [
   | inl holds ↦ rw holds refl
   | inr fails ↦ rw fails refl
 ]
 
--- a row is told among one schema exactly if it is of it
+-- a row is identified among one schema exactly when it is of it
 pub told_alone : (schema : Schema) (row : List (List ℕ)) → is_ok (schema_told (schema ∷ []) row) ≡ is_of row schema
 told_alone schema row = rw (alone (is_of row) schema) (by (is_of row schema))
   where
@@ -25,7 +25,7 @@ told_alone schema row = rw (alone (is_of row) schema) (by (is_of row schema))
     by true = refl
     by false = refl
 
--- a telling that isn't that no schema has the row's words
+-- a result other than that no schema has the row's words
 abbrev pub tells_words : Result ℕ FormFault → Bool
 tells_words (Err form.Kind) = false
 tells_words told = true
@@ -35,14 +35,14 @@ by_words : (has : Bool) → tells_words (Err (if has || false then form.Fields e
 by_words true = refl
 by_words false = refl
 
--- a row has the words of one schema exactly if its telling says so
+-- a row has the words of one schema exactly when the result says so
 pub words_alone : (schema : Schema) (row : List (List ℕ)) → tells_words (schema_told (schema ∷ []) row) ≡ has_words row schema
 words_alone schema row = elim (cases_Bool (is_of row schema)) [
   | inl holds ↦ rw (alone (is_of row) schema, holds) (sym (and_parts (has_count schema (length row)) (agrees schema.columns row) holds).1)
   | inr fails ↦ rw (alone (is_of row) schema, fails) (by_words (agrees schema.columns row))
 ]
 
--- a fault is another than `Kind` exactly if its telling says that there are the words
+-- a fault isn't `Kind` exactly when its result says that there are the words
 pub another : (fault : FormFault) → not (sameb the_type fault form.Kind) ≡ tells_words (Err fault)
 another form.Kind = refl
 another form.Fields = refl

@@ -45,7 +45,7 @@ not_true : (b : Bool) → not b ≡ true → b ≡ false
 not_true true h = cc h
 not_true false h = refl
 
--- a new name behind the others
+-- a new name after the others
 pub differ_more : (names : List (List ℕ)) (name : List ℕ) → differ names ≡ true → is_among names name ≡ false → differ (names ++ name ∷ []) ≡ true
 differ_more [] name all new = refl
 differ_more (n ∷ names) name all new =
@@ -66,7 +66,7 @@ pub known_grown : (names grown : List (List ℕ)) (name : List ℕ) → grown �
     → is_among names name ≡ false → AreKnown grown
 known_grown names grown name is known room form new = rw is (known_more names name known room form new)
 
--- a text that isn't a name is none of the names
+-- a text that isn't a name isn't one of the names
 not_among : (names : List (List ℕ)) (text : List ℕ) → list_all is_name names ≡ true → is_name text ≡ false → is_among names text ≡ false
 not_among [] text forms other = refl
 not_among (name ∷ names) text forms other =
@@ -121,7 +121,7 @@ among_at (name ∷ names) (suc place) text within is =
       | inr apart ↦ rw apart rest
     ]
 
--- and where no name comes twice, it is found there
+-- and if no name occurs twice, it is found there
 pub placed_at : (names : List (List ℕ)) (place : ℕ) (text : List ℕ) → differ names ≡ true → place < length names → get_or names place text ≡ text
     → position_or_len (same_name text) names ≡ place
 placed_at [] place text all within is = absurd (omega (arith, within))
@@ -144,7 +144,7 @@ pub unmarked : (nodes : List (List ℕ)) → replicate (length nodes) false ≡ 
 unmarked [] = refl
 unmarked (node ∷ nodes) = ap (λ (side : List Bool). false ∷ side) (unmarked nodes)
 
--- an item that is no node marks none
+-- an item that isn't a node marks none
 pub not_marked : (nodes done : List (List ℕ)) (item : List ℕ) → is_among nodes item ≡ false → side_of nodes done ≡ side_of nodes (done ++ item ∷ [])
 not_marked [] done item none = refl
 not_marked (node ∷ nodes) done item none =
@@ -190,7 +190,7 @@ marked_at nodes done side item place all found is = elim (cases_Bool (is_among n
   | inr absent ↦ let e = sym found ∙ none_found (same_name item) nodes absent in cc e
 ]
 
--- and where none is found, none is marked
+-- and if none is found, none is marked
 pub unmarked_at : (nodes done : List (List ℕ)) (side : List Bool) (item : List ℕ) → position (same_name item) nodes ≡ None → side ≡ side_of nodes done → side ≡ side_of nodes (done ++ item ∷ [])
 unmarked_at nodes done side item none is = elim (cases_Bool (is_among nodes item)) [
   | inl there ↦ let e = sym none ∙ some_found (same_name item) nodes there in cc e

@@ -1,4 +1,4 @@
--- What a row that was read says is of its columns.
+-- What a row that was read says fits its columns.
 use Rattle.std.specs.Prelude.{◌&&◌, ◌==◌, ◌-◌, bytes_eq, int_le, nat_le, position, IfSome, Result, Ok, Err, slice_get, if◌then◌else◌}
 use Rattle.std.specs.Option.{unwrap_or}
 use Rattle.std.proofs.Common.{◌≡◌, ◌∙◌, ◌≤◌, ℕ, ℤ, zero, suc, pos, Bool, true, false, List, [], ◌∷◌, length, Option, Some, None, refl, sym, ap, arith, inl, inr}
@@ -41,7 +41,7 @@ are_read schema row values read = by (has_count schema (length row)) refl (field
         let parts = and_parts (nat_le (length schema.columns) (length row)) (are_turns schema.tail (length row - length schema.columns)) count in
         record { fields = rw (is, same) refl; many = grind (arith, nat_tests, parts.0) }
 
--- the value of the first field, and those of the others
+-- the value of the first field, and the values of the others
 record IsFirstRead (asked : Column) (columns : List Column) (text : List ℕ) (row : List (List ℕ)) (values : List Value) : Type 0 where
   value : Value
   rest : List Value
@@ -104,7 +104,7 @@ optional_says lo hi true read value says = let is : Missing ≡ value = cc says 
 optional_says lo hi false None value says = cc says
 optional_says lo hi false (Some z) value says = let h = passes lo hi z value says in rw (h.0) h.1
 
--- a word is no number
+-- a word isn't a number
 word_says : (place : Option ℕ) (value : Value) → found Word fault.Word place ≡ Ok value → number_in value ≡ None
 word_says None value says = cc says
 word_says (Some place) value says = let is : Word place ≡ value = cc says in rw (← is) refl

@@ -1,4 +1,4 @@
--- Statement. The numbers of the faults of a row, by which the lowest is told.
+-- Statement. The numbers of the faults of a row; the lowest is reported.
 use Rattle.std.specs.Prelude.{ℕ, nat_lt, Option, Some, None, if◌then◌else◌}
 use Rattle.pb_form.specs.declared.fault.FormFault.{FormFault}
 use Rattle.pb_form.specs.declared.fault.FormFault.TheVariants as form
@@ -19,7 +19,7 @@ code_of Count = 9
 code_of Env = 10
 code_of Ended = 11
 
--- what a fault of a row's form is here; no row of a block has a date
+-- the fault of a row of a block for a fault of its form; no row of a block has a date
 abbrev pub fault_by : FormFault → RowFault
 fault_by form.Kind = Kind
 fault_by form.Fields = Fields
@@ -27,7 +27,7 @@ fault_by form.Name = Name
 fault_by form.Word = Word
 fault_by fault = Number
 
--- the lowest of two faults, if there is one
+-- the lower of two faults, if there are any
 abbrev pub lowest : Option RowFault → Option RowFault → Option RowFault
 lowest None other = other
 lowest (Some one) None = Some one

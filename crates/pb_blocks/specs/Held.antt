@@ -1,4 +1,5 @@
--- Inside. What the code holds: the items of a list that are left, names that are found without a walk, and what its functions ask.
+-- Inside. What the code holds: the items of a list that are left, names that are found without walking the list, and what its
+-- functions require.
 use Rattle.std.specs.Prelude.{◌≡◌, ◌≤◌, ℕ, Bool, true, ◌==◌, ◌||◌, ◌&&◌, not, nat_le, List, [], ◌∷◌, map, length, slice_index_or, if◌then◌else◌}
 use Rattle.std.specs.List.{list_all, position_or_len, slice_split}
 use Rattle.pb_limits.specs.Limits.{most_streams}
@@ -26,7 +27,7 @@ ends_at text place = (place == length text) || (slice_index_or text place 0 == s
 abbrev pub name_end : List ℕ → ℕ
 name_end text = position_or_len (λ byte. not (is_name_byte byte)) text
 
--- so many bytes at the front of a text, all of which may stand in a name, are one and the whole of the first item
+-- this many bytes at the front of a text, all of which may stand in a name, are a name and the whole of the first item
 abbrev pub is_whole_name : List ℕ → ℕ → Bool
 is_whole_name text end = not (end == 0) && nat_le end 32 && ends_at text end
 
@@ -34,24 +35,24 @@ is_whole_name text end = not (end == 0) && nat_le end 32 && ends_at text end
 abbrev pub sign_if : Bool → ℕ
 sign_if positive = if positive then plus else dash
 
--- the first item of a list and those behind it, and its name and its sign as a part
+-- the first item of a list and the items after it, and the first item's stream and sign as a part
 pub record IsNextPart (streams old new : List (List ℕ)) (stream : ℕ) (positive : Bool) : Type 0 where
   pub item : List ℕ
   pub first : old ≡ item ∷ new
   pub place : stream ≡ place_of streams (part_name item)
   pub sign : positive ≡ is_plus item
 
--- names, none of them twice, and no more than a graph has streams
+-- different names, and no more of them than a graph can have streams
 pub record AreKnown (names : List (List ℕ)) : Type 0 where
   pub forms : list_all is_name names ≡ true
   pub different : differ names ≡ true
   pub few : length names ≤ most_streams
 
--- an item of the form of a name that isn't one of these
+-- an item that has the form of a name and isn't one of these
 abbrev pub is_unknown_item : List (List ℕ) → List ℕ → Bool
 is_unknown_item names item = is_name item && not (is_among names item)
 
--- for each node whether it is in the side of these names
+-- for each node, whether it is in the side of these names
 abbrev pub side_of : List (List ℕ) → List (List ℕ) → List Bool
 side_of nodes names = map (is_among names) nodes
 

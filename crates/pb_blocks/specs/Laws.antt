@@ -1,4 +1,4 @@
--- Statement. What a row that was read says is of its columns.
+-- Statement. What a row that was read says fits its columns.
 use Rattle.std.specs.Prelude.{◌≡◌, ◌≤ℤ◌, ℕ, ℤ, true, List, Some, Ok, IfSome, slice_get}
 use Rattle.pb_rows.specs.Name.{is_name}
 use Rattle.pb_form.specs.Columns.{Column, column, optional}
@@ -18,7 +18,7 @@ LiesWithin lo hi z = (lo ≤ℤ z) × (z ≤ℤ hi)
 abbrev pub HasColumn : OutputKind → ℕ → Column → Type 0
 HasColumn kind place column = slice_get (output_columns kind) place ≡ Some column
 
--- The numbers of a row that was read lie in the ranges of their columns, and its names are names.
+-- The numbers of a row that was read lie in the ranges of their columns, and its names have the form of names.
 pub record RowReadLaw : Type 0 where
   pub numbers : (kind : OutputKind) (row : List (List ℕ)) (values : List Value) (place : ℕ) (key : List ℕ) (lo hi : ℤ)
       → row_read (output_schema kind) row ≡ Ok values → HasColumn kind place (column key (Number lo hi))

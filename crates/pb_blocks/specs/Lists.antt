@@ -11,7 +11,8 @@ use Rattle.pb_blocks.specs.Texts.{is_blank}
 abbrev pub space : ℕ
 space = 32
 
--- `+`: a stream that enters the side, or is taken along its arrow; one that leaves it, or is taken against its arrow, has `-`
+-- `+`: a stream that enters the side, or is taken along its arrow; a stream that leaves the side, or is taken against its
+-- arrow, has `-`
 abbrev pub plus : ℕ
 plus = 43
 
@@ -23,7 +24,7 @@ items text = if is_blank text then [] else slice_split (λ byte. byte == space) 
 abbrev pub is_among : List (List ℕ) → List ℕ → Bool
 is_among names name = list_any (same_name name) names
 
--- no name comes twice
+-- no name occurs twice
 abbrev pub differ : List (List ℕ) → Bool
 differ [] = true
 differ (name ∷ names) = not (is_among names name) && differ names
@@ -32,12 +33,12 @@ differ (name ∷ names) = not (is_among names name) && differ names
 abbrev pub place_of : List (List ℕ) → List ℕ → ℕ
 place_of names name = position_or_len (same_name name) names
 
--- places that rise, the first of them at the least
+-- places that rise strictly, the first of them at or above this one
 abbrev pub rise_from : ℕ → List ℕ → Bool
 rise_from least [] = true
 rise_from least (place ∷ places) = nat_le least place && rise_from (place + 1) places
 
--- a side: names of nodes in order of nodes, none of them twice
+-- a side: names of nodes in the order of the nodes, none twice
 abbrev pub is_side : List (List ℕ) → List (List ℕ) → Bool
 is_side nodes names = list_all is_name names && rise_from 0 (map (place_of nodes) names)
 

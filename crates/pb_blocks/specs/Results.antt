@@ -23,6 +23,6 @@ result_of streams row = record {
   least = row.least;
 }
 
--- a stream whose parts name none of these streams
+-- a stream with a part that names none of these streams
 abbrev pub has_unknown_part : List (List ℕ) → StreamRow → Bool
 has_unknown_part streams row = list_any (λ part. not (is_among streams (part_name part))) (items row.parts)

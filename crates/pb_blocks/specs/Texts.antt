@@ -3,11 +3,11 @@ use Rattle.std.specs.Prelude.{ℕ, ◌==◌, ◌-◌, Bool, List, [], length, sl
 use Rattle.pb_form.specs.declared.output.OutputKind.{OutputKind}
 use Rattle.pb_form.specs.declared.output.OutputKind.TheVariants.{StreamBefore}
 
--- the field of a row at a place, of which 0 is the kind; nothing if the row is shorter
+-- the field of a row at a place (place 0 is the kind); nothing if the row is shorter
 abbrev pub field : List (List ℕ) → ℕ → List ℕ
 field row place = slice_index_or row place []
 
--- a field without a byte
+-- an empty field
 abbrev pub is_blank : List ℕ → Bool
 is_blank text = length text == 0
 
@@ -22,7 +22,7 @@ from_field row = field row 2
 abbrev pub to_field : List (List ℕ) → List ℕ
 to_field row = field row 3
 
--- the place of a column after the least bounds of a stream's row: in a row without them it is two places further to the front
+-- the place of a column after the least bounds of a stream's row: in a row without them it is two places earlier
 abbrev pub place_after : OutputKind → ℕ → ℕ
 place_after StreamBefore place = place - 2
 place_after kind place = place

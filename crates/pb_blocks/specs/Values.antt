@@ -28,18 +28,18 @@ use Rattle.pb_blocks.specs.Texts.{from_field, name_field, parts_field, place_aft
 abbrev pub values_in : OutputKind → List (List ℕ) → List Value
 values_in kind row = result_unwrap_or (row_read (output_schema kind) row) []
 
--- the number at a place, of a column that may be empty and of one that may not
+-- the number at a place: of a column that may be empty, and of one that may not
 abbrev pub optional_at : List Value → ℕ → Option ℤ
 optional_at values place = value_at number_in values place
 
 abbrev pub number_at : List Value → ℕ → ℤ
 number_at values place = unwrap_or (optional_at values place) (pos 0)
 
--- the same of a number that isn't negative
+-- the same for a number that isn't negative
 abbrev pub natural_at : List Value → ℕ → ℕ
 natural_at values place = unsigned_abs (number_at values place)
 
--- what the word at a place stands for, by the table of its column; something else if it is none of the column's words
+-- what the word at a place stands for, by the table of its column; something else if it isn't one of the column's words
 abbrev pub chosen_at : {A : Type 0} → (ℕ → Option A) → A → List Value → ℕ → A
 chosen_at placed other values place = unwrap_or (option_and_then placed (value_at word_in values place)) other
 
@@ -64,8 +64,8 @@ said_heading row values = record {
   sweeps = natural_at values 6;
 }
 
--- `stream,NAME,FROM,TO,VALUE,VARIANCE,CLASS,FLOW,LO,HI,LEAST_LO,LEAST_HI,SHAPE,SIDE,PARTS`: the ends among the nodes, and what was
--- measured
+-- `stream,NAME,FROM,TO,VALUE,VARIANCE,CLASS,FLOW,LO,HI,LEAST_LO,LEAST_HI,SHAPE,SIDE,PARTS`: the ends by their places among the nodes,
+-- and what was measured
 abbrev pub said_arc : List (List ℕ) → List (List ℕ) → List Value → Stream
 said_arc nodes row values = record {
   from = place_of nodes (from_field row);
@@ -73,8 +73,8 @@ said_arc nodes row values = record {
   meas = both_meas (optional_at values 4) (optional_at values 5);
 }
 
--- the class, the flow, the bounds, the least bounds, in whose place an older row has words, and the certificate, of which the parts are
--- kept as they are written
+-- the class, the flow, the bounds, the least bounds (in their place an older row has words) and the certificate, whose parts are kept
+-- as they are written
 abbrev pub said_stream : List (List ℕ) → OutputKind → List (List ℕ) → List Value → StreamRow
 said_stream nodes kind row values = record {
   class = chosen_at placed_class Nonredundant values 6;

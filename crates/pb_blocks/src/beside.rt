@@ -1,4 +1,4 @@
-// What may be wrong with a row of a block beside its form.
+// What may be wrong with a row of a block besides its form.
 
 ghost use Rattle.std.specs.Prelude.{◌≡◌, bytes_eq};
 ghost use Rattle.pb_blocks.specs.Beside.{has_bad_list, has_unknown_node, is_half, is_half_told, is_round, pairs_of};
@@ -11,14 +11,14 @@ use pb_form::{Fields, OutputKind};
 use pb_limits::MOST_ROUNDS;
 use pb_rows::read_whole;
 
-/// Whether a stream's value stands without a variance, or one bound or least bound without the other.
+/// Whether a stream has only one of its value and its variance, or only one of two bounds or two least bounds.
 pub fn is_half_told(kind: OutputKind, fields: &Fields) -> bool
     ensures { result ≡ is_half_told kind fields.now }
 {
     pairs_of(kind).iter().any(|pair| is_half(field(fields, pair.0), field(fields, pair.1)))
 }
 
-// The places of the columns of a stream's row that come together: a value and its variance, bounds, and least bounds.
+// The places of the columns of a stream's row that belong together: a value and its variance, bounds, and least bounds.
 fn pairs_of(kind: OutputKind) -> &'static [(usize, usize)]
     ensures { result.now ≡ pairs_of kind }
 {
@@ -39,7 +39,7 @@ fn is_half(one: &[u8], other: &[u8]) -> bool
     }
 }
 
-/// Whether a stream leads from or to, or has in its side, what is none of these nodes.
+/// Whether a stream leads from or to a name that isn't one of these nodes, or has such a name in its side.
 pub fn has_unknown_node(nodes: &Known, kind: OutputKind, fields: &Fields) -> bool
     ensures { result ≡ has_unknown_node nodes.now kind fields.now }
 {
@@ -48,7 +48,7 @@ pub fn has_unknown_node(nodes: &Known, kind: OutputKind, fields: &Fields) -> boo
         || has_unknown_item(nodes, side_field(kind, fields))
 }
 
-/// Whether a stream's side isn't one of these nodes in order, a cycle has a side, or its parts aren't signs with names.
+/// Whether a stream's side doesn't list these nodes in order, a cycle has a side, or its parts aren't signs with names.
 pub fn has_bad_list(nodes: &Known, kind: OutputKind, fields: &Fields) -> bool
     ensures { result ≡ has_bad_list nodes.now kind fields.now }
 {

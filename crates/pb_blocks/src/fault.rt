@@ -5,24 +5,24 @@ ghost use Rattle.pb_blocks.specs.Codes.{code_of, lowest};
 
 use pb_form::FormFault;
 
-/// The faults of a row, in the order in which they are told.
+/// The faults of a row, in the order in which they are reported.
 #[derive(Clone, Copy, PartialEq, Eq, Debug)]
 pub enum RowFault {
     /// A row of this kind may not stand here.
     Kind,
-    /// It has more or fewer fields than its kind has, or, for a stream, than the first of its block.
+    /// It has more or fewer fields than its kind has, or, for a stream, than the first stream of its block.
     Fields,
     /// A field isn't a name.
     Name,
-    /// A field isn't a number of its range, or is left empty where the one beside it isn't.
+    /// A field isn't a number in its range, or is left empty although the field that belongs with it isn't.
     Number,
-    /// A name is that of no node or stream of the block, or the end isn't that of the block.
+    /// A name isn't the name of a node or stream of the block, or the end isn't the end of the block.
     Unknown,
-    /// The name of a node comes twice, or that of a stream.
+    /// Two nodes have the same name, or two streams do.
     Duplicate,
     /// A field isn't one of its words.
     Word,
-    /// A list isn't of its form.
+    /// A list doesn't have its form.
     Shape,
     /// The block has too few nodes or too many nodes or streams, or a stream leads from a node to itself.
     Count,
@@ -33,7 +33,7 @@ pub enum RowFault {
 }
 
 impl RowFault {
-    /// The number of the fault, by which the lowest is told.
+    /// The number of the fault; the lowest is reported.
     pub fn code(self) -> u32
         ensures value { result ≡ code_of self }
     {
@@ -69,7 +69,7 @@ impl From<FormFault> for RowFault {
     }
 }
 
-/// The lowest of two faults, if there is one.
+/// The lower of two faults, if there are any.
 pub fn lowest(one: Option<RowFault>, other: Option<RowFault>) -> Option<RowFault>
     ensures { result ≡ lowest one other }
 {

@@ -27,7 +27,7 @@ impl<'a> Model for Items<'a> {
 }
 
 impl<'a> Items<'a> {
-    /// The items of a list; none of an empty one.
+    /// The items of a list; an empty list has none.
     pub fn of(text: &'a [u8]) -> Items<'a>
         ensures { result ≡ items text.now }
     {
@@ -67,7 +67,7 @@ impl<'a> Items<'a> {
         Some(&text[..end])
     }
 
-    /// Takes the next item, if it is a sign with this name; says whether the sign is `+`.
+    /// Takes the next item, if it is a sign with this name, and returns whether the sign is `+`.
     pub fn next_named(&mut self, name: &[u8]) -> Option<bool>
         requires { is_name name.now ≡ true }
         ensures some { IfSome result
@@ -83,7 +83,7 @@ impl<'a> Items<'a> {
     }
 }
 
-// The items behind the first of a text, which ends there.
+// The items after the first item of a text, which ends at this place.
 fn behind(text: &[u8], end: usize) -> Items<'_>
     requires { end ≡ item_end text.now }
     ensures { slice_split (λ byte. byte == space) text.now ≡ take end text.now ∷ result }
@@ -141,7 +141,7 @@ fn whole_name_end(text: &[u8]) -> Option<usize>
     }
 }
 
-// Whether so many bytes at the front of a text, all of which may stand in a name, are one and the whole of the first item.
+// Whether this many bytes at the front of a text, all of which may stand in a name, are a name and the whole of the first item.
 fn is_whole_name(text: &[u8], end: usize) -> bool
     requires { end ≤ length text.now }
     ensures { result ≡ is_whole_name text.now end }
@@ -232,7 +232,7 @@ pub(crate) fn is_name(item: &[u8]) -> bool
     Name::read(item).is_some()
 }
 
-// The name behind the sign of a part.
+// The name after the sign of a part.
 pub(crate) fn part_name(item: &[u8]) -> &[u8]
     ensures { result.now ≡ part_name item.now }
 {

@@ -13,7 +13,7 @@ use pb_form::{Fields, FormFault, OutputKind, output_schema, tell};
 use pb_rows::Row;
 
 /// The kind of a record among these: the first whose word and number of fields it has. Otherwise `Fields`, if it has the word of
-/// one of them, and `Kind` if it hasn't.
+/// one of them, and `Kind` if it doesn't.
 pub fn kind_among(kinds: &[OutputKind], fields: &Fields) -> Result<OutputKind, RowFault>
     ensures { result ≡ kind_among kinds.now fields.now }
 {
@@ -57,7 +57,7 @@ fn is_row_of(kind: OutputKind, fields: &Fields) -> bool
     tell(&[*output_schema(kind)], fields).is_ok()
 }
 
-// Whether a record has a kind's word, whatever its other fields.
+// Whether a record has a kind's word, whatever its other fields are.
 fn has_word_of(kind: OutputKind, fields: &Fields) -> bool
     ensures { result ≡ has_word_of fields.now kind }
 {
@@ -67,7 +67,7 @@ fn has_word_of(kind: OutputKind, fields: &Fields) -> bool
     }
 }
 
-/// Whether a record is passed over between blocks: it is a row of a session's output that is no row of a report.
+/// Whether a record is passed over between blocks: it is a row of a session's output but not a row of a report.
 pub fn is_passed_over(row: &Row) -> bool
     ensures { result ≡ is_passed_over row.now }
 {

@@ -1,4 +1,4 @@
-// Names in order, each of which is found without a walk.
+// Names in order, each of which is found without walking the list.
 
 ghost use Rattle.std.specs.Prelude.{◌≡◌, ◌<◌, ◌≤◌, ◌∷◌, ◌++◌, [], false, true, length, position, IfOk, IfSome, OnErr, OnOk};
 ghost use Rattle.pb_limits.specs.Limits.{most_streams};
@@ -11,7 +11,7 @@ use pb_rows::{Name, NameList};
 use std::alloc::{AllocError, Global};
 use std::marker::Model;
 
-/// Different names, in order: no more than a graph has streams at the most.
+/// Different names, in order: no more than a graph can have streams.
 #[derive(Drop)]
 pub struct Known {
     names: IndexSet<Name>,
@@ -29,7 +29,7 @@ impl Model for Known {
 }
 
 impl Known {
-    /// No name.
+    /// An empty list.
     pub fn new(alloc: Global) -> Known
         ensures { result ≡ [] }
     {
@@ -46,7 +46,7 @@ impl Known {
         self.names.len() as u32
     }
 
-    /// The place of the name that a text is; `None` exactly where it is none of the names.
+    /// The place of the name that a text is; `None` exactly when it isn't one of the names.
     pub fn find(&self, text: &[u8]) -> Option<u32>
         ensures { result ≡ position (same_name text.now) self.now }
     {
@@ -74,7 +74,7 @@ impl Known {
         self.find(text).is_some()
     }
 
-    /// The place of the name that a text is; the number of names where it is none of them.
+    /// The place of the name that a text is; the number of names if it isn't one of them.
     pub fn place(&self, text: &[u8]) -> u32
         ensures value { result ≡ place_of self.now text.now }
         ensures within { result ≤ most_streams }
@@ -86,7 +86,7 @@ impl Known {
         }
     }
 
-    /// Puts a new name after the others.
+    /// Appends a new name.
     pub fn add(&mut self, text: &[u8]) -> Result<(), AllocError>
         requires form { is_name text.now ≡ true }
         requires room { length self.old < most_streams }
@@ -109,7 +109,7 @@ impl Known {
     }
 }
 
-// Puts a new name after the others of a set.
+// Appends a new name to a set.
 fn insert(names: &mut IndexSet<Name>, name: Name) -> Result<(), AllocError>
     requires new { is_among names.old.keys name ≡ false }
     ensures ok { OnOk result (names.new.keys ≡ names.old.keys ++ name ∷ []) }

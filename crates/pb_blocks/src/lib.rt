@@ -1,4 +1,4 @@
-//! The rows of a block of a report, one at a time: of which kind a row is, what it says, and what may be wrong with it.
+//! The rows of a block of a report, one at a time: which kind a row is of, what it says, and what may be wrong with it.
 //!
 //! A row is read by its columns (`pb_form`). Its names and lists are looked up among the names of the nodes and streams before it.
 #![tactic(auto)]

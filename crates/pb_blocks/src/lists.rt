@@ -11,7 +11,7 @@ use crate::known::Known;
 use pb_graph::{List, Member, Step};
 use std::alloc::{AllocError, Global};
 
-// Whether some item of the form of a name is none of these names.
+// Whether some item has the form of a name and isn't one of these names.
 pub(crate) fn has_unknown_item(names: &Known, text: &[u8]) -> bool
     ensures { result ≡ list_any (is_unknown_item names.now) (items text.now) }
 {
@@ -30,7 +30,7 @@ fn is_unknown_item(names: &Known, item: &[u8]) -> bool
     is_name(item) && !names.has(item)
 }
 
-// Whether a list names nodes in order, none of them twice.
+// Whether a list names nodes in order, none twice.
 pub(crate) fn is_side(nodes: &Known, text: &[u8]) -> bool
     ensures { result ≡ is_side nodes.now (items text.now) }
 {
@@ -55,7 +55,7 @@ pub(crate) fn are_parts(text: &[u8]) -> bool
     items.next().is_none()
 }
 
-// For each node whether it is among the items.
+// For each node, whether it is among the items.
 pub(crate) fn side_of(alloc: Global, nodes: &Known, text: &[u8]) -> Result<List<bool>, AllocError>
     ensures { IfOk result (λ side. side ≡ side_of nodes.now (items text.now)) }
 {
@@ -121,14 +121,14 @@ pub(crate) fn steps_of(
     Ok(steps)
 }
 
-/// A part with its stream looked up: the place of its name, which is the number of streams where it is none of theirs.
+/// A part with its stream looked up: the place of its name among the streams, or the number of streams if no stream has this name.
 #[derive(Clone, Copy)]
 struct Part {
     stream: u32,
     is_plus: bool,
 }
 
-// Takes the next item as a part. Its name is asked for first at the place where it is thought to be.
+// Takes the next item as a part. Its name is looked for first at the place where it is expected.
 fn next_part(streams: &Known, items: &mut Items, near: u32) -> Option<Part>
     ensures none { IfNone result (items.old ≡ []) }
     ensures some { IfSome result

@@ -10,7 +10,7 @@ use pb_choices::Shape;
 use pb_graph::{Classified, StreamResult, Witness};
 use std::alloc::{AllocError, Global};
 
-/// A stream's result by its row. A stream of the certificate that is none of these has their number in place of its own.
+/// A stream's result by its row. A stream of the certificate that isn't one of these gets their number as its place.
 pub fn result_of(
     alloc: Global,
     streams: &Known,

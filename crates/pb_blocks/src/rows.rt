@@ -16,7 +16,7 @@ pub struct Heading {
     pub sweeps: u32,
 }
 
-/// What the row of a stream says beside its name and its ends: the parts of the certificate are kept as they are written until
+/// What the row of a stream says besides its name and its ends. The parts of the certificate are kept as they are written until
 /// all streams are named.
 #[derive(Drop)]
 pub struct StreamRow {

@@ -5,7 +5,7 @@ ghost use Rattle.pb_blocks.specs.Texts.{field, from_field, name_field, parts_fie
 
 use pb_form::{Fields, OutputKind};
 
-// The field of a record at a place, of which 0 is the kind; nothing if the record is shorter.
+// The field of a record at a place (place 0 is the kind); nothing if the record is shorter.
 pub(crate) fn field<'a>(fields: &Fields<'a>, place: usize) -> &'a [u8]
     ensures { result.now ≡ field fields.now place }
 {
@@ -37,7 +37,7 @@ pub(crate) fn to_field<'a>(fields: &Fields<'a>) -> &'a [u8]
     field(fields, 3)
 }
 
-// The place of a column after the least bounds of a stream's row: in a row without them it is two places further to the front.
+// The place of a column after the least bounds of a stream's row: in a row without them it is two places earlier.
 pub(crate) fn place_after(kind: OutputKind, place: usize) -> usize
     requires { 2 ≤ place }
     ensures { result ≡ place_after kind place }
@@ -55,7 +55,7 @@ pub(crate) fn side_field<'a>(kind: OutputKind, fields: &Fields<'a>) -> &'a [u8]
     field(fields, place_after(kind, 13))
 }
 
-// Its parts.
+// The parts of a stream's certificate.
 pub(crate) fn parts_field<'a>(kind: OutputKind, fields: &Fields<'a>) -> &'a [u8]
     ensures { result.now ≡ parts_field kind fields.now }
 {

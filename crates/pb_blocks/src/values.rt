@@ -136,7 +136,7 @@ pub fn number(values: &Values, place: usize) -> i128
     values.number(place).unwrap_or(0)
 }
 
-// The same of one that isn't negative.
+// The same for a number that isn't negative.
 pub(crate) fn natural(values: &Values, place: usize) -> u32
     requires { IsCountAt 4294967295 values.now place }
     ensures { result ≡ natural_at values.now place }
@@ -144,7 +144,7 @@ pub(crate) fn natural(values: &Values, place: usize) -> u32
     number(values, place) as u32
 }
 
-// The same of a greater one.
+// The same for a number of up to 64 bits that isn't negative.
 fn long_natural(values: &Values, place: usize) -> u64
     requires { IsCountAt 18446744073709551615 values.now place }
     ensures { result ≡ natural_at values.now place }

@@ -104,7 +104,7 @@ accepted_after law rows at fields right = by (request_in (version_at rows) field
     by (Err fault) is = right
     by (Ok request) is = accepted_to rows at (named_costs fields) request right (range request is) (may request is)
 
--- so are those of a book that is out of memory, which stay
+-- so are those of a book that is out of memory, which stay the same
 memory : (result : Result Accepted NotAccepted) → (result ≡ Err NoMemory) ⊎ (result ≢ Err NoMemory)
 memory (Ok accepted) = inr (λ is. cc is)
 memory (Err (RefusedFor cause)) = inr (λ is. cc is)
@@ -118,7 +118,7 @@ accepted_answer rows new at costs request result right range may stored same = e
   | inr some ↦ subst AreAccepted (sym (stored some)) (accepted_to rows at costs request right range may)
 ]
 
--- all rows, one behind the other: what holds of no row and stays where one joins the others
+-- all rows, one after the other: what holds for no rows and still holds if a row joins the others
 grown : (P : List StoredRow → Type 0) → ((rows : List StoredRow) (stored : StoredRow) → P rows → IsAcceptable rows stored.effect → P (rows ++ stored ∷ []))
     → (before rest : List StoredRow) → P before → AreAccepted (before ++ rest) → P (before ++ rest)
 grown P step before [] right accepted = subst P (sym (append-nil before)) right

@@ -1,4 +1,4 @@
--- The assays of a book: the sets that tell which there are, and the grades that they give.
+-- The assays of a book: the sets that say which there are, and the grades that they give.
 use Rattle.std.specs.Prelude.{◌&&◌, ◌||◌, All, IfSome, find, if◌then◌else◌, map, position, take}
 use Rattle.std.specs.Cmp.Lexicographic.{bytes_decides}
 use Rattle.std.specs.HashSet.{HashSet, contains}
@@ -23,7 +23,7 @@ use Rattle.pb_book.specs.Assays.{grade_among, is_assay_of, is_assay_over}
 use Rattle.pb_book.specs.Kept.{AreAssays, AreUnlike, is_like, same_three, same_two}
 use Rattle.pb_book.proofs.PeriodLemmas.{fails_at, only_named, position_at_first}
 
--- ---- the sets, with one assay more
+-- ---- the sets, with one more assay
 
 either : (b x : Bool) → (if b then true else x) ≡ (x || (b || false))
 either true true = refl
@@ -67,7 +67,7 @@ assays_same_keys assays all other_all overs other_overs right same_all same_over
 
 -- ---- the grades
 
--- an assay of a component, a period and a stream is like each other one of them
+-- an assay of a component, a period and a stream is like any other assay of these
 like_of : (component period stream : List ℕ) (a b : Assay) → is_assay_of component period stream a ≡ true → is_assay_of component period stream b ≡ is_like a b
 like_of component period stream a b is =
     let parts = and_parts (is_assay_over component period a) (same_name a.stream stream) is in
@@ -120,7 +120,7 @@ grade_more assays i one component period stream apart at =
     grade : Assay → Grade
     grade assay = assay.grade
 
--- with one more assay of the component over the period, of which the map takes the grade, and with another one
+-- with one more assay of the component over the period, whose grade joins the map, and with one more assay of something else
 pub grade_put : (assays : List Assay) (i : ℕ) (one : Assay) (component period stream : List ℕ) (old new : Option Grade) → AreUnlike assays
     → slice_get assays i ≡ Some one → is_assay_over component period one ≡ true → new ≡ (if same_name one.stream stream then Some one.grade else old)
     → old ≡ grade_among (take i assays) component period stream → new ≡ grade_among (take (suc i) assays) component period stream
@@ -137,7 +137,7 @@ pub grade_within : (b : Bool) (grade : Grade) (old : Option Grade) → IsGrade g
 grade_within true grade old is before = is
 grade_within false grade old is before = before
 
--- what holds of each item holds of the one that is found
+-- what holds for each item holds for the one that is found
 pub found_of : {X : Type 0} (P : X → Type 0) (test : X → Bool) (xs : List X) → All P xs → IfSome (find test xs) P
 found_of {X} P test [] all = tt
 found_of {X} P test (x ∷ xs) all = elim (cases_Bool (test x)) [

@@ -44,7 +44,7 @@ only_live id kept i k d apart within is lt also = elim (cases_lt i k) [
   ]
 ]
 
--- some live fact of an id passes a test exactly where the one that is found does
+-- some live fact of an id passes a test iff the one that is found does
 any_live : (id : List ℕ) (q : KeptFact → Bool) (kept : List KeptFact) (i : ℕ) (k : KeptFact) → NoRepeats kept → Some i ≡ position (is_live_with id) kept → slice_get kept i ≡ Some k
     → list_any (λ (x : KeptFact). is_live_with id x && q x) kept ≡ q k
 any_live id q kept i k apart is at =

@@ -1,4 +1,4 @@
--- What follows of accepted rows.
+-- What follows from accepted rows.
 use Rattle.std.specs.Prelude.{◌||◌, All, filter_map, map, is_none, not, if◌then◌else◌}
 use Rattle.std.specs.Cmp.Lexicographic.{bytes_decides}
 use Rattle.std.specs.List.{list_any}
@@ -46,7 +46,7 @@ use Rattle.pb_book.proofs.AcceptedLemmas.{by_accepted}
 use Rattle.pb_book.proofs.KeptLemmas.{declared_more, declared_same, facts_more, periods_more_of}
 use Rattle.pb_book.proofs.PeriodLemmas.{closed_apart, closed_days, fails_at}
 
--- no cause holds of a row
+-- no cause holds for a row
 pub record IsFine (version : Version) (declared : List Declared) (kept : List KeptFact) (periods : List Period) (assays : List Assay) (effect : Effect) : Type 0 where
   pub known : is_unknown declared kept periods effect ≡ false
   pub new : is_duplicate declared kept periods assays effect ≡ false
@@ -101,7 +101,7 @@ table_more declared row tank is =
     let there : is_tank (declared ++ row ∷ []) tank ≡ true = list_any-append (declares_tank tank) declared (row ∷ []) ∙ rw is refl in
     rw there (ap (λ (points : List Point). Some points) (filter_map-append (point_of tank) declared (row ∷ [])))
 
--- a volume by the table before is one by the table with one more declaration
+-- a volume by the old table is a volume by the table with one more declaration
 volume_more : (declared : List Declared) (row : Declared) (tank : List ℕ) (level volume : ℤ) → is_out_of_order_declared declared row ≡ false
     → volume_of (points_of declared tank) level ≡ Some volume → volume_of (points_of declared tank ++ filter_map (point_of tank) (row ∷ [])) level ≡ Some volume
 volume_more declared (Strap name mm ml) tank level volume order at = elim (cases_Bool (same_name name tank)) [
@@ -180,7 +180,7 @@ more_facts declared kept periods fact right range good = record {
       good;
 }
 
--- what holds of each item's image
+-- what holds for each item's image
 pub all_images : {X Y : Type 0} (P : X → Type 0) (Q : Y → Type 0) (f : X → Y) (xs : List X) → All P xs
     → ((k : ℕ) (d : X) → k < length xs → P (get_or xs k d) → Q (f (get_or xs k d))) → All Q (map f xs)
 all_images P Q f [] all step = λ i e lt. absurd (omega (arith, lt))
@@ -247,7 +247,7 @@ closed_periods declared kept periods name right = record {
 abbrev AreSound : List StoredRow → Type 0
 AreSound rows = AreConsistent (declared_of rows) (facts_of rows) (periods_of rows)
 
--- the parts with one row more
+-- the parts with one more row
 sound_by : (rows : List StoredRow) (at : ℕ) (effect : Effect) → declared_of (record { at = at; effect = effect } ∷ []) ≡ []
     → AreConsistent (declared_of rows) (facts_after (facts_of rows) effect) (periods_after (periods_of rows) effect) → AreSound (rows ++ record { at = at; effect = effect } ∷ [])
 sound_by rows at effect none right =

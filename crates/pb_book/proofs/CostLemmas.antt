@@ -30,7 +30,7 @@ use Rattle.pb_book.specs.Refusals.{refusal_of}
 use Rattle.pb_book.specs.Rows.{declared_of, period_place, version_at}
 use Rattle.pb_book.proofs.WindowAnswerLemmas.{by_window}
 
--- ---- a record that is accepted as one that asks for an advice asks for it
+-- ---- a record that is accepted as one that asks for advice asks for it
 
 no_store : (effect : Effect) (cause : Option Refusal) → stored_or_refused effect cause ≡ Says Advise → ⊥
 no_store effect (Some cause) is = cc is
@@ -112,21 +112,21 @@ pub one_tested : (p : NamedCost → Bool) (costs : List NamedCost) (i : ℕ) (on
     → list_any p (drop i costs) ≡ (p one || list_any p (drop (i + 1) costs))
 one_tested p costs i one at = ap (list_any p) (drop_here costs i one at)
 
--- it passes, so that some cost does
+-- it passes, so some cost does
 pub one_passes : (p : NamedCost → Bool) (costs : List NamedCost) (i : ℕ) (one : NamedCost) → slice_get costs i ≡ Some one → list_any p (drop i costs) ≡ list_any p costs → p one ≡ true
     → true ≡ list_any p costs
 one_passes p costs i one at so_far passes =
     let some : (p one || list_any p (drop (i + 1) costs)) ≡ true = rw passes refl in
     sym some ∙ sym (one_tested p costs i one at) ∙ so_far
 
--- it doesn't, so that those after it are left
+-- it doesn't, so those after it remain
 pub one_fails : (p : NamedCost → Bool) (costs : List NamedCost) (i : ℕ) (one : NamedCost) → slice_get costs i ≡ Some one → list_any p (drop i costs) ≡ list_any p costs → p one ≡ false
     → list_any p (drop (i + 1) costs) ≡ list_any p costs
 one_fails p costs i one at so_far fails =
     let same : (p one || list_any p (drop (i + 1) costs)) ≡ list_any p (drop (i + 1) costs) = rw fails refl in
     sym same ∙ sym (one_tested p costs i one at) ∙ so_far
 
--- none is left
+-- no cost remains
 pub none_passes : (p : NamedCost → Bool) (costs : List NamedCost) (i : ℕ) → length costs ≤ i → list_any p (drop i costs) ≡ list_any p costs → false ≡ list_any p costs
 none_passes p costs i ended so_far =
     let none : drop i costs ≡ [] = drop_all i costs ended in
@@ -138,7 +138,7 @@ none_passes p costs i ended so_far =
 abbrev pub is_seen : List (List ℕ) → NamedCost → Bool
 is_seen names named = list_any (same_name named.stream) names
 
--- some of the costs are of streams with these names, or of one stream
+-- some of the costs are of streams with these names, or of the same stream
 abbrev pub repeats : List (List ℕ) → List NamedCost → Bool
 repeats names costs = list_any (is_seen names) costs || names_twice costs
 
@@ -149,7 +149,7 @@ none_seen costs = ap (λ (b : Bool). b || names_twice costs) (by costs)
     by [] = refl
     by (named ∷ costs) = by costs
 
--- those that are seen with one name more
+-- the names seen so far, with one more
 seen_more : (names : List (List ℕ)) (name : List ℕ) (costs : List NamedCost)
     → list_any (is_seen (names ++ name ∷ [])) costs ≡ (list_any (is_seen names) costs || list_any (is_cost_of name) costs)
 seen_more names name [] = refl
@@ -193,7 +193,7 @@ none_repeats names costs i ended so_far = sym (ap (repeats names) (drop_all i co
 
 -- ---- the costs by name
 
--- what was said of a stream, once one more cost is named
+-- what was said about a stream, once one more cost is named
 pub one_named : (costs : List NamedCost) (i : ℕ) (one : NamedCost) (stream : List ℕ) (before after : Option ℤ) → slice_get costs i ≡ Some one
     → fold (cost_after stream) (unwrap_or before (pos 1)) (drop i costs) ≡ cost_named costs stream
     → after ≡ (if is_cost_of stream one then Some one.cost else before)
@@ -226,7 +226,7 @@ one_arc f arcs i arc costs cost at so_far is =
 pub all_arcs : (f : Arc → ℤ) (arcs : List Arc) (i : ℕ) (costs : List ℤ) → length arcs ≤ i → costs ++ map f (drop i arcs) ≡ map f arcs → costs ≡ map f arcs
 all_arcs f arcs i costs ended so_far = sym (append-nil costs) ∙ sym (ap (λ (rest : List Arc). costs ++ map f rest) (drop_all i arcs ended)) ∙ so_far
 
--- what was named of a stream, or 1, is what a meter may cost
+-- what was named for a stream, or 1, is a cost that a meter may have
 pub said_in_range : (said : Option ℤ) → IfSome said IsMeterCost → IsMeterCost (unwrap_or said (pos 1))
 said_in_range (Some cost) is = is
 said_in_range None is = one_in_range

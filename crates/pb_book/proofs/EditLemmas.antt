@@ -16,7 +16,7 @@ use Rattle.pb_book.specs.Rows.{declared_of, facts_of, version_at}
 use Rattle.pb_book.specs.TakenOut.{touching_of}
 use Rattle.pb_book.specs.Touching.{touches_in}
 
--- places that have rows have as many
+-- places that have rows have as many rows
 pub placed_length : (shelves : Shelves) (places : List Place) → ArePlaced shelves places → length (rows_at shelves places) ≡ length places
 placed_length shelves [] placed = refl
 placed_length shelves (place ∷ places) placed =
@@ -36,7 +36,7 @@ version_kept shelves kept places edits right some =
     by [] few same = absurd (omega (arith, few))
     by (stored ∷ rows) few same = ap (λ (ds : List Declared). Some (version_of ds)) same
 
--- the row at a place of places
+-- the row at a place in a list of places
 pub placed_at : (shelves : Shelves) (places : List Place) (i : ℕ) (place : Place) → ArePlaced shelves places → slice_get places i ≡ Some place
     → slice_get (rows_at shelves places) i ≡ row_at shelves place
 placed_at shelves [] i place placed is = cc is

@@ -39,7 +39,7 @@ no_fault_of rows declared kept periods assays fact late right accepted =
     let good = fine (version_of (declared_of rows)) (declared_of rows) (facts_of rows) (periods_of rows) (assays_of rows) (Books fact late) accepted.no_cause in
     rw right.facts (no_fault (facts_of rows) fact good.new good.order (range_parts (version_of (declared_of rows)) (declared_of rows) (facts_of rows) (periods_of rows) fact late good.range).short good.room)
 
--- a fact whose first fault isn't that it is a duplicate isn't one; nor is one out of order whose first fault isn't that
+-- a fact whose first fault isn't that it is a duplicate isn't a duplicate; nor is a fact out of order if its first fault isn't that
 pub no_duplicate : (same : FactFault → FactFault → Bool) (kept : List KeptFact) (fact : Fact) (fault : Option FactFault) (result : Bool) → same Duplicate Duplicate ≡ true
     → fault ≡ fault_of kept fact → result ≡ option_eq same fault (Some Duplicate) → result ≡ false → is_duplicate kept fact ≡ false
 no_duplicate same kept fact fault result itself is tells none = by (is_duplicate kept fact) refl
@@ -60,7 +60,7 @@ no_disorder same kept fact fault result itself is tells none new = by (is_out_of
         let first : fault_of kept fact ≡ Some Order = rw (new, e) refl in
         cc (sym none ∙ tells ∙ ap (λ (f : Option FactFault). option_eq same f (Some Order)) (is ∙ first) ∙ itself)
 
--- a fact of a day out of service is out of range, where no cause before that holds
+-- a fact of a day out of service is out of range, if no earlier cause holds
 pub out_of_service : (version : Version) (declared : List Declared) (kept : List KeptFact) (periods : List Period) (fact : Fact) (late : Bool)
     → is_unknown declared kept periods (Books fact late) ≡ false → is_duplicate kept fact ≡ false → is_out_of_order fact ≡ false
     → is_mismatch declared kept periods (Books fact late) ≡ false → is_closed version declared periods (Books fact late) ≡ false
@@ -85,7 +85,7 @@ strike_there rows declared kept periods assays id reason right accepted =
     up true is = refl
     up false is = cc is
 
--- a closing that there is no cause to refuse is of a period that there is
+-- a closing that there is no cause to refuse is of a period that exists
 pub closing_there : (rows : List StoredRow) (name : List ℕ) → IsAcceptable rows (Closes name) → None ≡ period_place rows name → ⊥
 closing_there rows name accepted none =
     let good = fine (version_of (declared_of rows)) (declared_of rows) (facts_of rows) (periods_of rows) (assays_of rows) (Closes name) accepted.no_cause in

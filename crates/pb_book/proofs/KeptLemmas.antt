@@ -1,4 +1,4 @@
--- What a book keeps stays right where a row joins the others.
+-- What a book keeps stays right if a row joins the others.
 use Rattle.std.specs.Prelude.{if◌then◌else◌, IsSome, map, position}
 use Rattle.std.specs.Cmp.Lexicographic.{bytes_decides}
 use Rattle.std.specs.List.{cons_option}
@@ -33,7 +33,7 @@ use Rattle.pb_book.proofs.AcceptedLemmas.{accepted_more}
 use Rattle.pb_book.proofs.PeriodLemmas.{position_at_first}
 use Rattle.pb_book.proofs.OriginalLemmas.{Joins, TellsAll, tells_as, tells_itself, tells_same}
 
--- ---- the parts of the rows, with one row more
+-- ---- the parts of the rows, with one more row
 
 pub facts_more : (rows : List StoredRow) (stored : StoredRow) → facts_of (rows ++ stored ∷ []) ≡ facts_after (facts_of rows) stored.effect
 facts_more rows stored = fold_push (λ (kept : List KeptFact) (s : StoredRow). facts_after kept s.effect) [] rows stored
@@ -53,7 +53,7 @@ assays_more rows stored = filter_map-append (λ (s : StoredRow). assay_by s.effe
 pub assays_same : (rows : List StoredRow) (stored : StoredRow) → assays_of (stored ∷ []) ≡ [] → assays_of (rows ++ stored ∷ []) ≡ assays_of rows
 assays_same rows stored none = assays_more rows stored ∙ ap (λ (more : List Assay). assays_of rows ++ more) none ∙ append-nil (assays_of rows)
 
--- the parts behind one more declaration
+-- the parts after one more declaration
 of_declaration : (rows : List StoredRow) (declared : List Declared) (kept : List KeptFact) (periods : List Period) (assays : List Assay) (at : ℕ) (row : Declared)
     → AreOf rows declared kept periods assays → AreOf (rows ++ record { at = at; effect = Declares row } ∷ []) (declared ++ row ∷ []) kept periods assays
 of_declaration rows declared kept periods assays at row right =
@@ -65,7 +65,7 @@ of_declaration rows declared kept periods assays at row right =
       assayed = right.assayed ∙ sym (assays_same rows stored refl);
     }
 
--- the parts behind one more assay
+-- the parts after one more assay
 of_assay : (rows : List StoredRow) (declared : List Declared) (kept : List KeptFact) (periods : List Period) (assays : List Assay) (at : ℕ) (assay : Assay)
     → AreOf rows declared kept periods assays → AreOf (rows ++ record { at = at; effect = Assays assay } ∷ []) declared kept periods (assays ++ assay ∷ [])
 of_assay rows declared kept periods assays at assay right =
@@ -77,7 +77,7 @@ of_assay rows declared kept periods assays at assay right =
       assayed = ap (λ (xs : List Assay). xs ++ assay ∷ []) right.assayed ∙ sym (assays_more rows stored);
     }
 
--- the parts behind one more row that declares nothing and gives no assay
+-- the parts after one more row that declares nothing and gives no assay
 of_row : (rows : List StoredRow) (declared : List Declared) (kept : List KeptFact) (periods : List Period) (assays : List Assay) (at : ℕ) (effect : Effect)
     → declared_of (record { at = at; effect = effect } ∷ []) ≡ [] → assays_of (record { at = at; effect = effect } ∷ []) ≡ [] → AreOf rows declared kept periods assays
     → AreOf (rows ++ record { at = at; effect = effect } ∷ []) declared (facts_after kept effect) (periods_after periods effect) assays
@@ -90,7 +90,7 @@ of_row rows declared kept periods assays at effect none bare right =
       assayed = right.assayed ∙ sym (assays_same rows stored bare);
     }
 
--- ---- the places of the rows, with one row more
+-- ---- the places of the rows, with one more row
 
 -- a list that has the items of another one where that has them
 record Extends {X : Type 0} (xs ys : List X) : Type 0 where
@@ -135,7 +135,7 @@ pub record SpansStay (spans more : List Period) : Type 0 where
   pub opened : StayAs opening spans more
   pub closed : StayAs closing spans more
 
--- the periods stay, where nothing is closed
+-- the periods stay the same if nothing is closed
 same_spans : (spans : List Period) → SpansStay spans spans
 same_spans spans = record { opened = stay_as opening spans spans (itself spans); closed = stay_as closing spans spans (itself spans) }
 
@@ -201,9 +201,9 @@ placed_more shelves more places place stored grows placed is =
     All-push (λ (q : Place). IsSome (row_at more q)) places place (placed_stay shelves more places grows placed)
     (subst (λ (o : Option StoredRow). IsSome o) (sym is) refl)
 
--- ---- what is kept, with one row more
+-- ---- what is kept, with one more row
 
--- the places of the edits, where a row joins the others: that of an edit joins them
+-- the places of the edits, if a row joins the others: that of an edit joins them
 abbrev edits_after : Effect → List Place → Place → List Place
 edits_after effect edits place = if is_edit effect then edits ++ place ∷ [] else edits
 
@@ -212,7 +212,7 @@ pub record IsKeptAfter (shelves more : Shelves) (kept : List KeptFact) (places e
   pub rows : rows_at more (places ++ place ∷ []) ≡ rows_at shelves places ++ stored ∷ []
   pub right : IsKept more kept (places ++ place ∷ []) edits
 
--- the edits, where a row joins the others
+-- the edits, if a row joins the others
 record AreEditsOf (more : Shelves) (edits : List Place) (rows : List StoredRow) : Type 0 where
   placed : ArePlaced more edits
   are : rows_at more edits ≡ edits_of rows
@@ -360,7 +360,7 @@ kept_assay declared told spans edited assays kept places edits at i assay right 
     (of_assay (rows_at before places) declared kept spans assays at assay right.parts)
     right.told
 
--- what is kept, where each fact is told as before
+-- what is kept, if each fact is returned as before
 pub record IsKeptSame (shelves more : Shelves) (kept : List KeptFact) (places edits : List Place) : Type 0 where
   pub rows : rows_at more places ≡ rows_at shelves places
   pub right : IsKept more kept places edits

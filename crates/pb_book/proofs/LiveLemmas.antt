@@ -1,4 +1,4 @@
--- Which facts stand, by the rows that change and strike them.
+-- Which facts stand, according to the rows that change and strike them.
 use Rattle.std.specs.Prelude.{◌&&◌, ◌||◌, All, filter_map, map, not, position, if◌then◌else◌}
 use Rattle.std.specs.Cmp.Lexicographic.{bytes_decides}
 use Rattle.std.specs.List.{cons_option, list_any}
@@ -45,7 +45,7 @@ kept_in rows effect = None
 abbrev kept_all : List StoredRow → List StoredRow → List KeptFact
 kept_all rows over = filter_map (λ (stored : StoredRow). kept_in rows stored.effect) over
 
--- ---- one row more
+-- ---- one more row
 
 struck_more : (rows : List StoredRow) (stored : StoredRow) (id : List ℕ) → is_struck_in (rows ++ stored ∷ []) id ≡ (is_struck_in rows id || (strikes id stored.effect || false))
 struck_more rows stored id = list_any-append (λ (s : StoredRow). strikes id s.effect) rows (stored ∷ [])
@@ -153,7 +153,7 @@ amend_kept rows at id change reason fact can = elim (cases_Bool (same_name (id_o
     not_both true is = is
     not_both false is = refl
 
--- all facts that came with some rows, with one row more
+-- all facts that came with some rows, with one more row
 all_more : (rows : List StoredRow) (stored : StoredRow) (g : KeptFact → KeptFact) (G : KeptFact → Type 0) (over : List StoredRow)
     → ((fact : Fact) → G (kept_of rows fact) → kept_of (rows ++ stored ∷ []) fact ≡ g (kept_of rows fact)) → All G (kept_all rows over)
     → kept_all (rows ++ stored ∷ []) over ≡ map g (kept_all rows over)
@@ -197,13 +197,13 @@ record IsMeant (rows : List StoredRow) : Type 0 where
 split_more : (rows : List StoredRow) (stored : StoredRow) → kept_all (rows ++ stored ∷ []) (rows ++ stored ∷ []) ≡ kept_all (rows ++ stored ∷ []) rows ++ kept_all (rows ++ stored ∷ []) (stored ∷ [])
 split_more rows stored = filter_map-append (λ (s : StoredRow). kept_in (rows ++ stored ∷ []) s.effect) rows (stored ∷ [])
 
--- a row without a strike or a change leaves those before it
+-- a row without a strike or a change doesn't change the facts before it
 left : (rows : List StoredRow) (stored : StoredRow) → ((id : List ℕ) → strikes id stored.effect ≡ false) → ((id : List ℕ) → change_in id stored.effect ≡ None)
     → kept_all (rows ++ stored ∷ []) rows ≡ kept_all rows rows
 left rows stored spared same =
     all_more rows stored (λ k. k) (λ k. Unit {0}) rows (λ fact any. untouched rows stored fact (spared (id_of fact)) (same (id_of fact))) (λ i e lt. tt) ∙ same_map (kept_all rows rows)
 
--- no row speaks of an id, so none does where such a row joins them
+-- no row speaks of an id, and still none does if a row without a strike or a change joins them
 still_fresh : (rows : List StoredRow) (stored : StoredRow) (id : List ℕ) → strikes id stored.effect ≡ false → change_in id stored.effect ≡ None
     → (is_struck_in rows id ≡ false) × (last_change rows id ≡ None) → (is_struck_in (rows ++ stored ∷ []) id ≡ false) × (last_change (rows ++ stored ∷ []) id ≡ None)
 still_fresh rows stored id spared same before = (
@@ -269,7 +269,7 @@ up : (b : Bool) → not b ≡ false → b ≡ true
 up true is = refl
 up false is = cc is
 
--- two kept facts of one id repeat each other
+-- two kept facts with the same id repeat each other
 same_ids : (id : List ℕ) (a b : KeptFact) → has_id id a ≡ true → has_id id b ≡ true → is_repeat b.fact a ≡ true
 same_ids id a b first second =
     let a_is : id_of a.fact ≡ id = (bytes_decides (id_of a.fact) id).0 first in
@@ -277,7 +277,7 @@ same_ids id a b first second =
     let same : has_id (id_of b.fact) a ≡ true = (bytes_decides (id_of a.fact) (id_of b.fact)).1 (a_is ∙ sym b_is) in
     rw same refl
 
--- where a live fact has the id, each fact of the id is that one
+-- if a live fact has the id, each fact of the id is that one
 all_amendable : (id : List ℕ) (change : Change) (kept : List KeptFact) → NoRepeats kept → list_any (is_live_with id) kept ≡ true → list_any (is_misfit id change) kept ≡ false
     → All (IsAmendable id change) kept
 all_amendable id change kept apart some fit = λ i d lt own. by (position (is_live_with id) kept) refl i d lt own

@@ -185,7 +185,7 @@ all_named rows named =
       periods = periods_named rows [] (All-nil IsNamedPeriod) named;
     }
 
--- the names of the components of which there are assays
+-- the names of the components for which there are assays
 abbrev IsNamedAssay : Assay → Type 0
 IsNamedAssay assay = is_name assay.component ≡ true
 
@@ -203,7 +203,7 @@ assays_named (stored ∷ rows) named =
     by (Edits id edit reason) is rest = rest
     by (Closes name) is rest = rest
 
--- a component of which there is an assay has a name of the form
+-- a component for which there is an assay has a name of the right form
 assayed_named : (component period : List ℕ) (assays : List Assay) → All IsNamedAssay assays → list_any (is_assay_over component period) assays ≡ true → is_name component ≡ true
 assayed_named component period [] all some = cc some
 assayed_named component period (assay ∷ assays) all some = elim (cases_Bool (is_assay_over component period assay)) [
@@ -213,7 +213,7 @@ assayed_named component period (assay ∷ assays) all some = elim (cases_Bool (i
   | inr other ↦ assayed_named component period assays (All-tail IsNamedAssay assay assays all) (rw other at some)
 ]
 
--- so does one whose balance is answered
+-- so does a component whose balance is answered
 no_store : (effect : Effect) (cause : Option Refused) (component : List ℕ) (period : ℕ) → stored_or_refused effect cause ≡ Says (Component component period) → ⊥
 no_store effect (Some cause) component period is = cc is
 no_store effect None component period is = cc is

@@ -18,11 +18,11 @@ use Rattle.pb_book.specs.Rows.{live}
 use Rattle.pb_book.proofs.ChangeLemmas.{only_live}
 use Rattle.pb_book.proofs.PeriodLemmas.{none_at_first, position_at_first}
 
--- facts that are told where other ones are
+-- facts that are returned where others are returned
 pub record TellsAll (told more : ℕ → Option Fact) : Type 0 where
   pub kept : (i : ℕ) (fact : Fact) → told i ≡ Some fact → more i ≡ Some fact
 
--- the images of the facts that are told stay where they are
+-- the images of the facts that are returned stay where they are
 pub tells_as : {Y : Type 0} (f : Fact → Y) (told more : ℕ → Option Fact) → TellsAll told more → (i : ℕ) (y : Y) → option_map f (told i) ≡ Some y → option_map f (more i) ≡ Some y
 tells_as {Y} f told more tells i y is = by (told i) refl is
   where
@@ -36,18 +36,18 @@ tells_itself told = record { kept = λ i fact is. is }
 pub tells_same : (told more : ℕ → Option Fact) → ((i : ℕ) → more i ≡ told i) → TellsAll told more
 tells_same told more same = record { kept = λ i fact is. same i ∙ is }
 
--- a fact that joins the others: these are told as they were, it is told at its place, and none behind it
+-- a fact that joins the others: these are returned as before, it is returned at its place, and none after it
 pub record Joins (told more : ℕ → Option Fact) (kept : List KeptFact) (fact : Fact) : Type 0 where
   pub all : TellsAll told more
   pub last : more (length kept) ≡ Some fact
   pub none : (i : ℕ) → length (kept ++ live fact ∷ []) ≤ i → more i ≡ None
 
--- neither of two is there, if none is chosen
+-- neither of two values is there, if none is chosen
 none_of : {X : Type 0} (a b : Option X) → option_or a b ≡ None → a ≡ None
 none_of None b is = refl
 none_of (Some x) b is = cc is
 
--- the facts that are told, where one more is kept
+-- the facts that are returned, if one more is kept
 pub joins : {S : Type 0} (kept : List KeptFact) (originals : HashMap ℕ Fact S) (fact : Fact)
     → ((i : ℕ) → length kept ≤ i → told_at kept originals i ≡ None) → Joins (told_at kept originals) (told_at (kept ++ live fact ∷ []) originals) kept fact
 joins kept originals fact behind = record {
@@ -77,12 +77,12 @@ joins kept originals fact behind = record {
     stays i x None is = held i x (slice_get kept i) refl is
     stays i x (Some f) is = is
 
--- a fact is told alike, where what is kept at its place changes and it is kept as it came
+-- the same fact is returned if what is kept at its place changes but it is kept as it came
 alike : (o a b : Option Fact) → IsSome o → option_or o a ≡ option_or o b
 alike None a b some = cc some
 alike (Some f) a b some = refl
 
--- an amendment changes none of the facts as they came, where the one that it changes is kept so
+-- an amendment changes none of the facts as they came, if the one that it changes is kept as it came
 pub told_amended : {S : Type 0} (id : List ℕ) (change : Change) (kept : List KeptFact) (originals : HashMap ℕ Fact S) → HasOriginal kept originals id → (i : ℕ)
     → told_at (amended id change kept) originals i ≡ told_at kept originals i
 told_amended id change kept originals has i = by (slice_get kept i) refl
@@ -121,7 +121,7 @@ has_original id kept originals i apart is some = λ place k at live_k.
     let same : place ≡ i = only_live id kept i place k apart found.0 found.1 lt here in
     rw same some
 
--- so it is where there is none
+-- so it is if there is none
 pub no_original : {S : Type 0} (id : List ℕ) (kept : List KeptFact) (originals : HashMap ℕ Fact S) → None ≡ position (is_live_with id) kept → HasOriginal kept originals id
 no_original id kept originals none = λ place k at live_k.
     let lt = slice_get_within kept place k at in

@@ -1,4 +1,4 @@
--- Periods of which no two share a day: the last one that begins by a day, and one more.
+-- Periods no two of which share a day: the last one that begins by a day, and one more.
 use Rattle.std.specs.Prelude.{◌&&◌, ◌||◌, ◌-ℤ◌, ◌+ℤ◌, int_le, if◌then◌else◌, find, map, position, nat_lt, set, slice_get, All, IsSome, ◌⊎◌}
 use Rattle.std.specs.List.{list_any, position_or_len}
 use Rattle.std.specs.Cmp.{int_cmp_is}
@@ -35,7 +35,7 @@ use Rattle.pb_site.specs.declared.declared.Service.{Service}
 use Rattle.pb_rows.specs.Name.{same_name}
 use Rattle.pb_book.proofs.NameLemmas.{same_flip}
 
--- each item fails a test that none passes
+-- each item fails a test that no item passes
 pub fails_at : {X : Type 0} (p : X → Bool) (xs : List X) (k : ℕ) (d : X) → list_any p xs ≡ false → k < length xs → p (get_or xs k d) ≡ false
 fails_at p xs k d none lt = elim (cases_Bool (p (get_or xs k d))) [
   | inl passes ↦ cc (sym none ∙ list_any_at p xs k d lt passes)
@@ -99,7 +99,7 @@ last_of begins day key place part before range split =
 pub none_of : (begins : BTreeMap ℤ ℕ) (day : ℤ) (part : List (ℤ × ℕ)) → IsRangeOf int_cmp Unbounded (Included day) begins part → part ≡ [] → FindsLast begins day None
 none_of begins day part range none = λ other le. range.5 none other (tt, up_to other day le)
 
--- where no chosen period begins by a day, none has a day up to it
+-- if no chosen period begins by a day, none has a day up to it
 pub none_begun : (chosen : Period → Bool) (periods : List Period) (begins : BTreeMap ℤ ℕ) (first last : ℤ) → AreBegun chosen periods begins
     → FindsLast begins last None → false ≡ list_any (λ (p : Period). chosen p && shares_a_day first last p) periods
 none_begun chosen periods begins first last right none = sym (list_any_none (λ (p : Period). chosen p && shares_a_day first last p) periods each)
@@ -197,7 +197,7 @@ either_true : (a b : Bool) → (a || b) ≡ true → (a ≡ true) ⊎ (b ≡ tru
 either_true true b is = inl refl
 either_true false b is = inr is
 
--- a period that a dip touches has the day of the dip or the next one
+-- a period that a dip touches includes the day of the dip or the next day
 dip_day : (service : Option Service) (day : ℤ) (period : Period) → period.first ≤ℤ period.last → dip_touches service day period ≡ true
     → (shares_a_day day day period ≡ true) ⊎ (shares_a_day (day +ℤ pos 1) (day +ℤ pos 1) period ≡ true)
 dip_day None day period rises is = elim (either_true (int_eq day period.last) (int_eq day (period.first -ℤ pos 1)) is) [
@@ -222,7 +222,7 @@ dip_day (Some service) day period rises is =
           inr (share_days (day +ℤ pos 1) (day +ℤ pos 1) period (omega (arith, ints, e, most, rises, parts.0)) (omega (arith, ints, e, most)))
     ]
 
--- a dip touches a closed period, if it touches one that has its day or one that has the next day
+-- a dip touches a closed period if it touches one that includes its day or one that includes the next day
 pub touches_by_days : (periods : List Period) (service : Option Service) (day : ℤ) (a b : Bool) → All IsPeriod periods
     → (a ≡ true → list_any (dip_touches_closed service day) periods ≡ true) → (list_any (dip_touches_closed_on service day day) periods ≡ true → a ≡ true)
     → (b ≡ true → list_any (dip_touches_closed service day) periods ≡ true) → (list_any (dip_touches_closed_on service day (day +ℤ pos 1)) periods ≡ true → b ≡ true)
@@ -243,7 +243,7 @@ touches_by_days periods service day false false days only each more_only more_ea
           ]
     ]
 
--- the last closed period that begins by a day is one, and the only one that has that day
+-- the last closed period that begins by a day is a closed period, and the only one that can include that day
 pub touched_last : (periods : List Period) (closes : BTreeMap ℤ ℕ) (service : Option Service) (day by : ℤ) (place : ℕ) (period : Period) → All IsPeriod periods → AreApart periods
     → AreBegun (λ (p : Period). p.closed) periods closes → FindsLast closes by (Some place) → get_or periods place period ≡ period → dip_touches service day period ≡ true
     → list_any (dip_touches_closed service day) periods ≡ true
@@ -281,7 +281,7 @@ touched_each periods closes service day by place period days apart right (key, f
           ]
     ]
 
--- where no closed period begins by a day, none has it
+-- if no closed period begins by a day, no closed period includes it
 pub none_touched_on : (periods : List Period) (closes : BTreeMap ℤ ℕ) (service : Option Service) (day by : ℤ) → AreBegun (λ (p : Period). p.closed) periods closes → FindsLast closes by None
     → list_any (dip_touches_closed_on service day by) periods ≡ false
 none_touched_on periods closes service day by right none = list_any_none (dip_touches_closed_on service day by) periods each
@@ -297,7 +297,7 @@ none_touched_on periods closes service day by right none = list_any_none (dip_to
           cc (sym (none other.first ends) ∙ right.there k d lt closed_parts.0)
     ]
 
--- a closed period in which what is in service on every day is in service is a closed one
+-- something that is in service on every day is in service in a closed period iff some period is closed
 pub all_served : (periods : List Period) → list_any (is_closed_in_service None) periods ≡ some_closed periods
 all_served [] = refl
 all_served (period ∷ periods) = rw (all_served periods) (by period.closed)
@@ -352,7 +352,7 @@ none_at_first p xs is = by (nat_lt (position_or_len p xs) (length xs)) refl is
     by true lt same = cc same
     by false ge same = list_any_none p xs (λ k d lt. fails_before_first p xs k d (omega (arith, lt, ltb-false (position_or_len p xs) (length xs) ge)))
 
--- some place, where some item passes
+-- some place, if some item passes
 pub some_place : {X : Type 0} (p : X → Bool) (xs : List X) → list_any p xs ≡ true → IsSome (position p xs)
 some_place p xs some = by (position p xs) refl
   where
@@ -519,7 +519,7 @@ closed_apart name periods apart = λ i j d before lt.
       ]
     ])
 
--- the names of periods of which one is closed
+-- the names of periods, after one of these is closed
 closed_names : (name : List ℕ) (periods : List Period) → map (λ (p : Period). p.name) (map (closed_if_named name) periods) ≡ map (λ (p : Period). p.name) periods
 closed_names name [] = refl
 closed_names name (period ∷ periods) = rw (closed_name name period, closed_names name periods) refl
@@ -559,14 +559,14 @@ closed_set name periods i d apart within is =
       | inr other ↦ rw other (get_or-set_other periods i k (closed (get_or periods i d)) d (λ same. let now : is_named name (get_or periods k d) ≡ true = rw same is in cc (sym other ∙ now)))
     ]
 
--- where no period has the name, none is closed
+-- if no period has the name, none is closed
 pub none_closed : (name : List ℕ) (periods : List Period) → list_any (is_named name) periods ≡ false → map (closed_if_named name) periods ≡ periods
 none_closed name [] none = refl
 none_closed name (period ∷ periods) none =
     let parts = or_parts (is_named name period) (list_any (is_named name) periods) none in
     rw (parts.0, none_closed name periods parts.1) refl
 
--- the days on which periods begin, of which one is closed
+-- the days on which periods begin, after one of these is closed
 closed_begun : (name : List ℕ) (periods : List Period) (begins : BTreeMap ℤ ℕ) → AreBegun (λ (p : Period). true) periods begins
     → AreBegun (λ (p : Period). true) (map (closed_if_named name) periods) begins
 closed_begun name periods begins right = record {

@@ -50,7 +50,7 @@ use Rattle.pb_book.proofs.KeptLemmas.{assays_more, assays_same, declared_more, d
 use Rattle.pb_book.proofs.NameLemmas.{any_map}
 use Rattle.pb_book.proofs.PeriodLemmas.{fails_at}
 
--- ---- the kind of what a fact names stays, and its service, where more is declared
+-- ---- the kind of what a fact names, and its service, stay the same if more is declared
 
 -- the kind and the service of an arc
 abbrev kind_and_service : Arc → ArcKind × Option Service
@@ -176,7 +176,7 @@ changed_fact declared (Level mm density variance) (Dip id tank day old_mm old_de
 
 -- ---- kept facts repeat none before them
 
--- a fact with other values repeats what it repeated, and is repeated so
+-- a fact with other values repeats what it repeated before, and is repeated by the same facts
 changed_later : (change : Change) (fact : Fact) (k : KeptFact) → is_repeat (changed change fact) k ≡ is_repeat fact k
 changed_later (Amount grams variance) (Reading id stream day old_grams old_variance) k = refl
 changed_later (Amount grams variance) (Transfer id stream first last old_grams old_variance) k = refl
@@ -234,7 +234,7 @@ amended_later id change k earlier none = elim (cases_Bool (is_live_with id k)) [
   | inr other ↦ rw other none
 ]
 
--- nor does it where it is struck
+-- nor does it if the fact is struck
 struck_earlier : (id : List ℕ) (later : Fact) (k : KeptFact) → is_repeat later k ≡ false → is_repeat later (struck_one id k) ≡ false
 struck_earlier id later k none = elim (cases_Bool (has_id id k)) [
   | inl is ↦ rw is (only_id (has_id (id_of later) k) _ none)
@@ -248,7 +248,7 @@ struck_earlier id later k none = elim (cases_Bool (has_id id k)) [
 struck_later : (id : List ℕ) (k earlier : KeptFact) → is_repeat k.fact earlier ≡ false → is_repeat (struck_one id k).fact earlier ≡ false
 struck_later id k earlier none = elim (cases_Bool (has_id id k)) [ inl is ↦ rw is none | inr other ↦ rw other none ]
 
--- what is needed of the facts, that they are added again
+-- what is needed of the facts so that they can be added again
 pub record AreWell (declared : List Declared) (kept : List KeptFact) : Type 0 where
   pub facts : All (λ (k : KeptFact). IsFactOf declared k.fact) kept
   pub apart : NoRepeats kept
@@ -268,7 +268,7 @@ well_more declared kept fact right own new room = record {
   few = omega (arith, below most_facts (length kept) room, length-append kept (live fact ∷ []));
 }
 
--- facts of which each has an image that is of the same, and repeats what it repeated
+-- facts whose images are each of the same, and repeat what the fact repeated
 well_images : (declared : List Declared) (kept : List KeptFact) (f : KeptFact → KeptFact) → AreWell declared kept
     → ((k : KeptFact) → IsFactOf declared k.fact → IsFactOf declared (f k).fact)
     → ((a b : KeptFact) → is_repeat b.fact a ≡ false → is_repeat (f b).fact (f a) ≡ false) → AreWell declared (map f kept)
@@ -328,13 +328,13 @@ well rows accepted =
     by_accepted AreWellIn none_well
     (λ before stored right own. well_step before stored.at stored.effect right own) rows accepted
 
--- no two facts have one id where a row joins accepted ones
+-- no two facts have the same id if a row joins accepted ones
 pub unique_more : (rows : List StoredRow) (at : ℕ) (effect : Effect) → AreAccepted rows → IsAcceptable rows effect → NoRepeats (facts_of (rows ++ record { at = at; effect = effect } ∷ []))
 unique_more rows at effect accepted fine_row = (well_step rows at effect (well rows accepted) fine_row).apart
 
 -- ---- the declarations and periods alone
 
--- where no condition holds there is no cause
+-- if no condition holds there is no cause
 no_cause : (version : Version) (declared : List Declared) (kept : List KeptFact) (periods : List Period) (assays : List Assay) (effect : Effect)
     → IsFine version declared kept periods assays effect → refusal_behind version declared kept periods assays effect ≡ None
 no_cause version declared kept periods assays effect good = rw (good.known, good.new, good.order, good.matching, good.sealed, good.opened, good.range, good.room) refl
@@ -351,7 +351,7 @@ none_served : (service : Option Service) (periods : List Period) → list_any (i
 none_served service [] = refl
 none_served service (period ∷ periods) = none_served service periods
 
--- no declaration comes too late where no period is closed
+-- no declaration comes too late if no period is closed
 none_sealed : (version : Version) (periods : List Period) (declared : Declared) → is_sealed_by version (map opened periods) declared ≡ false
 none_sealed One periods declared = unsealed (is_of_plant declared) (none_closed_now periods)
   where
@@ -375,7 +375,7 @@ opened_closed name (period ∷ periods) = elim (cases_Bool (is_named name period
   | inr other ↦ rw other (ap (λ (ps : List Period). opened period ∷ ps) (opened_closed name periods))
 ]
 
--- no period of a name is closed where all are open
+-- no period of a name is closed if all are open
 none_closed_named : (name : List ℕ) (periods : List Period) → list_any (is_closed_named name) (map opened periods) ≡ false
 none_closed_named name [] = refl
 none_closed_named name (period ∷ periods) = none_closed_named name periods
@@ -410,7 +410,7 @@ base_same rows stored none bare unsettled spans right =
     rw (same, declared_same rows stored none, periods_more_of rows stored, assays_same rows stored bare)
     (record { accepted = right.accepted; declares = right.declares; spans = right.spans ∙ sym spans; has = right.has; assayed = right.assayed })
 
--- what a row may do in a session of version 1 it may do before one is stored
+-- what a row may do in a session of version 1, it may do before any row is stored
 declares_first : (declared : Declared) → may_declare (Some One) declared ≡ true → may_declare None declared ≡ true
 declares_first Version2 may = refl
 declares_first declared may = may
@@ -419,7 +419,7 @@ does_first : (effect : Effect) → may_do (Some One) effect ≡ true → may_do 
 does_first (Declares declared) may = declares_first declared may
 does_first effect may = refl
 
--- what a row may do after some rows it may do after their declarations and periods alone
+-- what a row may do after some rows, it may do after their declarations and periods alone
 may_again : (rows : List StoredRow) (effect : Effect) → declared_of (numbered 1 (settled_rows rows)) ≡ declared_of rows → may_do (version_at rows) effect ≡ true
     → may_do (version_at (numbered 1 (settled_rows rows))) effect ≡ true
 may_again [] effect same may = may
@@ -429,7 +429,7 @@ may_again (stored ∷ rows) effect same may = by (numbered 1 (settled_rows (stor
     by [] same = does_first effect (subst (λ (ds : List Declared). may_do (Some (version_of ds)) effect ≡ true) (sym same) may)
     by (first ∷ plain) same = subst (λ (ds : List Declared). may_do (Some (version_of ds)) effect ≡ true) (sym same) may
 
--- one more row behind plain ones
+-- one more row after plain ones
 plain_more : (declared : List Declared) (periods : List Period) (facts : List KeptFact) (assays : List Assay) (plain : List StoredRow) (at : ℕ) (effect : Effect)
     (ds : List Declared) (ps : List Period) (ks : List KeptFact) (more : List Assay)
     → IsPlainSoFar declared periods facts assays plain → IsFine (version_of declared) declared facts (map opened periods) assays effect → IsEffectInRange effect
@@ -524,7 +524,7 @@ base rows accepted =
     by_accepted IsBase (record { accepted = none_accepted; declares = refl; spans = refl; has = refl; assayed = refl })
     (λ before stored right own. base_step before stored.at stored.effect right own) rows accepted
 
--- ---- the live facts behind them
+-- ---- the live facts after them
 
 live_more : (before : List KeptFact) (k : KeptFact) → live_facts (before ++ k ∷ []) ≡ live_facts before ++ live_facts (k ∷ [])
 live_more before k = filter_map-append live_fact before (k ∷ [])
@@ -537,7 +537,7 @@ live_itself : (facts : List Fact) → live_facts (map live facts) ≡ facts
 live_itself [] = refl
 live_itself (fact ∷ facts) = ap (λ (fs : List Fact). fact ∷ fs) (live_itself facts)
 
--- a fact that repeats none of some repeats none of the live ones among them
+-- a fact that repeats none of these facts repeats none of the live ones among them
 none_among_live : (fact : Fact) (kept : List KeptFact) → list_any (is_repeat fact) kept ≡ false → list_any (is_repeat fact) (map live (live_facts kept)) ≡ false
 none_among_live fact [] none = refl
 none_among_live fact (k ∷ kept) none =
@@ -558,7 +558,7 @@ repeats_none before k rest apart = list_any_none (is_repeat k.fact) before (λ i
     let pair = apart i (length before) d lt (omega (arith, long)) in
     rw (get_or-append before (k ∷ rest) d i lt, get_or-append_seam before k rest d) at pair)
 
--- what holds of all holds of the first of some more
+-- what holds for all holds for the first of some more
 own_of : (P : KeptFact → Type 0) (before : List KeptFact) (k : KeptFact) (rest : List KeptFact) → All P (before ++ k ∷ rest) → P k
 own_of P before k rest all = subst P (get_or-append_seam before k rest k) (all (length before) k (omega (arith, length-append before (k ∷ rest))))
 

@@ -1,4 +1,4 @@
--- Records that write rows, and the rows that a book tells in plain ones.
+-- Records that write rows, and the plain rows that a book returns.
 use Rattle.std.specs.Prelude.{filter_map, map, option_and_then, take}
 use Rattle.std.specs.List.{cons_option}
 use Rattle.std.specs.Option.{option_map}
@@ -34,7 +34,7 @@ write_more (f ∷ records) (e ∷ effects) fields effect so_far one = (so_far.0,
 write_more [] (e ∷ effects) fields effect so_far one = absurd so_far
 write_more (f ∷ records) [] fields effect so_far one = absurd so_far
 
--- records that write rows get one more, or none
+-- records that write rows, with one more or with none
 pub adds : (old new : List (List (List ℕ))) (effects : List Effect) (effect : Option Effect) → WriteRows old effects → AddsSome old new effect → WriteRows new (effects ++ cons_option effect [])
 adds old new effects None so_far same = rw (same, append-nil effects) so_far
 adds old new effects (Some effect) so_far more = by more
@@ -49,7 +49,7 @@ settled_cons : (o : Option StoredRow) (rest : List StoredRow)
 settled_cons None rest = refl
 settled_cons (Some stored) rest = refl
 
--- an item whose row is a plain one, and one whose row isn't
+-- an item whose row is plain, and one whose row isn't
 given : {X : Type 0} (f : X → Effect) (at : ℕ) → ((x : X) → settled (f x) ≡ Some (f x)) → (o : Option X)
     → option_and_then (λ (s : StoredRow). settled s.effect) (stored_at at (option_map f o)) ≡ option_map f o
 given f at is None = refl

@@ -1,4 +1,4 @@
--- What is answered to a record that asks for a window.
+-- The answer to a record that asks for a window.
 use Rattle.std.proofs.Common.{◌≡◌, ℕ, Bool, true, false, List, Option, Some, None, Result, Ok, Err, refl, ap, sym, ◌∙◌}
 use Rattle.std.specs.Prelude.{slice_get}
 use Rattle.pb_form.specs.declared.fault.FormFault.{FormFault}
@@ -27,14 +27,14 @@ unless : (P : Answer → Type 0) → ((cause : Refusal) → P (Refused cause)) �
 unless P refused first last says (Some cause) = refused cause
 unless P refused first last says None = says
 
--- what holds of a refusal and of a window holds of the answer to one that is asked
+-- what holds for a refusal and for a window holds for the answer to one that is asked for
 pub by_window : (P : Answer → Type 0) → ((cause : Refusal) → P (Refused cause)) → ((first last : ℕ) → P (Says (Window first last))) → (rows : List StoredRow) (one other : Option ℕ)
     → P (window_or_refused rows one other)
 by_window P refused says rows (Some first) (Some last) = unless P refused first last (says first last) (refusal_of_window rows first last)
 by_window P refused says rows (Some first) None = refused _
 by_window P refused says rows None other = refused _
 
--- ---- one that is asked for
+-- ---- a window that is asked for
 
 no_store : (effect : Effect) (cause : Option Refusal) (first last : ℕ) → stored_or_refused effect cause ≡ Says (Window first last) → ⊥
 no_store effect (Some cause) first last is = cc is

@@ -1,4 +1,5 @@
--- The periods that follow one another day by day, as one goes from the last day of each to the one that begins on the next day.
+-- The periods that follow one another without a gap, found by going from the last day of each to the one that begins on the next
+-- day.
 use Rattle.std.specs.Prelude.{◌&&◌, ◌||◌, Contains, filter_map, find, int_le, map, nat_lt, not, position, slice_get}
 use Rattle.std.specs.Int.{int_gap}
 use Rattle.std.specs.List.{cons_option, list_any, position_or_len}
@@ -61,7 +62,7 @@ days_next day end lt = ap (days_in_row day) (gap_next day end lt)
 days_past : (day end : ℤ) → end ≤ℤ day → days_until day end ≡ []
 days_past day end le = ap (days_in_row day) (gap_past day end le)
 
--- days of which a function says nothing are passed over
+-- days for which a function gives nothing are passed over
 skip_none : {X : Type 0} (f : ℤ → Option X) (k : ℕ) (day end : ℤ) → ((d : ℤ) → day ≤ℤ d → d <ℤ (day +ℤ pos k) → f d ≡ None)
     → filter_map f (days_until day end) ≡ filter_map f (days_until (day +ℤ pos k) end)
 skip_none f zero day end none = let same : day +ℤ pos 0 ≡ day = omega (arith, ints) in ap (λ (d : ℤ). filter_map f (days_until d end)) (sym same)
@@ -144,7 +145,7 @@ none_begins periods i d day apart rise within from to = list_any_none (begins_on
           absurd (omega (arith, ints, own, from))
     ]
 
--- a day after a period on which none begins is in none
+-- a day after a period on which no period begins is in no period
 none_has : (periods : List Period) (i : ℕ) (d : Period) → AreApart periods → All IsPeriod periods → i < length periods
     → list_any (begins_on ((get_or periods i d).last +ℤ pos 1)) periods ≡ false
     → list_any (shares_a_day ((get_or periods i d).last +ℤ pos 1) ((get_or periods i d).last +ℤ pos 1)) periods ≡ false
@@ -188,15 +189,15 @@ no_place p xs is = list_any_none p xs (λ k d lt. fails_before_first p xs k d (o
 abbrev begun : List Period → ℤ → Option Period
 begun periods day = find (begins_on day) periods
 
--- The way from one period to another, up to a day: these are the places of the periods so far, and on the day one begins, or it is in
--- none.
+-- The way from one period to another, up to a day: these are the places of the periods so far, and a period begins on the day, or
+-- the day is in no period.
 pub record IsOnWay (periods : List Period) (first last : Period) (day : ℤ) (places : List ℕ) : Type 0 where
   pub made : map (slice_get periods) places ++ map Some (filter_map (begun periods) (days_between day last.first))
       ≡ map Some (periods_between periods first last)
   pub left : list_any (is_in_none periods) (days_between day last.last) ≡ has_gap periods first last
   pub next : list_any (begins_on day) periods ≡ false → list_any (shares_a_day day day) periods ≡ false
 
--- it begins on the first day of the one
+-- it begins on the first day of the first period
 pub begin : (periods : List Period) (first last : Period) → Contains periods first → IsOnWay periods first last first.first []
 unfolding has_gap periods_between
 begin periods first last (k, lt, is) = record {
@@ -208,7 +209,7 @@ begin periods first last (k, lt, is) = record {
     begins : begins_on first.first first ≡ true
     begins = (Decides-int_eq first.first first.first).1 refl
 
--- after its last day it has come to the other
+-- after the last day of the second period it is complete
 pub arrived : (periods : List Period) (first last : Period) (day : ℤ) (places : List ℕ) → IsPeriod last
     → last.last <ℤ day → IsOnWay periods first last day places → ArePlacesOf periods first last places
 arrived periods first last day places days past way = record {
@@ -223,7 +224,7 @@ arrived periods first last day places days past way = record {
     none_begin : days_between day last.first ≡ []
     none_begin = days_past day (last.first +ℤ pos 1) (omega (arith, ints, past, days.rises))
 
--- on a day on which none begins there is a gap
+-- on a day on which no period begins there is a gap
 pub stopped : (periods : List Period) (first last : Period) (day : ℤ) (places : List ℕ) → day ≤ℤ last.last
     → position (begins_on day) periods ≡ None → IsOnWay periods first last day places → has_gap periods first last ≡ true
 stopped periods first last day places within none way =
@@ -238,7 +239,7 @@ found periods day place period is there =
     let first = cond_some (nat_lt (position_or_len (begins_on day) periods) (length periods)) (position_or_len (begins_on day) periods) place is in
     find_at (begins_on day) periods ∙ ap (slice_get periods) first.1 ∙ there
 
--- one period more
+-- one more period
 pub went_on : (periods : List Period) (first last : Period) (day : ℤ) (places : List ℕ) (place : ℕ) (period : Period) → AreApart periods → All IsPeriod periods
     → Contains periods last → day ≤ℤ last.last → position (begins_on day) periods ≡ Some place → slice_get periods place ≡ Some period
     → IsOnWay periods first last day places → IsOnWay periods first last (period.last +ℤ pos 1) (places ++ place ∷ [])
@@ -307,7 +308,7 @@ went_on periods first last day places place period apart rise (i, last_in, last_
         skip_fails (is_in_none periods) (suc (int_gap day period.last)) day (last.last +ℤ pos 1) taken
         ∙ ap (λ (d : ℤ). list_any (is_in_none periods) (days_until d (last.last +ℤ pos 1))) behind
 
--- the next day lies after the one on which it begins
+-- the next day lies after the one on which the period begins
 pub later : (periods : List Period) (day : ℤ) (place : ℕ) (period : Period) → IsPeriod period → position (begins_on day) periods ≡ Some place → slice_get periods place ≡ Some period
     → day <ℤ (period.last +ℤ pos 1)
 later periods day place period days is there =

@@ -78,7 +78,7 @@ site_plant : PlantLaw → (rows : List StoredRow) → AreAccepted rows → IsSit
 site_plant law rows accepted =
     subst (λ (rs : List StoredRow). IsSitePlant (declared_of rs)) (take_all (length rows) rows (omega arith)) (plant_up_to law rows accepted (length rows) (omega arith))
 
--- ---- the plant as a window takes it
+-- ---- the plant, as a window uses it
 
 -- the inventory of a tank leads to the environment
 abbrev LeadsOut : Arc → Type 0
@@ -150,7 +150,7 @@ as_many periods (place ∷ places) all =
     no_period : Period
     no_period = record { name = []; first = pos 0; last = pos 0; closed = false }
 
--- what holds of each period holds of those between two
+-- what holds for each period holds for those between two
 found_all : (P : Period → Type 0) (p : Period → Bool) (periods : List Period) → All P periods → IfSome (find p periods) P
 found_all P p [] all = tt
 found_all P p (period ∷ periods) all = elim (cases_Bool (p period)) [
@@ -173,7 +173,7 @@ between_all P periods first last all = begun_all P periods (days_between first.f
 
 -- ---- loops over arcs and places
 
--- one item more
+-- one more item
 pub mapped_next : {A B : Type 0} (f : A → B) (xs : List A) (i : ℕ) (x : A) (made new whole : List B) → slice_get xs i ≡ Some x → made ++ map f (drop i xs) ≡ whole → new ≡ made ++ f x ∷ []
     → new ++ map f (drop (i + 1) xs) ≡ whole
 mapped_next {A} {B} f xs i x made new whole at so_far is =
@@ -182,11 +182,11 @@ mapped_next {A} {B} f xs i x made new whole at so_far is =
     ap (λ (l : List B). l ++ map f (drop (i + 1) xs)) is ∙ append_assoc made (f x ∷ []) (map f (drop (i + 1) xs))
     ∙ ap (λ (y : A). made ++ (f y ∷ map f (drop (i + 1) xs))) (sym here) ∙ ap (λ (l : List B). made ++ l) (sym next) ∙ so_far
 
--- the periods at some places as a window takes them
+-- the periods at some places, as a window uses them
 abbrev pub spans_of : List Period → List ℕ → List Span
 spans_of periods places = map span_of_period (filter_map (slice_get periods) places)
 
--- one place more
+-- one more place
 pub spans_next : (periods : List Period) (places : List ℕ) (i : ℕ) (period : Period) (made new whole : List Span) → i < length places → slice_get periods (get_or places i 0) ≡ Some period
     → made ++ spans_of periods (drop i places) ≡ whole → new ≡ made ++ span_of_period period ∷ [] → new ++ spans_of periods (drop (i + 1) places) ≡ whole
 spans_next periods places i period made new whole lt at so_far is =
@@ -329,7 +329,7 @@ book_windows law form_law names_law places_law rows first last accepted none = r
     each_period : length (names_of_periods periods) ≡ length spans
     each_period = length-map periods (λ (period : Period). period.name) ∙ sym (length-map periods span_of_period)
 
--- ---- what a book says of a window
+-- ---- what a book says about a window
 
 same_period : (periods : List Period) (place : ℕ) (one other : Period) → slice_get periods place ≡ Some one → slice_get periods place ≡ Some other → one ≡ other
 same_period periods place one other is also = cc (sym is ∙ also)
@@ -346,7 +346,7 @@ between_ends rows first last one other places begins ends are = λ a b a_is b_is
     let other_is = same_period (periods_of rows) last other b ends b_is in
     rw (← one_is, ← other_is) are
 
--- there are no more of them than a window may have
+-- there are no more periods than a window may have
 pub few_between : (rows : List StoredRow) (first last : ℕ) (asked : IsWindowAsked rows first last) (places : List ℕ)
     → map (slice_get (periods_of rows)) places ≡ map Some (periods_between (periods_of rows) asked.one asked.other) → length places ≤ most_periods_of_window
 few_between rows first last asked places are =

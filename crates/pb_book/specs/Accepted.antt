@@ -1,4 +1,4 @@
--- Statement. Rows that were accepted, one behind the other, and what follows of them.
+-- Statement. Rows that were accepted one after the other, and what follows from that.
 use Rattle.std.specs.Prelude.{◌≡◌, ℕ, true, false, List, take, All, None, Some, slice_get}
 use Rattle.pb_facts.specs.Fact.{IsInRange}
 use Rattle.pb_facts.specs.declared.facts.KeptFact.{KeptFact}
@@ -13,14 +13,14 @@ use Rattle.pb_book.specs.Ranges.{IsPeriod}
 use Rattle.pb_book.specs.Refusals.{is_outside_table, refusal_of}
 use Rattle.pb_book.specs.Rows.{version_at}
 
--- a row may join the stored ones: there is no cause to refuse it, its numbers and days lie in their ranges, and a row of the session may
--- do it by its version
+-- a row may join the stored ones: there is no cause to refuse it, its numbers and days lie in their ranges, and the version of the
+-- session allows it
 pub record IsAcceptable (rows : List StoredRow) (effect : Effect) : Type 0 where
   pub no_cause : refusal_of rows effect ≡ None
   pub in_range : IsEffectInRange effect
   pub may : may_do (version_at rows) effect ≡ true
 
--- Each stored row was acceptable behind those before it.
+-- Each stored row was acceptable after those before it.
 abbrev pub AreAccepted : List StoredRow → Type 0
 AreAccepted rows =
     (i : ℕ) (stored : StoredRow) → slice_get rows i ≡ Some stored
@@ -30,7 +30,7 @@ AreAccepted rows =
 abbrev pub AreInTables : List Declared → List KeptFact → Type 0
 AreInTables declared kept = All (λ (k : KeptFact). is_outside_table declared k.fact ≡ false) kept
 
--- What follows of accepted rows: each period has as many days as it may have, no two share a name or a day, the
+-- What follows from accepted rows: the number of days of each period is within the limit, no two periods share a name or a day, the
 -- numbers and days of each fact lie in their ranges, and each dip lies in its tank's table, which may have grown since.
 pub record AreConsistent (declared : List Declared) (kept : List KeptFact) (periods : List Period) : Type 0 where
   pub days : All IsPeriod periods

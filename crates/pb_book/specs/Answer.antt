@@ -1,4 +1,4 @@
--- Statement. The answer to a record, behind the rows stored before it, and the rows stored after it.
+-- Statement. The answer to a record, given the rows stored before it, and the rows stored after it.
 use Rattle.std.specs.Prelude.{ℕ, Bool, true, false, List, Option, Some, None, Result, Ok, Err}
 use Rattle.pb_form.specs.declared.fault.FormFault.{FormFault}
 use Rattle.pb_form.specs.declared.fault.FormFault.TheVariants as fault
@@ -37,7 +37,7 @@ code_of Closed = 11
 code_of Range = 12
 code_of Full = 13
 
--- the cause of a fault of a record's fields; a word that isn't one of its column's is one of no kind
+-- the cause for a fault in a record's fields; a word that isn't one of its column's words counts as an unknown kind
 abbrev pub cause_of : FormFault → Refusal
 cause_of fault.Kind = Kind
 cause_of fault.Fields = Fields
@@ -46,18 +46,18 @@ cause_of fault.Number = Number
 cause_of fault.Date = Date
 cause_of fault.Word = Kind
 
--- what a record gets for an answer: it is refused, its row joins the stored ones, or the book says what it asks
+-- the answer to a record: it is refused, its row joins the stored ones, or the book says what the record asks for
 pub data Answer : Type 0 where
   Refused : Refusal → Answer
   Stored : Effect → Answer
   Says : Accepted → Answer
 
--- a row that has a cause is refused, and another one joins the stored rows
+-- a row is refused if there is a cause, and otherwise joins the stored rows
 abbrev pub stored_or_refused : Effect → Option Refusal → Answer
 stored_or_refused effect (Some cause) = Refused cause
 stored_or_refused effect None = Stored effect
 
--- a report is of a period that there is
+-- a report is refused unless its period exists
 abbrev pub report_or_refused : Option ℕ → Answer
 report_or_refused (Some period) = Says (Report period)
 report_or_refused None = Refused Unknown
@@ -67,27 +67,27 @@ abbrev pub history_or_refused : Option ℕ → Answer
 history_or_refused (Some period) = Says (History period)
 history_or_refused None = Refused Unknown
 
--- an advice is at costs that there is no cause to refuse
+-- advice is refused if there is a cause to refuse its costs
 abbrev pub advise_or_refused : Option Refusal → Answer
 advise_or_refused (Some cause) = Refused cause
 advise_or_refused None = Says Advise
 
--- a window is made unless there is a cause to refuse it
+-- a window is refused if there is a cause
 abbrev pub window_unless : ℕ → ℕ → Option Refusal → Answer
 window_unless first last (Some cause) = Refused cause
 window_unless first last None = Says (Window first last)
 
--- a window is from a period that there is to a period that there is
+-- a window is refused unless its first and last periods exist
 abbrev pub window_or_refused : List StoredRow → Option ℕ → Option ℕ → Answer
 window_or_refused rows (Some first) (Some last) = window_unless first last (refusal_of_window rows first last)
 window_or_refused rows first last = Refused Unknown
 
--- a balance is of a component over a period that there is, and of which there is an assay
+-- the balance of a component over a period is refused unless the period exists and there is an assay of the component over it
 abbrev pub component_or_refused : List ℕ → Bool → Option ℕ → Answer
 component_or_refused component true (Some period) = Says (Component component period)
 component_or_refused component assayed period = Refused Unknown
 
--- the answer to a request, by the costs that its record names
+-- the answer to a request, given the costs that its record names
 abbrev pub answer_to : List StoredRow → List NamedCost → Request → Answer
 answer_to rows costs asked.Blank = Says Blank
 answer_to rows costs (asked.Store effect) = stored_or_refused effect (refusal_of rows effect)
@@ -104,11 +104,11 @@ abbrev pub answer_if : List StoredRow → List NamedCost → Result Request Form
 answer_if rows costs (Ok request) = answer_to rows costs request
 answer_if rows costs (Err fault) = Refused (cause_of fault)
 
--- The answer to a record, behind these stored rows. Empty fields at its end don't count.
+-- The answer to a record, given these stored rows. Empty fields at its end don't count.
 abbrev pub answer_of : List StoredRow → List (List ℕ) → Answer
 answer_of rows fields = answer_if rows (named_costs fields) (request_in (version_at rows) fields)
 
--- what the book says of an answer
+-- what the book returns for an answer
 abbrev pub said_of : Answer → Result Accepted NotAccepted
 said_of (Refused cause) = Err (NotAcceptedFor cause)
 said_of (Stored effect) = Ok StoredAccepted

@@ -7,7 +7,7 @@ use Rattle.pb_book.specs.declared.rows.Period.{Period}
 abbrev pub is_named : List ℕ → Period → Bool
 is_named name period = same_name name period.name
 
--- a period has a day from the first to the last one
+-- the period has a day from `first` to `last`
 abbrev pub shares_a_day : ℤ → ℤ → Period → Bool
 shares_a_day first last period = int_le first period.last && int_le period.first last
 

@@ -1,4 +1,4 @@
--- Statement. The assays among the stored rows: of which components the grade is known, in which streams and over which periods.
+-- Statement. The assays among the stored rows: for which components the grade is known, in which streams and over which periods.
 use Rattle.std.specs.Prelude.{ℕ, Bool, ◌&&◌, List, filter_map, find, Option, Some, None}
 use Rattle.std.specs.List.{list_any}
 use Rattle.std.specs.Option.{option_map}
@@ -26,15 +26,15 @@ is_assay_over component period assay = same_name assay.component component && sa
 abbrev pub is_assay_of : List ℕ → List ℕ → List ℕ → Assay → Bool
 is_assay_of component period stream assay = is_assay_over component period assay && same_name assay.stream stream
 
--- some assay is of this component over the period of this name
+-- some assay is of this component over the period with this name
 abbrev pub has_assay : List StoredRow → List ℕ → List ℕ → Bool
 has_assay rows component period = list_any (is_assay_over component period) (assays_of rows)
 
--- the grade that the assay among these gives which is of this component, over this period and in this stream
+-- the grade from the assay among these that is of this component, over this period and in this stream
 abbrev pub grade_among : List Assay → List ℕ → List ℕ → List ℕ → Option Grade
 grade_among assays component period stream =
     option_map (λ (assay : Assay). assay.grade) (find (is_assay_of component period stream) assays)
 
--- The grade of a component over a period in a stream, all three by their names, if there is an assay of it.
+-- The grade of a component over a period in a stream, all three given by name, if there is an assay.
 abbrev pub grade_of : List StoredRow → List ℕ → List ℕ → List ℕ → Option Grade
 grade_of rows = grade_among (assays_of rows)

@@ -17,7 +17,7 @@ cause_of_change declared fact change =
     else if is_outside_table declared (changed change fact) then Some Range
     else None
 
--- the same of an edit; a strike has none
+-- the same for an edit; there is no cause to refuse a strike
 abbrev pub cause_of_edit : List Declared → Fact → Edit → Option Refused
 cause_of_edit declared fact (edits.Change change) = cause_of_change declared fact change
 cause_of_edit declared fact edits.Strike = None

@@ -1,4 +1,4 @@
--- Statement. The costs that an `advise` row names: when they are refused, and what a meter on each stream costs by them.
+-- Statement. The costs that an `advise` row names: when they are refused, and what a meter on each stream then costs.
 use Rattle.std.specs.Prelude.{ℕ, ℤ, pos, Bool, true, false, ◌||◌, List, [], ◌∷◌, map, Option, Some, None, if◌then◌else◌}
 use Rattle.std.specs.List.{fold, list_any}
 use Rattle.pb_rows.specs.Name.{same_name}
@@ -17,13 +17,13 @@ is_cost_of stream named = same_name named.stream stream
 
 -- ---- when they are refused
 
--- of this kind is no stream: nothing is declared, or a tank
+-- not the kind of a stream: nothing is declared, or a tank
 abbrev pub is_no_stream : Option ArcKind → Bool
 is_no_stream None = true
 is_no_stream (Some Tank) = true
 is_no_stream (Some kind) = false
 
--- of this kind is no plain stream, which alone has no measurements
+-- not the kind of a plain stream; only plain streams have no measurements
 abbrev pub is_not_plain : Option ArcKind → Bool
 is_not_plain (Some Plain) = false
 is_not_plain kind = true
@@ -55,11 +55,11 @@ refusal_of_costs declared costs =
 abbrev pub cost_after : List ℕ → ℤ → NamedCost → ℤ
 cost_after stream cost named = if is_cost_of stream named then named.cost else cost
 
--- what a meter on a plain stream costs: what is named, else 1
+-- what a meter on a plain stream costs: the cost named, or 1 if none is named
 abbrev pub cost_named : List NamedCost → List ℕ → ℤ
 cost_named costs stream = fold (cost_after stream) (pos 1) costs
 
--- what a meter costs on an arc of a kind: one that has measurements has meters
+-- what a meter costs on an arc of this kind: 0 if the arc has measurements, since it already has a meter
 abbrev pub cost_of_kind : ArcKind → ℤ → ℤ
 cost_of_kind Plain cost = cost
 cost_of_kind kind cost = pos 0

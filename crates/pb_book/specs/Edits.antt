@@ -1,4 +1,4 @@
--- Statement. The rows that close a period, come late, change a fact or strike it, and the periods that they touch.
+-- Statement. The rows that close a period, book a fact late, change a fact or strike it, and the periods that they touch.
 use Rattle.std.specs.Prelude.{ℕ, Bool, true, false, List, filter, Option, slice_get}
 use Rattle.std.specs.Option.{option_map_or}
 use Rattle.pb_facts.specs.declared.fact.Fact.{Fact}
@@ -11,7 +11,7 @@ use Rattle.pb_book.specs.Apart.{is_named}
 use Rattle.pb_book.specs.Rows.{facts_of, periods_of}
 use Rattle.pb_book.specs.TakenOut.{takes_out, touching_of}
 
--- a row edits the books: it closes a period, comes late, changes a fact or strikes it
+-- a row is an edit: it closes a period, books a fact late, changes a fact or strikes it
 abbrev pub is_edit : Effect → Bool
 is_edit (Books fact late) = late
 is_edit (Edits id edit reason) = true
@@ -22,12 +22,12 @@ is_edit effect = false
 abbrev pub edits_of : List StoredRow → List StoredRow
 edits_of rows = filter (λ (stored : StoredRow). is_edit stored.effect) rows
 
--- An edit touches a period: a closing its own, a late fact, a change and a strike those that they take out.
+-- An edit touches a period: a closing touches its own period; a late fact, a change and a strike touch those that they take out.
 abbrev pub edit_touches : (Fact → Period → Bool) → List KeptFact → Effect → Period → Bool
 edit_touches touching kept (Closes name) period = is_named name period
 edit_touches touching kept effect period = takes_out touching kept effect period
 
--- so does the edit that a row is, if it is there
+-- the same for an optional row
 abbrev pub row_touches : (Fact → Period → Bool) → List KeptFact → Period → Option StoredRow → Bool
 row_touches touching kept period row =
     option_map_or (λ (stored : StoredRow). edit_touches touching kept stored.effect period) row false

@@ -9,7 +9,7 @@ use Rattle.pb_book.specs.Costs.{meter_costs}
 use Rattle.pb_book.specs.Rows.{declared_of, facts_of, periods_of}
 use Rattle.pb_book.specs.Windows.{IsWindowAsked}
 
--- the rows of a session were accepted, whatever its records; and what follows of that
+-- the rows of a session were accepted, whatever its records are; and what follows from that
 pub record AcceptedLaw : Type 0 where
   pub begin : AreAccepted []
   pub go_on : (rows : List StoredRow) (at : ℕ) (fields : List (List ℕ)) → AreAccepted rows
@@ -17,14 +17,14 @@ pub record AcceptedLaw : Type 0 where
   pub consistent : (rows : List StoredRow) → AreAccepted rows
       → AreConsistent (declared_of rows) (facts_of rows) (periods_of rows)
 
--- Each number that a meter costs by a record that is accepted as one that asks for an advice is what a meter may cost.
+-- If a record is accepted as one that asks for advice, each cost of a meter is one that a meter may have.
 abbrev pub MeterCostsLaw : Type 0
 MeterCostsLaw =
     (rows : List StoredRow) (fields : List (List ℕ)) → answer_of rows fields ≡ Says Advise
     → All IsMeterCost (meter_costs (declared_of rows) (named_costs fields))
 
--- A record that is accepted as one that asks for a window asks for one between periods that there are, and that there is no cause to
--- refuse.
+-- A record that is accepted as one that asks for a window asks for a window between periods that exist, and one that there is no
+-- cause to refuse.
 abbrev pub AskedWindowLaw : Type 0
 AskedWindowLaw =
     (rows : List StoredRow) (fields : List (List ℕ)) (first last : ℕ) → answer_of rows fields ≡ Says (Window first last)

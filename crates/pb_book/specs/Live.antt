@@ -1,4 +1,4 @@
--- Statement. Which facts stand, by the rows that change and strike them.
+-- Statement. Which facts stand, according to the rows that change and strike them.
 use Rattle.std.specs.Prelude.{◌≡◌, ℕ, Bool, false, List, filter_map, Option, Some, None, if◌then◌else◌}
 use Rattle.std.specs.List.{fold, list_any}
 use Rattle.pb_rows.specs.Name.{same_name}
@@ -19,7 +19,7 @@ abbrev pub strikes : List ℕ → Effect → Bool
 strikes id (Edits struck edits.Strike reason) = same_name id struck
 strikes id effect = false
 
--- some row does
+-- some row strikes the fact of this id
 abbrev pub is_struck_in : List StoredRow → List ℕ → Bool
 is_struck_in rows id = list_any (λ (stored : StoredRow). strikes id stored.effect) rows
 
@@ -28,17 +28,17 @@ abbrev pub change_in : List ℕ → Effect → Option Change
 change_in id (Edits changed (edits.Change change) reason) = if same_name id changed then Some change else None
 change_in id effect = None
 
--- a change, or where there is none the one before
+-- a change, or if there is none, the one before
 abbrev pub later_of : Option Change → Option Change → Option Change
 later_of (Some change) before = Some change
 later_of None before = before
 
--- the values that the last of the rows gives that change the fact of this id
+-- the values given by the last of the rows that change the fact of this id
 abbrev pub last_change : List StoredRow → List ℕ → Option Change
 last_change rows id =
     fold (λ (last : Option Change) (stored : StoredRow). later_of (change_in id stored.effect) last) None rows
 
--- a fact with the values of a change, or else its own
+-- a fact with the values of a change, or with its own if there is no change
 abbrev pub values_by : Option Change → Fact → Fact
 values_by (Some change) fact = changed change fact
 values_by None fact = fact
@@ -54,8 +54,8 @@ abbrev pub live_in : List StoredRow → Effect → Option Fact
 live_in rows (Books fact late) = live_of rows fact
 live_in rows effect = None
 
--- The live facts of accepted rows: each booked fact in order, late or not, whose id no row strikes, with the values of the last row
--- that changes it, else its own.
+-- The live facts of accepted rows are, in order, the booked facts, late or not, whose ids no row strikes, each with the values of
+-- the last row that changes it, or with its own if no row does.
 abbrev pub LiveLaw : Type 0
 LiveLaw =
     (rows : List StoredRow) → AreAccepted rows

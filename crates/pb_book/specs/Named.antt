@@ -25,7 +25,7 @@ pub record AreNamed (rows : List StoredRow) : Type 0 where
   pub streams : list_all is_name (arc_names (declared_of rows)) ≡ true
   pub periods : All (λ (period : Period). is_name period.name ≡ true) (periods_of rows)
 
--- the rows of a session have names, whatever its records; and what follows of that
+-- the rows of a session have names, whatever its records are; and what follows from that
 pub record NamedLaw : Type 0 where
   pub begin : HaveNames []
   pub go_on : (rows : List StoredRow) (at : ℕ) (fields : List (List ℕ)) → HaveNames rows → HaveNames (after rows at fields)

@@ -10,7 +10,7 @@ use Rattle.pb_book.specs.Accepted.{AreAccepted}
 use Rattle.pb_book.specs.Assays.{assays_of}
 use Rattle.pb_book.specs.Rows.{declared_of, facts_of, live, open_period, periods_of}
 
--- a row that declares something, or a period, or gives an assay
+-- what a row does, if it declares something or a period, or gives an assay
 abbrev pub settled : Effect → Option Effect
 settled (Declares declared) = Some (Declares declared)
 settled (Opens name first last) = Some (Opens name first last)
@@ -29,7 +29,7 @@ booked fact = Books fact false
 abbrev pub plain_rows : List StoredRow → List Effect
 plain_rows rows = settled_rows rows ++ map booked (live_facts (facts_of rows))
 
--- rows of the records from a number on
+-- the rows of records that are numbered from `at`
 abbrev pub numbered : ℕ → List Effect → List StoredRow
 numbered at [] = []
 numbered at (effect ∷ effects) = record { at = at; effect = effect } ∷ numbered (at + 1) effects
@@ -42,8 +42,8 @@ plain_stored rows = numbered 1 (plain_rows rows)
 abbrev pub opened : Period → Period
 opened period = open_period period.name period.first period.last
 
--- The plain rows were accepted one behind the other: none is refused. They declare the same plant and the same periods,
--- but for their being closed, give the same assays, and their facts are the live ones.
+-- The plain rows were accepted one after the other: none is refused. They declare the same plant and, except that none is closed,
+-- the same periods; they give the same assays, and their facts are the live ones.
 pub record ArePlain (rows plain : List StoredRow) : Type 0 where
   pub accepted : AreAccepted plain
   pub declared : declared_of plain ≡ declared_of rows

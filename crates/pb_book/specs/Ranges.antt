@@ -1,10 +1,11 @@
--- Statement. What each period of a book has: days in the calendar, in order, and as many as it may have.
+-- Statement. What holds for each period of a book: its days are in the calendar and in order, and there are at most as many as are
+-- allowed.
 use Rattle.std.specs.Prelude.{pos, ◌-ℤ◌, ◌≤ℤ◌, ◌<ℤ◌}
 use Rattle.pb_limits.specs.Limits.{most_days_of_period}
 use Rattle.pb_facts.specs.Fact.{IsDay}
 use Rattle.pb_book.specs.declared.rows.Period.{Period}
 
--- a period has at least one day, and as many as it may have
+-- a period has at least one day, and at most as many as are allowed
 pub record IsPeriod (period : Period) : Type 0 where
   pub begins : IsDay period.first
   pub ends : IsDay period.last

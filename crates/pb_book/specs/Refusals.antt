@@ -1,5 +1,5 @@
--- Statement. When a row is refused, behind the rows stored before it: one condition for each cause, in the order in
--- which they are asked. A condition takes what is declared, the facts, the periods and the assays, where it asks for them.
+-- Statement. When a row is refused, given the rows stored before it: one condition for each cause, in the order in which they are
+-- tested. A condition takes what is declared, the facts, the periods and the assays, as far as it needs them.
 use Rattle.std.specs.Prelude.{ℕ, pos, ◌-ℤ◌, Bool, true, false, not, ◌||◌, ◌&&◌, nat_le, int_le, int_lt, List, length, Option, Some, None, if◌then◌else◌, is_none, option_and_then}
 use Rattle.std.specs.List.{list_any}
 use Rattle.pb_limits.specs.Limits.{most_days_of_period, most_periods}
@@ -54,8 +54,8 @@ names_other fact (Some kind) = false
 abbrev pub is_no_arc : List Declared → List ℕ → Bool
 is_no_arc declared name = is_none (kind_of declared name)
 
--- Unknown: a fact or an assay of a stream, or of a tank, that isn't declared; what a declaration doesn't find; no live fact of
--- the id, or no period of the name
+-- Unknown: a fact or an assay of a stream or tank that isn't declared; something that a declaration refers to but that isn't
+-- declared; an id that no live fact has, or a name that no period has
 abbrev pub is_unknown : List Declared → List KeptFact → List Period → Effect → Bool
 is_unknown declared kept periods (Declares row) = is_unknown_declared declared row
 is_unknown declared kept periods (Books fact late) = names_other fact (kind_of_fact declared fact)
@@ -64,8 +64,8 @@ is_unknown declared kept periods (Closes name) = not (list_any (is_named name) p
 is_unknown declared kept periods (Assays assay) = is_no_arc declared assay.stream || not (list_any (is_named assay.period) periods)
 is_unknown declared kept periods effect = false
 
--- Duplicate: a name that is taken, such a critical value, the id of an accepted fact, a day that has its reading or dip, or a
--- component, stream and period that have their assay
+-- Duplicate: a name that is taken, a critical value that is already declared, the id of an accepted fact, a day that already has
+-- its reading or dip, or a component, stream and period that already have an assay
 abbrev pub is_duplicate : List Declared → List KeptFact → List Period → List Assay → Effect → Bool
 is_duplicate declared kept periods assays (Declares row) = is_duplicate_declared declared row
 is_duplicate declared kept periods assays (Opens name first last) = list_any (is_named name) periods
@@ -73,7 +73,7 @@ is_duplicate declared kept periods assays (Books fact late) = is_duplicate_fact 
 is_duplicate declared kept periods assays (Assays assay) = list_any (is_assay_of assay.component assay.period assay.stream) assays
 is_duplicate declared kept periods assays effect = false
 
--- Order: a table that doesn't rise, or a first day after the last one
+-- Order: a table that doesn't rise, or a first day after the last
 abbrev pub is_out_of_order : List Declared → Effect → Bool
 is_out_of_order declared (Declares row) = is_out_of_order_declared declared row
 is_out_of_order declared (Opens name first last) = int_lt last first
@@ -87,13 +87,12 @@ is_of_other_kind (Transfer id stream first last grams variance) (Some Batch) = f
 is_of_other_kind (Dip id tank day mm density variance) kind = false
 is_of_other_kind fact kind = true
 
--- a live fact of the id is one that the change doesn't fit
+-- a live fact of this id, which the change doesn't fit
 abbrev pub is_misfit : List ℕ → Change → KeptFact → Bool
 is_misfit id change kept = is_live_with id kept && not (fits change kept.fact)
 
--- Mismatch: a stream from a node to itself, a period that shares a day with another one, a reading of a stream
--- that isn't metered, a transfer of one that isn't moved in batches, a level for another fact than a dip, or an amount
--- for a dip
+-- Mismatch: a stream from a node to itself, a period that shares a day with another one, a reading of a stream that isn't metered,
+-- a transfer of a stream that isn't moved in batches, a level for a fact that isn't a dip, or an amount for a dip
 abbrev pub is_mismatch : List Declared → List KeptFact → List Period → Effect → Bool
 is_mismatch declared kept periods (Declares row) = is_mismatch_declared declared row
 is_mismatch declared kept periods (Opens name first last) =
@@ -117,8 +116,8 @@ serves_closed periods (TankRow name base service) = list_any (is_closed_in_servi
 serves_closed periods (StreamRow name from to kind base service) = list_any (is_closed_in_service service) periods
 serves_closed periods declared = false
 
--- in version 1 a part of the plant, once some period is closed; in version 2 a tank or a stream that is in service on a day of a closed
--- period
+-- in version 1, a part of the plant, once some period is closed; in version 2, a tank or a stream that is in service on a day of a
+-- closed period
 abbrev pub is_sealed_by : Version → List Period → Declared → Bool
 is_sealed_by One periods declared = is_of_plant declared && some_closed periods
 is_sealed_by Two periods declared = serves_closed periods declared
@@ -132,7 +131,7 @@ is_sealed version periods effect = false
 abbrev pub is_closed_named : List ℕ → Period → Bool
 is_closed_named name period = period.closed && is_named name period
 
--- Closed: a fact that touches a closed period and doesn't come as a late one; a second closing; an assay over a closed period
+-- Closed: a fact that touches a closed period and isn't booked late; a second closing; an assay over a closed period
 abbrev pub is_closed : Version → List Declared → List Period → Effect → Bool
 is_closed version declared periods (Books fact late) =
     not late && list_any (touches_closed (touches_in version declared) fact) periods
@@ -146,24 +145,24 @@ is_outside_table declared (Dip id tank day mm density variance) =
     is_none (option_and_then (λ (points : List Point). volume_of points mm) (table_of declared tank))
 is_outside_table declared fact = false
 
--- a live fact of the id, changed so, would be a dip whose level is outside the table of its tank
+-- a live fact of this id, which after the change would be a dip whose level is outside the table of its tank
 abbrev pub is_moved_outside : List Declared → List ℕ → Change → KeptFact → Bool
 is_moved_outside declared id change kept =
     is_live_with id kept && is_outside_table declared (changed change kept.fact)
 
--- a reading of a day on which its stream, of which this is the service, isn't in service, a transfer that has such a day, or a dip of a
--- tank that is neither in service on its day nor from the next one on
+-- a fact of a stream or tank with this service: a reading of a day out of service, a transfer that includes such a day, or a dip of
+-- a tank that isn't in service on its day, nor from the next day on
 abbrev pub is_out_of_service : Option Service → Fact → Bool
 is_out_of_service service (Reading id stream day grams variance) = not (is_in_service_on service day)
 is_out_of_service service (Transfer id stream first last grams variance) = not (is_in_service_throughout service first last)
 is_out_of_service service (Dip id tank day mm density variance) = not (is_in_service_on service day || is_eve service day)
 
--- a period of this name on no day of which a stream or a tank of this service is in service
+-- a period of this name in which a stream or a tank with this service is never in service
 abbrev pub is_unserved_in : Option Service → List ℕ → Period → Bool
 is_unserved_in service name period = is_named name period && not (is_in_service_within service period.first period.last)
 
--- Range: a period of more than 100 days, a fact of a day out of service, a transfer of more than 366 days, a level outside the tank's
--- table, an assay over a period without a day in service
+-- Range: a period of more than 100 days, a fact of a day out of service, a transfer of more than 366 days, a level outside the
+-- tank's table, or an assay over a period without a day in service
 abbrev pub is_out_of_range : Version → List Declared → List KeptFact → List Period → Effect → Bool
 is_out_of_range version declared kept periods (Opens name first last) =
     int_le (pos most_days_of_period) (last -ℤ first)
@@ -175,7 +174,7 @@ is_out_of_range version declared kept periods (Assays assay) =
     list_any (is_unserved_in (service_in version declared assay.stream) assay.period) periods
 is_out_of_range version declared kept periods effect = false
 
--- Full: as many as there may be
+-- Full: as many are stored as are allowed
 abbrev pub is_full : Version → List Declared → List KeptFact → List Period → List Assay → Effect → Bool
 is_full version declared kept periods assays (Declares row) = is_full_declared version declared row
 is_full version declared kept periods assays (Opens name first last) = nat_le most_periods (length periods)
@@ -183,8 +182,8 @@ is_full version declared kept periods assays (Books fact late) = is_full_fact ke
 is_full version declared kept periods assays (Assays assay) = nat_le most_assays (length assays)
 is_full version declared kept periods assays effect = false
 
--- The first of these causes that holds of a row of a session of a version, behind what is declared, the facts, the periods and the
--- assays.
+-- The first of these causes that holds for a row in a session of this version, given what is declared, the facts, the periods and
+-- the assays.
 abbrev pub refusal_behind : Version → List Declared → List KeptFact → List Period → List Assay → Effect → Option Refused
 refusal_behind version declared kept periods assays effect =
     if is_unknown declared kept periods effect then Some Unknown
@@ -197,7 +196,7 @@ refusal_behind version declared kept periods assays effect =
     else if is_full version declared kept periods assays effect then Some Full
     else None
 
--- The first cause to refuse a row behind the stored ones.
+-- The first cause to refuse a row, given the stored rows.
 abbrev pub refusal_of : List StoredRow → Effect → Option Refused
 refusal_of rows effect =
     refusal_behind (version_of (declared_of rows)) (declared_of rows) (facts_of rows) (periods_of rows) (assays_of rows) effect

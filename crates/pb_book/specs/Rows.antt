@@ -14,7 +14,7 @@ use Rattle.pb_book.specs.declared.rows.Period.{Period}
 use Rattle.pb_book.specs.declared.rows.StoredRow.{StoredRow}
 use Rattle.pb_book.specs.Apart.{is_named}
 
--- these rows, and after them what the record with this number does
+-- these rows, followed by what the record with this number does
 abbrev pub with_row : List StoredRow → ℕ → Effect → List StoredRow
 with_row rows at effect = rows ++ record { at = at; effect = effect } ∷ []
 
@@ -32,7 +32,7 @@ abbrev pub version_at : List StoredRow → Option Version
 version_at [] = None
 version_at (stored ∷ rows) = Some (version_of (declared_of (stored ∷ rows)))
 
--- a period that nothing has closed
+-- a period that hasn't been closed
 abbrev pub open_period : List ℕ → ℤ → ℤ → Period
 open_period name first last = record { name = name; first = first; last = last; closed = false }
 
@@ -41,11 +41,11 @@ abbrev pub closed : Period → Period
 closed period =
     record { name = period.name; first = period.first; last = period.last; closed = true }
 
--- the period of this name is closed, and another one stays as it is
+-- a period is closed if it has this name, and otherwise unchanged
 abbrev pub closed_if_named : List ℕ → Period → Period
 closed_if_named name period = if is_named name period then closed period else period
 
--- the periods after one more row: a closing closes the one of its name
+-- the periods after one more row: a closing closes the period of its name
 abbrev pub periods_after : List Period → Effect → List Period
 periods_after periods (Opens name first last) = periods ++ open_period name first last ∷ []
 periods_after periods (Closes name) = map (closed_if_named name) periods
@@ -56,11 +56,11 @@ abbrev pub periods_of : List StoredRow → List Period
 periods_of rows =
     fold (λ (periods : List Period) (stored : StoredRow). periods_after periods stored.effect) [] rows
 
--- a fact that nothing has struck
+-- a fact that hasn't been struck
 abbrev pub live : Fact → KeptFact
 live fact = record { fact = fact; struck = false }
 
--- the facts after one more row: a change gives the live fact of its id new values, and a strike takes it out
+-- the facts after one more row: a change gives the live fact of its id new values, and a strike marks it as struck
 abbrev pub facts_after : List KeptFact → Effect → List KeptFact
 facts_after kept (Books fact late) = kept ++ live fact ∷ []
 facts_after kept (Edits id (edits.Change change) reason) = amended id change kept

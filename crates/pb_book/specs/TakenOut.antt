@@ -12,7 +12,7 @@ use Rattle.pb_book.specs.declared.rows.StoredRow.{StoredRow}
 use Rattle.pb_book.specs.Rows.{declared_of, facts_after, facts_of, periods_after, periods_of, with_row}
 use Rattle.pb_book.specs.Touching.{touches_in}
 
--- which periods a fact touches, after these rows
+-- which periods a fact touches, given these rows
 abbrev pub touching_of : List StoredRow → Fact → Period → Bool
 touching_of rows = touches_in (version_of (declared_of rows)) (declared_of rows)
 
@@ -21,8 +21,9 @@ abbrev pub touches_by_id : (Fact → Period → Bool) → List KeptFact → List
 touches_by_id touching kept id period =
     option_map_or (λ (k : KeptFact). touching k.fact period) (find (has_id id) kept) false
 
--- A stored row takes out a period: a declaration, a critical value among them, every one; a period, a closing and an assay none; a fact,
--- as it comes or late, each that it touches; a change and a strike each that their fact touches.
+-- A stored row takes out a period: a declaration, including a critical value, takes out every period; a period, a closing and an
+-- assay take out none; a fact, on time or late, takes out each that it touches; a change and a strike take out each that their fact
+-- touches.
 abbrev pub takes_out : (Fact → Period → Bool) → List KeptFact → Effect → Period → Bool
 takes_out touching kept (Declares declared) period = true
 takes_out touching kept (Opens name first last) period = false
@@ -35,18 +36,18 @@ takes_out touching kept (Assays assay) period = false
 abbrev pub last_row : List StoredRow → Option StoredRow
 last_row rows = slice_get rows (length rows - 1)
 
--- so does the row, if it is there
+-- the same for an optional row
 abbrev pub row_takes_out : (Fact → Period → Bool) → List KeptFact → Period → Option StoredRow → Bool
 row_takes_out touching kept period row =
     option_map_or (λ (stored : StoredRow). takes_out touching kept stored.effect period) row false
 
--- The row that was stored last takes out the period at a place; if no row is stored, none is taken out.
+-- The row that was stored last takes out the period at a place; if no row is stored, no period is taken out.
 abbrev pub touched_at : List StoredRow → ℕ → Bool
 touched_at rows i =
     option_map_or (λ (period : Period). row_takes_out (touching_of rows) (facts_of rows) period (last_row rows))
     (slice_get (periods_of rows) i) false
 
--- after one more row it is that row which takes out a period
+-- after one more row, it is this row that takes out a period
 pub record TouchedLaw : Type 0 where
   pub none : (i : ℕ) → touched_at [] i ≡ false
   pub more : (rows : List StoredRow) (at : ℕ) (effect : Effect) (i : ℕ)

@@ -1,4 +1,4 @@
--- Statement. As long as a session stores no row that says version 2, the book answers as in one of version 1.
+-- Statement. As long as a session stores no row that states version 2, the book answers as in a session of version 1.
 use Rattle.std.specs.Prelude.{◌≡◌, ℕ, Bool, true, false, List, Option, Some, Result, Ok, Err}
 use Rattle.pb_form.specs.declared.fault.FormFault.{FormFault}
 use Rattle.pb_site.specs.declared.declared.Declared.TheVariants.{Version2}
@@ -35,12 +35,13 @@ first_answer_if rows costs (Err fault) = Refused (cause_of fault)
 abbrev pub first_answer_of : List StoredRow → List (List ℕ) → Answer
 first_answer_of rows fields = first_answer_if rows (named_costs fields) (request_in (Some One) fields)
 
--- the row that joins the stored ones says that the session is of version 2
+-- the row that joins the stored ones states that the session is of version 2
 abbrev pub says_version : Answer → Bool
 says_version (Stored (Declares Version2)) = true
 says_version answer = false
 
--- A record gets the answer that it has in a session of version 1, unless it or one before it says that the session is of version 2.
+-- A record gets the answer that it has in a session of version 1, unless it or an earlier record states that the session is of
+-- version 2.
 abbrev pub VersionOneLaw : Type 0
 VersionOneLaw =
     (rows : List StoredRow) (fields : List (List ℕ)) → version_of (declared_of rows) ≡ One

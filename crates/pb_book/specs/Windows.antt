@@ -1,4 +1,4 @@
--- Statement. Windows over the periods of a book: the plant and the periods that one is made of, and when it is refused.
+-- Statement. Windows over the periods of a book: the plant and the periods that a window is made from, and when it is refused.
 use Rattle.std.specs.Prelude.{◌≡◌, ℕ, ◌-◌, ◌≤◌, zero, suc, ℤ, pos, ◌+ℤ◌, Bool, true, false, not, int_lt, nat_lt, List, [], ◌∷◌, All, filter_map, find, length, map, slice_get, Option, Some, None, Ok, if◌then◌else◌}
 use Rattle.std.specs.Int.{int_gap}
 use Rattle.std.specs.List.{list_any}
@@ -31,7 +31,7 @@ use Rattle.pb_book.specs.Rows.{declared_of, periods_of}
 
 -- ---- the plant
 
--- the days of service of an arc as a window takes them: version 1 has none
+-- the days of service of an arc, as a window uses them; version 1 has none
 abbrev pub arc_service : Version → Option Service → Option ArcService
 arc_service Two (Some service) = Some (record { since = service.since; until = service.until })
 arc_service version service = None
@@ -41,7 +41,7 @@ abbrev pub is_inventory : ArcKind → Bool
 is_inventory Tank = true
 is_inventory kind = false
 
--- an arc as a window takes it
+-- an arc, as a window uses it
 abbrev pub window_arc : Version → Arc → PlantArc
 window_arc version arc = record {
   from = arc.from;
@@ -50,12 +50,12 @@ window_arc version arc = record {
   service = arc_service version arc.service;
 }
 
--- in version 1 each unit and tank is a node of the graph of a period, also one that no stream joins
+-- in version 1 each unit and tank is a node of the graph of a period, even one that no stream joins
 abbrev pub keeps_idle_nodes : Version → Bool
 keeps_idle_nodes One = true
 keeps_idle_nodes Two = false
 
--- the declared plant as a window takes it: its nodes but the environment, and its arcs, in order of declaration
+-- the declared plant, as a window uses it: its nodes except the environment, and its arcs, in order of declaration
 unfoldable pub window_plant : List Declared → Plant
 window_plant declared = record {
   nodes = length (node_names declared) - 1;
@@ -68,12 +68,12 @@ plant_of rows = window_plant (declared_of rows)
 
 -- ---- the periods
 
--- that many days in a row, from a first one on
+-- this many days in a row, beginning with a given one
 abbrev pub days_in_row : ℤ → ℕ → List ℤ
 days_in_row day zero = []
 days_in_row day (suc n) = day ∷ days_in_row (day +ℤ pos 1) n
 
--- the days from a first to a last one, both included; none if the last one comes first
+-- the days from `first` to `last`, both included; none if `last` comes first
 abbrev pub days_between : ℤ → ℤ → List ℤ
 days_between first last = days_in_row first (int_gap first (last +ℤ pos 1))
 
@@ -85,11 +85,12 @@ begins_on day period = int_eq day period.first
 abbrev pub is_in_none : List Period → ℤ → Bool
 is_in_none periods day = not (list_any (shares_a_day day day) periods)
 
--- some day from the first day of one period to the last day of another one is in no period
+-- some day from the first day of one period to the last day of another isn't in any period
 unfoldable pub has_gap : List Period → Period → Period → Bool
 has_gap periods first last = list_any (is_in_none periods) (days_between first.first last.last)
 
--- The periods from one to another, in order of days: those that begin on a day from the first day of the one to that of the other.
+-- The periods from one to another, in order of days: those that begin on a day from the first day of `first` to the first day of
+-- `last`.
 unfoldable pub periods_between : List Period → Period → Period → List Period
 periods_between periods first last =
     filter_map (λ day. find (begins_on day) periods) (days_between first.first last.first)
@@ -100,7 +101,7 @@ names_of_periods periods = map (λ (period : Period). period.name) periods
 
 -- ---- the window
 
--- a period as a window takes it: neither its name nor whether it is closed
+-- a period, as a window uses it: without its name and whether it is closed
 abbrev pub span_of_period : Period → Span
 span_of_period period = record { first = period.first; last = period.last }
 
@@ -115,16 +116,17 @@ window_between rows first last =
 
 -- ---- when it is refused
 
--- Full: a window over these periods would have more nodes or streams than a graph may have. Before that, Range: there are more of them
--- than a window may have.
+-- Full: a window over these periods would have more nodes or streams than a graph may have. Before that, Range: there are more
+-- periods than a window may have.
 unfoldable pub refusal_over : List Declared → List Period → Option Refused
 refusal_over declared periods =
     if nat_lt most_periods_of_window (length periods) then Some Range
     else if is_too_great (window_over declared periods) then Some Full
     else None
 
--- The first cause to refuse a window from one of these periods to another. Order: the second begins before the first. Mismatch: some day
--- from the first day of the first to the last day of the second is in no period. And then those of a window over the periods between.
+-- The first cause to refuse a window from one of these periods to another. Order: the second begins before the first. Mismatch:
+-- some day from the first day of the first to the last day of the second isn't in any period. Then come the causes for a window
+-- over the periods between them.
 unfoldable pub refusal_between : List Declared → List Period → Period → Period → Option Refused
 refusal_between declared periods first last =
     if int_lt last.first first.first then Some Order
@@ -134,19 +136,19 @@ refusal_between declared periods first last =
 abbrev pub window_refusal : List StoredRow → Period → Period → Option Refused
 window_refusal rows first last = refusal_between (declared_of rows) (periods_of rows) first last
 
--- the same of two periods that there may be; Unknown: one of them is missing
+-- the same for two optional periods; Unknown: one of them is missing
 abbrev pub refusal_of_ends : List StoredRow → Option Period → Option Period → Option Refused
 refusal_of_ends rows (Some first) (Some last) = window_refusal rows first last
 refusal_of_ends rows first last = Some Unknown
 
--- the first cause to refuse a window from the period at one place to the period at another place
+-- the first cause to refuse a window from the period at one place to the period at another
 abbrev pub refusal_of_window : List StoredRow → ℕ → ℕ → Option Refused
 refusal_of_window rows first last =
     refusal_of_ends rows (slice_get (periods_of rows) first) (slice_get (periods_of rows) last)
 
--- ---- what a book says of it
+-- ---- what a book says about it
 
--- there are periods at these places, and no cause to refuse the window from the one to the other
+-- there are periods at these places, and there is no cause to refuse the window from the first to the second
 pub record IsWindowAsked (rows : List StoredRow) (first last : ℕ) : Type 0 where
   pub one : Period
   pub first_is : slice_get (periods_of rows) first ≡ Some one
@@ -154,32 +156,32 @@ pub record IsWindowAsked (rows : List StoredRow) (first last : ℕ) : Type 0 whe
   pub last_is : slice_get (periods_of rows) last ≡ Some other
   pub no_cause : window_refusal rows one other ≡ None
 
--- something holds of the periods at these places
+-- a property holds for the periods at these places
 abbrev pub OfEnds : List StoredRow → ℕ → ℕ → (Period → Period → Type 0) → Type 0
 OfEnds rows first last P =
     (one other : Period) → slice_get (periods_of rows) first ≡ Some one
     → slice_get (periods_of rows) last ≡ Some other → P one other
 
--- these are the places of the periods from the one at a place to the one at another place, in order of days
+-- these are the places of the periods from the period at one place to the period at another, in order of days
 abbrev pub ArePlacesBetween : List StoredRow → ℕ → ℕ → List ℕ → Type 0
 ArePlacesBetween rows first last places =
     OfEnds rows first last (λ one other.
     map (slice_get (periods_of rows)) places ≡ map Some (periods_between (periods_of rows) one other))
 
--- this is the window from the period at a place to the period at another place
+-- this is the window from the period at one place to the period at another
 abbrev pub IsWindowBetween : List StoredRow → ℕ → ℕ → Window → Type 0
 IsWindowBetween rows first last window =
     OfEnds rows first last (λ one other. window ≡ window_between rows one other)
 
--- the plant and the periods between these two have a name for each node and stream of a window
+-- the plant and the periods between these two have names for each node and stream of a window
 abbrev pub HavePlaceNames : List StoredRow → ℕ → ℕ → Window → Type 0
 HavePlaceNames rows first last window =
     OfEnds rows first last (λ one other.
     HaveNames (names_of (declared_of rows)) (names_of_periods (periods_between (periods_of rows) one other)) window)
 
--- What holds of the window between two periods of accepted rows: it is one of a plant and of at most as many periods as a window may
--- have, its streams join two of its nodes, the names of its nodes and streams are names, no two of them the same, and each of these
--- stands for a node or arc of the plant in one of the periods.
+-- What holds for the window between two periods of accepted rows: it is made from a plant and from at most as many periods as a
+-- window may have, each of its streams joins two of its nodes, the names of its nodes and streams are names, no two of which are
+-- the same, and each node and stream stands for a node or arc of the plant in one of the periods.
 pub record IsBookWindow (rows : List StoredRow) (first last : Period) : Type 0 where
   pub plant : IsPlant (plant_of rows)
   pub spans : All IsSpan (map span_of_period (periods_between (periods_of rows) first last))
@@ -191,7 +193,7 @@ pub record IsBookWindow (rows : List StoredRow) (first last : Period) : Type 0 w
   pub there : HaveNames (names_of (declared_of rows))
       (names_of_periods (periods_between (periods_of rows) first last)) (window_between rows first last)
 
--- Such is each window that there is no cause to refuse.
+-- This holds for each window that there is no cause to refuse.
 abbrev pub BookWindowsLaw : Type 0
 BookWindowsLaw =
     (rows : List StoredRow) (first last : Period) → AreAccepted rows

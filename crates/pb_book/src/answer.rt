@@ -1,4 +1,4 @@
-// What the book answers to a record.
+// The answer of the book to a record.
 
 ghost use Rattle.std.specs.Prelude.{◌≡◌, ◌≤◌};
 ghost use Rattle.pb_book.specs.Answer.{code_of};
@@ -10,7 +10,7 @@ use std::alloc::AllocError;
 /// What the book did with a record that it accepted.
 #[derive(Clone, Copy, PartialEq, Eq, Debug)]
 pub enum Accepted {
-    /// Nothing: the record has no field that isn't empty.
+    /// Nothing: all fields of the record are empty.
     Blank,
     /// The row joined the stored ones.
     Stored,
@@ -22,28 +22,28 @@ pub enum Accepted {
     History(u32),
     /// The cheapest metering of the declared plant is asked for, at the costs that the record names.
     Advise,
-    /// A window is asked for, from the period at the one place to the period at the other.
+    /// A window is asked for, from the period at one place to the period at another.
     Window { first: u32, last: u32 },
     /// The balance of a component over the period at this place is asked for; some assay is of the component over that period.
     Component { component: Name, period: u32 },
 }
 
-/// Why a record is refused, in the order in which the causes are asked for.
+/// Why a record is refused, in the order in which the causes are tested.
 #[derive(Clone, Copy, PartialEq, Eq, Debug)]
 pub enum Refused {
     /// There is no such kind of row.
     Kind,
-    /// The number of fields isn't that of the kind.
+    /// The number of fields isn't that of the row's kind.
     Fields,
-    /// A name isn't of the form.
+    /// A name doesn't have the form of one.
     BadName,
-    /// A number isn't of the form or outside its range.
+    /// A number doesn't have the form of one, or is outside its range.
     Number,
-    /// A date isn't of the form or not in the calendar.
+    /// A date doesn't have the form of one, or isn't in the calendar.
     Date,
     /// A name isn't declared.
     Unknown,
-    /// A name, id, day, critical value or assay is there already.
+    /// A name, id, day, critical value or assay is already there.
     Duplicate,
     /// A level or volume that falls, or a first day after the last.
     Order,
@@ -55,16 +55,16 @@ pub enum Refused {
     Closed,
     /// A period or transfer that is too long, a level outside the tank's table, or a fact or an assay of days out of service.
     Range,
-    /// As many as there may be.
+    /// There are already as many as are allowed.
     Full,
 }
 
 /// Why a record isn't accepted.
 #[derive(Clone, Copy, PartialEq, Eq, Debug)]
 pub enum NotAccepted {
-    /// It is refused, with the first cause that holds.
+    /// It is refused, for the first cause that holds.
     Refused(Refused),
-    /// Want of memory, which may come in place of any answer.
+    /// Memory ran out, which can happen in place of any answer.
     NoMemory,
 }
 

@@ -18,8 +18,8 @@ use std::collections::{HashMap, HashSet};
 use std::hash::Hash;
 use std::marker::Model;
 
-/// The assays in the order of their rows. Whether there is one is looked up by component, period and stream, and by component and
-/// period alone.
+/// The assays in the order of their rows. Whether there is an assay is looked up by component, period and stream, or by component
+/// and period alone.
 #[derive(Drop)]
 pub struct Assays {
     assays: Vec<Assay>,
@@ -40,7 +40,7 @@ impl Model for Assays {
 }
 
 impl Assays {
-    /// No assay.
+    /// An empty list of assays.
     pub fn new(alloc: Global) -> Assays
         ensures { result ≡ [] }
     {
@@ -51,7 +51,7 @@ impl Assays {
         }
     }
 
-    /// The number of assays, of which no two are of one component, period and stream.
+    /// The number of assays. No two have the same component, period and stream.
     pub fn len(&self) -> u32
         ensures value { result ≡ length self.now }
         ensures within { length self.now ≤ most_assays }
@@ -69,7 +69,7 @@ impl Assays {
         self.assays[i as usize]
     }
 
-    /// Whether some assay is of the component, the period and the stream of this one.
+    /// Whether some assay has the same component, period and stream as this one.
     pub fn has_like(&self, assay: &Assay) -> bool
         ensures { result ≡ list_any (is_like assay.now) self.now }
     {
@@ -84,7 +84,7 @@ impl Assays {
         self.overs.contains(&(*component, *period))
     }
 
-    /// Appends an assay like which there is none. After an `Err`, out of memory, the assays are as they were.
+    /// Appends an assay that has no like among the others. After an `Err` (out of memory), the assays are as they were.
     pub fn push(&mut self, assay: Assay) -> Result<(), AllocError>
         requires grade { IsGrade assay.grade }
         requires new { list_any (is_like assay) self.old ≡ false }
@@ -104,8 +104,8 @@ impl Assays {
         Ok(())
     }
 
-    /// The grade of a component over the period of a name in each of these streams and tanks; `None` of one without an assay. It takes
-    /// one pass over the assays.
+    /// The grade of a component over the period of a name in each of these streams and tanks; `None` for one without an assay.
+    /// Makes one pass over the assays.
     pub fn grades(
         &self,
         alloc: Global,
@@ -162,7 +162,7 @@ fn grade_at(by_name: &HashMap<Name, Grade>, stream: &Name) -> Option<Grade>
     by_name.get(stream).copied()
 }
 
-// Puts a key for which there is room, so that it can't fail.
+// Puts a key for which there is room, so it can't fail.
 fn put<K: Eq + Hash + Drop>(keys: &mut HashSet<K>, key: K)
     requires { 0 < spare keys.old }
     ensures { (q : K) → contains K.eq keys.new q

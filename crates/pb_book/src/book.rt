@@ -53,8 +53,8 @@ use std::alloc::{AllocError, Global};
 use std::collections::HashMap;
 use std::marker::Model;
 
-/// The accepted rows of a session, in order: the places of all and those of the edits, and what they hold by its parts.
-/// The facts are kept with their last values, and those that an edit changed also as they came, by their places.
+/// The accepted rows of a session, in order: the places of all rows and those of the edits, and their contents by part. The facts
+/// are kept with their last values; those that an edit changed are also kept as they came, by their places.
 #[derive(Drop)]
 pub struct Book {
     places: Vec<Place>,
@@ -101,9 +101,10 @@ impl Book {
         }
     }
 
-    /// Takes the record with the number `at`, counted from 1: it is refused with the first cause that holds, or it joins the
-    /// book, or it asks for a design, a report, a history, an advice or a balance. After a refusal the book is as it was. After a row was stored no
-    /// two facts have one id. Unless a row says that the session is of version 2, the answer is that of version 1.
+    /// Takes the record with the number `at`, counted from 1: it is refused for the first cause that holds, or it joins the book,
+    /// or it asks for a design, a report, a history, a window, advice or a balance. After a refusal the book is as it was. After a
+    /// row was stored, no two facts have the same id. Unless a row states that the session is of version 2, the answer is that of
+    /// version 1.
     pub fn accept(&mut self, at: u32, row: &Row) -> Result<Accepted, NotAccepted>
         ensures answer { result ≢ Err NoMemory → result ≡ said_of (answer_of self.old row.now) }
         ensures stored { result ≢ Err NoMemory → self.new ≡ after self.old at row.now }
@@ -140,7 +141,7 @@ impl Book {
         &self.site
     }
 
-    /// The facts, of which no two have one id and each dip lies in its tank's table.
+    /// The facts. No two have the same id, and each dip lies in its tank's table.
     pub fn facts(&self) -> &Facts
         ensures value { result.now ≡ facts_of self.now }
         ensures no_repeats { NoRepeats (facts_of self.now) }
@@ -149,7 +150,7 @@ impl Book {
         &self.facts
     }
 
-    /// The number of periods, of which no two share a name or a day.
+    /// The number of periods. No two share a name or a day.
     pub fn periods(&self) -> u32
         ensures value { result ≡ length (periods_of self.now) }
         ensures within { length (periods_of self.now) ≤ most_periods }
@@ -167,21 +168,21 @@ impl Book {
         self.periods.at(i)
     }
 
-    /// The place of the period of a name; `None` exactly if there is none.
+    /// The place of the period of a name; `None` iff there is none.
     pub fn period_of(&self, name: &Name) -> Option<u32>
         ensures { result ≡ period_place self.now name.now }
     {
         self.periods.place_of(name)
     }
 
-    /// The number of edits: rows that close a period, come late, change a fact or strike it.
+    /// The number of edits: rows that close a period, book a fact late, change a fact or strike it.
     pub fn edits(&self) -> usize
         ensures { result ≡ length (edits_of self.now) }
     {
         self.edits.len()
     }
 
-    /// The edit at a place, counted from 0 in the order of the records; `None` exactly if there is none.
+    /// The edit at a place, counted from 0 in the order of the records; `None` iff there is none.
     pub fn edit(&self, i: usize) -> Option<StoredRow>
         ensures { result ≡ slice_get (edits_of self.now) i }
     {
@@ -199,8 +200,8 @@ impl Book {
         }
     }
 
-    /// Whether an edit touches the period at a place: a closing its own, a late fact those that it touches, a change
-    /// and a strike those that their fact touches.
+    /// Whether an edit touches the period at a place: a closing touches its own period, a late fact those that it touches, and a
+    /// change and a strike those that their fact touches.
     pub fn touches(&self, e: usize, i: u32) -> bool
         requires edit { e < length (edits_of self.now) }
         requires period { i < length (periods_of self.now) }
@@ -214,9 +215,8 @@ impl Book {
         }
     }
 
-    /// Whether the row that was stored last takes the period at a place out of those whose studies are kept: a fact, a
-    /// change and a strike each that they touch, a declaration and a critical value every one. False if no row is
-    /// stored.
+    /// Whether the row that was stored last takes the period at a place out of those whose studies are kept: a fact, a change and a
+    /// strike take out each period that they touch, a declaration and a critical value every period. False if no row is stored.
     pub fn touched(&self, i: u32) -> bool
         requires { i < length (periods_of self.now) }
         ensures { result ≡ touched_at self.now i }
@@ -227,8 +227,9 @@ impl Book {
         }
     }
 
-    /// What a meter on each stream and tank of the plant costs by a record that is accepted as one that asks for an advice: a plain
-    /// stream costs what the record names, else 1, and any other, which has meters, 0.
+    /// What a meter on each stream and tank of the plant costs, given a record that is accepted as one that asks for advice: on a
+    /// plain stream, the cost that the record names, or 1 if it names none; on any other stream or tank, which already has a meter,
+    /// 0.
     pub fn costs(&self, alloc: Global, row: &Row) -> Result<Vec<i64>, AllocError>
         requires { answer_of self.now row.now ≡ Says Advise }
         ensures value { IfOk result (λ costs.
@@ -255,8 +256,8 @@ impl Book {
         self.assays.at(i)
     }
 
-    /// The grade of a component over the period at a place in each of these streams and tanks, all by their names; `None` of one without
-    /// an assay. It takes one pass over the assays.
+    /// The grade of a component over the period at a place in each of these streams and tanks, all given by name; `None` for one
+    /// without an assay. Makes one pass over the assays.
     pub fn grades(
         &self,
         alloc: Global,
@@ -294,7 +295,8 @@ impl Book {
         }
     }
 
-    /// Such a window: its nodes and streams, without measurements.
+    /// The window from the period at one place to the period at another, which there is no cause to refuse: its nodes and streams,
+    /// without measurements.
     pub fn window(&self, alloc: Global, first: u32, last: u32) -> Result<Window, AllocError>
         requires { IsWindowAsked self.now first last }
         ensures value { IfOk result (IsWindowBetween self.now first last) }
@@ -310,8 +312,8 @@ impl Book {
     }
 
     /// The plain rows as records: the declarations, periods, critical values and assays in order, and then the live facts with
-    /// their last values. None of them is refused, and a report after them is the one after the book's rows. Refused
-    /// alone when out of memory.
+    /// their last values. None of them is refused, and a report after them is the same as after the book's rows. Fails only if
+    /// memory runs out.
     pub fn plain(&self, alloc: Global) -> Result<Rows, AllocError>
         ensures { IfOk result (λ records. WriteRows records (plain_rows self.now)) }
     {
@@ -343,7 +345,7 @@ impl Book {
         }
     }
 
-    // Answers what a record asks.
+    // Answers what a record asks for.
     fn answer(&mut self, at: u32, row: &Row, request: &Request) -> Result<Accepted, NotAccepted>
         requires asked { request_in (version_at self.old) row.now ≡ Ok request.now }
         requires in_range { IsRequestInRange request.now }
@@ -373,7 +375,7 @@ impl Book {
         }
     }
 
-    // Says whether there is a window from the period of one name to that of another.
+    // Accepts the request for a window from the period of one name to that of another, or returns why it is refused.
     fn ask_window(&self, first: &Name, last: &Name) -> Result<Accepted, NotAccepted>
         ensures { result ≢ Err NoMemory → result ≡ said_of (window_or_refused self.now
             (period_place self.now first.now) (period_place self.now last.now)) }
@@ -384,7 +386,7 @@ impl Book {
         }
     }
 
-    // Says whether there is a cause to refuse the window from the period at one place to that at another.
+    // Accepts the request for a window from the period at one place to that at another, or returns why it is refused.
     fn say_window(&self, first: u32, last: u32) -> Result<Accepted, NotAccepted>
         requires first { first < length (periods_of self.now) }
         requires last { last < length (periods_of self.now) }
@@ -399,7 +401,8 @@ impl Book {
         }
     }
 
-    // Says whether some assay is of a component over the period of a name.
+    // Accepts the request for the balance of a component over the period of a name if some assay is of it, or returns why it is
+    // refused.
     fn component(&self, component: &Name, period: &Name) -> Result<Accepted, NotAccepted>
         ensures { result ≡ said_of (component_or_refused component.now
             (has_assay self.now component.now period.now) (period_place self.now period.now)) }
@@ -414,7 +417,7 @@ impl Book {
         }
     }
 
-    // Says whether there is a cause to refuse the costs that a record names.
+    // Accepts the request for advice, or returns why the costs that a record names are refused.
     fn advise(&self, row: &Row) -> Result<Accepted, NotAccepted>
         requires { request_in (version_at self.now) row.now ≡ Ok AskedAdvise }
         ensures { result ≢ Err NoMemory → result ≡ said_of (advise_or_refused
@@ -427,7 +430,7 @@ impl Book {
         }
     }
 
-    // Stores a row, or says why it is refused.
+    // Stores a row, or returns why it is refused.
     fn store(&mut self, at: u32, effect: &Effect) -> Result<Accepted, NotAccepted>
         requires in_range { IsEffectInRange effect.now }
         requires may { may_do (version_at self.old) effect.now ≡ true }
@@ -448,7 +451,7 @@ impl Book {
         }
     }
 
-    // Adds a row that there is no cause to refuse. After an `Err`, out of memory, the book is as it was.
+    // Adds a row that there is no cause to refuse. After an `Err` (out of memory), the book is as it was.
     fn add(&mut self, at: u32, effect: &Effect) -> Result<(), AllocError>
         requires { IsAcceptable self.old effect.now }
         ensures ok { OnOk result (self.new ≡ with_row self.old at effect.now) }
@@ -564,7 +567,7 @@ impl Book {
         Ok(())
     }
 
-    // Adds a closing, of which there is no cause to refuse it: so there is such a period.
+    // Adds a closing that there is no cause to refuse, so its period exists.
     fn close(&mut self, at: u32, name: &Name) -> Result<(), AllocError>
         requires { IsAcceptable self.old (Closes name.now) }
         ensures ok { OnOk result (self.new ≡ with_row self.old at (Closes name.now)) }
@@ -605,7 +608,7 @@ impl Book {
     }
 }
 
-// Whether a row takes out a period, by what it does; that a period begins or is closed, or an assay is given, takes out none.
+// Whether a row takes out a period, by what it does; the opening or closing of a period and an assay take out none.
 fn takes_out(site: &Site, facts: &Facts, effect: &Effect, period: &Period) -> bool
     requires { IsPeriod period.now }
     ensures { result ≡ takes_out (touches_in (version_of site.now) site.now) facts.now effect.now

@@ -1,4 +1,4 @@
-// What meters cost by an `advise` row, and why the costs that it names are refused.
+// What meters cost, given an `advise` row, and why the costs that it names are refused.
 
 ghost use Rattle.std.specs.Prelude.{◌≡◌, ℕ, pos, List, All, IfOk, IfSome, map, unwrap_or};
 ghost use Rattle.std.specs.HashMap.{get};
@@ -18,7 +18,7 @@ use std::collections::HashMap;
 // What a meter on a plain stream costs, unless a cost is named.
 const PLAIN_COST: i64 = 1;
 
-/// The first cause to refuse the costs that an `advise` row names; `None` exactly if there is none.
+/// The first cause to refuse the costs that an `advise` row names; `None` iff there is none.
 pub fn judge_costs(
     alloc: Global,
     site: &Site,
@@ -38,7 +38,7 @@ pub fn judge_costs(
     Ok(None)
 }
 
-// Whether a cost is named for what isn't a declared stream.
+// Whether a cost is named for something that isn't a declared stream.
 fn some_unknown(site: &Site, named: &NamedCosts) -> bool
     ensures { result ≡ list_any (names_unknown site.now) named.now }
 {
@@ -50,14 +50,14 @@ fn some_unknown(site: &Site, named: &NamedCosts) -> bool
     false
 }
 
-// Whether this is the kind of no stream.
+// Whether this isn't the kind of a stream.
 fn is_no_stream(kind: Option<ArcKind>) -> bool
     ensures { result ≡ is_no_stream kind }
 {
     matches!(kind, None | Some(ArcKind::Tank))
 }
 
-// Whether two costs are named for one stream.
+// Whether two costs are named for the same stream.
 fn some_twice(alloc: Global, named: &NamedCosts) -> Result<bool, AllocError>
     ensures { IfOk result (λ twice. twice ≡ names_twice named.now) }
 {
@@ -70,7 +70,7 @@ fn some_twice(alloc: Global, named: &NamedCosts) -> Result<bool, AllocError>
     Ok(false)
 }
 
-// Whether a cost is named for what isn't a plain stream.
+// Whether a cost is named for something that isn't a plain stream.
 fn some_measured(site: &Site, named: &NamedCosts) -> bool
     ensures { result ≡ list_any (names_measured site.now) named.now }
 {

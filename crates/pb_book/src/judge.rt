@@ -1,4 +1,5 @@
-// Why a row is refused: the causes in the order in which they are asked for. What is declared and the facts tell some of them.
+// Why a row is refused: the causes in the order in which they are tested. Some of them come from the declared plant and from the
+// facts.
 
 ghost use Rattle.std.specs.Prelude.{◌≡◌, ◌&&◌, [], not, Option, Some};
 ghost use Rattle.std.specs.List.{list_any};
@@ -25,8 +26,7 @@ use pb_site::{
     is_in_service_throughout,
 };
 
-/// The first cause to refuse a row, after what is declared, the facts, the periods and the assays; `None` exactly if
-/// there is none.
+/// The first cause to refuse a row, given what is declared, the facts, the periods and the assays; `None` iff there is none.
 pub fn judge(
     site: &Site,
     facts: &Facts,
@@ -48,7 +48,7 @@ pub fn judge(
     }
 }
 
-// The first cause to refuse a declaration: that it comes too late for a closed period comes before that there are too many.
+// The first cause to refuse a declaration; being too late for a closed period comes before there being too many.
 fn judge_declaration(site: &Site, periods: &Periods, declared: &Declared) -> Option<Refused>
     ensures { result
         ≡ refusal_behind (version_of site.now) site.now [] periods.now []
@@ -122,7 +122,7 @@ fn judge_period(periods: &Periods, name: &Name, first: i32, last: i32) -> Option
     }
 }
 
-// The first cause to refuse a fact. A late one may touch a closed period.
+// The first cause to refuse a fact. A late fact may touch a closed period.
 fn judge_fact(
     site: &Site,
     facts: &Facts,
@@ -159,7 +159,7 @@ fn judge_fact(
     }
 }
 
-// Whether a fact touches a closed period and doesn't come as a late one.
+// Whether a fact touches a closed period and isn't booked late.
 fn is_closed(site: &Site, periods: &Periods, fact: &Fact, late: bool) -> bool
     requires { IsInRange fact.now }
     ensures { result
@@ -168,7 +168,7 @@ fn is_closed(site: &Site, periods: &Periods, fact: &Fact, late: bool) -> bool
     !late && periods.touches_closed(service_of(site, fact), fact)
 }
 
-// Whether a fact has a day on which what it names isn't in service, or a dip is neither of such a day nor of the one before the first.
+// Whether a fact includes a day on which what it names isn't in service; a dip may also be of the day before the first in service.
 fn is_out_of_service(service: Option<Service>, fact: &Fact) -> bool
     ensures { result ≡ is_out_of_service service fact.now }
 {
@@ -190,7 +190,7 @@ fn judge_edit(site: &Site, facts: &Facts, id: &Name, edit: &Edit) -> Option<Refu
     }
 }
 
-// The first cause to refuse an edit of a live fact: a strike has none.
+// The first cause to refuse an edit of a live fact; there is none for a strike.
 fn cause_of_edit(site: &Site, fact: &Fact, edit: &Edit) -> Option<Refused>
     ensures { result ≡ cause_of_edit site.now fact.now edit.now }
 {
@@ -257,7 +257,7 @@ fn kind_of_fact(site: &Site, fact: &Fact) -> Option<ArcKind>
     }
 }
 
-// Whether a fact isn't of a stream, or a dip not of a tank.
+// Whether a reading or transfer isn't of a stream, or a dip isn't of a tank.
 fn names_other(fact: &Fact, kind: Option<ArcKind>) -> bool
     ensures { result ≡ names_other fact.now kind }
 {
@@ -268,7 +268,7 @@ fn names_other(fact: &Fact, kind: Option<ArcKind>) -> bool
     }
 }
 
-// Whether a reading isn't of a metered stream, or a transfer not of a batch stream.
+// Whether a reading isn't of a metered stream, or a transfer isn't of a batch stream.
 fn is_of_other_kind(fact: &Fact, kind: Option<ArcKind>) -> bool
     ensures { result ≡ is_of_other_kind fact.now kind }
 {

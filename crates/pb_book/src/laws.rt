@@ -12,8 +12,8 @@ use pb_kinds::{named_costs_law, stored_law};
 use pb_site::plant_law;
 use pb_window::{window_form_law, window_names_law, window_places_law};
 
-/// The law that the rows of a session were accepted one after the other, whatever its records; and that then no
-/// two periods share a name or a day, and each dip lies in its tank's table, which may have grown since.
+/// The law that the rows of a session were accepted one after the other, whatever its records are; and that then no two periods
+/// share a name or a day, and each dip lies in its tank's table, which may have grown since.
 pub fn accepted_law()
     ensures { AcceptedLaw }
 {
@@ -26,19 +26,19 @@ pub fn plain_law()
     ensures { PlainLaw }
 {}
 
-/// The law that the live facts of accepted rows are the booked facts in order, late or not, whose id no row strikes, each with the
-/// values of the last row that changes it, else its own.
+/// The law that the live facts of accepted rows are the booked facts in order, late or not, whose ids no row strikes, each with the
+/// values of the last row that changes it, or with its own if no row does.
 pub fn live_law()
     ensures { LiveLaw }
 {}
 
-/// The law that after one more row it is that row which takes out a period, over the facts and the periods after it.
+/// The law that after one more row, it is this row that takes out a period, given the facts and the periods after it.
 pub fn touched_law()
     ensures { TouchedLaw }
 {}
 
-/// The law that the names of units, tanks, streams and periods in the rows of a session are names, whatever its records, and that of a
-/// component whose balance is answered.
+/// The law that the names of units, tanks, streams and periods in the rows of a session are names, whatever its records are, and so
+/// is that of a component whose balance is answered.
 pub fn named_law()
     ensures { NamedLaw }
 {
@@ -55,27 +55,27 @@ pub fn grades_law()
     ensures { GradesLaw }
 {}
 
-/// The law that what meters cost by a record that is accepted as one that asks for an advice is what meters may cost.
+/// The law that if a record is accepted as one that asks for advice, each cost of a meter is one that a meter may have.
 pub fn meter_costs_law()
     ensures { MeterCostsLaw }
 {
     named_costs_law();
 }
 
-/// The law that a record gets the answer that it has in a session of version 1, unless it or one before it says that the session is
-/// of version 2.
+/// The law that a record gets the answer that it has in a session of version 1, unless it or an earlier record states that the
+/// session is of version 2.
 pub fn version_one_law()
     ensures { VersionOneLaw }
 {}
 
-/// The law that a record that is accepted as one that asks for a window asks for one between periods that there are, and that there is
-/// no cause to refuse.
+/// The law that a record that is accepted as one that asks for a window asks for a window between periods that exist, and one that
+/// there is no cause to refuse.
 pub fn asked_window_law()
     ensures { AskedWindowLaw }
 {}
 
-/// The law that of accepted rows a window that there is no cause to refuse has the form of a graph, names that differ, and names of the
-/// plant and of the periods for each node and stream.
+/// The law that for accepted rows, a window that there is no cause to refuse has the form of a graph, distinct names, and names of
+/// the plant and of the periods for each node and stream.
 pub fn book_windows_law()
     ensures { BookWindowsLaw }
 {

@@ -1,6 +1,6 @@
 //! The book of a session: each row is accepted or refused, in one order of causes, and a refused row changes nothing.
 //!
-//! A record is read by `pb_kinds`, and then judged against the rows stored before it by what it does: its effect.
+//! A record is read by `pb_kinds`, and then judged by what it does (its effect), given the rows stored before it.
 #![tactic(auto)]
 
 mod answer;

@@ -1,5 +1,5 @@
-// The facts as they came: those whose values an amendment changed stand beside the facts, and every other one is told as it
-// is kept.
+// The facts as they came: those whose values an amendment changed are kept separately, and every other fact is returned as it
+// stands.
 
 ghost use Rattle.std.specs.Prelude.{◌≡◌, ◌<◌, ℕ, nat_eq, length, slice_get, Some, IsSome, OnOk, if◌then◌else◌};
 ghost use Rattle.std.specs.HashMap.{get, spare};
@@ -12,7 +12,7 @@ use pb_rows::Name;
 use std::alloc::AllocError;
 use std::collections::HashMap;
 
-// The fact at a place as it came; `None` exactly where there is none.
+// The fact at a place as it came; `None` iff there is none.
 pub(crate) fn told_at(facts: &Facts, originals: &HashMap<u32, Fact>, place: u32) -> Option<Fact>
     ensures { result ≡ told_at facts.now originals.now place }
 {
@@ -22,7 +22,7 @@ pub(crate) fn told_at(facts: &Facts, originals: &HashMap<u32, Fact>, place: u32)
     }
 }
 
-// The fact at a place with its last values; `None` exactly where there is none.
+// The fact at a place with its last values; `None` iff there is none.
 fn kept_at(facts: &Facts, place: u32) -> Option<Fact>
     ensures { result ≡ option_map (λ (k : KeptFact). k.fact) (slice_get facts.now place) }
 {
@@ -33,8 +33,8 @@ fn kept_at(facts: &Facts, place: u32) -> Option<Fact>
     }
 }
 
-// Keeps the live fact of an id as it came, before an amendment changes its values; where one did before, it is kept so
-// already. After an `Err`, want of memory, the facts are told as they were.
+// Keeps the live fact of an id as it came, before an amendment changes its values; if one did before, it is already kept. After an
+// `Err` (out of memory), the facts as they came are unchanged.
 pub(crate) fn keep_original(
     facts: &Facts,
     originals: &mut HashMap<u32, Fact>,
@@ -50,7 +50,7 @@ pub(crate) fn keep_original(
     }
 }
 
-// Keeps the fact at a place as it came, unless it is kept so already.
+// Keeps the fact at a place as it came, unless that is already done.
 fn keep_at(facts: &Facts, originals: &mut HashMap<u32, Fact>, place: u32) -> Result<(), AllocError>
     requires { place < length facts.now }
     ensures told { (q : ℕ) → told_at facts.now originals.new q ≡ told_at facts.now originals.old q }

@@ -24,7 +24,7 @@ use std::alloc::{AllocError, Global};
 use std::collections::BTreeMap;
 use std::marker::Model;
 
-/// The periods in the order of declaration. They are looked up by name, and by day; the closed ones by day too.
+/// The periods in the order of declaration. They are looked up by name and by day, and the closed ones by day as well.
 #[derive(Drop)]
 pub struct Periods {
     periods: Vec<Period>,
@@ -47,7 +47,7 @@ impl Model for Periods {
 }
 
 impl Periods {
-    /// No period.
+    /// An empty list of periods.
     pub fn new(alloc: Global) -> Periods
         ensures { result ≡ [] }
     {
@@ -60,7 +60,7 @@ impl Periods {
         }
     }
 
-    /// The number of periods, of which no two share a name or a day.
+    /// The number of periods. No two share a name or a day.
     pub fn len(&self) -> u32
         ensures value { result ≡ length self.now }
         ensures within { length self.now ≤ most_periods }
@@ -78,7 +78,7 @@ impl Periods {
         self.periods[i as usize]
     }
 
-    /// The place of the period of a name; `None` exactly where there is none.
+    /// The place of the period of a name; `None` iff there is none.
     pub fn place_of(&self, name: &Name) -> Option<u32>
         ensures { result ≡ position (is_named name.now) self.now }
     {
@@ -95,8 +95,8 @@ impl Periods {
         self.names.contains(name)
     }
 
-    /// Whether some period has a day from the first to the last one: of those that begin by the last one, it
-    /// is the last, since no two share a day.
+    /// Whether some period has a day from `first` to `last`. If any has, so has the last of those that begin by `last`, since no
+    /// two share a day.
     pub fn has_day_within(&self, first: i32, last: i32) -> bool
         ensures { result ≡ list_any (shares_a_day first last) self.now }
     {
@@ -106,7 +106,7 @@ impl Periods {
         }
     }
 
-    /// The place of the period that begins on a day; `None` exactly if none does.
+    /// The place of the period that begins on a day; `None` iff none does.
     pub fn begun_on(&self, day: i32) -> Option<u32>
         ensures value { result ≡ position (begins_on day) self.now }
         ensures days { All IsPeriod self.now }
@@ -132,7 +132,7 @@ impl Periods {
         }
     }
 
-    /// Whether what is in service on these days is so on no day of the period of a name.
+    /// Whether something with these days of service is never in service in the period of a name.
     pub fn is_unserved(&self, service: Option<Service>, name: &Name) -> bool
         ensures { result ≡ list_any (is_unserved_in service name.now) self.now }
     {
@@ -145,7 +145,7 @@ impl Periods {
         }
     }
 
-    /// Whether a fact of what is in service on these days touches a closed period.
+    /// Whether a fact of something that is in service on these days touches a closed period.
     pub fn touches_closed(&self, service: Option<Service>, fact: &Fact) -> bool
         requires { IsInRange fact.now }
         ensures { result ≡ list_any (touches_closed (touches service) fact.now) self.now }
@@ -157,7 +157,7 @@ impl Periods {
         }
     }
 
-    /// Whether what is in service on these days is so on some day of a closed period.
+    /// Whether something with these days of service is in service on some day of a closed period.
     pub fn closed_in_service(&self, service: Option<Service>) -> bool
         ensures { result ≡ list_any (is_closed_in_service service) self.now }
     {
@@ -167,7 +167,7 @@ impl Periods {
         }
     }
 
-    // Whether some closed period has a day from the first to the last one.
+    // Whether some closed period has a day from `first` to `last`.
     fn has_closed_day_within(&self, first: i32, last: i32) -> bool
         ensures { result ≡ list_any (has_closed_day first last) self.now }
     {
@@ -177,8 +177,8 @@ impl Periods {
         }
     }
 
-    // Whether a dip of a tank that is in service on these days touches a closed period: such a period has the day of the dip or the
-    // next one.
+    // Whether a dip of a tank that is in service on these days touches a closed period; such a period includes the day of the dip
+    // or the next day.
     fn dip_touches_closed(&self, service: Option<Service>, day: i32) -> bool
         requires { IsDay day }
         ensures { result ≡ list_any (dip_touches_closed service day) self.now }
@@ -186,7 +186,7 @@ impl Periods {
         self.dip_touches_last(service, day, day) || self.dip_touches_last(service, day, day + 1)
     }
 
-    // Whether it touches the last closed period that begins by another day. No other closed period has that day.
+    // Whether the dip touches the last closed period that begins by another day. No other closed period includes that day.
     fn dip_touches_last(&self, service: Option<Service>, day: i32, by: i32) -> bool
         ensures days { All IsPeriod self.now }
         ensures only { result ≡ true
@@ -200,7 +200,7 @@ impl Periods {
         }
     }
 
-    /// Closes the period of a name, if there is one. After an `Err`, want of memory, the periods are as they were.
+    /// Closes the period of a name, if there is one. After an `Err` (out of memory), the periods are as they were.
     pub fn close(&mut self, name: &Name) -> Result<(), AllocError>
         ensures ok { OnOk result (self.new ≡ map (closed_if_named name.now) self.old) }
         ensures err { OnErr result (self.new ≡ self.old) }
@@ -216,8 +216,8 @@ impl Periods {
         }
     }
 
-    /// Appends an open period that shares neither its name nor a day with another one. After an `Err`, want of
-    /// memory, the periods are as they were.
+    /// Appends an open period that shares neither its name nor a day with another one. After an `Err` (out of memory), the periods
+    /// are as they were.
     pub fn push(&mut self, period: Period) -> Result<(), AllocError>
         requires days { IsPeriod period }
         requires open { period.closed ≡ false }
@@ -247,7 +247,7 @@ fn begun_by(begins: &BTreeMap<i32, u32>, day: i32) -> Option<u32>
     }
 }
 
-// Notes where the period that begins on a day stands. After an `Err`, want of memory, the map is as it was.
+// Notes the place of the period that begins on a day. After an `Err` (out of memory), the map is as it was.
 fn put_begin(begins: &mut BTreeMap<i32, u32>, first: i32, place: u32) -> Result<(), AllocError>
     ensures ok { OnOk result (HasBegin begins.old begins.new first place) }
     ensures err { OnErr result (SameBegins begins.old begins.new) }
@@ -258,7 +258,7 @@ fn put_begin(begins: &mut BTreeMap<i32, u32>, first: i32, place: u32) -> Result<
     }
 }
 
-// Puts a new name, for which there is room, behind the others.
+// Puts a new name, for which there is room, after the others.
 fn put_name(names: &mut IndexSet<Name>, name: Name)
     requires room { 0 < set.spare names.old }
     requires new { is_among names.old.keys name ≡ false }

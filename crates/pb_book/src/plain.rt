@@ -19,7 +19,7 @@ use pb_rows::Rows;
 use pb_site::Declared;
 use std::alloc::{AllocError, Global};
 
-// The records of the declarations, periods and assays at these places, and after them those of the live facts.
+// The records of the declarations, periods and assays at these places, followed by those of the live facts.
 pub(crate) fn plain_records(
     alloc: Global,
     declared: &[Declared],

@@ -10,7 +10,7 @@ pub struct StoredRow {
     pub effect: Effect,
 }
 
-/// A period: its name, its first and its last day, and whether it is closed.
+/// A period: its name, its first and last days, and whether it is closed.
 #[derive(Clone, Copy)]
 pub struct Period {
     pub name: Name,
@@ -26,8 +26,8 @@ pub struct Place {
     pub part: Part,
 }
 
-/// A part of the book, and a place in it: what the row does, and where that is kept. A fact is kept among the facts, late or not, and
-/// a closing is of the period at its place.
+/// A part of the book, and a place in it: what the row does, and where that is kept. A fact is kept among the facts, whether late
+/// or not, and the place of a closing is that of its period.
 #[derive(Clone, Copy)]
 pub enum Part {
     Declared(usize),

@@ -1,4 +1,4 @@
-// What the stored rows do, by where they are kept.
+// What the stored rows do, according to where they are kept.
 
 ghost use Rattle.std.specs.Prelude.{◌≡◌, All, IfSome};
 ghost use Rattle.pb_site.specs.Row.{IsInRange as IsDeclaredInRange};
@@ -14,7 +14,7 @@ use pb_kinds::Effect;
 use pb_site::Declared;
 use std::collections::HashMap;
 
-// The stored row at a place; `None` exactly if there is none.
+// The stored row at a place; `None` iff there is none.
 pub(crate) fn row_at(
     declared: &[Declared],
     facts: &Facts,
@@ -41,7 +41,7 @@ pub(crate) fn row_at(
     }
 }
 
-// What the row at a place of a part does; `None` exactly if there is none.
+// What the row at a place of a part does; `None` iff there is none.
 fn effect_in(
     declared: &[Declared],
     facts: &Facts,
@@ -78,7 +78,7 @@ fn effect_in(
     }
 }
 
-// The same if the row declares something, or a period, or gives an assay; `None` if it does something else.
+// The same if the row declares something or a period, or gives an assay; `None` if it does something else.
 pub(crate) fn settled_in(
     declared: &[Declared],
     periods: &Periods,

@@ -29,8 +29,8 @@ pub(crate) fn service_of(site: &Site, fact: &Fact) -> Option<Service>
     }
 }
 
-// Whether a fact of what is in service on these days touches a period: a reading if it has its day, a transfer if they have a day in
-// common, and a dip if the content of its tank opens or closes there at the end of its day.
+// Whether a fact of something that is in service on these days touches a period: a reading if the period includes its day, a
+// transfer if the two have a day in common, and a dip if it gives the opening or closing content of its tank there.
 fn touches(service: Option<Service>, fact: &Fact, period: &Period) -> bool
     requires { IsPeriod period.now }
     ensures { result ≡ touches service fact.now period.now }
@@ -42,7 +42,7 @@ fn touches(service: Option<Service>, fact: &Fact, period: &Period) -> bool
     }
 }
 
-// Whether a period has a day from the first to the last one.
+// Whether a period has a day from `first` to `last`.
 pub(crate) fn shares_a_day(first: i32, last: i32, period: &Period) -> bool
     ensures { result ≡ shares_a_day first last period.now }
 {
@@ -57,7 +57,7 @@ pub(crate) fn dip_touches(service: Option<Service>, day: i32, period: &Period) -
     is_in_service_within(service, period.first, period.last) && is_boundary_of(service, day, period)
 }
 
-// Whether at the end of a day the content of a tank opens or closes in a period.
+// Whether the content of a tank at the end of a day is its opening or closing content in a period.
 fn is_boundary_of(service: Option<Service>, day: i32, period: &Period) -> bool
     requires { IsPeriod period.now }
     ensures { result ≡ is_boundary_of service day period.now }

@@ -1,4 +1,4 @@
-// Windows over the periods of a book: when one is refused, and what it is made of.
+// Windows over the periods of a book: when a window is refused, and what it is made from.
 
 ghost use Rattle.std.specs.Prelude.{◌≡◌, ◌≢◌, ◌<◌, ◌≤◌, All, Contains, Err, filter_map, length, map, slice_get, true, IfOk, MatchOption};
 ghost use Rattle.pb_limits.specs.Limits.{most_periods_of_window};
@@ -21,7 +21,7 @@ use pb_site::{Arc, ArcKind, Service, Site, Version};
 use pb_window::{Plant, PlantArc, Service as ArcService, Span, Window, WindowFault, window_of};
 use std::alloc::{AllocError, Global};
 
-// The days of service of an arc as a window takes them: version 1 has none.
+// The days of service of an arc, as a window uses them; version 1 has none.
 fn arc_service(version: Version, service: Option<Service>) -> Option<ArcService>
     ensures { result ≡ arc_service version service }
 {
@@ -41,7 +41,7 @@ fn is_inventory(kind: ArcKind) -> bool
     matches!(kind, ArcKind::Tank)
 }
 
-// An arc as a window takes it.
+// An arc, as a window uses it.
 fn window_arc(version: Version, arc: &Arc) -> PlantArc
     ensures { result ≡ window_arc version arc.now }
 {
@@ -53,7 +53,7 @@ fn window_arc(version: Version, arc: &Arc) -> PlantArc
     }
 }
 
-// The arcs of the declared plant as a window takes them.
+// The arcs of the declared plant, as a window uses them.
 fn window_arcs(alloc: Global, site: &Site) -> Result<Vec<PlantArc>, AllocError>
     ensures { IfOk result (λ arcs. arcs.items
         ≡ map (window_arc (version_of site.now)) (arcs_of site.now)) }
@@ -66,7 +66,7 @@ fn window_arcs(alloc: Global, site: &Site) -> Result<Vec<PlantArc>, AllocError>
     Ok(arcs)
 }
 
-// The declared plant as a window takes it.
+// The declared plant, as a window uses it.
 fn window_plant(alloc: Global, site: &Site) -> Result<Plant, AllocError>
     ensures value { IfOk result (λ plant. plant ≡ window_plant site.now) }
     ensures plant { IfOk result IsPlant }
@@ -78,7 +78,7 @@ fn window_plant(alloc: Global, site: &Site) -> Result<Plant, AllocError>
     })
 }
 
-// A period as a window takes it.
+// A period, as a window uses it.
 fn span_of_period(period: &Period) -> Span
     ensures { result ≡ span_of_period period.now }
 {
@@ -88,7 +88,7 @@ fn span_of_period(period: &Period) -> Span
     }
 }
 
-// The periods at these places as a window takes them.
+// The periods at these places, as a window uses them.
 fn spans_at(alloc: Global, periods: &Periods, places: &[u32]) -> Result<Vec<Span>, AllocError>
     requires { All (λ place. place < length periods.now) places.now }
     ensures value { IfOk result (λ spans. spans.items
@@ -102,8 +102,8 @@ fn spans_at(alloc: Global, periods: &Periods, places: &[u32]) -> Result<Vec<Span
     Ok(spans)
 }
 
-/// The places of the periods from one to another, in order of days; `None` exactly if some day from the first day of the one to the last
-/// day of the other is in no period.
+/// The places of the periods from one to another, in order of days; `None` iff some day from the first day of `first` to the last
+/// day of `last` isn't in any period.
 pub(crate) fn places_between(
     alloc: Global,
     periods: &Periods,
@@ -132,7 +132,7 @@ pub(crate) fn places_between(
     Ok(Some(places))
 }
 
-/// The window over the periods at these places, or that it is too great.
+/// The window over the periods at these places, or a fault if it is too great.
 pub(crate) fn window_over(
     alloc: Global,
     site: &Site,
@@ -153,7 +153,7 @@ pub(crate) fn window_over(
     window_of(alloc, &plant, &spans)
 }
 
-/// The first cause to refuse a window from one period to another; `None` exactly if there is none.
+/// The first cause to refuse a window from one period to another; `None` iff there is none.
 pub(crate) fn judge_window(
     alloc: Global,
     site: &Site,
@@ -177,7 +177,7 @@ pub(crate) fn judge_window(
     }
 }
 
-// The first cause to refuse a window over the periods at these places: they are too many, or it is too great.
+// The first cause to refuse a window over the periods at these places: there are too many periods, or the window is too great.
 fn judge_places(
     alloc: Global,
     site: &Site,

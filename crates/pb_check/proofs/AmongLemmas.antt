@@ -1,4 +1,4 @@
--- Tests one after the other.
+-- Tests one after another.
 use Rattle.std.proofs.Common.{◌≡◌, ◌∙◌, ℕ, ◌+◌, ◌≤◌, Option, Some, None, refl, sym, ap, subst, inl, inr, arith}
 use Rattle.std.specs.Prelude.{◌==◌, if◌then◌else◌}
 use Rattle.std.proofs.lemmas.Bool.{cases_lt}
@@ -10,7 +10,7 @@ use Rattle.pb_check.specs.Asked.{HaveClasses, AreShown, AreEven, AreGroupPrices,
 use Rattle.pb_check.specs.Verdict.{code_of, Passes, Fails, IsPassed, IsFirstFault}
 use Rattle.pb_check.specs.Among.{IsAmong}
 
--- ---- a test has its own number, from 1 to 13
+-- ---- each test has a number, from 1 to 13
 abbrev test_of : ℕ → Test
 test_of n =
     if n == 1 then Class else (if n == 2 then Witness else (if n == 3 then Balance else (if n == 4 then Price else (if n == 5 then Box else (if n == 6 then Freedom
@@ -64,7 +64,7 @@ code_most Nodal = omega arith
 code_most Verdict = omega arith
 code_most Least = omega arith
 
--- ---- one test more
+-- ---- one more test
 pub none_yet : (stage : Stage) (gap sweeps : ℕ) → IsAmong stage gap sweeps 1 0 None
 none_yet stage gap sweeps test ge le = absurd (omega (arith, ge, le))
 
@@ -80,7 +80,7 @@ pub failed : (stage : Stage) (gap sweeps from to last : ℕ) (test : Test) (faul
 failed stage gap sweeps from to last test fault is ge le among fails =
     (omega (arith, is, ge), omega (arith, is, le), fails, λ other first less. among other first (omega (arith, is, less)))
 
--- some tests, and those behind them
+-- some tests, and those after them
 pub joined : (stage : Stage) (gap sweeps from to last : ℕ) (first : Option (Test × Fault)) → from ≤ to + 1 → to ≤ last
     → IsAmong stage gap sweeps from to None → IsAmong stage gap sweeps (to + 1) last first → IsAmong stage gap sweeps from last first
 joined stage gap sweeps from to last None ge le among behind = λ other first most. elim (cases_lt (code_of other) (to + 1)) [
@@ -97,7 +97,7 @@ joined stage gap sweeps from to last (Some (test, fault)) ge le among behind = (
   ],
 )
 
--- a first failure stands where fewer tests follow, too
+-- a first failure stays the first when more tests follow
 pub longer : (stage : Stage) (gap sweeps from to last : ℕ) (first : Test × Fault) → to ≤ last → IsAmong stage gap sweeps from to (Some first)
     → IsAmong stage gap sweeps from last (Some first)
 longer stage gap sweeps from to last (test, fault) le among = (among.0, omega (arith, among.1, le), among.2, among.3)

@@ -35,13 +35,13 @@ in_box v d some near =
     let size = size_times v d some in
     omega (arith, ints, product, size)
 
--- and the other way round
+-- and conversely
 pub in_room : (v d : ℤ) → pos 1 ≤ℤ v → unsigned_abs (v *ℤ d) ≤ most_adjustment → pos (unsigned_abs d) ≤ℤ room_of v
 in_room v d some small =
     let size = size_times v d some in
     floor_from (pos (unsigned_abs d)) (pos most_adjustment) v (omega (arith, ints, some)) (omega (arith, ints, size, small))
 
--- the rise of the printed price along a stream, by the prices that stand at its ends
+-- the rise of the printed price along a stream, by the prices at its ends
 rise_is : (stage : Stage) (s : Stream) (a b : ℤ) → slice_get stage.prices s.from ≡ Some a → slice_get stage.prices s.to ≡ Some b
     → rise_of (printed_price stage) s ≡ b -ℤ a
 rise_is stage s a b from to = ap₂ (λ x y. x -ℤ y) (get_or_from_slice_get stage.prices s.to b (pos 0) to) (get_or_from_slice_get stage.prices s.from a (pos 0) from)
@@ -92,7 +92,7 @@ outside stage j s m stated found fault seen room far is =
       is = is ∙ ap₂ (λ x y. box_fault_of j x y) seen.is room;
     }
 
--- each measured flow is in the box, or the first that isn't answers
+-- each measured flow is in the box, or the first that isn't makes the fault
 pub all_inside : (stage : Stage) → ((k : ℕ) → k < length stage.graph.streams → IsInBoxAt stage k) → AreInBox stage
 all_inside stage each = λ k d lt. each k lt (get_or stage.graph.streams k d) (slice_get-get_or stage.graph.streams k d lt)
 

@@ -22,7 +22,7 @@ decided_if p q = elim q [
   | inr out ↦ elim p [ inl x ↦ inr (λ f. out (f x)) | inr never ↦ inl (λ x. absurd (never x)) ]
 ]
 
--- one place more
+-- one more place
 pub one_more : (P : ℕ → Type 0) (n : ℕ) → ((k : ℕ) → k < n → P k) → P n → (k : ℕ) → k < n + 1 → P k
 one_more P n each here k lt = elim (cases_lt k n) [
   | inl less ↦ each k less
@@ -33,7 +33,7 @@ one_more P n each here k lt = elim (cases_lt k n) [
 pub fails_by : (P : Type 0) (b : Bool) → (IsTrue b ↔ P) → b ≡ false → P → ⊥
 fails_by P b decides false_is p = cc (sym false_is ∙ decides.1 p)
 
--- each place has what it is to have, or there is a first one that hasn't
+-- each place has what it should have, or there is a first one that doesn't
 pub each_or_first : (P : ℕ → Type 0) (n : ℕ) → ((k : ℕ) → k < n → IsDecidable (P k)) → ((k : ℕ) → k < n → P k) ⊎ ((k : ℕ) × IsFirstWithout P n k)
 each_or_first P zero decided = inl (λ k lt. absurd (omega (arith, lt)))
 each_or_first P (suc n) decided = elim (each_or_first P n (λ k lt. decided k (omega (arith, lt)))) [
@@ -58,7 +58,7 @@ one_first P n j k one other = elim (cases_lt j k) [
   ]
 ]
 
--- where some place has P, there is a least one
+-- if some place has P, there is a least one
 pub least_with : (P : ℕ → Type 0) (n : ℕ) → ((k : ℕ) → IsDecidable (P k)) → P n → (m : ℕ) × P m × ((k : ℕ) → P k → m ≤ k)
 least_with P n decided here = elim (each_or_first (λ k. P k → ⊥) (n + 1) (λ k lt. decided_not (decided k))) [
   | inl none ↦ absurd (none n (omega arith) here)

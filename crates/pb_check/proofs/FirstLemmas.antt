@@ -6,7 +6,7 @@ use Rattle.std.proofs.lemmas.List.Folds.{list_any_at}
 use Rattle.std.proofs.lemmas.Option.{get_or_from_slice_get, slice_get-get_or, slice_get_within}
 use Rattle.pb_integers.proofs.Lists.{some_same}
 
--- one place more
+-- one more place
 pub place_more : (P : ℕ → Type 0) (j : ℕ) → ((k : ℕ) → k < j → P k) → P j → (k : ℕ) → k < j + 1 → P k
 place_more P j before here k lt = elim (cases_eq k j) [
   | inl same ↦ subst P (sym same) here

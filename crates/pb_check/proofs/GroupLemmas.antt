@@ -37,7 +37,7 @@ least_is graph groups n are lt =
       ];
     }
 
--- it is a node of the graph, where the node is
+-- it is a node of the graph if the node is
 pub least_below : (graph : ProcessGraph) (n m : ℕ) → IsLeastOfGroup graph n m → n < graph.nodes → m < graph.nodes
 least_below graph n m is lt = omega (arith, is.first n (reach_none _ n), lt)
 
@@ -57,7 +57,7 @@ same_least graph a b m same least = record {
   first = λ other way. least.first other (reach_both _ a b other same way);
 }
 
--- each node has the price of its group exactly where the prices are those of groups
+-- each node has the price of its group exactly when the prices are those of groups
 pub prices_by_nodes : (stage : Stage) → ((n : ℕ) → n < stage.graph.nodes → HasGroupPriceAt stage n) → AreGroupPrices stage
 prices_by_nodes stage each = record {
   shared = λ a b la lb same.
@@ -72,11 +72,11 @@ nodes_by_prices stage are n lt = record {
   fixed = λ tied. are.fixed n lt tied;
 }
 
--- the price that a fault finds: that of the least node where it differs, else 0
+-- the price that a fault finds: that of the least node if it differs, otherwise 0
 abbrev pub price_beside : ℤ → ℤ → ℤ
 price_beside price shared = if int_eq price shared then pos 0 else shared
 
--- where the prices differ, it is the other one
+-- if the prices differ, it is the other one
 beside_other : (b : Bool) (shared : ℤ) → b ≡ false → (if b then pos 0 else shared) ≡ shared
 beside_other true shared false_is = cc false_is
 beside_other false shared false_is = refl
@@ -132,7 +132,7 @@ free_here graph groups n k b are lt is_k is_b =
     let says = are.free n lt in
     ((λ h. says.0 (sym mark ∙ h)), (λ free. mark ∙ says.1 free))
 
--- the price that stands at a node
+-- the price at a node
 pub price_there : (stage : Stage) (n : ℕ) (a : ℤ) → slice_get stage.prices n ≡ Some a → printed_price stage n ≡ a
 price_there stage n a here = get_or_from_slice_get stage.prices n a (pos 0) here
 

@@ -15,11 +15,11 @@ use Rattle.pb_graph.specs.WellFormed.{IsFlow, IsResultWithin, IsWellFormed}
 use Rattle.pb_graph.specs.Balance.{brought_to, net_of}
 use Rattle.pb_elim.specs.Printed.{printed_flows}
 
--- what is left of a list from a place on
+-- the rest of a list from a place on
 next_at : {A : Type 0} (xs : List A) (j : ℕ) (x : A) → slice_get xs j ≡ Some x → drop j xs ≡ x ∷ drop (j + 1) xs
 next_at xs j x at = drop_next xs j x (slice_get_within xs j x at) ∙ ap (λ y. y ∷ drop (j + 1) xs) (get_or_from_slice_get xs j x x at)
 
--- the net flow from a place on is the share there and the net flow behind it
+-- the net flow from a place on is the share there and the net flow after it
 pub net_next : (stage : Stage) (n j : ℕ) (stream : Stream) (result : StreamResult) → slice_get stage.graph.streams j ≡ Some stream → slice_get stage.streams j ≡ Some result
     → net_of n (drop j stage.graph.streams) (drop j (printed_flows stage))
     ≡ brought_to n stream result.flow +ℤ net_of n (drop (j + 1) stage.graph.streams) (drop (j + 1) (printed_flows stage))
@@ -27,7 +27,7 @@ net_next stage n j stream result here there =
     let at : slice_get (printed_flows stage) j ≡ Some result.flow = slice_get-map (λ (r : StreamResult). r.flow) stage.streams j ∙ ap (option_map (λ (r : StreamResult). r.flow)) there in
     ap₂ (net_of n) (next_at stage.graph.streams j stream here) (next_at (printed_flows stage) j result.flow at)
 
--- an amount at one node more
+-- an amount added at one node
 pub set_more : (nets : List ℤ) (node n : ℕ) (amount : ℤ) → node < length nets
     → item (set nets node (item nets node +ℤ amount)) n ≡ item nets n +ℤ (if node == n then amount else pos 0)
 set_more nets node n amount lt = elim (cases_eq n node) [
@@ -61,7 +61,7 @@ bring_both stream flow back nets once twice ends turn first second n =
     ap (λ (z : ℤ). if stream.from == n then z else pos 0) turn ∙ turned (stream.from == n) flow in
     omega (arith, ints, to, from, back_is)
 
--- one stream more is gathered
+-- one more stream is gathered
 pub gathered : (sum more rest whole part next : ℤ) → sum +ℤ rest ≡ whole → more ≡ sum +ℤ part → rest ≡ part +ℤ next → more +ℤ next ≡ whole
 gathered sum more rest whole part next so_far is step = omega (arith, ints, so_far, is, step)
 

@@ -37,7 +37,7 @@ use Rattle.pb_check.proofs.DecideLemmas.{one_first}
 use Rattle.pb_check.proofs.GroupLemmas.{nodes_by_prices, one_least}
 use Rattle.pb_check.proofs.AmongLemmas.{same_code}
 
--- ---- what each test answers, by what it fails at
+-- ---- the fault of each test, by the place of failure
 abbrev balance_at : Stage → ℕ → Fault
 balance_at stage n = fault_at (Node n) (pos 0, net_of n stage.graph.streams (printed_flows stage))
 
@@ -77,7 +77,7 @@ no_nodal_fault law stage None fault passes fails = fails
 no_nodal_fault law stage (Some tests) fault passes fails =
     no_row_fault tests.nodal fails.rule fault (law stage.graph None (map unjudged tests.nodal) fails.rule passes fails.are) fails.says
 
--- where a fact holds of each row, there is no first row of which it doesn't
+-- if a fact holds of each row, there is no first row for which it doesn't
 no_first : {A : Type 0} (P : A → Type 0) (rows : List A) (row : A) → All P rows → IsFirstOf P rows row → ⊥
 no_first P rows row each fails = fails.first.without (λ other here. all_each P rows each fails.place other here)
 

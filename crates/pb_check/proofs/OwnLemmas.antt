@@ -61,7 +61,7 @@ class_least_bounded g j s Unobservable w price ss flows gap shows = refl
 class_least_bounded g j s Nonredundant w price ss flows gap shows = refl
 class_least_bounded g j s Observable (Cycle steps) price ss flows gap shows = absurd shows
 
--- a stream that has bounds has least bounds, where some stream has; none has, where none has
+-- if some stream has least bounds, a stream with bounds has them; if none has, none has
 least_beside : (stage : Stage) (j : ℕ) (s : Stream) (r : StreamResult) → HaveLeastBounds stage → slice_get stage.streams j ≡ Some r
     → Shows stage.graph j s r.classified.class r.classified.witness → is_some r.bounds ≡ is_bounded r.classified.class
     → is_some r.least ≡ (is_some r.bounds && have_least stage.streams)

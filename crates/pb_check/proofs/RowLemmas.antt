@@ -1,4 +1,4 @@
--- Rows beside the tests of a graph, and verdicts.
+-- Rows and the tests of a graph, and verdicts.
 use Rattle.std.proofs.Common.{◌≡◌, ℕ, zero, suc, ◌<◌, pos, Bool, true, false, List, [], ◌∷◌, length, map, Option, Some, None, slice_get, get_or, All, refl, sym, ap₂, subst, inl, inr, arith}
 use Rattle.std.specs.Prelude.{MatchOption, if◌then◌else◌}
 use Rattle.std.proofs.lemmas.List.{length-map}

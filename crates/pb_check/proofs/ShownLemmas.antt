@@ -61,7 +61,7 @@ pub each_decided : {A : Type 0} (P : A → Type 0) → ((x : A) → IsDecidable 
 each_decided P decided [] = inl tt
 each_decided P decided (x ∷ xs) = decided_both (decided x) (each_decided P decided xs)
 
--- what is said of a place of a list, where there is one
+-- a fact of a place of a list, if there is one
 pub at_decided : {A : Type 0} (P : A → Type 0) → ((x : A) → IsDecidable (P x)) → (o : Option A) → IsDecidable ((x : A) → o ≡ Some x → P x)
 at_decided P decided None = inl (λ x e. cc e)
 at_decided P decided (Some y) = decided_as (λ p x e. subst P (some_same e) p) (λ each. each y refl) (decided y)

@@ -53,14 +53,14 @@ signs_within g (Cycle steps) within = tt
 pub result_signs : (stage : Stage) (j : ℕ) (r : StreamResult) → IsWellFormed stage → slice_get stage.streams j ≡ Some r → AreWitnessSigns r.classified.witness
 result_signs stage j r formed at = signs_within stage.graph r.classified.witness (all_each (IsResultWithin stage.graph) stage.streams formed.results j r at).witness
 
--- a stream has bounds exactly where the rule gives it some
+-- a stream has bounds exactly when the rule gives it some
 pub result_bounded : (stage : Stage) (j : ℕ) (r : StreamResult) → HaveClasses stage → AreShown stage → slice_get stage.streams j ≡ Some r
     → is_some r.bounds ≡ is_some (stream_bounds (printed_price stage) stage.graph.streams (printed_gap stage) j r.classified)
 result_bounded stage j r classes shown at =
     let (s, there, shows) = shown j r at in
     (classes j s r there at).bounded ∙ sym (class_bounded stage.graph j s r.classified.class r.classified.witness (printed_price stage) stage.graph.streams (printed_gap stage) shows)
 
--- and least bounds, where the stage has any, exactly where the rule gives it some
+-- and, if the stage has any, least bounds exactly when the rule gives it some
 pub result_least_bounded : (stage : Stage) (j : ℕ) (r : StreamResult) → HasLeastBounds stage → HaveClasses stage → AreShown stage → slice_get stage.streams j ≡ Some r
     → is_some r.least ≡ is_some (stream_least_bounds (printed_price stage) stage.graph.streams (printed_flows stage) (printed_gap stage) j r.classified)
 result_least_bounded stage j r have classes shown at =
@@ -92,7 +92,7 @@ measured stage roots flows limits formed rooted printed = record {
 }
 
 -- ---- the streams of a stage, one by one
--- a result at a place, where the results are handed on as a slice
+-- a result at a place, when the results are handed on as a slice
 pub result_at : (stage : Stage) (results : List StreamResult) (j : ℕ) (r : StreamResult) → results ≡ stage.streams → r ≡ get_or results j r → j < length results
     → slice_get stage.streams j ≡ Some r
 result_at stage results j r same is lt = ap (λ (rs : List StreamResult). slice_get rs j) (sym same) ∙ slice_get-get_or results j r lt ∙ ap Some (sym is)

@@ -1,4 +1,4 @@
--- Each stage passes or has a first fault, at a place of its own.
+-- Each stage passes or has a first fault, at a place of the stage.
 use Rattle.std.proofs.Common.{◌≡◌, ◌⊎◌, ℕ, ◌+◌, length, Option, Some, None, refl, sym, subst, inl, inr, arith}
 use Rattle.std.specs.Prelude.{IfSome, IsSomeAnd}
 use Rattle.pb_integers.proofs.Lists.{all_each}
@@ -16,7 +16,7 @@ use Rattle.pb_check.specs.Among.{IsAmong}
 use Rattle.pb_check.proofs.AmongLemmas.{none_yet, passed, code_least, all_passed}
 use Rattle.pb_check.proofs.SomeLemmas.{Either, class_either, witness_either, balance_either, price_either, box_either, freedom_either, gap_either, state_either, bounds_either, statistic_either, nodal_either, verdict_either, least_either}
 
--- ---- one test more
+-- ---- one more test
 abbrev Outcome : Stage → ℕ → ℕ → ℕ → Type 0
 Outcome stage gap sweeps n = IsAmong stage gap sweeps 1 n None ⊎ HasFault stage gap sweeps
 

@@ -23,7 +23,7 @@ use Rattle.pb_elim.specs.Stage.{HasFreedom}
 use Rattle.pb_elim.specs.Certified.{IsMeasureVerdict, IsNodalVerdict, found_bounds, found_least, unjudged}
 
 -- ---- 1. class
--- whether a class is that of a measured stream
+-- whether a class is one of those of measured streams
 abbrev pub is_of_measured : Class → Bool
 is_of_measured Redundant = true
 is_of_measured Nonredundant = true
@@ -34,20 +34,20 @@ abbrev pub is_bounded : Class → Bool
 is_bounded Unobservable = false
 is_bounded class = true
 
--- A stream has a class of measured streams exactly where it is measured, bounds exactly where it isn't unobservable, and least bounds
--- exactly where it has bounds and its stage has least bounds.
+-- A stream has a class of measured streams exactly when it is measured, bounds exactly when it isn't unobservable, and least bounds exactly
+-- when it has bounds and its stage has least bounds.
 pub record HasClass (in_stage : Bool) (stream : Stream) (result : StreamResult) : Type 0 where
   pub measured : is_of_measured result.classified.class ≡ is_measured stream
   pub bounded : is_some result.bounds ≡ is_bounded result.classified.class
   pub least_bounded : is_some result.least ≡ (is_some result.bounds && in_stage)
 
--- the stream at a place has
+-- this holds of the stream at a place
 abbrev pub HasClassAt : Stage → ℕ → Type 0
 HasClassAt stage j =
     (stream : Stream) (result : StreamResult) → slice_get stage.graph.streams j ≡ Some stream
     → slice_get stage.streams j ≡ Some result → HasClass (have_least stage.streams) stream result
 
--- each stream has
+-- this holds of each stream
 abbrev pub HaveClasses : Stage → Type 0
 HaveClasses stage = (j : ℕ) → HasClassAt stage j
 
@@ -58,7 +58,7 @@ IsShownAt stage j =
     (result : StreamResult) → slice_get stage.streams j ≡ Some result
     → IsCertified stage.graph j result.classified
 
--- and that of each stream
+-- the printed cut or cycle of each stream shows its class
 abbrev pub AreShown : Stage → Type 0
 AreShown stage = (j : ℕ) → IsShownAt stage j
 
@@ -77,7 +77,7 @@ pub record IsLeastOfGroup (graph : ProcessGraph) (node least : ℕ) : Type 0 whe
   pub same : SameGroup graph.streams node least
   pub first : (other : ℕ) → SameGroup graph.streams node other → least ≤ other
 
--- a node has the price of the least node of its group, and the price 0 where its group isn't free
+-- a node has the price of the least node of its group, and price 0 if its group isn't free
 pub record HasGroupPrice (graph : ProcessGraph) (price : ℕ → ℤ) (node : ℕ) : Type 0 where
   pub shared : (least : ℕ) → IsLeastOfGroup graph node least → price node ≡ price least
   pub fixed : (IsFreeGroup graph node → ⊥) → price node ≡ pos 0
@@ -85,7 +85,7 @@ pub record HasGroupPrice (graph : ProcessGraph) (price : ℕ → ℤ) (node : �
 abbrev pub HasGroupPriceAt : Stage → ℕ → Type 0
 HasGroupPriceAt stage n = HasGroupPrice stage.graph (printed_price stage) n
 
--- the nodes of one group share a price, and nodes of groups that aren't free have price 0
+-- the nodes of a group share a price, and nodes of groups that aren't free have price 0
 pub record AreGroupPrices (stage : Stage) : Type 0 where
   pub shared :
       (a b : ℕ) → a < stage.graph.nodes → b < stage.graph.nodes → SameGroup stage.graph.streams a b
@@ -100,12 +100,12 @@ IsInBoxAt stage j =
     (stream : Stream) → slice_get stage.graph.streams j ≡ Some stream
     → IsInBox (printed_price stage) stream
 
--- that of each measured flow is
+-- the adjustment of each measured flow is within its limit
 abbrev pub AreInBox : Stage → Type 0
 AreInBox stage = All (IsInBox (printed_price stage)) stage.graph.streams
 
 -- ---- 6. degrees of freedom
--- they are those of the graph
+-- the stated degrees of freedom are those of the graph
 abbrev pub IsFreedom : Stage → Type 0
 IsFreedom stage = HasFreedom stage.graph.streams stage.dof
 
@@ -114,12 +114,12 @@ IsFreedom stage = HasFreedom stage.graph.streams stage.dof
 abbrev pub found_gap : Stage → Gap
 found_gap stage = gap_of (printed_price stage) stage.graph.streams (printed_flows stage)
 
--- the printed gap is that
+-- the printed gap is this one
 abbrev pub IsGapOfFlows : Stage → Type 0
 IsGapOfFlows stage = printed_gap stage ≡ found_gap stage
 
 -- ---- 8. state
--- converged in at most the sweeps that were allowed, where the gap is met; and unconverged after all of them, where it isn't
+-- if the gap is met: converged, in at most the sweeps that were allowed; if it isn't: unconverged, after all of them
 abbrev pub IsStateAt : ℕ → ℕ → Gap → Solved → Type 0
 IsStateAt gap sweeps printed (Converged k) = MeetsGap gap printed × (k ≤ sweeps)
 IsStateAt gap sweeps printed (Unconverged k) = (MeetsGap gap printed → ⊥) × (k ≡ sweeps)
@@ -133,26 +133,26 @@ abbrev pub HasBoundsAt : Stage → ℕ → Type 0
 HasBoundsAt stage j =
     (result : StreamResult) → slice_get stage.streams j ≡ Some result → result.bounds ≡ found_bounds stage j result
 
--- those of each stream are
+-- and so for each stream
 abbrev pub HaveBounds : Stage → Type 0
 HaveBounds stage = (j : ℕ) → HasBoundsAt stage j
 
 -- ---- 10. statistic
--- its ends by the printed flows and gap
+-- its low end by the printed flows and gap
 abbrev pub found_low : Stage → ℤ
 found_low stage = low_of stage.graph.streams (printed_flows stage) (printed_gap stage)
 
--- the printed ends are these
+-- the printed ends are those of the printed flows and gap
 pub record IsStatistic (stage : Stage) : Type 0 where
   pub low : stage.low ≡ found_low stage
   pub high : stage.high ≡ high_of stage.graph.streams (printed_flows stage)
 
 -- ---- 11. nodal tests
--- but for critical values and verdicts, the nodal tests are those of the graph
+-- except for critical values and verdicts, the nodal tests are those of the graph
 abbrev pub AreNodalRows : Stage → Tests → Type 0
 AreNodalRows stage tests = AreNodalTests stage.graph None (map unjudged tests.nodal)
 
--- where there are tests
+-- if there are tests
 abbrev pub IsNodal : Stage → Type 0
 IsNodal stage = IfSome stage.tests (AreNodalRows stage)
 
@@ -162,13 +162,13 @@ abbrev pub IsGlobalVerdict : Stage → Tests → Type 0
 IsGlobalVerdict stage tests =
     tests.global.verdict ≡ global_verdict stage.low stage.high stage.dof tests.global.critical
 
--- and each other verdict
+-- and so does each other verdict
 pub record AreVerdicts (stage : Stage) (tests : Tests) : Type 0 where
   pub overall : IsGlobalVerdict stage tests
   pub nodal : All IsNodalVerdict tests.nodal
   pub measure : All IsMeasureVerdict tests.measure
 
--- where there are tests
+-- if there are tests
 abbrev pub IsJudged : Stage → Type 0
 IsJudged stage = IfSome stage.tests (AreVerdicts stage)
 
@@ -178,6 +178,6 @@ abbrev pub HasLeastBoundsAt : Stage → ℕ → Type 0
 HasLeastBoundsAt stage j =
     (result : StreamResult) → slice_get stage.streams j ≡ Some result → result.least ≡ found_least stage j result
 
--- those of each stream are, where the stage has least bounds
+-- and so for each stream, if the stage has least bounds
 abbrev pub HaveLeastBounds : Stage → Type 0
 HaveLeastBounds stage = HasLeastBounds stage → (j : ℕ) → HasLeastBoundsAt stage j

@@ -1,5 +1,5 @@
--- Statement. What each test answers where it fails: the first place in order at which what it asks isn't so, what the stage states
--- there, and what the rule gives.
+-- Statement. The fault that each test reports: the first place in order at which what the test asks isn't so, what the stage states there,
+-- and what the rule gives.
 use Rattle.std.specs.Prelude.{◌≡◌, ◌≢◌, ◌⊎◌, ◌==◌, ℕ, ℤ, pos, negsuc, unsigned_abs, List, length, Option, Some, None, All, IsSomeAnd, slice_get, if◌then◌else◌}
 use Rattle.std.specs.Ordering.{int_eq}
 use Rattle.pb_graph.specs.declared.records.Meas.{Meas}
@@ -26,7 +26,7 @@ use Rattle.pb_check.specs.declared.faults.Place.TheVariants.{Node, Stream as Str
 use Rattle.pb_check.specs.First.{IsFirstOf, IsFirstWithout}
 use Rattle.pb_check.specs.Asked.{HasClassAt, IsShownAt, IsEvenAt, IsLeastOfGroup, HasGroupPriceAt, IsInBoxAt, found_gap, IsStateOfGap, HasBoundsAt, HasLeastBoundsAt, found_low, IsGlobalVerdict}
 
--- of two pairs of numbers, each stated and found, the first that differ; the second where the first agree
+-- of two pairs of numbers, each stated and found, the first pair that differs; the second pair if the first agrees
 abbrev pub first_differing : ℤ → ℤ → ℤ → ℤ → ℤ × ℤ
 first_differing stated found next_stated next_found =
     if int_eq stated found then (next_stated, next_found) else (stated, found)
@@ -35,11 +35,11 @@ first_differing stated found next_stated next_found =
 abbrev pub fault_at : Place → ℤ × ℤ → Fault
 fault_at place numbers = record { place = place; stated = numbers.0; found = numbers.1 }
 
--- one without two numbers
+-- a fault without numbers
 abbrev pub bare_fault_at : Place → Fault
 bare_fault_at place = fault_at place (pos 0, pos 0)
 
--- ---- 1 and 2: there are no two numbers
+-- ---- 1 and 2: without numbers
 -- the first stream at which something fails
 pub record IsStreamFault (stage : Stage) (P : ℕ → Type 0) (fault : Fault) : Type 0 where
   pub stream : ℕ
@@ -58,9 +58,9 @@ pub record IsBalanceFault (stage : Stage) (fault : Fault) : Type 0 where
   pub first : IsFirstWithout (IsEvenAt stage) stage.graph.nodes node
   pub is : fault ≡ fault_at (Node node) (pos 0, net_of node stage.graph.streams (printed_flows stage))
 
--- ---- 4: the price of the first node that hasn't that of its group, beside the price of the least node of the group; beside 0, where
--- these two agree
--- a node hasn't the price of its group: what is found beside its price
+-- ---- 4: the price of the first node that doesn't have the price of its group, and the price of the least node of the group, or 0 if these
+-- two agree
+-- a node doesn't have the price of its group: the number reported next to its price
 pub record IsOtherPrice (stage : Stage) (node : ℕ) (found : ℤ) : Type 0 where
   pub least : ℕ
   pub is_least : IsLeastOfGroup stage.graph node least
@@ -77,8 +77,8 @@ pub record IsPriceFault (stage : Stage) (fault : Fault) : Type 0 where
   pub other : IsOtherPrice stage node found
   pub is : fault ≡ fault_at (Node node) (printed_price stage node, found)
 
--- ---- 5: the difference of the prices at the ends of the first measured stream out of the box, beside the greatest that is in it
--- a measured flow isn't in the box
+-- ---- 5: the difference of the prices at the ends of the first measured stream outside its box, and the greatest difference inside the box
+-- a measured flow isn't in its box
 pub record IsOutOfBox (stage : Stage) (place : ℕ) (fault : Fault) : Type 0 where
   pub stream : Stream
   pub meas : Meas
@@ -95,14 +95,14 @@ pub record IsBoxFault (stage : Stage) (fault : Fault) : Type 0 where
   pub first : IsFirstWithout (IsInBoxAt stage) (length stage.graph.streams) place
   pub out : IsOutOfBox stage place fault
 
--- ---- 6: the degrees of freedom, beside those of the graph
+-- ---- 6: the degrees of freedom, and those of the graph
 pub record IsFreedomFault (stage : Stage) (fault : Fault) : Type 0 where
   pub dof : ℕ
   pub has : HasFreedom stage.graph.streams dof
   pub differs : stage.dof ≢ dof
   pub is : fault ≡ fault_at Whole (pos stage.dof, pos dof)
 
--- ---- 7: h, beside that of the flows and prices; where it is that, g
+-- ---- 7: h, and that of the flows and prices; if these agree, g
 abbrev pub gap_numbers : Gap → Gap → ℤ × ℤ
 gap_numbers stated found = first_differing (pos stated.h) (pos found.h) (pos stated.g) (pos found.g)
 
@@ -114,12 +114,12 @@ pub record GapsDiffer (stated found : Gap) (fault : Fault) : Type 0 where
 abbrev pub IsGapFault : Stage → Fault → Type 0
 IsGapFault stage = GapsDiffer (printed_gap stage) (found_gap stage)
 
--- ---- 8: the sweeps done, beside those that were allowed
+-- ---- 8: the sweeps done, and those that were allowed
 pub record IsStateFault (stage : Stage) (gap sweeps : ℕ) (fault : Fault) : Type 0 where
   pub differs : IsStateOfGap stage gap sweeps → ⊥
   pub is : fault ≡ fault_at Whole (pos (sweeps_of stage.solved), pos sweeps)
 
--- ---- 9: lo of the first stream with other bounds, beside that of the rule; where it is that, hi
+-- ---- 9: lo of the first stream whose bounds aren't those of the rule, and that of the rule; if these agree, hi
 abbrev pub bounds_numbers : Bounds → Bounds → ℤ × ℤ
 bounds_numbers stated found = first_differing stated.lo found.lo stated.hi found.hi
 
@@ -139,7 +139,7 @@ pub record IsBoundsFault (stage : Stage) (fault : Fault) : Type 0 where
   pub result_is : slice_get stage.streams stream ≡ Some result
   pub differs : DifferAt stream result.bounds (found_bounds stage stream result) fault
 
--- ---- 10: the low end, beside that of the rule; where it is that, the high end, of which -1 says that there is none
+-- ---- 10: the low end, and that of the rule; if these agree, the high end, with -1 for none
 abbrev pub high_or_none : Option ℤ → ℤ
 high_or_none None = negsuc 0
 high_or_none (Some high) = high
@@ -152,15 +152,15 @@ pub record EndsDiffer (low : ℤ) (high : Option ℤ) (found_low : ℤ) (found_h
 abbrev pub IsStatisticFault : Stage → Fault → Type 0
 IsStatisticFault stage = EndsDiffer stage.low stage.high (found_low stage) (high_of stage.graph.streams (printed_flows stage))
 
--- ---- 11: the number of rows, beside that of the free groups; where it is that, the first row that isn't that of its group: its node,
--- beside the least node of the group, its net flow or its variance, in this order
+-- ---- 11: the number of rows, and that of the free groups; if these agree, the first row that isn't the test of its group: its node and
+-- the least node of the group, its net flow or its variance, in this order
 -- the row at a place is the test of the group at that place
 abbrev pub IsRowAt : List NodalTest → List NodalTest → ℕ → Type 0
 IsRowAt rows tests i =
     (row test : NodalTest) → slice_get rows i ≡ Some row → slice_get tests i ≡ Some test
     → unjudged row ≡ test
 
--- the numbers of a row that differ first
+-- the first numbers in which a row differs from its test
 abbrev pub row_numbers : NodalTest → NodalTest → ℤ × ℤ
 row_numbers row test =
     if row.node == test.node then first_differing row.net test.net row.variance test.variance
@@ -176,7 +176,7 @@ pub record IsRowDifference (row test : NodalTest) (fault : Fault) : Type 0 where
   pub differ : unjudged row ≢ test
   pub is : fault ≡ fault_at (Node row.node) (row_numbers row test)
 
--- they are as many as the tests, and one isn't the test at its place
+-- there are as many rows as tests, and one row isn't the test at its place
 pub record IsRowFault (rows tests : List NodalTest) (fault : Fault) : Type 0 where
   pub count : length rows ≡ length tests
   pub place : ℕ
@@ -191,7 +191,7 @@ pub record IsRowFault (rows tests : List NodalTest) (fault : Fault) : Type 0 whe
 abbrev pub IsRowsFault : List NodalTest → List NodalTest → Fault → Type 0
 IsRowsFault rows tests fault = IsCountFault rows tests fault ⊎ IsRowFault rows tests fault
 
--- the tests of the graph, without critical values, which the rows aren't
+-- the rows aren't the tests of the graph, both without critical values
 pub record IsNodalRowsFault (stage : Stage) (tests : Tests) (fault : Fault) : Type 0 where
   pub rule : List NodalTest
   pub are : AreNodalTests stage.graph None rule
@@ -200,7 +200,7 @@ pub record IsNodalRowsFault (stage : Stage) (tests : Tests) (fault : Fault) : Ty
 abbrev pub IsNodalFault : Stage → Fault → Type 0
 IsNodalFault stage fault = IsSomeAnd stage.tests (λ tests. IsNodalRowsFault stage tests fault)
 
--- ---- 12: the first verdict, that of the whole, of the nodes and of the streams in this order, that doesn't follow; without numbers
+-- ---- 12: the first verdict that doesn't follow, in the order of the whole, the nodes and the streams; without numbers
 pub record IsGlobalFault (stage : Stage) (tests : Tests) (fault : Fault) : Type 0 where
   pub differs : IsGlobalVerdict stage tests → ⊥
   pub is : fault ≡ bare_fault_at Whole
@@ -226,8 +226,8 @@ AreVerdictsFault stage tests fault =
 abbrev pub IsVerdictFault : Stage → Fault → Type 0
 IsVerdictFault stage fault = IsSomeAnd stage.tests (λ tests. AreVerdictsFault stage tests fault)
 
--- ---- 13: least_lo of the first stream with other least bounds, in a stage that has some, beside that of the rule; where it is that,
--- least_hi
+-- ---- 13: in a stage that has least bounds, least_lo of the first stream whose least bounds aren't those of the rule, and that of the
+-- rule; if these agree, least_hi
 pub record IsLeastFault (stage : Stage) (fault : Fault) : Type 0 where
   pub have : HasLeastBounds stage
   pub stream : ℕ

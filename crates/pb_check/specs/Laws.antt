@@ -19,8 +19,7 @@ abbrev pub is_converged : Solved → Bool
 is_converged (Converged sweeps) = true
 is_converged (Unconverged sweeps) = false
 
--- what may be relied on where a stage passes: it is certified, and its state is converged exactly where the gap of its flows and prices
--- is met
+-- what may be relied on if a stage passes: it is certified, and its state is converged exactly when its flows and prices meet the gap
 pub record IsSound (stage : Stage) (gap : ℕ) : Type 0 where
   pub certified : IsCertifiedStage stage
   pub state : IsTrue (is_converged stage.solved) ↔ MeetsGap gap (found_gap stage)

@@ -1,4 +1,4 @@
--- Inside. The flows of a stage beside the dual flows of its prices.
+-- Inside. The flows of a stage together with the dual flows of its prices.
 use Rattle.std.specs.Prelude.{◌≡◌}
 use Rattle.pb_graph.specs.declared.results.Stage.{Stage}
 use Rattle.pb_gap.specs.FlowPair.{AreOfPrices, PairedFlows}

@@ -11,7 +11,7 @@ use Rattle.pb_check.specs.declared.faults.Fault.{Fault}
 use Rattle.pb_check.specs.Asked.{HaveClasses, AreShown, AreEven, AreGroupPrices, AreInBox, IsFreedom, IsGapOfFlows, IsStateOfGap, HaveBounds, IsStatistic, IsNodal, IsJudged, HaveLeastBounds}
 use Rattle.pb_check.specs.Faults.{IsClassFault, IsWitnessFault, IsBalanceFault, IsPriceFault, IsBoxFault, IsFreedomFault, IsGapFault, IsStateFault, IsBoundsFault, IsStatisticFault, IsNodalFault, IsVerdictFault, IsLeastFault}
 
--- the number of a test, from 1: the tests are made in this order
+-- the number of a test, from 1; the tests are made in this order
 abbrev pub code_of : Test → ℕ
 code_of Class = 1
 code_of Witness = 2
@@ -43,7 +43,7 @@ Passes stage gap sweeps Nodal = IsNodal stage
 Passes stage gap sweeps Verdict = IsJudged stage
 Passes stage gap sweeps Least = HaveLeastBounds stage
 
--- what it answers where it fails
+-- the fault that it reports if it fails
 abbrev pub Fails : Stage → ℕ → ℕ → Test → Fault → Type 0
 Fails stage gap sweeps Class = IsClassFault stage
 Fails stage gap sweeps Witness = IsWitnessFault stage
@@ -59,11 +59,11 @@ Fails stage gap sweeps Nodal = IsNodalFault stage
 Fails stage gap sweeps Verdict = IsVerdictFault stage
 Fails stage gap sweeps Least = IsLeastFault stage
 
--- A stage passes where it passes all tests.
+-- A stage passes if it passes all tests.
 abbrev pub IsPassed : Stage → ℕ → ℕ → Type 0
 IsPassed stage gap sweeps = (test : Test) → Passes stage gap sweeps test
 
--- Its first fault, where it doesn't: it passes the tests before this one, and this one fails so.
+-- Its first fault, if it doesn't pass: the stage passes the tests before this one, and this one fails with this fault.
 pub record IsFirstFault (stage : Stage) (gap sweeps : ℕ) (test : Test) (place : Place)
     (stated found : ℤ) : Type 0 where
   pub before : (other : Test) → code_of other < code_of test → Passes stage gap sweeps other
@@ -75,12 +75,12 @@ IsPlaceWithin stage (Node n) = n < stage.graph.nodes
 IsPlaceWithin stage (Stream j) = j < length stage.streams
 IsPlaceWithin stage Whole = Unit {0}
 
--- what is answered of a stage that doesn't pass: its first fault
+-- why a stage doesn't pass: its first fault
 abbrev pub IsRefusal : Stage → ℕ → ℕ → CheckFault → Type 0
 IsRefusal stage gap sweeps (At test place stated found) = IsFirstFault stage gap sweeps test place stated found
 IsRefusal stage gap sweeps NoMemory = Unit {0}
 
--- at a place of the stage
+-- the fault is at a place of the stage
 abbrev pub IsRefusalWithin : Stage → CheckFault → Type 0
 IsRefusalWithin stage (At test place stated found) = IsPlaceWithin stage place
 IsRefusalWithin stage NoMemory = Unit {0}

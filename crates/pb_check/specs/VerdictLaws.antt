@@ -25,7 +25,7 @@ abbrev pub NotBothLaw : Type 0
 NotBothLaw = (stage : Stage) (gap sweeps : ℕ) → IsProcessGraph stage.graph → IsWellFormed stage
     → IsPassed stage gap sweeps → HasFault stage gap sweeps → ⊥
 
--- and none has two
+-- and no stage has two first faults
 abbrev pub OneFaultLaw : Type 0
 OneFaultLaw = (stage : Stage) (gap sweeps : ℕ) (one other : HasFault stage gap sweeps) → IsProcessGraph stage.graph
     → IsWellFormed stage

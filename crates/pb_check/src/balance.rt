@@ -24,7 +24,7 @@ fn add(nets: &mut [i128], node: u32, amount: i128)
     nets[node as usize] += amount;
 }
 
-// Brings the flow of a stream to the net flows of its ends.
+// Adds the flow of a stream to the net flows of its ends.
 fn bring(nets: &mut [i128], stream: &Stream, flow: i128)
     requires ends { IsStream (length nets.old) stream.now }
     requires flow { IsFlow flow }
@@ -36,7 +36,7 @@ fn bring(nets: &mut [i128], stream: &Stream, flow: i128)
     add(nets, stream.from, -flow);
 }
 
-// Brings the flow of each stream to the net flows of its ends.
+// Adds the flow of each stream to the net flows of its ends.
 fn gather(stage: &Stage, nets: &mut [i128])
     requires formed { IsWellFormed stage.now }
     requires room { length nets.old ≡ stage.now.graph.nodes }
@@ -54,7 +54,7 @@ fn gather(stage: &Stage, nets: &mut [i128])
     }
 }
 
-// The first node whose net flow isn't 0.
+// The fault at the first node whose net flow isn't 0.
 fn first_uneven(stage: &Stage, nets: &[i128]) -> Option<Fault>
     requires formed { IsWellFormed stage.now }
     requires each { length nets.now ≡ stage.now.graph.nodes }
@@ -71,7 +71,7 @@ fn first_uneven(stage: &Stage, nets: &[i128]) -> Option<Fault>
     None
 }
 
-/// Test 3: the flows balance at each node, the environment among them. The work is in proportion to nodes and streams.
+/// Test 3: the flows balance at each node, including the environment. The work is proportional to the numbers of nodes and streams.
 pub fn balance_fault(alloc: Global, stage: &Stage) -> Result<Option<Fault>, AllocError>
     requires { IsWellFormed stage.now }
     ensures { IfOk result

@@ -18,7 +18,7 @@ use pb_gap::{FlowPair, Gap, stream_law};
 use pb_graph::{Bounds, Classified, Stage};
 use std::alloc::{AllocError, Global};
 
-// The bounds of a stream by its class and its certificate, none where it is unobservable.
+// The bounds of a stream by its class and its certificate, or none if it is unobservable.
 fn found_bounds(
     alloc: Global,
     stage: &Stage,
@@ -44,7 +44,7 @@ fn found_bounds(
     }
 }
 
-// A failure at a stream, with its two numbers.
+// A fault at a stream, with its two numbers.
 fn bounds_at(stream: u32, stated: i128, found: i128) -> Fault
     ensures { result ≡ record { place = StreamAt stream; stated = stated; found = found } }
 {
@@ -55,7 +55,7 @@ fn bounds_at(stream: u32, stated: i128, found: i128) -> Fault
     }
 }
 
-/// Where the bounds of a stream differ, the first number that does: lo, and then hi.
+/// If the bounds of a stream differ, the first number that does: lo, and then hi.
 pub fn bounds_difference(
     stream: u32,
     stated: Option<Bounds>,

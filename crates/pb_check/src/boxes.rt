@@ -28,7 +28,7 @@ fn difference(from: i128, to: i128) -> i128
     (to - from).abs()
 }
 
-// The stream at a place, where it is measured and the prices at its ends differ by more than they may.
+// The fault of the stream at a place, if it is measured and the prices at its ends differ by more than they may.
 fn out_of_box(stage: &Stage, place: u32) -> Option<Fault>
     requires formed { IsWellFormed stage.now }
     requires limits { IsProcessGraph stage.now.graph }

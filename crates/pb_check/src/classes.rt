@@ -16,7 +16,7 @@ use crate::faults::{Fault, at_stream};
 use crate::least::have_least;
 use pb_graph::{Class, Graph, Member, Stage, Step, Stream, StreamResult, Witness};
 
-// Whether a class is that of a measured stream.
+// Whether a class is one of those of measured streams.
 fn is_of_measured(class: Class) -> bool
     ensures { result ≡ is_of_measured class }
 {
@@ -30,8 +30,8 @@ fn is_bounded(class: Class) -> bool
     !matches!(class, Class::Unobservable)
 }
 
-// Whether a stream has a class of measured streams exactly where it is measured, bounds exactly where it isn't unobservable, and least
-// bounds exactly where it has bounds and its stage has least bounds.
+// Whether a stream has a class of measured streams exactly when it is measured, bounds exactly when it isn't unobservable, and least bounds
+// exactly when it has bounds and its stage has least bounds.
 fn has_class(in_stage: bool, stream: &Stream, printed: &StreamResult) -> bool
     ensures { IsTrue result ↔ HasClass in_stage stream.now printed.now }
 {
@@ -42,7 +42,7 @@ fn has_class(in_stage: bool, stream: &Stream, printed: &StreamResult) -> bool
         && printed.least.is_some() == (bounded && in_stage)
 }
 
-// Whether the stream at a place has.
+// Whether this holds of the stream at a place.
 fn has_class_at(stage: &Stage, in_stage: bool, j: u32) -> bool
     requires formed { IsWellFormed stage.now }
     requires in_stage { in_stage ≡ have_least stage.now.streams }
@@ -56,8 +56,8 @@ fn has_class_at(stage: &Stage, in_stage: bool, j: u32) -> bool
     )
 }
 
-/// Test 1: each stream has a class of measured streams exactly where it is measured, bounds exactly where it isn't unobservable, and
-/// least bounds exactly where it has bounds and some stream has least bounds.
+/// Test 1: each stream has a class of measured streams exactly when it is measured, bounds exactly when it isn't unobservable, and least
+/// bounds exactly when it has bounds and some stream has least bounds.
 pub fn class_fault(stage: &Stage) -> Option<Fault>
     requires { IsWellFormed stage.now }
     ensures { MatchOption result (HaveClasses stage.now) (IsClassFault stage.now) }
@@ -116,7 +116,7 @@ fn others_measured(graph: &Graph, id: u32, members: &[Member]) -> bool
         .all(|member| is_other_measured(graph, id, member))
 }
 
-// Whether the steps other than along a stream are along unmeasured ones.
+// Whether the steps, except along a stream, are along unmeasured streams.
 fn others_unmeasured(graph: &Graph, id: u32, steps: &[Step]) -> bool
     ensures { IsTrue result ↔ All (IsOtherUnmeasured graph.now id) steps.now }
 {
@@ -139,7 +139,7 @@ fn has_step(steps: &[Step], id: u32) -> bool
     steps.iter().any(|step| step.stream == id)
 }
 
-// Whether the members are a cut that has a stream and else measured ones.
+// Whether the members are a cut that has a stream, and all other members are measured.
 #[tactic(auto, using(crate::proofs::OtherLemmas::each_by_recursion, crate::proofs::OtherLemmas::each_by_place))]
 fn cuts_off(graph: &Graph, id: u32, side: &[bool], members: &[Member]) -> bool
     ensures { IsTrue result ↔ CutsOff graph.now id side.now members.now }
@@ -147,7 +147,7 @@ fn cuts_off(graph: &Graph, id: u32, side: &[bool], members: &[Member]) -> bool
     graph.is_cut(side, members) && has_member(members, id) && others_measured(graph, id, members)
 }
 
-// Whether the steps are a cycle that has a stream and else unmeasured ones.
+// Whether the steps are a cycle that goes along a stream, and all other steps are along unmeasured streams.
 #[tactic(auto, using(crate::proofs::OtherLemmas::each_by_recursion, crate::proofs::OtherLemmas::each_by_place))]
 fn goes_round(graph: &Graph, id: u32, steps: &[Step]) -> bool
     ensures { IsTrue result ↔ GoesRound graph.now id steps.now }
@@ -198,7 +198,7 @@ fn is_shown_at(stage: &Stage, j: u32) -> bool
     )
 }
 
-/// Test 2: the printed cut or cycle shows the class of each stream. The work is in proportion to members and steps.
+/// Test 2: the printed cut or cycle shows the class of each stream. The work is proportional to the numbers of members and steps.
 pub fn witness_fault(stage: &Stage) -> Option<Fault>
     requires { IsWellFormed stage.now }
     ensures { MatchOption result (AreShown stage.now) (IsWitnessFault stage.now) }

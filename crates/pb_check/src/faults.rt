@@ -1,4 +1,4 @@
-// The tests of a judgement, and what one that fails answers.
+// The tests of a judgement, and the fault that a failing test reports.
 
 ghost use Rattle.std.specs.Prelude.{◌≡◌, pos};
 ghost use Rattle.pb_check.specs.declared.faults.Place.TheVariants.{Node, Stream as StreamAt, Whole};
@@ -7,22 +7,22 @@ ghost use Rattle.pb_check.specs.Verdict.{code_of};
 /// The tests of a stage, in their order.
 #[derive(Clone, Copy, Debug, PartialEq, Eq)]
 pub enum Test {
-    /// The class is one of a measured stream exactly where the stream is measured, there are bounds unless it is unobservable, and there
-    /// are least bounds beside the bounds where the stage has any, and else none.
+    /// The class is one of measured streams exactly when the stream is measured; there are bounds unless it is unobservable; and there are
+    /// least bounds next to the bounds if the stage has any, and otherwise none.
     Class,
     /// The printed cut or cycle shows the class.
     Witness,
     /// The flows balance at each node.
     Balance,
-    /// The nodes of a group share a price, and it is 0 where the group isn't free.
+    /// The nodes of a group share a price, which is 0 if the group isn't free.
     Price,
-    /// The prices at the ends of a measured stream are near enough.
+    /// The prices at the ends of a measured stream are close enough.
     Box,
     /// The degrees of freedom are those of the graph.
     Freedom,
     /// The numbers of the gap are those of the flows and the prices.
     Gap,
-    /// The state is converged exactly where the gap is met, and the sweeps are as many as were allowed, or fewer.
+    /// The state is converged exactly when the gap is met, and there are no more sweeps than were allowed.
     State,
     /// The bounds are those of the prices, the gap and the certificate.
     Bounds,
@@ -32,7 +32,7 @@ pub enum Test {
     Nodal,
     /// Each verdict follows from the printed numbers.
     Verdict,
-    /// The least bounds, where there are any, are those of the flows, the prices, the gap and the certificate.
+    /// The least bounds, if there are any, are those of the flows, the prices, the gap and the certificate.
     Least,
 }
 
@@ -59,7 +59,7 @@ impl Test {
     }
 }
 
-/// What a test is about where it fails: a node, a stream, or the whole stage.
+/// The part of a stage at which a test fails: a node, a stream, or the whole stage.
 #[derive(Clone, Copy, Debug, PartialEq, Eq)]
 pub enum Place {
     Node(u32),
@@ -67,8 +67,7 @@ pub enum Place {
     Whole,
 }
 
-/// The first failure of a test: its place, what the stage states there, and what the rule gives. Where there are no two numbers both
-/// are 0.
+/// The first failure of a test: its place, what the stage states there, and what the rule gives. If there are no two numbers, both are 0.
 #[derive(Clone, Copy, Debug, PartialEq, Eq)]
 pub struct Fault {
     pub place: Place,
@@ -76,7 +75,7 @@ pub struct Fault {
     pub found: i128,
 }
 
-/// Why a stage isn't passed: the first test that fails, with its first failure; or want of memory.
+/// Why a stage doesn't pass: the first test that fails, with its first failure; or lack of memory.
 #[derive(Clone, Copy, Debug, PartialEq, Eq)]
 pub enum CheckFault {
     At {

@@ -1,4 +1,4 @@
-// Tests 7 to 13, one after the other: what follows from the flows beside the dual flows of the prices, and the rows of tests.
+// Tests 7 to 13, one after another: what follows from the flows and the dual flows of the prices, and the rows of tests.
 
 ghost use Rattle.std.specs.Prelude.{◌≡◌, ◌<◌, ◌≤◌, map, length, IfOk};
 ghost use Rattle.pb_limits.specs.Limits.{most_gap, most_sweeps};
@@ -27,7 +27,7 @@ fn printed_flows(alloc: Global, streams: &[StreamResult]) -> Result<Vec<i128>, A
     Ok(flows)
 }
 
-// The first of the tests 7 to 13 that fails, by the flows beside the dual flows.
+// The first of the tests 7 to 13 that fails, by the flows and the dual flows.
 fn first_of_pair(
     alloc: Global,
     stage: &Stage,
@@ -54,9 +54,9 @@ fn first_of_pair(
     }
 }
 
-/// The first of the tests 7 to 13 that a stage fails, which passes those before.
+/// The first of the tests 7 to 13 that fails, for a stage that passes those before.
 ///
-/// The work is in proportion to nodes, streams and members of cuts.
+/// The work is proportional to the numbers of nodes, streams and members of cuts.
 pub fn first_of_flows(
     alloc: Global,
     stage: &Stage,

@@ -1,4 +1,4 @@
-// Tests 1 to 6, one after the other: what the graph, its classes, flows and prices decide.
+// Tests 1 to 6, one after another: what the graph, its classes, flows and prices decide.
 
 ghost use Rattle.std.specs.Prelude.{ℕ, IfOk};
 ghost use Rattle.pb_graph.specs.WellFormed.{IsWellFormed};

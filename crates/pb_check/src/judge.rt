@@ -31,11 +31,11 @@ fn first_of_all(
     first_of_flows(alloc, stage, gap, sweeps)
 }
 
-/// Whether a stage of a report, wherever it came from, passes the tests of a judge, at the gap in thousandths of a standard deviation
-/// and the sweeps that the report was asked for; else the first test that it fails, with its place and numbers.
+/// Whether a stage of a report, wherever it came from, passes the tests of a judge, at the gap, in thousandths of a standard deviation, and
+/// the sweeps that the report was asked for; if it doesn't, the first test that it fails, with its place and numbers.
 ///
-/// A stage that passes is certified by its own numbers. The work is in proportion to its streams, nodes, and the members and steps of
-/// its certificates.
+/// A stage that passes is certified by its own numbers. The work is proportional to the numbers of its streams, its nodes, and the members
+/// and steps of its certificates.
 pub fn check(alloc: Global, stage: &Stage, gap: u32, sweeps: u32) -> Result<(), CheckFault>
     requires formed { IsWellFormed stage.now }
     requires some { 1 ≤ gap }

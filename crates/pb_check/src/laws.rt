@@ -1,11 +1,11 @@
-// What is proved of the definitions alone. The contract of each function is a law; it calls those that the proof stands on.
+// What is proved of the definitions alone. The contract of each function is a law; it calls the laws that its proof uses.
 
 ghost use Rattle.pb_check.specs.Laws.{SoundLaw, OwnLaw};
 
 use pb_elim::{certified_law, shown_law, solution_law};
 use pb_gap::{gap_law, one_state_law};
 
-/// A stage that passes is certified, wherever it came from, and its state is converged exactly where its gap is met.
+/// A stage that passes is certified, wherever it came from, and its state is converged exactly when its gap is met.
 pub fn sound_law()
     ensures { SoundLaw }
 {

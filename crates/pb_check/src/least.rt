@@ -1,4 +1,4 @@
-// Test 13: the least bounds of each stream, where the stage has any.
+// Test 13: the least bounds of each stream, if the stage has any.
 
 ghost use Rattle.std.specs.Prelude.{◌≡◌, IfOk, MatchOption};
 ghost use Rattle.pb_graph.specs.Certificates.{IsCertified};
@@ -25,7 +25,7 @@ pub fn have_least(streams: &[StreamResult]) -> bool
     streams.iter().any(|stream| stream.least.is_some())
 }
 
-// The least bounds of a stream by its class and its certificate, none where it is unobservable.
+// The least bounds of a stream by its class and its certificate, or none if it is unobservable.
 fn found_least(
     alloc: Global,
     stage: &Stage,
@@ -51,7 +51,7 @@ fn found_least(
     }
 }
 
-/// Test 13: where some stream has least bounds, those of each stream are those of the printed flows, prices, gap and certificate.
+/// Test 13: if some stream has least bounds, those of each stream are those of the printed flows, prices, gap and certificate.
 pub fn least_fault(
     alloc: Global,
     stage: &Stage,

@@ -1,8 +1,8 @@
 //! Judging: a stage of a study, wherever it came from, is checked by its own numbers.
 //!
-//! Thirteen tests are made in order, each over all nodes, streams or rows in order. The answer is that the stage passes all of them, or
-//! the first failure: its test, its place, and what is stated there beside what the rule gives. It doesn't ask how the stage was made:
-//! any true certificate, any balanced flows and any fitting prices will do.
+//! Thirteen tests are made in order, each over all nodes, streams or rows in order. The answer is that the stage passes all of them, or the
+//! first failure: its test, its place, what is stated there, and what the rule gives. How the stage was made doesn't matter: any true
+//! certificate, any balanced flows and any fitting prices will do.
 #![tactic(auto)]
 
 mod balance;

@@ -19,7 +19,7 @@ use pb_gap::{FlowPair, Gap};
 use pb_graph::{Solved, Stage};
 use std::alloc::{AllocError, Global};
 
-// Where two gaps differ, the first number that does: h, and then g.
+// If two gaps differ, the first number that does: h, and then g.
 fn gap_difference(stated: Gap, found: Gap) -> Option<Fault>
     ensures { MatchOption result (stated ≡ found) (GapsDiffer stated found) }
 {
@@ -54,7 +54,7 @@ fn gap_fault(stage: &Stage, pair: &FlowPair, deviations: &mut [i128]) -> Option<
     gap_difference(printed_gap(stage), pair.gap(deviations))
 }
 
-// Whether a state is converged, in at most so many sweeps, where the gap is met, and unconverged, after all of them, where it isn't.
+// Whether a state is converged, in at most this many sweeps, if the gap is met, and unconverged, after all of them, if it isn't.
 fn is_state(solved: Solved, met: bool, sweeps: u32) -> bool
     ensures { (gap : ℕ) (printed : GapValue) → (IsTrue met ↔ MeetsGap gap printed)
         → (IsTrue result ↔ IsStateAt gap sweeps printed solved) }
@@ -65,7 +65,7 @@ fn is_state(solved: Solved, met: bool, sweeps: u32) -> bool
     }
 }
 
-// How many sweeps were done.
+// The number of sweeps done.
 fn sweeps_of(solved: Solved) -> u32
     ensures { result ≡ sweeps_of solved }
 {
@@ -75,7 +75,7 @@ fn sweeps_of(solved: Solved) -> u32
     }
 }
 
-// Test 8: the state is converged exactly where the gap is met, and the sweeps are as many as were allowed, or fewer.
+// Test 8: the state is converged exactly when the gap is met, and there are no more sweeps than were allowed.
 fn state_fault(
     stage: &Stage,
     pair: &FlowPair,
@@ -97,7 +97,7 @@ fn state_fault(
     Some(whole(i128::from(done), i128::from(sweeps)))
 }
 
-// A high end, and -1 where there is none.
+// A high end, or -1 if there is none.
 fn high_or_none(high: Option<i128>) -> i128
     ensures { result ≡ high_or_none high }
 {
@@ -107,7 +107,7 @@ fn high_or_none(high: Option<i128>) -> i128
     }
 }
 
-// Whether there are two high ends that are the same, or none.
+// Whether two high ends are the same, or neither is there.
 fn same_high(stated: Option<i128>, found: Option<i128>) -> bool
     ensures { IsTrue result ↔ (stated ≡ found) }
 {
@@ -120,7 +120,7 @@ fn same_high(stated: Option<i128>, found: Option<i128>) -> bool
     }
 }
 
-// Where the ends of two statistics differ, the first that does: the low one, and then the high one.
+// If the ends of two statistics differ, the first that does: the low one, and then the high one.
 fn ends_difference(
     low: i128,
     high: Option<i128>,
@@ -149,7 +149,7 @@ fn statistic_fault(stage: &Stage, pair: &FlowPair) -> Option<Fault>
     ends_difference(stage.low, stage.high, low, high)
 }
 
-/// The first of the tests 7 to 10 that a stage fails, which passes those before, by its flows beside the dual flows of its prices.
+/// The first of the tests 7 to 10 that fails, by the flows and the dual flows of the prices, for a stage that passes the tests before.
 /// `deviations` is room for one number of each stream.
 pub fn first_of_numbers(
     alloc: Global,

@@ -14,8 +14,8 @@ use pb_graph::Stage;
 use pb_merge::Groups;
 use std::alloc::{AllocError, Global};
 
-// The price of a node, where it isn't that of the least node of its group, beside the price of that node; where it is, and the group
-// isn't free, beside 0.
+// If the price of a node isn't that of the least node of its group: the price of that least node. If it is, and the group isn't free, but
+// the price isn't 0: 0.
 fn other_price(stage: &Stage, groups: &Groups, node: u32) -> Option<i128>
     requires formed { IsWellFormed stage.now }
     requires limits { IsProcessGraph stage.now.graph }
@@ -35,7 +35,7 @@ fn other_price(stage: &Stage, groups: &Groups, node: u32) -> Option<i128>
     None
 }
 
-// The first node whose price isn't that of its group.
+// The fault at the first node whose price isn't that of its group.
 fn first_mispriced(stage: &Stage, groups: &Groups) -> Option<Fault>
     requires formed { IsWellFormed stage.now }
     requires limits { IsProcessGraph stage.now.graph }
@@ -54,7 +54,7 @@ fn first_mispriced(stage: &Stage, groups: &Groups) -> Option<Fault>
     None
 }
 
-/// Test 4: the nodes of a group share a price, and it is 0 where the group isn't free.
+/// Test 4: the nodes of a group share a price, which is 0 if the group isn't free.
 pub fn price_fault(alloc: Global, stage: &Stage) -> Result<Option<Fault>, AllocError>
     requires { IsWellFormed stage.now }
     ensures { IfOk result

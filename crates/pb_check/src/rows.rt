@@ -16,7 +16,7 @@ use pb_graph::{MeasureTest, NodalTest, Stage, Tests};
 use pb_tests::{global, nodal_range_law, nodal_tests, nodal_verdict, verdict};
 use std::alloc::{AllocError, Global};
 
-// Where a row isn't the test of its group, the first number that differs: the node, the net flow, and then the variance.
+// If a row isn't the test of its group, the first number that differs: the node, the net flow, and then the variance.
 fn row_difference(row: &NodalTest, test: &NodalTest) -> Option<Fault>
     requires { unjudged test.now ≡ test.now }
     ensures { MatchOption result (unjudged row.now ≡ test.now) (IsRowDifference row.now test.now) }
@@ -33,7 +33,7 @@ fn row_difference(row: &NodalTest, test: &NodalTest) -> Option<Fault>
     None
 }
 
-// Where the rows aren't the tests of the groups: their number, or the first row that isn't its test.
+// If the rows aren't the tests of the groups: their number, or the first row that isn't its test.
 fn rows_fault(rows: &[NodalTest], rule: &[NodalTest]) -> Option<Fault>
     requires { All (λ test. unjudged test ≡ test) rule.now }
     ensures { MatchOption result (map unjudged rows.now ≡ rule.now)
@@ -50,7 +50,7 @@ fn rows_fault(rows: &[NodalTest], rule: &[NodalTest]) -> Option<Fault>
     None
 }
 
-// Test 11: but for critical values and verdicts, the nodal rows are the tests of the graph.
+// Test 11: except for critical values and verdicts, the nodal rows are the tests of the graph.
 fn nodal_fault(alloc: Global, stage: &Stage, tests: &Tests) -> Result<Option<Fault>, AllocError>
     ensures { IfOk result (λ found. MatchOption found (AreNodalRows stage.now tests.now)
         (IsNodalRowsFault stage.now tests.now)) }
@@ -127,7 +127,7 @@ fn verdict_fault(stage: &Stage, tests: &Tests) -> Option<Fault>
     measure_verdict_fault(tests.measure.as_slice())
 }
 
-/// The first of the tests 11 and 12 that a stage fails, which passes those before. They are made only where there are tests.
+/// The first of the tests 11 and 12 that fails, for a stage that passes those before. They are made only if there are tests.
 pub fn first_of_tests(
     alloc: Global,
     stage: &Stage,

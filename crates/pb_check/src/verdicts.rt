@@ -1,4 +1,4 @@
-// What is proved of verdicts. The contract of each function is a law; it calls those that the proof stands on.
+// What is proved of verdicts. The contract of each function is a law; it calls the laws that its proof uses.
 
 ghost use Rattle.pb_check.specs.VerdictLaws.{SomeVerdictLaw, NotBothLaw, OneFaultLaw, PlaceLaw};
 
@@ -11,7 +11,7 @@ pub fn some_verdict_law()
     nodal_tests_law();
 }
 
-/// No stage passes and has a first fault, and none has two; so a stage has one verdict.
+/// No stage passes and has a first fault, and no stage has two; so a stage has one verdict.
 pub fn one_verdict_law()
     ensures not_both { NotBothLaw }
     ensures one { OneFaultLaw }

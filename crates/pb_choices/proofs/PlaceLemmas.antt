@@ -13,7 +13,7 @@ use Rattle.pb_choices.specs.declared.places.Shape.{Shape}
 use Rattle.pb_choices.specs.declared.places.Shape.TheVariants.{Cut, Cycle}
 use Rattle.pb_choices.specs.Places.{IsWordTable, class_place, placed_class, placed_shape, placed_stop, placed_truth, placed_verdict, shape_place, stop_place, truth_place, verdict_place}
 
--- each value of a list has the place at which it stands
+-- each value of a list has the place at which it is
 abbrev pub AreInPlace : {A : Type 0} → (A → ℕ) → ℕ → List A → Type 0
 AreInPlace place_of start [] = Unit {0}
 AreInPlace place_of start (value ∷ values) = (place_of value ≡ start) × AreInPlace place_of (suc start) values
@@ -29,11 +29,11 @@ from_start place_of (first ∷ values) start (suc place) value order at =
     let rest = from_start place_of values (suc start) place value order.1 at in
     omega (arith, rest)
 
--- so a value stands at its place alone
+-- so a value is only at its place
 only_there : {A : Type 0} (place_of : A → ℕ) (values : List A) (place : ℕ) (value : A) → AreInPlace place_of 0 values → slice_get values place ≡ Some value → place_of value ≡ place
 only_there place_of values place value order at = omega (arith, from_start place_of values 0 place value order at)
 
--- and at each place there is one
+-- and at each place there is a value
 some_there : {A : Type 0} (values : List A) (place : ℕ) → place < length values → (value : A) × (slice_get values place ≡ Some value)
 some_there [] place lt = absurd (omega (arith, lt))
 some_there (first ∷ values) zero lt = (first, refl)

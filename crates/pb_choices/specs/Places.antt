@@ -1,5 +1,5 @@
--- Statement. The place of a value's word among the words of its column, and the value at a place: one table for each enum that rows
--- print, used for writing and for reading.
+-- Statement. The place of a value's word among the words of its column, and the value at a place: one table for each enum that is
+-- printed in rows, used for writing and for reading.
 use Rattle.std.specs.Prelude.{◌≡◌, ℕ, ◌<◌, Bool, true, false, List, [], ◌∷◌, length, Option, Some, slice_get}
 use Rattle.pb_form.specs.Writing.{IsFirst}
 use Rattle.pb_graph.specs.declared.records.Class.{Class}
@@ -38,7 +38,7 @@ abbrev pub witness_shape : witness.Witness → Shape
 witness_shape (certificate.Cut side members) = Cut
 witness_shape (certificate.Cycle steps) = Cycle
 
--- what holds or doesn't: of two words the first says that it holds
+-- something holds or doesn't: of two words, the first says that it holds
 abbrev pub truth_place : Bool → ℕ
 truth_place true = 0
 truth_place false = 1
@@ -76,7 +76,7 @@ abbrev pub placed_stop : ℕ → Option Stop
 placed_stop place =
     slice_get (stop.Accepted ∷ stop.Undecided ∷ stop.NoCritical ∷ stop.NoTest ∷ stop.NoSuspect ∷ stop.Spent ∷ []) place
 
--- Each value has a word at its place and stands there, and at no other place; each word is that of a value; and no word comes twice.
+-- Each value has a word at its place. It is at that place and at no other, each word belongs to a value, and no word appears twice.
 pub record IsWordTable {A : Type 0} (words : List (List ℕ)) (place_of : A → ℕ) (placed : ℕ → Option A) : Type 0 where
   pub there : (value : A) → placed (place_of value) ≡ Some value
   pub only : (place : ℕ) (value : A) → placed place ≡ Some value → place_of value ≡ place

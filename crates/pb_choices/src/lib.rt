@@ -1,6 +1,6 @@
-//! Values that rows print by a word: the place of a value's word among the words of its column, and the value at a place.
+//! Values that are printed in rows as words: the place of a value's word among the words of its column, and the value at a place.
 //!
-//! One table for each enum of pb_graph serves those who write rows and those who read them; the words stand in pb_form.
+//! One table for each enum of pb_graph serves both the code that writes rows and the code that reads them; the words are in pb_form.
 #![tactic(auto)]
 
 mod places;

@@ -1,4 +1,4 @@
-// The places of words among those of their columns, and the values at these places: for writing and for reading.
+// The places of words among the words of their columns, and the values at these places: for writing and for reading.
 
 ghost use Rattle.std.specs.Prelude.{◌≡◌};
 ghost use Rattle.pb_form.specs.Words.{class_words, measured_words, period_words, shape_words, state_words, stop_words, verdict_words};
@@ -131,7 +131,7 @@ pub fn placed_stop(place: usize) -> Option<Stop>
     STOPS.get(place).copied()
 }
 
-/// The law that each of these tables goes both ways, and that its words are those of pb_form's columns.
+/// The law that each of these tables works both ways, and that its words are those of pb_form's columns.
 pub fn word_tables_law()
     ensures classes { IsWordTable class_words class_place placed_class }
     ensures shapes { IsWordTable shape_words shape_place placed_shape }

@@ -25,7 +25,7 @@ use Rattle.pb_forest.specs.Forest.{IsForest, IsHeld, IsTied, is_before}
 use Rattle.pb_classify.specs.Certificate.{IsCutOf, IsCycleOf, IsFirstCycle, IsUnmeasured, IsCanonical}
 use Rattle.pb_classify.specs.Classification.{IsClassified, IsClassification}
 
--- streams of one shape
+-- streams of the same shape
 abbrev AreOne : Stream → Stream → Type 0
 AreOne s t = shape_of s ≡ shape_of t
 
@@ -38,7 +38,7 @@ one_to s t same = ap (λ (x : StreamShape). x.to) same
 one_measured : (s t : Stream) → AreOne s t → is_measured s ≡ is_measured t
 one_measured s t same = ap (λ (x : StreamShape). x.measured) same
 
--- a test of streams that asks for their shape alone
+-- a test of streams that depends only on their shape
 abbrev AsksShape : (ℕ → Stream → Bool) → Type 0
 AsksShape may = (k : ℕ) (s t : Stream) → AreOne s t → may k s ≡ may k t
 
@@ -60,7 +60,7 @@ found_same : (o : Option Stream) (x : StreamShape) → option_map shape_of o ≡
 found_same None x is = cc is
 found_same (Some t) x is = (t, refl, some_same is)
 
--- the stream at a place, and the one at the same place of the other list
+-- the stream at a place, and the stream at the same place of the other list
 other_at : (ss ts : List Stream) (k : ℕ) (s : Stream) → shapes_of ss ≡ shapes_of ts → slice_get ss k ≡ Some s
     → (t : Stream) × (slice_get ts k ≡ Some t) × AreOne s t
 other_at ss ts k s same at =
@@ -195,7 +195,7 @@ others_cut j ss ts (m ∷ members) same (first, rest) = (
   others_cut j ss ts members same rest,
 )
 
--- and those of a cycle are not
+-- the other streams of a cycle are unmeasured
 others_cycle : (j : ℕ) (ss ts : List Stream) (steps : List Step) → shapes_of ss ≡ shapes_of ts
     → AllByRecursion (λ (step : Step). step.stream ≢ j → (s : Stream) → slice_get ss step.stream ≡ Some s → s.meas ≡ None) steps
     → AllByRecursion (λ (step : Step). step.stream ≢ j → (s : Stream) → slice_get ts step.stream ≡ Some s → s.meas ≡ None) steps

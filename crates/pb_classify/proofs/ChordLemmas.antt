@@ -63,7 +63,7 @@ some_has g held j s forest at kind none (steps, w) = elim (cases_Bool (get_or he
       cc (sym own.lacks ∙ ap (has_stream j) own.cycle.round ∙ or_left (j == j) (has_stream j own.cycle.back) (eq-eqb j j refl))
 ]
 
--- ---- a cycle of unmeasured streams is one of each of its streams
+-- ---- a cycle of unmeasured streams is a cycle of each of its streams
 takes_bare : (g : ProcessGraph) (e j : ℕ) (steps : List Step) → IsUnmeasured g e
     → AllByRecursion (λ (t : Step). t.stream ≢ e → (s : Stream) → slice_get g.streams t.stream ≡ Some s → s.meas ≡ None) steps
     → AllByRecursion (λ (t : Step). t.stream ≢ j → (s : Stream) → slice_get g.streams t.stream ≡ Some s → s.meas ≡ None) steps
@@ -82,7 +82,7 @@ first_round g held j steps forest x =
     record { cycle = whole.cycle; has = x.has; others = takes_bare g x.e j steps x.unmeasured whole.others }
 
 -- ---- one more chord
--- a stream that is no chord leaves what is known
+-- a stream that isn't a chord leaves what is known unchanged
 pub first_none : (g : ProcessGraph) (held : List Bool) (n j : ℕ) (o : Option (List Step)) → ((s : Stream) → IsChord g held n s → ⊥) → IsFirstBefore g held n j o
     → IsFirstBefore g held (n + 1) j o
 first_none g held n j None apart known = λ k s lt chord. elim (cases_eq k n) [

@@ -20,7 +20,7 @@ abbrev pub after_steps : List Step → List Step → ℕ → Option (List Step) 
 after_steps steps done j None = if has_stream j done then Some steps else None
 after_steps steps done j (Some old) = Some old
 
--- ---- the streams of a cycle are there
+-- ---- the streams of a cycle exist
 steps_within : (may : ℕ → Stream → Bool) (ss : List Stream) (a b : ℕ) (steps : List Step) → Walks (ends_of may ss) a steps b → AllByRecursion (λ (t : Step). t.stream < length ss) steps
 steps_within may ss a b [] w = tt
 steps_within may ss a b (t ∷ rest) (c, e, w) =

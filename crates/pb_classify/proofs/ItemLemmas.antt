@@ -23,7 +23,7 @@ use Rattle.pb_classify.specs.Classification.{IsClassified}
 use Rattle.pb_classify.proofs.RoundLemmas.{cycle_round, measured_joined}
 use Rattle.pb_classify.proofs.ChordLemmas.{first_round}
 
--- a class that is shown, by the canonical certificate
+-- a class that is shown, with the canonical certificate
 item : (g : ProcessGraph) (held : List Bool) (j : ℕ) (s : Stream) (class : Class) (w : Witness) → IsProcessGraph g → IsForest g.streams held → slice_get g.streams j ≡ Some s
     → Shows g j s class w → IsCanonical g held j s class w → IsClassified g j (record { class = class; witness = w })
 item g held j s class w is forest at shows canonical =
@@ -50,7 +50,7 @@ pub unobservable_item : (g : ProcessGraph) (held : List Bool) (j : ℕ) (s : Str
 unobservable_item g held j s steps is forest at kind first =
     item g held j s Unobservable (Cycle steps) is forest at (no_meas s kind, first_round g held j steps forest first) first
 
--- a stream whose other end is not reached, with its cut
+-- a stream whose other end isn't reached, with its cut
 abbrev pub determined_class : Stream → Class
 determined_class s = if is_measured s then Redundant else Observable
 
@@ -67,7 +67,7 @@ determined_item g held j s side members is forest at reach out whole =
           (item g held j s Observable (Cut side members) is forest at (no_meas s none, cuts) canonical)
     ]
 
--- a stream of the graph has its ends there
+-- the ends of a stream of the graph are nodes of the graph
 pub stream_is : (g : ProcessGraph) (j : ℕ) (s : Stream) → IsProcessGraph g → slice_get g.streams j ≡ Some s → IsStream g.nodes s
 stream_is g j s is at = subst (IsStream g.nodes) (get_or_from_slice_get g.streams j s s at) (is.joins j s (slice_get_within g.streams j s at))
 

@@ -1,4 +1,4 @@
--- The cycle of a stream outside the forest is a cycle, and takes unmeasured streams besides it.
+-- The cycle of a stream outside the forest is a cycle, and its other streams are unmeasured.
 use Rattle.std.proofs.Common.{◌≡◌, ◌≢◌, ◌∙◌, ℕ, Bool, true, false, not, ◌==◌, List, ◌∷◌, Some, slice_get, get_or, ap, sym, refl, subst, inl, inr, arith}
 use Rattle.std.specs.List.{list_any}
 use Rattle.std.proofs.lemmas.Bool.{cases_Bool, and_parts, and_from, or_left, not_from_false, eq-eqb, ne_eqb}
@@ -24,7 +24,7 @@ use Rattle.pb_forest.proofs.ForestLaws.{begin_is, streams_once}
 abbrev pub round_of : ℕ → List Step → List Step
 round_of j back = record { stream = j; forward = true } ∷ back
 
--- the stream forward, and back over other unmeasured streams without a node twice
+-- the stream forward, and back over other unmeasured streams on a path
 pub goes_round : (g : ProcessGraph) (j : ℕ) (s : Stream) (back : List Step) → slice_get g.streams j ≡ Some s
     → IsPath (ends_of (unmeasured_but j) g.streams) g.nodes g.streams s.to back s.from → GoesRound g j (round_of j back)
 goes_round g j s back at path =
@@ -48,7 +48,7 @@ goes_round g j s back at path =
       others = ((λ ne u f. absurd (ne refl)), facts.1);
     }
 
--- ---- the walk back in the forest, where unmeasured streams join the ends
+-- ---- the path back in the forest, if unmeasured streams join the ends
 held_part : (held : List Bool) (j : ℕ) (ss : List Stream) → get_or held j false ≡ false → IsWithin ss (held_unmeasured held) (unmeasured_but j)
 held_part held j ss outside k t at both =
     let parts = and_parts (is_open held k t) (unmeasured k t) both in
@@ -96,7 +96,7 @@ pub chord_joined : (g : ProcessGraph) (held : List Bool) (k : ℕ) (s : Stream) 
     → Reaches (ends_of (held_unmeasured held) g.streams) s.from s.to
 chord_joined g held k s forest chord = chord_law g.streams held k s forest chord.at chord.unmeasured chord.outside
 
--- so the walk back is there
+-- so there is a path back
 pub back_there : (g : ProcessGraph) (held : List Bool) (s : Stream) → Reaches (ends_of (held_unmeasured held) g.streams) s.from s.to
     → Reaches (ends_of (is_open held) g.streams) s.to s.from
 back_there g held s r =

@@ -1,4 +1,4 @@
--- Each process graph has a classification: for each stream the side that its `from` end reaches is there, and tells its class.
+-- Each process graph has a classification: for each stream, the side that its `from` end reaches exists, and it decides the class.
 use Rattle.std.proofs.Common.{◌≡◌, ◌∙◌, ℕ, zero, suc, ◌+◌, ◌≤◌, Bool, true, false, List, [], ◌∷◌, ◌++◌, length, Option, Some, None, slice_get, get_or, refl, sym, ap, subst, inl, inr, arith, length-append}
 use Rattle.std.proofs.lemmas.Bool.{cases_Bool}
 use Rattle.std.proofs.lemmas.Option.{slice_get-get_or, slice_get_within}

@@ -1,4 +1,4 @@
--- A graph has one classification: each part of a canonical certificate is determined.
+-- A graph has only one classification: each part of a canonical certificate is determined.
 use Rattle.std.proofs.Common.{◌≡◌, ◌∙◌, ℕ, zero, suc, Bool, true, List, [], ◌∷◌, length, Some, slice_get, refl, sym, ap, ap₂, subst, inl, inr, arith}
 use Rattle.std.proofs.lemmas.Bool.{cases_order}
 use Rattle.pb_graph.specs.declared.records.Stream.{Stream}
@@ -22,14 +22,14 @@ use Rattle.pb_forest.proofs.ForestLaws.{acyclic_law, one_forest_law}
 use Rattle.pb_classify.specs.Certificate.{IsCutOf, IsCycleOf, IsFirstCycle, IsCanonical}
 use Rattle.pb_classify.specs.Classification.{IsClassified, IsClassification}
 
--- lists of one length with the same items are one
+-- lists of the same length with the same items are the same
 same_items : {A : Type 0} (xs ys : List A) → length xs ≡ length ys → ((k : ℕ) (x y : A) → slice_get xs k ≡ Some x → slice_get ys k ≡ Some y → x ≡ y) → xs ≡ ys
 same_items [] [] len each = refl
 same_items [] (y ∷ ys) len each = absurd (omega (arith, len))
 same_items (x ∷ xs) [] len each = absurd (omega (arith, len))
 same_items {A} (x ∷ xs) (y ∷ ys) len each = ap₂ (λ (a : A) (rest : List A). a ∷ rest) (each zero x y refl refl) (same_items xs ys (omega (arith, len)) (λ k a b f g. each (suc k) a b f g))
 
--- one walk leads back in the forest
+-- only one path leads back in the forest
 pub one_cycle : (g : ProcessGraph) (held : List Bool) (j : ℕ) (steps other : List Step) → IsForest g.streams held → IsCycleOf g held j steps → IsCycleOf g held j other → steps ≡ other
 one_cycle g held j steps other forest x y =
     let same : y.s ≡ x.s = some_same (sym y.at ∙ x.at) in
@@ -38,7 +38,7 @@ one_cycle g held j steps other forest x y =
     let back : x.back ≡ y.back = unique_law g.streams (is_open held) g.nodes x.s.to x.s.from x.back y.back (acyclic_law g.streams held forest) x.path path in
     x.round ∙ ap (λ (b : List Step). record { stream = j; forward = true } ∷ b) back ∙ sym y.round
 
--- one stream is the first
+-- only one stream is the first
 one_first : (g : ProcessGraph) (held : List Bool) (j : ℕ) (steps other : List Step) → IsForest g.streams held → IsFirstCycle g held j steps → IsFirstCycle g held j other → steps ≡ other
 one_first g held j steps other forest x y = elim (cases_order x.e y.e) [
   | inl same ↦ one_cycle g held y.e steps other forest (subst (λ (e : ℕ). IsCycleOf g held e steps) same x.cycle) y.cycle

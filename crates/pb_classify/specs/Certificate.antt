@@ -20,8 +20,8 @@ pub record IsCutOf (graph : ProcessGraph) (j : ℕ) (stream : Stream) (side : Li
   pub reach : IsReach (ends_of (unmeasured_but j) graph.streams) graph.nodes stream.from side
   pub cut : IsCut graph side members
 
--- The cycle of stream j, which is outside the forest: the stream forward, and then the walk in the forest from its `to` end to its
--- `from` end without a node twice (a fundamental cycle of graph theory; Deo, Graph Theory with Applications, chapter 3).
+-- The cycle of stream j, which is outside the forest: the stream forward, and then the path in the forest from its `to` end to its
+-- `from` end (a fundamental cycle of graph theory; Deo, Graph Theory with Applications, chapter 3).
 pub record IsCycleOf (graph : ProcessGraph) (held : List Bool) (j : ℕ) (steps : List Step) : Type 0 where
   pub s : Stream
   pub at : slice_get graph.streams j ≡ Some s
@@ -45,7 +45,7 @@ pub record IsFirstCycle (graph : ProcessGraph) (held : List Bool) (j : ℕ) (ste
   pub has : has_stream j steps ≡ true
   pub first : (k : ℕ) (other : List Step) → k < e → IsUnmeasured graph k → IsCycleOf graph held k other → has_stream j other ≡ false
 
--- the canonical certificate of each class, by a spanning forest
+-- the canonical certificate of each class, for a spanning forest
 abbrev pub IsCanonical : ProcessGraph → List Bool → ℕ → Stream → Class → Witness → Type 0
 IsCanonical graph held j stream Observable (Cut side members) = IsCutOf graph j stream side members
 IsCanonical graph held j stream Redundant (Cut side members) = IsCutOf graph j stream side members
@@ -56,7 +56,7 @@ IsCanonical graph held j stream Redundant (Cycle steps) = ⊥
 IsCanonical graph held j stream Unobservable (Cut side members) = ⊥
 IsCanonical graph held j stream Nonredundant (Cut side members) = ⊥
 
--- the certificate of stream j is the canonical one, by the spanning forest of the graph
+-- the certificate of stream j is the canonical one for the spanning forest of the graph
 pub record IsCertificate (graph : ProcessGraph) (j : ℕ) (classified : Classified) : Type 0 where
   pub held : List Bool
   pub forest : IsForest graph.streams held

@@ -9,11 +9,11 @@ use Rattle.pb_classify.specs.Classification.{IsClassification}
 abbrev pub SomeClassificationLaw : Type 0
 SomeClassificationLaw = (graph : ProcessGraph) → IsProcessGraph graph → (classes : List Classified) × IsClassification graph classes
 
--- a graph has one classification, certificates and all
+-- a graph has only one classification, including the certificates
 abbrev pub OneClassificationLaw : Type 0
 OneClassificationLaw = (graph : ProcessGraph) (one other : List Classified) → IsClassification graph one → IsClassification graph other → one ≡ other
 
--- graphs that differ in values and variances alone have the same classification
+-- graphs that differ only in values and variances have the same classification
 abbrev pub AlikeLaw : Type 0
 AlikeLaw =
     (one other : ProcessGraph) (classes : List Classified) → IsProcessGraph other → AreAlike one other

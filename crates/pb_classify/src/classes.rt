@@ -19,8 +19,8 @@ use pb_graph::{
 use pb_points::{Cuts, Points};
 use std::alloc::{AllocError, Global};
 
-// Stream j, whose ends other unmeasured streams join, with its cycle: a measured stream has its own, another the first that
-// has it.
+// Stream j, whose ends are joined by other unmeasured streams, with its cycle: a measured stream has a cycle of its own, and an
+// unmeasured one the first cycle that has it.
 fn free_stream(
     alloc: Global,
     graph: &Graph,
@@ -65,7 +65,7 @@ fn determined_class(stream: &Stream) -> Class
     }
 }
 
-// The boundary of stream j's side: of a measured stream it is that of a tree, and made already.
+// The boundary of stream j's side. For a measured stream it is the boundary of a tree, which has already been made.
 fn members_of(
     alloc: Global,
     graph: &Graph,
@@ -140,7 +140,7 @@ fn classify_each(
     Ok(classes)
 }
 
-/// The class of each stream, in order, with its canonical certificate, where the graph's spanning forest is at hand.
+/// The class of each stream, in order, with its canonical certificate, given the graph's spanning forest.
 pub fn classify_in(
     alloc: Global,
     graph: &Graph,

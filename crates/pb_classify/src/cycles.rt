@@ -60,7 +60,7 @@ fn give(alloc: Global, steps: &[Step], cycles: &mut [Option<List<Step>>]) -> Res
     Ok(())
 }
 
-// As many streams without a cycle.
+// This many streams without a cycle.
 fn no_cycles(alloc: Global, count: u32) -> Result<Vec<Option<List<Step>>>, AllocError>
     ensures each { IfOk result (λ cycles. length cycles.items ≡ count) }
     ensures none { IfOk result (λ cycles. (j : ℕ) → get_or cycles.items j None ≡ None) }
@@ -72,7 +72,7 @@ fn no_cycles(alloc: Global, count: u32) -> Result<Vec<Option<List<Step>>>, Alloc
     Ok(cycles)
 }
 
-// Goes on by one stream: gives its cycle, if it is unmeasured and outside the forest.
+// Goes on by one stream: gives its cycle to the streams on it, if it is unmeasured and outside the forest.
 fn give_next(
     alloc: Global,
     graph: &Graph,
@@ -111,7 +111,7 @@ fn give_all(
     Ok(())
 }
 
-/// For each stream the cycle of the first unmeasured stream outside the forest whose cycle has it, if there is one.
+/// For each stream, the cycle of the first unmeasured stream outside the forest whose cycle has it, if there is one.
 pub fn first_cycles(
     alloc: Global,
     graph: &Graph,

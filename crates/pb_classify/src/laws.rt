@@ -7,12 +7,12 @@ pub fn some_classification_law()
     ensures { SomeClassificationLaw }
 {}
 
-/// A graph has one classification, so a text made of it is determined by the graph.
+/// A graph has only one classification, so a text made from it is determined by the graph.
 pub fn one_classification_law()
     ensures { OneClassificationLaw }
 {}
 
-/// Graphs that are alike, so that they differ in values and variances alone, have the same classification.
+/// Graphs that are alike, and so differ only in values and variances, have the same classification.
 pub fn alike_law()
     ensures { AlikeLaw }
 {}

@@ -1,5 +1,5 @@
-//! The class of each stream of a process graph by what the balances determine, with its canonical certificate: a cut for a stream
-//! that the measured flows determine, and a cycle for another (Narasimhan and Jordache, "Data Reconciliation and Gross Error
+//! The class of each stream of a process graph, according to what the balances determine, with its canonical certificate: a cut for a
+//! stream that the measured flows determine, and a cycle for any other (Narasimhan and Jordache, "Data Reconciliation and Gross Error
 //! Detection", chapter 3).
 #![tactic(auto)]
 

@@ -8,13 +8,13 @@ use Rattle.pb_cli.specs.declared.status.Status.{Status}
 use Rattle.pb_cli.specs.declared.status.Status.TheVariants.{NoMemory}
 use Rattle.pb_cli.specs.Run.{AskToMake, EndsAs, IsGiven, is_making}
 
--- where the bytes decide and no fault was counted, a command ends as they say; want of memory alone is free
+-- if the bytes decide and no fault was counted, a command ends as they say, or else with NoMemory
 abbrev pub Completes : List (List ℕ) → SourceSeen → SourceSeen → Type 0 → Status → Type 0
 Completes words source_old source_new WriteFailed status =
     (command : Command) (input : List ℕ) → IsCommandOf words command → IsGiven command source_old source_new input → (WriteFailed → ⊥)
     → EndsAs command input status ⊎ (status ≡ NoMemory)
 
--- the command that the words give is the one that was done, since they give one command
+-- the command that the words give is the one that was done, since they give only one
 pub completes : OneCommandLaw → (words : List (List ℕ)) (here : Command) (read : List ℕ) (source_old source_new : SourceSeen) (WriteFailed : Type 0) (status : Status)
     → IsCommandOf words here → ((input : List ℕ) → IsGiven here source_old source_new input → read ≡ input)
     → ((WriteFailed → ⊥) → EndsAs here read status ⊎ (status ≡ NoMemory)) → Completes words source_old source_new WriteFailed status
@@ -31,12 +31,12 @@ completes_unread law words here source_old source_new WriteFailed status is give
     let same : command ≡ here = law words command here of is in
     inr (given input (subst (λ (c : Command). IsGiven c source_old source_new input) same told))
 
--- of three ways to end, the second one with a fault that wasn't counted
+-- of three ways to end, the second with a fault that wasn't counted
 pub unless_failed : (Ends Failed Wants Fault : Type 0) → Ends ⊎ (Failed ⊎ Wants) → (Failed → Fault) → (Fault → ⊥) → Ends ⊎ Wants
 unless_failed Ends Failed Wants Fault (inl ends) cause none = inl ends
 unless_failed Ends Failed Wants Fault (inr (inl failed)) cause none = absurd (none (cause failed))
 unless_failed Ends Failed Wants Fault (inr (inr wants)) cause none = inr wants
 
--- the command that was read is one that makes a session, where the words give such a one
+-- the command that was read makes a session, if the words give a command that does
 pub making_here : OneCommandLaw → (words : List (List ℕ)) (here : Command) → IsCommandOf words here → AskToMake words → is_making here ≡ true
 making_here law words here is (command, of, making) = subst (λ (c : Command). is_making c ≡ true) (law words command here of is) making

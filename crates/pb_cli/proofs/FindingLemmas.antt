@@ -20,7 +20,7 @@ use Rattle.pb_cli.specs.Prefix.{IsBeginningOf}
 abbrev Record : Type 0
 Record = List (List ℕ)
 
--- the findings of the first records, behind which these are left
+-- the findings of the first records, after which these are left
 abbrev pub AreFirst : ℕ → List Record → List Finding → ℕ → List Record → Type 0
 AreFirst at records [] after left = (at ≡ after) × (records ≡ left)
 AreFirst at records (finding ∷ findings) after left =
@@ -67,7 +67,7 @@ wrong-more : (front : List Finding) (finding : Finding) (wrong : Bool) (judged :
 wrong-more front finding wrong judged so_far is =
     ap₂ (λ (a b : Bool). a || b) so_far (ap wrong_of is ∙ sym (wrong_by finding) ∙ sym (or-false (is_wrong finding))) ∙ sym (list_any-append is_wrong front (finding ∷ []))
 
--- what is known behind the first findings
+-- what is known after the first findings
 pub record Found (start : List Record) (now : RecordsLeft) (wrong : Bool) (text : List ℕ) : Type 0 where
   pub findings : List Finding
   pub first : AreFirst 0 start findings now.taken now.left
@@ -83,7 +83,7 @@ found_none start none = record {
   text_is = refl;
 }
 
--- one finding more, behind which some records are left
+-- one more finding, after which some records are left
 found_more : (start : List Record) (old : RecordsLeft) (wrong : Bool) (text piece : List ℕ) (finding : Finding) (judged : Judged) (behind : List Record) → Found start old wrong text
     → Finds old.taken old.left finding behind → judged ≡ judged_of finding → piece ≡ text_of_findings (finding ∷ [])
     → Found start (record { taken = old.taken + (length old.left - length behind); left = behind }) (wrong || wrong_of judged) (text ++ piece)
@@ -192,7 +192,7 @@ found_cut law certified start old wrong text piece so_far begun =
           ∙ sym (take-both text (begun.whole ++ behind) begun.written) ∙ ap (take (length text + begun.written)) (sym (append_assoc text begun.whole behind));
     }
 
--- fewer records are left, and as many as before are taken or left
+-- fewer records are left, and as many as before are taken or left in total
 pub record IsFewer (old new : RecordsLeft) : Type 0 where
   pub fewer : length new.left < length old.left
   pub same : new.taken + length new.left ≡ old.taken + length old.left

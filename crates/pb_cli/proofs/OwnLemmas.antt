@@ -65,7 +65,7 @@ use Rattle.pb_audit.specs.Judgement.{AreFindings, Finding, IsJudgement, IsPassed
 use Rattle.pb_audit.specs.Laws.{OneFindingsLaw, PassedLaw}
 use Rattle.pb_cli.proofs.ServedLemmas.{days_named}
 
--- A text is rows that read back as blocks, each of which passes.
+-- A text consists of rows that read back as blocks, each of which passes.
 pub record ReadsBack (text : List ℕ) : Type 0 where
   pub rows : List OutputRow
   pub blocks : List Block
@@ -82,7 +82,7 @@ none_read = record { rows = []; blocks = []; text_is = refl; words = refl; are =
 passed_over : (rows : List OutputRow) (text : List ℕ) → text ≡ text_in Csv rows → BeginWithWords rows → AreBlocks (records_in rows) [] → ReadsBack text
 passed_over rows text is words are = record { rows = rows; blocks = []; text_is = is; words = words; are = are; pass = All-nil IsPassedBlock }
 
--- one text behind the other
+-- one text after the other
 both_read : JoinLaw → (front back : List ℕ) → ReadsBack front → ReadsBack back → ReadsBack (front ++ back)
 both_read join front back a b =
     let joined : records_in (a.rows ++ b.rows) ≡ records_in a.rows ++ records_in b.rows = map-append fields_of a.rows b.rows in
@@ -99,7 +99,7 @@ both_read join front back a b =
       pass = All-append IsPassedBlock a.blocks b.blocks a.pass b.pass;
     }
 
--- ---- what holds of a session, and stays
+-- ---- what holds for a session, and still holds later
 
 pub record IsSound (state : SessionState) : Type 0 where
   pub form : state.form ≡ Csv
@@ -121,7 +121,7 @@ in_csv state rows text csv is = is ∙ ap (λ (form : Form). text_in form rows) 
 
 -- ---- a report
 
--- What is known of studies, of their rows, and of the other rows.
+-- What is known about studies, their rows, and the other rows.
 pub record AreKnown : Type 0 where
   pub join : JoinLaw
   pub rows : StudyRowsLaw
@@ -147,7 +147,7 @@ blocks_pass names period options round (stage ∷ stages) all =
     (All-head (λ (stage : Stage). IsPassed stage options.gap options.sweeps) stage stages all)
     (blocks_pass names period options (round + 1) stages (All-tail (λ (stage : Stage). IsPassed stage options.gap options.sweeps) stage stages all))
 
--- no stream has least bounds without bounds where each has them exactly where it has bounds
+-- no stream has least bounds without bounds, if each has least bounds exactly if it has bounds
 none_there : (least : Option Bounds) → is_some least ≡ false → least ≡ None
 none_there None none = refl
 none_there (Some bounds) none = cc none
@@ -162,7 +162,7 @@ record HaveForms (names : Names) : Type 0 where
   nodes : list_all is_name names.nodes ≡ true
   streams : list_all is_name names.streams ≡ true
 
--- such are those of the graph of some days
+-- so are those of the graph of some days
 served_named : (rows : List StoredRow) (days : Days) → AreNamed rows → HaveForms (period_names rows days)
 served_named rows days named =
     let (nodes, streams) = days_named (version_of (declared_of rows)) (declared_of rows) days.first days.last named.nodes named.streams in
@@ -216,7 +216,7 @@ report_after_read known state rows names period graph text sound forms name word
     (both_read known.join after.front after.rest (passed_over rows after.front (in_csv state rows after.front sound.form after.before) words others)
     (report_read known state names period graph after.rest sound forms name after.report))
 
--- a period's name is one
+-- a period's name is a name
 period_named : NamedLaw → (state : SessionState) (i : ℕ) (period : Period) → IsSound state → slice_get (periods_of state.rows) i ≡ Some period → is_name period.name ≡ true
 period_named law state i period sound at =
     at_place (λ (p : Period). is_name p.name ≡ true) (periods_of state.rows) i period at (law.named state.rows sound.named).periods
@@ -260,7 +260,7 @@ balances_read known law state component i text sound (Some period) at (answer, o
 
 -- ---- a window of several periods
 
--- what is known of windows that are asked for
+-- what is known about windows that are asked for
 pub record AreKnownWindows : Type 0 where
   pub books : BookWindowsLaw
   pub asked : AskedWindowLaw
@@ -341,7 +341,7 @@ session_read known windows law accepted state at (fields ∷ records) text sound
     let behind = session_read known windows law accepted (state_after state at fields) (at + 1) records rest (sound_after accepted law state at fields sound) texts in
     subst (λ (t : List ℕ). ReadsBack t) (sym whole) (both_read known.join first rest here behind)
 
--- ---- the check of such a text
+-- ---- the check of this text
 
 nothing_wrong : (blocks : List Block) → finds_wrong (map (λ (block : Block). passed block) blocks) ≡ false
 nothing_wrong [] = refl

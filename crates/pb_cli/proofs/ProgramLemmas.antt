@@ -16,7 +16,7 @@ use Rattle.pb_cli.specs.declared.status.Status.TheVariants.{Done, DoneRefused, U
 use Rattle.pb_cli.specs.Status.{name_of, number_of, status_of}
 use Rattle.pb_cli.specs.Program.{PutsUnlessFault, Runs, RunsGiven, error_line, line_feed}
 
--- the line of a status that is no success
+-- the line of a status that isn't a success
 pub line_of_name : (status : Status) → 2 ≤ number_of status → error_line status ≡ name_of status ++ line_feed ∷ []
 line_of_name Done le = absurd (omega arith)
 line_of_name DoneRefused le = absurd (omega arith)
@@ -26,7 +26,7 @@ line_of_name WriteFault le = refl
 line_of_name TooLarge le = refl
 line_of_name NoMemory le = refl
 
--- and there is none of a success
+-- and a success has no line
 pub no_line : (status : Status) → number_of status < 2 → error_line status ≡ []
 no_line Done lt = refl
 no_line DoneRefused lt = refl
@@ -57,7 +57,7 @@ feed_cut (Err e) a b c name feed first (n, lt, puts) = (
   subst (λ (bytes : List ℕ). Puts a c bytes) (sym (take-append-add name feed n)) (puts_more a b c name (take n feed) first puts),
 )
 
--- what was put, where all was put or a fault was counted
+-- what was put, if all was put or a fault was counted
 pub put_unless_fault : {E : Type 0} (r : Result (Unit {0}) E) (old new : SinkSeen) (bytes : List ℕ) → OnOk r (Puts old new bytes) → OnErr r (PutsPrefix old new bytes)
     → OnErr r (Rose old.faults new.faults) → PutsUnlessFault old new bytes
 put_unless_fault (Ok x) old new bytes whole cut cause = record {
@@ -66,7 +66,7 @@ put_unless_fault (Ok x) old new bytes whole cut cause = record {
 }
 put_unless_fault (Err e) old new bytes whole cut cause = record { all = λ none. absurd (none cause); beginning = (cut.0, cut.2) }
 
--- the run over words, where these are what the arguments give
+-- the run over words, if these are what the arguments give
 pub ran : {R W : Type 0} (seen_read : R → SourceSeen) (seen_written : W → SinkSeen) (given : Result (List (List ℕ)) WordsRefused) (words : List (List ℕ)) (a b : R) (c d : W) (status : Status)
     → given ≡ Ok words → Runs seen_read seen_written words a b c d status → RunsGiven seen_read seen_written given a b c d status
 ran seen_read seen_written given words a b c d status is runs = subst (λ g. RunsGiven seen_read seen_written g a b c d status) (sym is) runs
@@ -75,7 +75,7 @@ ran seen_read seen_written given words a b c d status is runs = subst (λ g. Run
 none_taken : (a : SourceSeen) → TakesAtMost a a most_bytes
 none_taken a = ([], record { takes = record { front = Consumes-nil a.remaining; count = omega arith }; idle = omega arith; turns = omega arith }, omega arith)
 
--- nothing was read or written, since no memory was found for the words
+-- nothing was read or written, since there was no memory for the words
 nothing_done : {R W : Type 0} (seen_read : R → SourceSeen) (seen_written : W → SinkSeen) (words : List (List ℕ)) (a : R) (c : W) → Runs seen_read seen_written words a a c c NoMemory
 nothing_done seen_read seen_written words a c = record {
   done = λ e. absurd (cc e);
@@ -101,7 +101,7 @@ nothing_done seen_read seen_written words a c = record {
   sink_faults_stay = omega arith;
 }
 
--- no run, where the arguments give no words or no memory was found for them
+-- no run, if the arguments give no words or there was no memory for them
 pub not_run : {R W T : Type 0} (seen_read : R → SourceSeen) (seen_written : W → SinkSeen) (given : Result (List (List ℕ)) WordsRefused) (result : Result T WordsRefused) (why : WordsRefused)
     (a : R) (c : W) (status : Status) → result ≡ Err why → IfErr given (λ e. result ≡ Err e) → IfErr result (λ e. (given ≡ Err e) ⊎ (e ≡ refused.NoMemory)) → status ≡ status_of why
     → RunsGiven seen_read seen_written given a a c c status

@@ -24,7 +24,7 @@ or-false b = elim b as (λ v. (v || false) ≡ v) [ true ↦ refl | false ↦ re
 or-assoc : (a b c : Bool) → (a || (b || c)) ≡ ((a || b) || c)
 or-assoc a b c = elim a as (λ v. (v || (b || c)) ≡ ((v || b) || c)) [ true ↦ refl | false ↦ refl ]
 
--- a session refuses a record by the rows that it holds
+-- a session refuses a record, given the rows that it holds
 abbrev refuses_one : SessionState → Record → Bool
 refuses_one state r = is_refused (answer_of state.rows r)
 
@@ -45,7 +45,7 @@ text-append state at k (x ∷ front) r text piece is (first, rest, adds_first, t
     let more = text-append (state_after state at x) (at + 1) k front r rest piece (omega (arith, is)) texts adds in
     (first, rest ++ piece, adds_first, more, ap (λ (t : List ℕ). t ++ piece) whole ∙ append_assoc first rest piece)
 
--- what is known behind the first i records
+-- what is known after the first i records
 pub record Answered (start : SessionState) (rows : List Record) (i : ℕ) (state : SessionState) (refused : Bool) (text : List ℕ) : Type 0 where
   pub state_is : state ≡ state_after_all start 1 (take i rows)
   pub refused_is : refused ≡ refuses_some start 1 (take i rows)
@@ -119,7 +119,7 @@ answered_none start rows i state none same =
     let begin : Answered start rows 0 state false [] = record { state_is = same; refused_is = refl; texts = refl } in
     subst (λ (k : ℕ). Answered start rows k state false []) (sym none) begin
 
--- what holds of each error holds of the one that there is
+-- what holds for each error holds for the one at hand
 pub any_err : {T E : Type 0} (r : Result T E) (P : E → Type 0) → ((e : E) → P e) → IfErr r P
 any_err (Ok x) P all = tt
 any_err (Err e) P all = all e
@@ -143,7 +143,7 @@ none_left rows old new left (none, same) = past rows old.taken (left ∙ none)
     past : (rows : List Record) (i : ℕ) → drop i rows ≡ [] → length rows ≤ i
     past rows i is = omega (arith, ap (λ (l : List Record). length l) is, length-drop i rows)
 
--- the text that joined an empty one was put
+-- the text that was appended to an empty one was put
 pub put_text : (Holds : List ℕ → Type 0) (before after bytes : List ℕ) (old new : SinkSeen) → (text : List ℕ) × (after ≡ before ++ text) × Holds text → before ≡ [] → bytes ≡ after
     → Puts old new bytes → PutsSuch Holds old new
 put_text Holds before after bytes old new (text, appended, holds) empty is puts =

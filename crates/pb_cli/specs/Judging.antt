@@ -1,4 +1,4 @@
--- Inside. What a judgement finds next, while the records are taken.
+-- Inside. What a judgement finds next, as the records are taken.
 use Rattle.std.specs.Prelude.{ℕ, List}
 use Rattle.pb_rows.specs.RecordsLeft.{RecordsLeft}
 use Rattle.pb_audit.specs.declared.judge.Judged.{Judged}

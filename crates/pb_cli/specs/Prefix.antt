@@ -1,4 +1,4 @@
--- Statement. How far a session's output was written when a run stopped early.
+-- Statement. How much of a session's output was written when a run stopped early.
 use Rattle.std.specs.Prelude.{◌≡◌, ℕ, ◌+◌, ◌<◌, List, ◌∷◌, ◌++◌, length, take}
 use Rattle.pb_session.specs.Session.{Adds, IsSessionText, SessionState, state_after_all}
 
@@ -9,7 +9,7 @@ pub record AreTextsOfSome (state : SessionState) (records : List (List (List ℕ
   pub some : records ≡ front ++ rest
   pub texts : IsSessionText state 1 front bytes
 
--- The bytes are a beginning of a text of which this holds, and not all of it.
+-- The bytes are a proper beginning of a text with this property.
 pub record IsBeginningOf (Holds : List ℕ → Type 0) (bytes : List ℕ) : Type 0 where
   pub whole : List ℕ
   pub holds : Holds whole
@@ -17,7 +17,7 @@ pub record IsBeginningOf (Holds : List ℕ → Type 0) (bytes : List ℕ) : Type
   pub within : written < length whole
   pub is : bytes ≡ take written whole
 
--- The bytes are the texts of the first records in order, whole, and then a beginning of the next record's text.
+-- The bytes are the texts of the first records in order, whole, and then a proper beginning of the next record's text.
 pub record AreTextsCutShort (state : SessionState) (records : List (List (List ℕ))) (bytes : List ℕ) : Type 0 where
   pub front : List (List (List ℕ))
   pub next : List (List ℕ)

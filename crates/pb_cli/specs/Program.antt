@@ -1,4 +1,5 @@
--- Statement. What the program does from its arguments to its exit status: all that is said of its run, and the line of its status.
+-- Statement. What the program does, from its arguments to its exit status: all that is stated about its run, and the line of its
+-- status.
 use Rattle.std.specs.Prelude.{◌≡◌, ◌≢◌, ◌⊎◌, ◌+◌, ◌≤◌, ℕ, true, false, List, [], ◌∷◌, ◌++◌, take, Result, Ok, Err}
 use Rattle.pb_io.specs.Counts.{Rose}
 use Rattle.pb_io.specs.Source.{SourceSeen, TakesExactly, TakesAtMost}
@@ -16,19 +17,20 @@ use Rattle.pb_cli.specs.Run.{AreAccepted, AskToMake, Does, EndsAs, IsCut, IsFron
 abbrev pub line_feed : ℕ
 line_feed = 10
 
--- what is written of a status on standard error: nothing of the two successes, and of each other status its name as a line
+-- what is written to standard error for a status: nothing for the two successes, and for each other status its name as a line
 abbrev pub error_line : Status → List ℕ
 error_line Done = []
 error_line DoneRefused = []
 error_line status = name_of status ++ line_feed ∷ []
 
--- Of these bytes all were put, unless a fault was counted, and in each case a beginning of them and nothing else.
+-- All of these bytes were put, unless a fault was counted. In either case, what was put is a beginning of these bytes, and nothing
+-- else.
 pub record PutsUnlessFault (old new : SinkSeen) (bytes : List ℕ) : Type 0 where
   pub all : (Rose old.faults new.faults → ⊥) → Puts old new bytes
   pub beginning : (n : ℕ) × Puts old new (take n bytes)
 
--- All that is said of a run over these words, of what was seen of its source and its sink, and of the status by which it ended. Each field
--- is the clause of `run` of that name.
+-- All that is stated about a run over these words, about what was seen of its source and its sink, and about the status with which
+-- it ended. Each field is the clause of `run` with the same name.
 pub record Runs {R W : Type 0} (seen_read : R → SourceSeen) (seen_written : W → SinkSeen) (words : List (List ℕ)) (source_old source_new : R) (sink_old sink_new : W) (status : Status) : Type 0 where
   -- Whatever rows come in, the bytes written are the reports of the rows before them with amendments applied; in each, every class
   -- stands with a true cutset or cycle, flows balance, every balanced fractional vector no worse than the printed flows lies within the
@@ -36,28 +38,28 @@ pub record Runs {R W : Type 0} (seen_read : R → SourceSeen) (seen_written : W 
   -- best prices.
   pub done : status ≡ Done → Does (IsWhole false) words (seen_read source_old) (seen_read source_new) (seen_written sink_old) (seen_written sink_new)
   pub done_refused : status ≡ DoneRefused → Does (IsWhole true) words (seen_read source_old) (seen_read source_new) (seen_written sink_old) (seen_written sink_new)
-  -- Usage is the status only of words that aren't accepted, and of these none other is but for lack of memory. They have nothing read or
-  -- written.
+  -- Usage is the status only if the words aren't accepted. If they aren't, the only other possible status is NoMemory, and nothing
+  -- is read or written.
   pub usage : status ≡ Usage → AreAccepted words → ⊥
   pub unaccepted : (AreAccepted words → ⊥) → (status ≡ Usage) ⊎ (status ≡ NoMemory)
   pub unread : (AreAccepted words → ⊥) → source_new ≡ source_old
   pub unwritten : (AreAccepted words → ⊥) → sink_new ≡ sink_old
-  -- A read fault is the status exactly if the source counted one. Nothing is written then.
+  -- ReadFault is the status iff the source counted a fault. Then nothing is written.
   pub read_fault : status ≡ ReadFault → Rose (seen_read source_old).faults (seen_read source_new).faults
   pub no_read_fault : status ≢ ReadFault → (seen_read source_new).faults ≡ (seen_read source_old).faults
   pub read_fault_unwritten : status ≡ ReadFault → sink_new ≡ sink_old
-  -- A write fault is the status exactly if the sink counted one. What was written is a proper beginning of the output.
+  -- WriteFault is the status iff the sink counted a fault. What was written is a proper beginning of the output.
   pub write_fault : status ≡ WriteFault → Rose (seen_written sink_old).faults (seen_written sink_new).faults
   pub no_write_fault : status ≢ WriteFault → (seen_written sink_new).faults ≡ (seen_written sink_old).faults
   pub write_fault_cut : status ≡ WriteFault → Does IsCut words (seen_read source_old) (seen_read source_new) (seen_written sink_old) (seen_written sink_new)
-  -- Too large is the status exactly if one byte more than the limit was taken. Nothing is written then.
+  -- TooLarge is the status iff one byte more than the limit was taken. Then nothing is written.
   pub too_large : status ≡ TooLarge → TakesExactly (seen_read source_old) (seen_read source_new) (most_bytes + 1)
   pub too_large_unwritten : status ≡ TooLarge → sink_new ≡ sink_old
   pub not_too_large : status ≢ TooLarge → TakesAtMost (seen_read source_old) (seen_read source_new) most_bytes
-  -- If memory was lacking, the texts of the first rows, or of the first blocks, were written, whole.
+  -- If memory ran out, nothing was written, or the texts of the first rows or of the first blocks, whole.
   pub no_memory : status ≡ NoMemory → (sink_new ≡ sink_old) ⊎ Does IsFront words (seen_read source_old) (seen_read source_new) (seen_written sink_old) (seen_written sink_new)
-  -- If the source says its bytes and no fault was counted, the bytes decide how the command ends; if it makes a session, they aren't asked,
-  -- and nothing is read. Lack of memory alone is free.
+  -- If the source shows its bytes and no fault was counted, the bytes decide how the command ends; if the command makes a session,
+  -- it doesn't need them, and nothing is read. The only other possible status is NoMemory.
   pub complete : (command : Command) (input : List ℕ) → IsCommandOf words command → IsGiven command (seen_read source_old) (seen_read source_new) input
       → (Rose (seen_written sink_old).faults (seen_written sink_new).faults → ⊥) → EndsAs command input status ⊎ (status ≡ NoMemory)
   pub make_unread : AskToMake words → source_new ≡ source_old
@@ -66,7 +68,7 @@ pub record Runs {R W : Type 0} (seen_read : R → SourceSeen) (seen_written : W 
   pub source_faults_stay : (seen_read source_old).faults ≤ (seen_read source_new).faults
   pub sink_faults_stay : (seen_written sink_old).faults ≤ (seen_written sink_new).faults
 
--- a run over the words that the arguments give; if they give none, the status says why, and nothing is read or written
+-- a run over the words that the arguments give; if they give no words, the status says why, and nothing is read or written
 abbrev pub RunsGiven : {R W : Type 0} → (R → SourceSeen) → (W → SinkSeen) → Result (List (List ℕ)) WordsRefused → R → R → W → W → Status → Type 0
 RunsGiven seen_read seen_written (Ok words) source_old source_new sink_old sink_new status =
     Runs seen_read seen_written words source_old source_new sink_old sink_new status

@@ -1,4 +1,4 @@
--- Statement. What a run did: the command that its words give, the bytes it took, and the bytes it put.
+-- Statement. What a run did: the command that its words give, the bytes that it took, and the bytes that it put.
 use Rattle.std.specs.Prelude.{◌≡◌, ℕ, ◌≤◌, Bool, true, false, List, [], length, Some}
 use Rattle.std.specs.Io.KnownBytes.{IsAtEnd}
 use Rattle.pb_io.specs.Counts.{Rose}
@@ -20,13 +20,13 @@ use Rattle.pb_cli.specs.declared.status.Status.TheVariants.{Done}
 use Rattle.pb_cli.specs.Status.{done_status}
 use Rattle.pb_cli.specs.Prefix.{AreTextsOfSome, AreTextsCutShort, IsBeginningOf}
 
--- the accepted words: those that give a command
+-- the words are accepted: they give a command
 abbrev pub AreAccepted : List (List ℕ) → Type 0
 AreAccepted words = (command : Command) × IsCommandOf words command
 
--- The text of a run with these options in this form: the texts of the records of the input, in order, from a session that has stored
--- nothing. Each report in it is that of the rows before it, and each of its stages is certified, has least bounds at each stream that has
--- bounds, and is the solution of its graph.
+-- The text of a run with these options in this form: the texts of the records of the input, in order, from a session that has
+-- stored nothing. Each report in it is the report of the rows before it, and each stage of the report is certified, has least
+-- bounds at each stream that has bounds, and is the solution of its graph.
 abbrev pub IsTextOfRun : Options → Form → List ℕ → List ℕ → Type 0
 IsTextOfRun options form input text = IsSessionText (new_session options form) 1 (records_of input) text
 
@@ -34,12 +34,12 @@ IsTextOfRun options form input text = IsSessionText (new_session options form) 1
 abbrev pub refuses : Options → Form → List ℕ → Bool
 refuses options form input = refuses_some (new_session options form) 1 (records_of input)
 
--- The output of these bytes, and whether some record of them is refused.
+-- The output for these bytes, and whether some record of them is refused.
 pub record IsOutput (options : Options) (form : Form) (refused : Bool) (input output : List ℕ) : Type 0 where
   pub is_text : IsTextOfRun options form input output
   pub refuses_as : refuses options form input ≡ refused
 
--- the text that is made: that of the session of this number with so many streams, or its summary
+-- the text that is made: that of the session with this number and this many streams, or its summary
 abbrev pub IsMade : ℕ → ℕ → Bool → ℕ → ℕ → List ℕ → Type 0
 IsMade number streams false gap sweeps text = text ≡ session_text number streams
 IsMade number streams true gap sweeps text = IsSummaryText number streams gap sweeps text
@@ -50,11 +50,11 @@ is_making (Run options form) = false
 is_making Check = false
 is_making (Make number streams summary gap sweeps) = true
 
--- the words give such a command
+-- the words give a command that makes a session or its summary
 abbrev pub AskToMake : List (List ℕ) → Type 0
 AskToMake words = (command : Command) × IsCommandOf words command × (is_making command ≡ true)
 
--- The judgement of the records of these bytes, and whether it finds something wrong.
+-- The judgement of the records of these bytes, and whether it finds anything wrong.
 abbrev pub IsCheck : Bool → List ℕ → List ℕ → Type 0
 IsCheck wrong input output = IsJudgement wrong (records_of input) output
 
@@ -62,14 +62,14 @@ IsCheck wrong input output = IsJudgement wrong (records_of input) output
 abbrev pub IsTextOfCheck : List ℕ → List ℕ → Type 0
 IsTextOfCheck input output = IsJudgementText (records_of input) output
 
--- The whole output of a command for this input, and whether it tells that something is wrong: that a record of a run was refused, or
--- that a block of a check fails, or one of its records can't be read.
+-- The whole output of a command for this input, and whether it shows that something is wrong: that a record of a run was refused,
+-- or that a block of a check fails or one of its records can't be read.
 abbrev pub IsWhole : Bool → Command → List ℕ → List ℕ → Type 0
 IsWhole wrong (Run options form) input output = IsOutput options form wrong input output
 IsWhole wrong Check input output = IsCheck wrong input output
 IsWhole wrong (Make number streams summary gap sweeps) input output = (wrong ≡ false) × IsMade number streams summary gap sweeps output
 
--- a proper beginning of the output; of a run, the texts of the first records and a beginning of the next one's
+-- a proper beginning of the output; for a run, the texts of the first records and a proper beginning of the next one's
 abbrev pub IsCut : Command → List ℕ → List ℕ → Type 0
 IsCut (Run options form) input bytes = AreTextsCutShort (new_session options form) (records_of input) bytes
 IsCut Check input bytes = IsBeginningOf (IsTextOfCheck input) bytes
@@ -91,11 +91,11 @@ abbrev pub ReadsIf : Bool → SourceSeen → SourceSeen → List ℕ → Type 0
 ReadsIf true source_old source_new input = (source_new ≡ source_old) × (input ≡ [])
 ReadsIf false source_old source_new input = IsReadWhole source_old source_new input
 
--- a command reads its input to the end; for the making of a session it reads nothing
+-- a command reads its input to the end; one that makes a session reads nothing
 abbrev pub Reads : Command → SourceSeen → SourceSeen → List ℕ → Type 0
 Reads command source_old source_new input = ReadsIf (is_making command) source_old source_new input
 
--- The words give a command, its input was read, and bytes were put of which this holds.
+-- The words give a command, its input was read, and bytes with this property were put.
 pub record Does (Wrote : Command → List ℕ → List ℕ → Type 0) (words : List (List ℕ)) (source_old source_new : SourceSeen) (sink_old sink_new : SinkSeen) : Type 0 where
   pub command : Command
   pub asked : IsCommandOf words command
@@ -103,26 +103,26 @@ pub record Does (Wrote : Command → List ℕ → List ℕ → Type 0) (words : 
   pub read : Reads command source_old source_new input
   pub put : PutsSuch (Wrote command input) sink_old sink_new
 
--- The source tells an input within the limit, and counted no fault.
+-- The source shows an input within the limit, and counted no fault.
 pub record IsTold (source_old source_new : SourceSeen) (input : List ℕ) : Type 0 where
   pub remaining : source_old.remaining ≡ Some input
   pub within : length input ≤ most_bytes
   pub no_fault : Rose source_old.faults source_new.faults → ⊥
 
--- nothing is asked of the source, or that
+-- nothing is required of the source, or that it shows this input
 abbrev pub IsGivenIf : Bool → SourceSeen → SourceSeen → List ℕ → Type 0
 IsGivenIf true source_old source_new input = input ≡ []
 IsGivenIf false source_old source_new input = IsTold source_old source_new input
 
--- what a command needs of its source to end: the making of a session needs nothing
+-- what a command needs from its source to end normally: the making of a session needs nothing
 abbrev pub IsGiven : Command → SourceSeen → SourceSeen → List ℕ → Type 0
 IsGiven command source_old source_new input = IsGivenIf (is_making command) source_old source_new input
 
--- a check ends by whether something wrong is found
+-- how a check ends: by whether anything wrong is found
 abbrev pub EndsAsChecked : List ℕ → Status → Type 0
 EndsAsChecked input status = (wrong : Bool) × Judges wrong (records_of input) × (status ≡ done_status wrong)
 
--- how a command ends that reads and writes all
+-- how a command ends if it reads and writes everything
 abbrev pub EndsAs : Command → List ℕ → Status → Type 0
 EndsAs (Run options form) input status = status ≡ done_status (refuses options form input)
 EndsAs Check input status = EndsAsChecked input status

@@ -15,7 +15,7 @@ number_of WriteFault = 4
 number_of TooLarge = 5
 number_of NoMemory = 6
 
--- its name, which standard error has as a line if the run was no success
+-- its name, which is written to standard error as a line if the run wasn't a success
 abbrev pub name_of : Status → List ℕ
 name_of Done = codes "Done"
 name_of DoneRefused = codes "DoneRefused"
@@ -25,7 +25,7 @@ name_of WriteFault = codes "WriteFault"
 name_of TooLarge = codes "TooLarge"
 name_of NoMemory = codes "NoMemory"
 
--- the status of a run that read all and wrote all, by whether some record was refused
+-- the status of a run that read and wrote everything, by whether some record was refused
 abbrev pub done_status : Bool → Status
 done_status refused = if refused then DoneRefused else Done
 

@@ -1,4 +1,4 @@
-// Bytes in hand, and what is written of them.
+// Bytes in hand, and what is written for them.
 ghost use Rattle.std.specs.Prelude.{◌≡◌, ◌≢◌, ◌⊎◌, ◌^◌, ◌<◌, ◌≤◌, true, false, length, IfOk, OnOk, IfErr};
 ghost use Rattle.pb_io.specs.Counts.{Rose};
 ghost use Rattle.pb_io.specs.Sink.{PutsSuch};
@@ -47,8 +47,8 @@ impl From<SinkFailed> for Stopped {
     }
 }
 
-/// Answers the records of these bytes in order, in a session that has stored nothing, and writes the output in a form. (It writes
-/// what each record adds before it takes the next; no clause says when.)
+/// Answers the records of these bytes in order, in a session that has stored nothing, and writes the output in this form. (It
+/// writes what each record adds before it takes the next, but no clause says when.)
 pub fn answer<W: Sink>(
     alloc: Global,
     options: Options,
@@ -65,7 +65,7 @@ pub fn answer<W: Sink>(
     ensures done_refused { result ≡ DoneRefused →
         PutsSuch (IsOutput options form true input.now) (W.seen sink.old) (W.seen sink.new) }
 
-    // A write fault is the answer exactly where the sink counted one. What was written is a proper beginning of the output.
+    // WriteFault is the answer iff the sink counted a fault. What was written is a proper beginning of the output.
     ensures write_fault { result ≡ WriteFault →
         Rose (W.seen sink.old).faults (W.seen sink.new).faults }
     ensures write_fault_cut { result ≡ WriteFault →
@@ -74,12 +74,12 @@ pub fn answer<W: Sink>(
     ensures no_write_fault { result ≢ WriteFault →
         (W.seen sink.new).faults ≡ (W.seen sink.old).faults }
 
-    // After want of memory the texts of the first records were written, whole.
+    // If memory ran out, the texts of the first records were written, whole.
     ensures no_memory { result ≡ NoMemory →
         PutsSuch (AreTextsOfSome (new_session options form) (records_of input.now))
         (W.seen sink.old) (W.seen sink.new) }
 
-    // There is no other answer.
+    // No other answer is possible.
     ensures answers { (result ≡ done_status (refuses options form input.now))
         ⊎ (result ≡ WriteFault) ⊎ (result ≡ NoMemory) }
 
@@ -96,7 +96,7 @@ pub fn answer<W: Sink>(
     }
 }
 
-// Takes the records in order, one at a time, and writes what each adds before it takes the next. True exactly where some record was
+// Takes the records in order, one at a time, and writes what each adds before it takes the next. Returns true iff some record was
 // refused.
 fn answer_records<W: Sink>(
     alloc: Global,
@@ -137,7 +137,7 @@ fn answer_records<W: Sink>(
     Ok(some_refused)
 }
 
-// Takes one record and writes what it adds to the output. True exactly where the record was refused.
+// Takes one record and writes what it adds to the output. Returns true iff the record was refused.
 fn answer_record<W: Sink>(
     alloc: Global,
     session: &mut Session,

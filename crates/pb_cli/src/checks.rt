@@ -1,4 +1,4 @@
-// Bytes in hand, and the judgement of them.
+// Bytes in hand, and their judgement.
 ghost use Rattle.std.specs.Prelude.{◌≡◌, ◌≢◌, ◌⊎◌, ◌+◌, ◌^◌, ◌<◌, ◌≤◌, true, false, length, IfOk, OnOk, IfErr};
 ghost use Rattle.pb_io.specs.Counts.{Rose};
 ghost use Rattle.pb_io.specs.Sink.{PutsSuch};
@@ -19,17 +19,17 @@ use pb_rows::Records;
 use std::alloc::Global;
 
 /// Judges the blocks of these bytes in order, and writes what it finds: a row for each block, and one for the first record that
-/// can't be read, behind which nothing is judged. (It writes each row before it reads the next block; no clause says when.)
+/// can't be read, after which nothing is judged. (It writes each row before it reads the next block, but no clause says when.)
 pub fn judge<W: Sink>(alloc: Global, input: &[u8], sink: &mut W) -> Status
     requires bytes { length input.now ≤ most_bytes }
 
-    // All rows were written, and the status says whether something wrong was found.
+    // All rows were written, and the status says whether anything wrong was found.
     ensures done { result ≡ Done →
         PutsSuch (IsCheck false input.now) (W.seen sink.old) (W.seen sink.new) }
     ensures done_refused { result ≡ DoneRefused →
         PutsSuch (IsCheck true input.now) (W.seen sink.old) (W.seen sink.new) }
 
-    // A write fault is the answer exactly where the sink counted one. What was written is a proper beginning of the rows.
+    // WriteFault is the answer iff the sink counted a fault. What was written is a proper beginning of the rows.
     ensures write_fault { result ≡ WriteFault →
         Rose (W.seen sink.old).faults (W.seen sink.new).faults }
     ensures write_fault_cut { result ≡ WriteFault →
@@ -37,11 +37,11 @@ pub fn judge<W: Sink>(alloc: Global, input: &[u8], sink: &mut W) -> Status
     ensures no_write_fault { result ≢ WriteFault →
         (W.seen sink.new).faults ≡ (W.seen sink.old).faults }
 
-    // After want of memory the first rows were written, whole.
+    // If memory ran out, the first rows were written, whole.
     ensures no_memory { result ≡ NoMemory →
         PutsSuch (IsJudgementPart (records_of input.now)) (W.seen sink.old) (W.seen sink.new) }
 
-    // There is no other answer.
+    // No other answer is possible.
     ensures answers { EndsAsChecked input.now result
         ⊎ ((result ≡ WriteFault) ⊎ (result ≡ NoMemory)) }
 
@@ -58,8 +58,8 @@ pub fn judge<W: Sink>(alloc: Global, input: &[u8], sink: &mut W) -> Status
     }
 }
 
-// Judges the blocks of these records, and writes the row of each finding before it reads the next block. True exactly where some
-// block failed, or a record can't be read.
+// Judges the blocks of these records, and writes the row of each finding before it reads the next block. Returns true iff some
+// block failed or a record can't be read.
 fn judge_records<W: Sink>(
     alloc: Global,
     records: &mut Records,

@@ -1,4 +1,4 @@
-// Each input has one text of its run and one of its check, and one's own reports pass.
+// Each input has one text for a run and one for a check, and a run's own reports pass.
 
 ghost use Rattle.pb_cli.specs.Laws.{OneCheckTextLaw, OneRunTextLaw, OwnReportsLaw, SomeCheckTextLaw, SomeRunTextLaw};
 
@@ -9,8 +9,8 @@ use pb_elim::formed_law;
 use pb_readback::{join_law, passed_rows_law, row_text_law, row_words_law, study_rows_law};
 use pb_session::{criticals_law, one_text_law, some_text_law};
 
-/// The law that each input has one text of its run, whatever options are asked and in each form, so that what a run writes of it
-/// is settled.
+/// The law that each input has one text of its run, for any options and in each form, so that what a run writes for it is
+/// determined.
 pub fn run_text_law()
     ensures some { SomeRunTextLaw }
     ensures one { OneRunTextLaw }
@@ -20,7 +20,7 @@ pub fn run_text_law()
     accepted_law();
 }
 
-/// The law that each input has one text of its check, so that what a check writes of it is settled.
+/// The law that each input has one text of its check, so that what a check writes for it is determined.
 pub fn check_text_law()
     ensures some { SomeCheckTextLaw }
     ensures one { OneCheckTextLaw }

@@ -1,9 +1,9 @@
 //! The top call: the program from its arguments to its exit status, and a session from bytes to bytes.
 //!
-//! [`run_program`] takes the arguments of the program and its three ends, and says how it ended on the third. [`run`] reads the words
-//! of its command, then a source to its end. [`answer`] takes the records of its bytes one by one and
-//! writes what each adds to the output before it takes the next; [`judge`] does so with the blocks of a report. A run answers by
-//! one of seven statuses, and each has its cause.
+//! [`run_program`] takes the arguments of the program and its three ends, and reports on the third how it ended. [`run`] reads the
+//! words of its command, then a source to its end. [`answer`] takes the records of its bytes one by one and writes what each adds
+//! to the output before it takes the next; [`judge`] does the same with the blocks of a report. A run ends with one of seven
+//! statuses, each with its own cause.
 #![tactic(auto)]
 
 mod answers;

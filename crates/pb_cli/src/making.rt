@@ -1,4 +1,4 @@
-// A session that is made from a number, or its summary, and its text put.
+// A session made from a number, or its summary, and the writing of its text.
 ghost use Rattle.std.specs.Prelude.{◌≡◌, ◌≢◌, ◌⊎◌, ◌≤◌, IfOk};
 ghost use Rattle.pb_io.specs.Counts.{Rose};
 ghost use Rattle.pb_io.specs.Sink.{PutsSuch};
@@ -11,7 +11,7 @@ use crate::status::Status;
 use pb_io::{Sink, write_all};
 use std::alloc::{AllocError, Global};
 
-// Makes a session or its summary and writes it to a sink. Before all of it is made nothing is written.
+// Makes a session or its summary and writes it to a sink. Nothing is written before all of it is made.
 pub(crate) fn make_session<W: Sink>(
     alloc: Global,
     number: u32,

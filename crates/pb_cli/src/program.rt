@@ -1,4 +1,4 @@
-// The call that main makes.
+// The call that `main` makes.
 ghost use Rattle.std.specs.Prelude.{◌≡◌, ◌<◌, ◌≤◌, ◌++◌, ◌∷◌, [], OnOk, OnErr};
 ghost use Rattle.std.specs.Process.{exit_status};
 ghost use Rattle.pb_io.specs.Counts.{Rose};
@@ -17,8 +17,8 @@ use std::env::Args;
 use std::io;
 use std::process::ExitCode;
 
-/// The program: it runs over the words of its arguments, as [`run`] does, ends with the number of the status, and writes the status's
-/// name and a line feed to its third end, unless it was a success. A failure of that end changes nothing else.
+/// The program: it runs over the words of its arguments, as [`run`] does, exits with the number of the status, and writes the
+/// status's name and a line feed to its third end, unless the run was a success. A failure of that end changes nothing else.
 pub fn run_program<R: Source, W: Sink, E: Sink>(
     alloc: Global,
     args: io::Result<Args>,
@@ -26,14 +26,14 @@ pub fn run_program<R: Source, W: Sink, E: Sink>(
     sink: &mut W,
     errors: &mut E,
 ) -> ExitCode
-    // Of the status by which the run ended: the exit status is its number, all that `run` says holds of it, and what is put into the
-    // third end is its line.
+    // For the status with which the run ended: the exit status is its number, all that `run` says holds for it, and what is put
+    // into the third end is its line.
     ensures ended { (status : Status)
         × (exit_status result ≡ number_of status)
         × RunsGiven R.seen W.seen (words_given args) source.old source.new sink.old sink.new status
         × PutsUnlessFault (E.seen errors.old) (E.seen errors.new) (error_line status) }
 
-    // Nothing is asked of the third end after a success, and no empty piece is put.
+    // The third end isn't used after a success, and no empty piece is put.
     ensures silent { exit_status result < 2 → errors.new ≡ errors.old }
     ensures errors_idle { (E.seen errors.new).idle ≡ (E.seen errors.old).idle }
     ensures errors_faults_stay { (E.seen errors.old).faults ≤ (E.seen errors.new).faults }
@@ -59,7 +59,7 @@ fn run_args<R: Source, W: Sink>(
     }
 }
 
-// Writes the line of a status, if it has one. Nothing can be said of a failure to do so.
+// Writes the line of a status, if it has one. A failure to do so can't be reported.
 fn report<E: Sink>(status: Status, errors: &mut E)
     ensures line { PutsUnlessFault (E.seen errors.old) (E.seen errors.new) (error_line status) }
     ensures silent { number_of status < 2 → errors.new ≡ errors.old }

@@ -1,4 +1,4 @@
-// A run of the command that words give.
+// A run of the command that the words give.
 ghost use Rattle.std.specs.Prelude.{◌≡◌, ◌≢◌, ◌⊎◌, ◌+◌, ◌≤◌, ℕ, List, Err, true, false, length, IfOk, IfErr, OnErr};
 ghost use Rattle.pb_io.specs.Counts.{Rose};
 ghost use Rattle.pb_io.specs.Source.{TakesExactly, TakesAtMost};
@@ -21,43 +21,43 @@ use std::alloc::Global;
 /// Does what the command of the words asks: reads a session from a source to its end and writes its output to a sink; or reads a
 /// report and writes its judgement, block by block; or makes a session, for which it reads nothing, and writes it.
 ///
-/// The whole input is read before anything is written, and what each record adds, or each block, is written before the next is
-/// taken: so the code does it, and no clause says when.
+/// The whole input is read before anything is written, and what each record or block adds is written before the next is taken. The
+/// code does so; no clause says when.
 ///
-/// The clauses speak of the bytes that were taken and put. Where an end doesn't tell its bytes, as standard input and output
-/// don't, they speak of the numbers of bytes alone; [`answer`] and [`judge`] say the same of bytes in hand.
+/// The clauses are about the bytes that were taken and put. If an end doesn't show its bytes, as standard input and output don't,
+/// they are only about the numbers of bytes; [`answer`] and [`judge`] say the same about bytes in hand.
 pub fn run<R: Source, W: Sink>(alloc: Global, words: &Words, source: &mut R, sink: &mut W) -> Status
     // Whatever rows come in, the bytes written are the reports of the rows before them with amendments applied; in each, every
     // class stands with a true cutset or cycle, flows balance, every balanced fractional vector no worse than the printed flows
     // lies within the bounds that the printed prices give, every least one within the least bounds, and Unconverged comes only
     // after the allowed sweeps of best prices.
     //
-    // So says the text of a run, which besides reports has the row of each refusal, the classes of each design and the edits of
-    // each history. A vector lies within bounds where each measured and each observable stream does. A least one is balanced and
-    // no worse than each balanced fractional vector. Where it says Unconverged, the gap is met neither before the first sweep nor
-    // after any that was allowed. In a check the bytes written are the judgement, and each block that gets a yes is certified in
-    // the same way, wherever it came from, though it may have no least bounds.
+    // This holds for the text of a run, which besides reports has the row of each refusal, the classes of each design and the edits
+    // of each history. A vector lies within bounds if each measured and each observable stream does. A least vector is balanced and
+    // no worse than any balanced fractional vector. If a report says Unconverged, the gap is met neither before the first sweep nor
+    // after any of the allowed sweeps. In a check the bytes written are the judgement, and each block that gets a yes is certified
+    // in the same way, whatever wrote it, though it may have no least bounds.
     ensures done { result ≡ Done → Does (IsWhole false) words.now
         (R.seen source.old) (R.seen source.new) (W.seen sink.old) (W.seen sink.new) }
     ensures done_refused { result ≡ DoneRefused → Does (IsWhole true) words.now
         (R.seen source.old) (R.seen source.new) (W.seen sink.old) (W.seen sink.new) }
 
-    // Usage is the answer only where the words aren't accepted, and nothing else is then but want of memory; where one of them has
-    // another form than any word of a command, not even that. Nothing is read or written where they aren't.
+    // Usage is the answer only if the words aren't accepted. If they aren't, the only other possible answer is NoMemory, and
+    // nothing is read or written; if one of them doesn't have the form of any word of a command, the answer is always Usage.
     ensures usage { result ≡ Usage → AreAccepted words.now → ⊥ }
     ensures unaccepted { (AreAccepted words.now → ⊥) → (result ≡ Usage) ⊎ (result ≡ NoMemory) }
     ensures malformed { are_plain_or_named words.now ≡ false → result ≡ Usage }
     ensures unread { (AreAccepted words.now → ⊥) → source.new ≡ source.old }
     ensures unwritten { (AreAccepted words.now → ⊥) → sink.new ≡ sink.old }
 
-    // A read fault is the answer exactly where the source counted one. Nothing is written then.
+    // ReadFault is the answer iff the source counted a fault. Then nothing is written.
     ensures read_fault { result ≡ ReadFault →
         Rose (R.seen source.old).faults (R.seen source.new).faults }
     ensures no_read_fault { result ≢ ReadFault →
         (R.seen source.new).faults ≡ (R.seen source.old).faults }
     ensures read_fault_unwritten { result ≡ ReadFault → sink.new ≡ sink.old }
 
-    // A write fault is the answer exactly where the sink counted one. What was written is a proper beginning of the output.
+    // WriteFault is the answer iff the sink counted a fault. What was written is a proper beginning of the output.
     ensures write_fault { result ≡ WriteFault →
         Rose (W.seen sink.old).faults (W.seen sink.new).faults }
     ensures no_write_fault { result ≢ WriteFault →
@@ -65,19 +65,19 @@ pub fn run<R: Source, W: Sink>(alloc: Global, words: &Words, source: &mut R, sin
     ensures write_fault_cut { result ≡ WriteFault → Does IsCut words.now
         (R.seen source.old) (R.seen source.new) (W.seen sink.old) (W.seen sink.new) }
 
-    // Too large is the answer exactly where one byte more than the limit was taken. Nothing is written then.
+    // TooLarge is the answer iff one byte more than the limit was taken. Then nothing is written.
     ensures too_large { result ≡ TooLarge →
         TakesExactly (R.seen source.old) (R.seen source.new) (most_bytes + 1) }
     ensures too_large_unwritten { result ≡ TooLarge → sink.new ≡ sink.old }
     ensures not_too_large { result ≢ TooLarge →
         TakesAtMost (R.seen source.old) (R.seen source.new) most_bytes }
 
-    // After want of memory the texts of the first rows, or of the first blocks, were written, whole.
+    // If memory ran out, nothing was written, or the texts of the first rows or of the first blocks, whole.
     ensures no_memory { result ≡ NoMemory → (sink.new ≡ sink.old) ⊎ Does IsFront words.now
         (R.seen source.old) (R.seen source.new) (W.seen sink.old) (W.seen sink.new) }
 
-    // Where the source tells its bytes and no fault was counted, the bytes decide how the command ends; where it makes a session
-    // they aren't asked, and nothing is read. Want of memory alone is free.
+    // If the source shows its bytes and no fault was counted, the bytes decide how the command ends; if the command makes a
+    // session, it doesn't need them, and nothing is read. The only other possible answer is NoMemory.
     ensures complete { (command : Command) (input : List ℕ)
         → IsCommandOf words.now command
         → IsGiven command (R.seen source.old) (R.seen source.new) input →
@@ -113,7 +113,7 @@ pub fn run<R: Source, W: Sink>(alloc: Global, words: &Words, source: &mut R, sin
     }
 }
 
-// Reads what a command reads: the source to its end, or nothing where a session is made. Else the status that says why not.
+// Reads what a command reads: the source to its end, or nothing if a session is made. On failure, returns the status that says why.
 fn read_input<R: Source>(alloc: Global, command: Command, source: &mut R) -> Result<Vec<u8>, Status>
     ensures read { IfOk result (λ input.
         Reads command (R.seen source.old) (R.seen source.new) input.items) }

@@ -1,4 +1,4 @@
-// How a run ended: a number for the system, and a name.
+// How a run ended: a number for the operating system, and a name.
 ghost use Rattle.std.specs.Prelude.{◌≡◌, codes};
 ghost use Rattle.pb_cli.specs.Status.{number_of, name_of, status_of};
 
@@ -19,12 +19,12 @@ pub enum Status {
     WriteFault,
     /// The source has more bytes than the limit. Nothing was written.
     TooLarge,
-    /// No memory was found. What was written is a prefix of the output.
+    /// Memory ran out. What was written is a prefix of the output.
     NoMemory,
 }
 
 impl Status {
-    /// The number with which the program ends.
+    /// The number with which the program exits.
     pub fn number(&self) -> u8
         ensures { result ≡ number_of self.now }
     {

@@ -51,7 +51,7 @@ best_is value lo hi le =
     let e : lo +ℤ pos (unsigned_abs (hi -ℤ lo)) ≡ hi = omega (arith, ints, le) in
     subst (λ (x : ℤ). IsBest value lo x (best value lo hi)) e (upto_is value lo (unsigned_abs (hi -ℤ lo)))
 
--- there is one best candidate
+-- there is only one best candidate
 one_best : (value : ℤ → ℤ) (lo hi c d : ℤ) → IsBest value lo hi c → IsBest value lo hi d → c ≡ d
 one_best value lo hi c d b e = by_lt_z c d
     (λ less. let m = b.most d e.from e.to in let l = e.least c b.from less in absurd (omega (arith, ints, m, l)))

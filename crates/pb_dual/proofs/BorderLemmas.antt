@@ -1,4 +1,4 @@
--- What the border of a group add up to is what the streams do.
+-- What the streams at the border of a group add up to is what all streams add up to.
 use Rattle.std.proofs.Common.{◌≡◌, ◌∙◌, ◌==◌, ◌^◌, ℕ, suc, ◌+◌, ◌<◌, ◌≤◌, ℤ, pos, neg_ℤ, ◌+ℤ◌, ◌-ℤ◌, ◌*ℤ◌, ◌≤ℤ◌, Bool, true, false, not, List, [], ◌∷◌, ◌++◌, length, get_or, take, drop, Option, Some, None, refl, sym, subst, ap, append_assoc, append-nil, arith, unsigned_abs}
 use Rattle.std.specs.Prelude.{if◌then◌else◌, IfSome, is_some, nat_lt, ◌||◌}
 use Rattle.std.specs.Int.{int_max, int_min}
@@ -23,7 +23,7 @@ use Rattle.pb_dual.specs.Moves.{group_flow}
 use Rattle.pb_dual.specs.Candidates.{room_of, raised, lowered, raised_at, lowered_at, low_from, high_from}
 use Rattle.pb_dual.specs.Border.{seen_of, seen_at, border_from, border_of, border_flow, border_variance, border_low, border_high, IsBorderStream}
 
--- one stream more
+-- one more stream
 pub low_more : (prices : List ℤ) (lo : ℤ) (border : List BorderStream) (i : ℕ) (d : BorderStream) → i < length border
     → border_low prices lo (drop i border) ≡ border_low prices (int_max lo (get_or prices (get_or border i d).other (pos 0) -ℤ (get_or border i d).room)) (drop (i + 1) border)
 low_more prices lo border i d lt = ap (border_low prices lo) (drop_next border i d lt)
@@ -139,7 +139,7 @@ border_push group k j (s ∷ ss) t =
     (border_push group k (suc j) ss t ∙ ap (λ (i : ℕ). border_from group k (suc j) ss ++ option_to_list (seen_at group k i t)) e)
     ∙ sym (append_assoc (option_to_list (seen_at group k j s)) (border_from group k (suc j) ss) (option_to_list (seen_at group k (j + length (s ∷ ss)) t)))
 
--- the border are within their limits
+-- the streams at the border are within their limits
 abbrev Box : Option Meas → ℤ → Type 0
 Box o d = IfSome o (λ m. unsigned_abs (m.variance *ℤ d) ≤ 2 ^ 112)
 
@@ -192,7 +192,7 @@ border_within group prices k j (s ∷ ss) l p b =
     let ends = are_ends k from to in
     within_one j s.meas (from == k) (to == k) from to k prices (border_from group k (suc j) ss) ends.0 ends.1 l.0 p.0.from p.0.to b.0 (border_within group prices k (suc j) ss l.1 p.1 b.1)
 
--- some stream has exactly one end in a group where the group has an stream
+-- a stream with exactly one end in a group is measured
 abbrev pub IsSeen : List ℕ → ℕ → Stream → Type 0
 IsSeen group k s = has_one_end group k s ≡ true → is_measured s ≡ true
 
@@ -216,7 +216,7 @@ seen_is group k j (s ∷ ss) h =
     ap (λ (b : Bool). has_one_end group k s || b) (seen_is group k (suc j) ss h.1)
     ∙ seen_one j s.meas (group_at group s.from == k) (group_at group s.to == k) (group_at group s.from) (group_at group s.to) (border_from group k (suc j) ss) h.0
 
--- the border of one stream more
+-- the border with one more stream
 pub border_more : (group : List ℕ) (k j : ℕ) (ss : List Stream) (d : Stream) → j < length ss
     → border_of group k (take (j + 1) ss) ≡ border_of group k (take j ss) ++ option_to_list (seen_at group k j (get_or ss j d))
 border_more group k j ss d lt =

@@ -1,4 +1,4 @@
--- Where a price and the greatest one together are within the least room, the interval of a border holds the price.
+-- If a price and the greatest price together are within the least room, the interval of a border contains the price.
 use Rattle.std.proofs.Common.{◌≡◌, ◌^◌, ◌<◌, ◌≤◌, ℕ, ◌+◌, ℤ, pos, neg_ℤ, ◌+ℤ◌, ◌-ℤ◌, ◌≤ℤ◌, List, [], ◌∷◌, length, get_or, drop, inl, inr, refl, ap, arith, unsigned_abs}
 use Rattle.std.specs.Prelude.{int_lt}
 use Rattle.std.specs.Int.{int_max, int_min}
@@ -10,7 +10,7 @@ use Rattle.pb_dual.specs.declared.border.BorderStream.{BorderStream}
 use Rattle.pb_dual.specs.Best.{clamped}
 use Rattle.pb_dual.specs.Border.{AreBorder, IsBorderStream, IsGreatest, border_low, border_high, border_room}
 
--- one stream more
+-- one more stream
 pub room_more : (room : ℤ) (border : List BorderStream) (i : ℕ) (d : BorderStream) → i < length border
     → border_room room (drop i border) ≡ border_room (int_min room (get_or border i d).room) (drop (i + 1) border)
 room_more room border i d lt = ap (border_room room) (drop_next border i d lt)

@@ -1,4 +1,4 @@
--- What the prices of the groups and their border keep.
+-- What the prices of the groups and their borders keep.
 use Rattle.std.proofs.Common.{◌≡◌, ◌≢◌, ◌∙◌, ◌==◌, ◌^◌, ◌*◌, ℕ, zero, suc, ◌<◌, ◌≤◌, ℤ, pos, neg_ℤ, ◌-ℤ◌, ◌≤ℤ◌, ◌<ℤ◌, Bool, true, not, List, [], ◌∷◌, length, map, get_or, set, replicate, refl, sym, subst, ap, ap₂, inl, inr, arith, unsigned_abs, length-set}
 use Rattle.std.specs.Prelude.{◌&&◌, int_lt, nat_lt}
 use Rattle.std.specs.Int.{int_max}
@@ -55,7 +55,7 @@ placed d h = AllByRecursion-from_all (IsPlaced d.group d.prices) d.graph.streams
     let at = λ (n : ℕ) (n_lt : n < d.graph.nodes). let below = number_below d.group n (omega (arith, n_lt, h.groups.each)) in let few : group_at d.group n < length d.prices = omega (arith, below, h.each) in few in
     record { from = at (get_or d.graph.streams j e).from ends.from; to = at (get_or d.graph.streams j e).to ends.to })
 
--- the border of a group are within their limits, and not too many
+-- the streams at the border of a group are within their limits, and not too many
 pub border_fit : (d : Priced) (k : ℕ) → IsPriced d → All (IsBorderStream d.prices k) (border_of d.group k d.graph.streams)
 border_fit d k h =
     let limits = AllByRecursion-from_all IsWithinLimits d.graph.streams h.limits.limits in
@@ -65,7 +65,7 @@ border_fit d k h =
 pub border_few : (d : Priced) (k : ℕ) → IsPriced d → length (border_of d.group k d.graph.streams) ≤ most_streams
 border_few d k h = let le = length_border d.group k 0 d.graph.streams in omega (arith, le, h.limits.few_streams)
 
--- a group is free where it isn't the first and has a border
+-- a group is free if it isn't the first and has a border
 pub free_by_border : (d : Priced) (k : ℕ) → IsPriced d → is_free_group d.group d.graph.streams k ≡ (not (0 == k) && nat_lt 0 (length (border_of d.group k d.graph.streams)))
 free_by_border d k h =
     let seen = AllByRecursion-from_all (IsSeen d.group k) d.graph.streams (λ j e lt one.
@@ -149,7 +149,7 @@ get_zero zero k = refl
 get_zero (suc n) zero = refl
 get_zero (suc n) (suc k) = get_zero n k
 
--- the greatest price, once one is written
+-- the greatest price, after one is written
 greater_set : (prices : List ℤ) (k : ℕ) (c greatest : ℤ) → k < length prices → IsGreatest greatest prices → unsigned_abs c ≤ 2 ^ 120 → IsGreatest (int_max greatest (pos (unsigned_abs c))) (set prices k c)
 greater_set prices k c greatest lt h small = record {
   from = omega (arith, ints, h.from, int_max_is greatest (pos (unsigned_abs c)));

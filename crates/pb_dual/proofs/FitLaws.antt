@@ -37,7 +37,7 @@ node_of g group k limits free =
       | inr p ↦ (s.to, ends.to, p.1)
     ]
 
--- a free group isn't the environment's
+-- a free group isn't the environment's group
 pub free_apart : (group : List ℕ) (ss : List Stream) (k : ℕ) → is_free_group group ss k ≡ true → group_at group 0 ≢ k
 free_apart group ss k free e =
     let parts = and_parts (not (group_at group 0 == k)) (list_any (has_one_end group k) ss) free in
@@ -113,7 +113,7 @@ best_law g group price k h =
     let old = old_is g group price k (price m) h m lt is refl in
     best_is (λ c. dual_value (with_price group price k c) g.streams) (least_candidate group price k g.streams) (greatest_candidate group price k g.streams) (le_trans _ _ _ old.low old.high)
 
--- the best price fits, and does not lower the dual value
+-- the best price fits, and doesn't lower the dual value
 pub best_fits : (g : ProcessGraph) (group : List ℕ) (price : ℕ → ℤ) (k : ℕ) → CanMove g group price k → PricesFit g (with_price group price k (best_price group price k g.streams))
 best_fits g group price k h =
     let b = best_law g group price k h in

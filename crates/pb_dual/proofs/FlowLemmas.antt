@@ -32,7 +32,7 @@ kept price flows j (s ∷ ss) h = (
   kept price flows (suc j) ss (λ i lt. let e : j + suc i ≡ suc j + i = omega arith in subst (λ (n : ℕ). item flows n ≡ dual_flow price (get_or ss i some_stream)) e (h (suc i) (omega (arith, lt)))),
 )
 
--- the dual flows of a list of streams are kept from its first
+-- the dual flows of a list of streams are kept, starting from its first
 pub flows_kept : (price : ℕ → ℤ) (flows : List ℤ) (ss : List Stream) → flows ≡ dual_flows_of price ss → AreKept price flows 0 ss
 flows_kept price flows ss is = kept price flows 0 ss (λ i lt.
     let e : i ≡ 0 + i = omega arith in
@@ -85,7 +85,7 @@ have_flows group prices flows k j (s ∷ ss) h =
     let ends = are_ends k from to in
     have_one j s.meas (from == k) (to == k) from to k prices flows (border_from group k (suc j) ss) ends.0 ends.1 h.0 (have_flows group prices flows k (suc j) ss h.1)
 
--- a stream that isn't at the border of group k keeps its dual flow where the price of group k moves
+-- a stream that isn't at the border of group k keeps its dual flow when the price of group k moves
 apart_one : (j : ℕ) (o : Option Meas) (b a : Bool) (from to : ℕ) (rest : List BorderStream) → AllByRecursion (λ x. x.stream ≢ j) (option_to_list (seen_of j o b a from to) ++ rest)
     → seen_of j o b a from to ≡ None
 apart_one j None true true from to rest h = refl
@@ -148,7 +148,7 @@ same_elsewhere group prices others k ss apart j h =
           ∙ sym (get_or_past those j (pos 0) (omega (arith, past, length-map ss (dual_flow (node_price group others)))))
     ]
 
--- one number more is written
+-- one more number is written
 pub put_value : (out target : List ℤ) (j : ℕ) (x : ℤ) → j < length out → x ≡ item target j → ((k : ℕ) → k < j → item out k ≡ item target k)
     → (k : ℕ) → k < j + 1 → item (set out j x) k ≡ item target k
 put_value out target j x lt is before k below = elim (cases_eq k j) [
@@ -159,7 +159,7 @@ put_value out target j x lt is before k below = elim (cases_eq k j) [
 pub whole : (out target : List ℤ) (n j : ℕ) → length out ≡ n → length target ≡ n → n ≤ j → ((k : ℕ) → k < j → item out k ≡ item target k) → out ≡ target
 whole out target n j each wanted end is = ext_get_or (pos 0) out target (each ∙ sym wanted) (λ k lt. is k (omega (arith, lt, each, end)))
 
--- one flow more is written
+-- one more flow is written
 pub write_more : (border : List BorderStream) (flows others : List ℤ) (i : ℕ) (d : BorderStream) (x : ℤ) → i < length border → (get_or border i d).stream < length flows
     → x ≡ item others (get_or border i d).stream → AreSameElsewhere (drop i border) flows others → AreSameElsewhere (drop (i + 1) border) (set flows (get_or border i d).stream x) others
 write_more border flows others i d x here lt is before j h =

@@ -95,7 +95,7 @@ falls_along group price k old ss c =
     turned : (x y p : ℤ) → x ≡ y +ℤ p → neg_ℤ x ≡ neg_ℤ y -ℤ p
     turned x y p e = omega (arith, ints, e)
 
--- prices that have a group at a price are those with the group at it
+-- prices in which a group already has a price are the prices with the group at it
 pub with_own : (group : List ℕ) (price : ℕ → ℤ) (k : ℕ) (old : ℤ) → ((n : ℕ) → group_at group n ≡ k → price n ≡ old) → with_price group price k old ≡ price
 with_own group price k old h = λ i n. at n i
   where

@@ -1,4 +1,4 @@
--- Sweeps keep the prices fitting and do not lower the dual value.
+-- Sweeps keep the prices fitting and don't lower the dual value.
 use Rattle.std.proofs.Common.{◌≡◌, ◌∙◌, ◌+◌, ◌^◌, ℕ, zero, suc, ◌≤◌, ℤ, pos, ◌-ℤ◌, ◌*ℤ◌, ◌≤ℤ◌, List, Option, Some, None, ap, refl, inl, inr, arith, unsigned_abs}
 use Rattle.std.specs.Prelude.{IfSome}
 use Rattle.std.proofs.lemmas.Bool.{cases_Bool}

@@ -1,4 +1,4 @@
--- Inside. A group's own view of the measured streams at its border.
+-- Inside. The measured streams at the border of a group, as seen from the group.
 use Rattle.std.specs.Prelude.{◌≡◌, ◌≢◌, ◌==◌, ◌<◌, ◌≤◌, ℕ, suc, ℤ, pos, neg_ℤ, ◌+ℤ◌, ◌-ℤ◌, ◌*ℤ◌, ◌≤ℤ◌, unsigned_abs, Bool, not, List, All, map, [], ◌∷◌, ◌++◌, length, get_or, Option, Some, None, if◌then◌else◌}
 use Rattle.std.specs.Int.{int_max, int_min}
 use Rattle.std.specs.List.{AllByRecursion}
@@ -15,7 +15,7 @@ use Rattle.pb_dual.specs.DualValue.{scale, dual_flows_of}
 use Rattle.pb_dual.specs.Candidates.{room_of}
 use Rattle.pb_dual.specs.Priced.{Priced, price_of}
 
--- measured stream j with exactly one end in a group, seen from there; the groups of its ends have the numbers from and to
+-- measured stream j with exactly one end in a group, as seen from the group; the groups of its ends have the numbers from and to
 abbrev pub seen_of : ℕ → Option Meas → Bool → Bool → ℕ → ℕ → Option BorderStream
 seen_of j None from_in to_in from to = None
 seen_of j (Some m) from_in to_in from to =
@@ -26,7 +26,7 @@ seen_of j (Some m) from_in to_in from to =
 abbrev pub seen_at : List ℕ → ℕ → ℕ → Stream → Option BorderStream
 seen_at group k j s = seen_of j s.meas (group_at group s.from == k) (group_at group s.to == k) (group_at group s.from) (group_at group s.to)
 
--- the measured streams with exactly one end in group k, in order, where the first of the list is stream j
+-- the measured streams with exactly one end in group k, in order; the first stream of the list is stream j
 abbrev pub border_from : List ℕ → ℕ → ℕ → List Stream → List BorderStream
 border_from group k j [] = []
 border_from group k j (s ∷ ss) = option_to_list (seen_at group k j s) ++ border_from group k (suc j) ss
@@ -43,7 +43,7 @@ border_rise prices k a =
 abbrev pub border_stream_flow : List ℤ → ℕ → BorderStream → ℤ
 border_stream_flow prices k a = (scale *ℤ a.value) +ℤ (a.variance *ℤ border_rise prices k a)
 
--- what a stream at its border brings to a group, of the dual flows of all streams
+-- what a stream at its border brings to a group, given the dual flows of all streams
 abbrev pub inflow_of : List ℤ → BorderStream → ℤ
 inflow_of flows a = if a.enters then item flows a.stream else neg_ℤ (item flows a.stream)
 
@@ -54,7 +54,7 @@ border_flow flows border = sum_over (inflow_of flows) border
 abbrev pub HaveFlows : List ℤ → ℕ → List BorderStream → List ℤ → Type 0
 HaveFlows prices k border flows = AllByRecursion (λ a. item flows a.stream ≡ border_stream_flow prices k a) border
 
--- two lists of dual flows are the same but for streams at the border
+-- two lists of dual flows are the same except for streams at the border
 abbrev pub AreSameElsewhere : List BorderStream → List ℤ → List ℤ → Type 0
 AreSameElsewhere border flows others = (j : ℕ) → AllByRecursion (λ a. a.stream ≢ j) border → item flows j ≡ item others j
 
@@ -89,7 +89,7 @@ pub record IsBorderStream (prices : List ℤ) (k : ℕ) (a : BorderStream) : Typ
   pub space : unsigned_abs a.room ≤ most_adjustment
   pub box : unsigned_abs (a.variance *ℤ border_rise prices k a) ≤ most_adjustment
 
--- the border of group k, of no more streams than a graph has
+-- the border of group k, with no more streams than a graph may have
 pub record AreBorder (prices : List ℤ) (k : ℕ) (border : List BorderStream) : Type 0 where
   pub few : length border ≤ most_streams
   pub each : All (IsBorderStream prices k) border

@@ -1,4 +1,4 @@
--- Statement. The candidates for the price of one group, and the best of them.
+-- Statement. The candidates for the price of one group, and the best candidate.
 use Rattle.std.specs.Prelude.{◌==◌, ℕ, ℤ, pos, neg_ℤ, ◌+ℤ◌, ◌-ℤ◌, List, [], ◌∷◌, Option, Some, None, if◌then◌else◌}
 use Rattle.std.specs.Int.{int_max, int_min}
 use Rattle.pb_limits.specs.Limits.{most_price}
@@ -29,7 +29,7 @@ abbrev pub lowered : Option Meas → ℤ → ℤ → ℤ
 lowered None other hi = hi
 lowered (Some m) other hi = int_min hi (other +ℤ room_of m.variance)
 
--- the bounds once one stream more is asked, where it has exactly one end in the group
+-- the bounds after one more stream, which changes them only if it has exactly one end in the group
 abbrev pub raised_at : List ℕ → (ℕ → ℤ) → ℕ → Stream → ℤ → ℤ
 raised_at group price k s lo = if has_one_end group k s then raised s.meas (other_price group price k s) lo else lo
 
@@ -44,14 +44,14 @@ abbrev pub high_from : List ℕ → (ℕ → ℤ) → ℕ → ℤ → List Strea
 high_from group price k hi [] = hi
 high_from group price k hi (s ∷ ss) = high_from group price k (lowered_at group price k s hi) ss
 
--- The candidates for the price of group k, the other prices held, are the whole numbers from the least to the greatest one.
+-- The candidates for the price of group k, with the other prices held, are the whole numbers from the least candidate to the greatest.
 abbrev pub least_candidate : List ℕ → (ℕ → ℤ) → ℕ → List Stream → ℤ
 least_candidate group price k ss = low_from group price k (neg_ℤ (pos most_price)) ss
 
 abbrev pub greatest_candidate : List ℕ → (ℕ → ℤ) → ℕ → List Stream → ℤ
 greatest_candidate group price k ss = high_from group price k (pos most_price) ss
 
--- The best price of group k, the other prices held: the least candidate of greatest dual value.
+-- The best price of group k, with the other prices held: the least candidate with the greatest dual value.
 abbrev pub best_price : List ℕ → (ℕ → ℤ) → ℕ → List Stream → ℤ
 best_price group price k ss =
     best (λ c. dual_value (with_price group price k c) ss) (least_candidate group price k ss) (greatest_candidate group price k ss)

@@ -1,5 +1,5 @@
--- Statement. The dual of weighted least squares under the balances, which has a price for each node in place of its balance (Rockafellar,
--- Network Flows and Monotropic Optimization).
+-- Statement. The dual of weighted least squares under the balances, which has a price for each node in place of its balance
+-- (Rockafellar, Network Flows and Monotropic Optimization).
 use Rattle.std.specs.Prelude.{◌+◌, ◌*◌, ◌^◌, ℕ, ℤ, pos, neg_ℤ, ◌+ℤ◌, ◌*ℤ◌, List, map, Option, Some, None}
 use Rattle.pb_limits.specs.Limits.{most_value}
 use Rattle.pb_integers.specs.Sums.{sum_over}
@@ -11,7 +11,7 @@ use Rattle.pb_graph.specs.Prices.{most_adjustment, rise_of}
 abbrev pub scale : ℤ
 scale = pos (2 ^ 56)
 
--- the dual flow of a measurement along which the price rises by d: its value, and its variance times the rise
+-- the dual flow of a measurement along which the price rises by d: its value plus its variance times the rise
 abbrev pub flow_at : Option Meas → ℤ → ℤ
 flow_at None d = pos 0
 flow_at (Some m) d = (scale *ℤ m.value) +ℤ (m.variance *ℤ d)
@@ -24,7 +24,7 @@ dual_flow price s = flow_at s.meas (rise_of price s)
 abbrev pub dual_flows_of : (ℕ → ℤ) → List Stream → List ℤ
 dual_flows_of price streams = map (dual_flow price) streams
 
--- the greatest dual flow of prices that fit, either way: that of the greatest value, and the box
+-- the greatest dual flow of prices that fit, either way: that of the greatest value, plus the limit of the box
 abbrev pub most_dual_flow : ℕ
 most_dual_flow = most_value * 2 ^ 56 + most_adjustment
 
@@ -33,6 +33,7 @@ abbrev pub cost_at : Option Meas → ℤ → ℤ
 cost_at None d = pos 0
 cost_at (Some m) d = ((pos 2 *ℤ scale) *ℤ (d *ℤ m.value)) +ℤ (m.variance *ℤ (d *ℤ d))
 
--- The dual value of prices, in units of 2^-112: no sum of weighted squares of a balanced vector is below that of prices that fit.
+-- The dual value of prices, in units of 2^-112. The sum of weighted squares of a balanced vector is never below the dual value of
+-- prices that fit.
 abbrev pub dual_value : (ℕ → ℤ) → List Stream → ℤ
 dual_value price ss = neg_ℤ (sum_over (λ s. cost_at s.meas (rise_of price s)) ss)

@@ -21,12 +21,12 @@ abbrev pub CandidateLaw : Type 0
 CandidateLaw = (g : ProcessGraph) (group : List ℕ) (price : ℕ → ℤ) (k : ℕ) (c : ℤ) → CanMove g group price k
     → (((least_candidate group price k g.streams ≤ℤ c) × (c ≤ℤ greatest_candidate group price k g.streams)) ↔ PricesFit g (with_price group price k c))
 
--- the best price of a free group is the least candidate of greatest dual value
+-- the best price of a free group is the least candidate with the greatest dual value
 abbrev pub BestLaw : Type 0
 BestLaw = (g : ProcessGraph) (group : List ℕ) (price : ℕ → ℤ) (k : ℕ) → CanMove g group price k
     → IsBest (λ c. dual_value (with_price group price k c) g.streams) (least_candidate group price k g.streams) (greatest_candidate group price k g.streams) (best_price group price k g.streams)
 
--- after any number of sweeps the prices fit, and a sweep more does not lower the dual value
+-- after any number of sweeps the prices fit, and one more sweep doesn't lower the dual value
 pub record Ascends (g : ProcessGraph) (group : List ℕ) (k : ℕ) : Type 0 where
   pub fit : PricesFit g (prices_after g group k)
   pub ascent : dual_value (prices_after g group k) g.streams ≤ℤ dual_value (prices_after g group (suc k)) g.streams
@@ -34,6 +34,6 @@ pub record Ascends (g : ProcessGraph) (group : List ℕ) (k : ℕ) : Type 0 wher
 abbrev pub AscentLaw : Type 0
 AscentLaw = (g : ProcessGraph) (group : List ℕ) (k : ℕ) → IsProcessGraph g → AreGroups g group → Ascends g group k
 
--- where a sweep of the prices after k sweeps gives the same prices, those after any number of sweeps more are the same
+-- if a sweep of the prices after k sweeps gives the same prices, the prices after any number of further sweeps are the same
 abbrev pub IdleLaw : Type 0
 IdleLaw = (g : ProcessGraph) (group : List ℕ) (k n : ℕ) → prices_after g group (suc k) ≡ prices_after g group k → prices_after g group (n + k) ≡ prices_after g group k

@@ -14,7 +14,7 @@ with_price group price k c n = if group_at group n == k then c else price n
 abbrev pub group_flow : List ℕ → (ℕ → ℤ) → ℕ → List Stream → ℤ
 group_flow group price k ss = sum_over (λ s. entering (group_at group s.from == k) (group_at group s.to == k) (dual_flow price s)) ss
 
--- a value falls along a parabola: at c it is that at old less t * (2 * n + a * t), where t leads from old to c
+-- a value falls along a parabola: at c it is the value at old less t * (2 * n + a * t), where t is c - old
 abbrev pub FallsAlong : (ℤ → ℤ) → ℤ → ℤ → ℤ → Type 0
 FallsAlong value old n a = (c : ℤ) → value c ≡ value old -ℤ ((c -ℤ old) *ℤ ((pos 2 *ℤ n) +ℤ (a *ℤ (c -ℤ old))))
 

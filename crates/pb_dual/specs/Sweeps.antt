@@ -6,11 +6,11 @@ use Rattle.pb_graph.specs.Groups.{is_free_group, group_count}
 use Rattle.pb_dual.specs.Moves.{with_price}
 use Rattle.pb_dual.specs.Candidates.{best_price}
 
--- the prices once group k has its best price, where it is free
+-- the prices after group k has been given its best price, if it is free
 abbrev pub stepped : List ℕ → List Stream → (ℕ → ℤ) → ℕ → ℕ → ℤ
 stepped group ss price k = if is_free_group group ss k then with_price group price k (best_price group price k ss) else price
 
--- the prices once each of the first n groups, in order, has its best price against the prices as they then stand
+-- the prices after each of the first n groups, in order, has been given its best price against the prices as they then stand
 abbrev pub swept : List ℕ → List Stream → (ℕ → ℤ) → ℕ → ℕ → ℤ
 swept group ss price zero = price
 swept group ss price (suc n) = stepped group ss (swept group ss price n) n
@@ -19,7 +19,7 @@ swept group ss price (suc n) = stepped group ss (swept group ss price n) n
 abbrev pub sweep_of : ProcessGraph → List ℕ → (ℕ → ℤ) → ℕ → ℤ
 sweep_of g group price = swept group g.streams price (group_count group)
 
--- The prices after so many sweeps from prices that are all 0.
+-- The prices after this many sweeps, starting from prices that are all 0.
 abbrev pub prices_after : ProcessGraph → List ℕ → ℕ → ℕ → ℤ
 prices_after g group zero = λ n. pos 0
 prices_after g group (suc k) = sweep_of g group (prices_after g group k)

@@ -42,7 +42,7 @@ pub fn flow(value: i128, variance: i128, rise: i128) -> i128
     scaled(value) + variance * rise
 }
 
-/// A lower bound, raised to a price less a room.
+/// A lower bound, raised to a price less a room if that is greater.
 pub fn raised(lo: i128, price: i128, room: i128) -> i128
     requires price { IsPrice price }
     requires room { unsigned_abs room ≤ most_adjustment }
@@ -51,7 +51,7 @@ pub fn raised(lo: i128, price: i128, room: i128) -> i128
     lo.max(price - room)
 }
 
-/// An upper bound, lowered to a price and a room.
+/// An upper bound, lowered to a price plus a room if that is less.
 pub fn lowered(hi: i128, price: i128, room: i128) -> i128
     requires price { IsPrice price }
     requires room { unsigned_abs room ≤ most_adjustment }
@@ -60,7 +60,7 @@ pub fn lowered(hi: i128, price: i128, room: i128) -> i128
     hi.min(price + room)
 }
 
-/// The whole price nearest to the peak of the dual value along a group's price, the lower one of two:
+/// The whole price nearest to the peak of the dual value along a group's price, or the lower one if two are equally near:
 /// the present price less the nearest quotient of the net dual flow by the variance.
 pub fn peak(price: i128, net: i128, variance: i128) -> i128
     requires price { IsPrice price }
@@ -73,7 +73,7 @@ pub fn peak(price: i128, net: i128, variance: i128) -> i128
     price - div_nearest(net, variance)
 }
 
-/// Whether the size of a price and the greatest one together are within a room.
+/// Whether the size of a price and the greatest price together are within a room.
 pub fn is_within(price: i128, greatest: i128, room: i128) -> bool
     requires price { unsigned_abs price < 2 ^ 126 }
     requires greatest_from { pos 0 ≤ℤ greatest }

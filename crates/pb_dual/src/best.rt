@@ -112,7 +112,7 @@ fn highest(border: &[BorderStream], prices: &[i128], group: u32) -> i128
 
 /// A price, moved into the interval that the border of a group allows.
 ///
-/// Where the price and the greatest one together are within the least room, the interval holds it.
+/// If the price and the greatest price together are within the least room, the interval contains the price.
 pub fn into_box(
     price: i128,
     border: &[BorderStream],

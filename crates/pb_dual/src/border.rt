@@ -1,4 +1,4 @@
-// A group's own view of the measured streams at its border.
+// The measured streams at the border of a group, as seen from the group.
 
 ghost use Rattle.std.specs.Prelude.{◌≡◌, ℕ, ◌^◌, ◌<◌, ◌≤◌, [], ◌++◌, pos, ◌<ℤ◌, length, map, get_or, set, vec_len, All, IfOk, OnOk};
 ghost use Rattle.std.specs.Option.{option_to_list};
@@ -13,7 +13,7 @@ use pb_fixed::div_floor;
 use pb_graph::{List, MOST_ADJUSTMENT, Stream};
 use std::alloc::{AllocError, Global};
 
-/// A measured stream with exactly one end in a group, seen from that group.
+/// A measured stream with exactly one end in a group, as seen from the group.
 #[derive(Clone, Copy, Debug)]
 pub struct BorderStream {
     /// The number of the stream.
@@ -42,7 +42,7 @@ fn is_one_end(from: u32, to: u32, k: u32) -> bool
     if to == k { from != k } else { from == k }
 }
 
-// Stream `j` as one at the border of group `k`, where it is there.
+// Stream `j` as a stream at the border of group `k`, if it is there.
 fn seen_from(group: &[u32], k: u32, j: u32, stream: &Stream) -> Option<BorderStream>
     requires ends { IsStream (length group.now) stream.now }
     requires limits { IsWithinLimits stream.now }
@@ -63,7 +63,7 @@ fn seen_from(group: &[u32], k: u32, j: u32, stream: &Stream) -> Option<BorderStr
     }
 }
 
-// Adds stream `j` to the border of group `k`, where it is there.
+// Adds stream `j` to the border of group `k`, if it is there.
 fn add_border_stream(
     borders: &mut [List<BorderStream>],
     group: &[u32],
@@ -86,7 +86,7 @@ fn add_border_stream(
     Ok(())
 }
 
-// Adds stream `j` to the borders of the groups of its ends, where these differ.
+// Adds stream `j` to the borders of the groups of its ends, if these groups differ.
 fn add_stream(
     borders: &mut [List<BorderStream>],
     group: &[u32],
@@ -131,7 +131,7 @@ fn add_all(
     Ok(())
 }
 
-// So many empty borders.
+// This many empty borders.
 fn no_borders(alloc: Global, groups: u32) -> Result<Vec<List<BorderStream>>, AllocError>
     ensures each { IfOk result (λ v. vec_len v ≡ groups) }
     ensures none { IfOk result (λ v. (k : ℕ) → k < groups → get_or v.items k [] ≡ []) }
@@ -143,7 +143,7 @@ fn no_borders(alloc: Global, groups: u32) -> Result<Vec<List<BorderStream>>, All
     Ok(borders)
 }
 
-/// The border of each of the groups, in order of streams.
+/// The border of each of the groups, in the order of the streams.
 pub fn all_borders(
     alloc: Global,
     groups: u32,
@@ -176,7 +176,7 @@ fn variance(border: &[BorderStream]) -> i128
     total
 }
 
-// The least room at a border, at most that of the least variance.
+// The least room at a border, at most the room of the least variance.
 fn least_room(border: &[BorderStream]) -> i128
     ensures { result ≡ border_room (pos most_adjustment) border.now }
 {

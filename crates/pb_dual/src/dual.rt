@@ -35,7 +35,7 @@ pub struct Dual<'a> {
     // The sum of the variances at each border, and the least room.
     variances: Vec<i128>,
     rooms: Vec<i128>,
-    // No price exceeds it, either way.
+    // No price exceeds this, either way.
     greatest: i128,
 }
 
@@ -53,7 +53,7 @@ impl<'a> Model for Dual<'a> {
         a.flows.items a.borders.items a.variances.items a.rooms.items a.greatest };
 }
 
-// The number of groups: one more than the greatest number of one.
+// The number of groups: one more than the greatest group number.
 fn count(group: &[u32]) -> u32
     requires { All (λ k. k < most_nodes) group.now }
     ensures { result ≡ group_count group.now }
@@ -65,7 +65,7 @@ fn count(group: &[u32]) -> u32
     count
 }
 
-/// The dual flow of a stream whose ends have these prices, in units of 2^-56 gram; 0 where it is
+/// The dual flow of a stream whose ends have these prices, in units of 2^-56 gram; 0 if it is
 /// unmeasured.
 pub fn dual_flow(stream: &Stream, from: i128, to: i128) -> i128
     requires limits { IsWithinLimits stream.now }
@@ -103,7 +103,7 @@ fn write_measured(streams: &[Stream], out: &mut [i128])
 }
 
 impl<'a> Dual<'a> {
-    /// Prices of 0. `group_of` is the number of each node's group.
+    /// Prices of 0. `group_of` has the number of each node's group.
     pub fn new(alloc: Global, graph: &'a Graph, group_of: &[u32]) -> Result<Dual<'a>, AllocError>
         requires { AreGroups graph.now group_of.now }
         ensures graph { IfOk result (λ d. d.graph ≡ graph.now) }
@@ -158,7 +158,7 @@ impl<'a> Dual<'a> {
         self.prices[group as usize]
     }
 
-    /// The price of a node, that of its group, at most 2^120 either way.
+    /// The price of a node, which is the price of its group, at most 2^120 either way.
     pub fn price_at(&self, node: u32) -> i128
         requires { node < self.now.graph.nodes }
         ensures value { result ≡ price_of self.now node }
@@ -167,7 +167,7 @@ impl<'a> Dual<'a> {
         self.price(self.group[node as usize])
     }
 
-    /// The dual flow of a stream, in units of 2^-56 gram; 0 where the stream is unmeasured.
+    /// The dual flow of a stream, in units of 2^-56 gram; 0 if the stream is unmeasured.
     pub fn dual_flow(&self, stream: u32) -> i128
         requires { stream < length self.now.graph.streams }
         ensures value { (s : Stream) → slice_get self.now.graph.streams stream ≡ Some s
@@ -204,7 +204,7 @@ impl<'a> Dual<'a> {
         group != 0 && self.borders[group as usize].len() > 0
     }
 
-    // The best price of a free group: the present one less the nearest quotient of the net dual flow by
+    // The best price of a free group: the present price less the nearest quotient of the net dual flow by
     // the variance, moved into the interval that the border allows.
     fn best_price(&self, group: u32) -> i128
         requires group { group < group_count self.now.group }
@@ -259,7 +259,7 @@ impl<'a> Dual<'a> {
         );
     }
 
-    /// Gives a free group its best price, and leaves another group as it is. Whether its price changed.
+    /// Gives a group its best price if it is free, and leaves it as it is otherwise. Returns whether its price changed.
     pub fn step(&mut self, group: u32) -> bool
         requires { group < group_count self.old.group }
         ensures price { price_of self.new
@@ -286,7 +286,7 @@ impl<'a> Dual<'a> {
         true
     }
 
-    /// Gives each free group its best price, in order of groups. Whether a price changed.
+    /// Gives each free group its best price, in the order of the groups. Returns whether a price changed.
     pub fn sweep(&mut self) -> bool
         ensures price { price_of self.new
             ≡ sweep_of self.old.graph self.old.group (price_of self.old) }

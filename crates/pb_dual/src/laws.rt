@@ -14,17 +14,17 @@ pub fn candidate_law()
     ensures { CandidateLaw }
 {}
 
-/// The best price of a free group is the least candidate of greatest dual value.
+/// The best price of a free group is the least candidate with the greatest dual value.
 pub fn best_law()
     ensures { BestLaw }
 {}
 
-/// After any number of sweeps the prices fit, and a sweep more doesn't lower the dual value.
+/// After any number of sweeps the prices fit, and one more sweep doesn't lower the dual value.
 pub fn ascent_law()
     ensures { AscentLaw }
 {}
 
-/// Where a sweep changes no price, no later one does.
+/// If a sweep changes no price, no later one does.
 pub fn idle_law()
     ensures { IdleLaw }
 {}

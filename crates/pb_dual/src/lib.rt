@@ -2,7 +2,7 @@
 //!
 //! A price is half of what one more gram of imbalance at its node costs in weighted squares (Rockafellar, Network Flows and
 //! Monotropic Optimization). The dual value of prices that fit is a lower bound on the weighted squares of every balanced vector,
-//! and each sweep makes it no worse.
+//! and a sweep never lowers it.
 #![tactic(auto)]
 
 mod arithmetic;

@@ -22,7 +22,7 @@ use Rattle.pb_elim.proofs.NextLemmas.{stop_is}
 use Rattle.pb_elim.proofs.RoundLemmas.{last_graph, more_rounds, one_round}
 use Rattle.pb_elim.proofs.TakenLemmas.{length-unmeasured, without_nodes, without_streams}
 
--- stages and the streams taken between them, with no reason to stop noted yet
+-- stages and the streams taken between them, with no reason to stop recorded yet
 abbrev pub unfinished : List Stage → List Taken → Study
 unfinished stages taken = record { stages = stages; taken = taken; stop = None }
 
@@ -42,7 +42,7 @@ begun g options critical stage limits is formed =
       };
     }
 
--- a stream that is taken is one of the graph
+-- a stream that is taken is a stream of the graph
 pub taken_within : (g : ProcessGraph) (options : Options) (critical : Critical) (count : ℕ) (o : Option Tests) (t : Taken) → IfSome o (AreTestsWithin g)
     → IsSomeAnd o (IsTakenAfter options critical count t) → IsTakenWithin g t
 taken_within g options critical count None t within is = absurd is

@@ -6,11 +6,11 @@ use Rattle.std.proofs.lemmas.List.{get_or_append_left, get_or_push, length_push}
 use Rattle.std.proofs.lemmas.Option.{get_or_from_slice_get, slice_get-get_or, slice_get_within, slice_get-map}
 use Rattle.pb_graph.proofs.WalkLemmas.{some_same}
 
--- what holds of each item of a list, by its place
+-- what holds for each item of a list, by its place
 abbrev pub AtEach : {A : Type 0} → (ℕ → A → Type 0) → List A → Type 0
 AtEach {A} P xs = (k : ℕ) (x : A) → slice_get xs k ≡ Some x → P k x
 
--- one item more
+-- one more item
 pub each_push : {A : Type 0} (P : ℕ → A → Type 0) (xs : List A) (x : A) → AtEach P xs → P (length xs) x → AtEach P (xs ++ x ∷ [])
 each_push P xs x each last k y at =
     let within = slice_get_within (xs ++ x ∷ []) k y at in
@@ -22,7 +22,7 @@ each_push P xs x each last k y at =
           subst (λ i. P i y) end (subst (P (length xs)) (sym (get_or_push xs x y k end) ∙ is) last)
     ]
 
--- lists of one length with the same items are one
+-- lists of the same length with the same items are the same
 pub same_items : {A : Type 0} (xs ys : List A) → length xs ≡ length ys → ((k : ℕ) (x y : A) → slice_get xs k ≡ Some x → slice_get ys k ≡ Some y → x ≡ y) → xs ≡ ys
 same_items [] [] len each = refl
 same_items [] (y ∷ ys) len each = absurd (omega (arith, len))

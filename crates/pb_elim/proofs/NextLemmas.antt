@@ -26,7 +26,7 @@ if_some : (b : Bool) → (if b then None else Some NoSuspect) ≡ None → b ≡
 if_some true none = refl
 if_some false none = cc none
 
--- where the rule doesn't stop, there is a suspect
+-- if the rule doesn't stop, there is a suspect
 of_measures : (critical : Option ℤ) (measures : List MeasureTest) → stop_of_measures critical measures ≡ None → list_any is_suspect measures ≡ true
 of_measures None measures none = cc none
 of_measures (Some value) measures none = if_some (list_any is_suspect measures) none
@@ -64,7 +64,7 @@ taken_next options critical count (Some tests) t is =
       suspect = subst (IsWorst tests.measure) worst (worst_is tests.measure);
     }
 
--- where none is, the rule names a reason to stop
+-- if no stream is taken, the rule gives a reason to stop
 reason_there : (o : Option Stop) (worst : Option Taken) → (o ≡ None → IsSome worst) → (if is_some o then None else worst) ≡ None → IsSome o
 reason_there (Some reason) worst some none = refl
 reason_there None None some none = some refl
@@ -81,7 +81,7 @@ done_next options critical count (Some tests) some none asked =
     reason_there (stop_after options critical count tests) (worst_from None tests.measure)
     (some_taken options critical count tests (worst_from None tests.measure) (worst_is tests.measure)) none
 
--- the reason that it names
+-- the reason that the rule gives
 stop_reason : (options : Options) (critical : Critical) (count : ℕ) (stage : Stage) (o : Option Tests) → stage.tests ≡ o → options.eliminate ≢ 0 → IsDone options critical count o
     → IsStop options critical count stage (reason_at options critical count o)
 stop_reason options critical count stage None is asked done = absurd (done asked)
@@ -103,7 +103,7 @@ pub reason_of : (options : Options) (critical : Critical) (count : ℕ) (o : Opt
 reason_of options critical count None some = absurd some
 reason_of options critical count (Some tests) some = the_some (stop_after options critical count tests) some
 
--- the rule names a reason to stop, or a stream is taken
+-- the rule gives a reason to stop, or a stream is taken
 take_worst : (options : Options) (critical : Critical) (count : ℕ) (tests : Tests) (worst : Option Taken) → IsWorst tests.measure worst → stop_after options critical count tests ≡ None
     → (t : Taken) × IsTakenAfter options critical count t tests
 take_worst options critical count tests None is none = absurd (taken_of options critical count tests None is none)

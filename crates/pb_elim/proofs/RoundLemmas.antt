@@ -22,7 +22,7 @@ use Rattle.pb_elim.specs.Rounds.{IsDone}
 use Rattle.pb_elim.proofs.ListLemmas.{each_push, get_push, some_and, the_some}
 use Rattle.pb_elim.proofs.TakenLemmas.{without_push}
 
--- the stage of a graph alone
+-- a list with a single stage
 only_at : (P : ℕ → Stage → Type 0) (stage : Stage) (i : ℕ) (s : Stage) → P 0 stage → slice_get (stage ∷ []) i ≡ Some s → P i s
 only_at P stage zero s here at = subst (P 0) (some_same at) here
 only_at P stage (suc i) s here at = absurd cc
@@ -78,11 +78,11 @@ spent NoTest options critical count measures same = refl
 spent Reject options critical count measures same =
     ap (λ (b : Bool). is_some (if b then Some Spent else stop_of_measures critical.measure measures)) (eq-eqb count options.eliminate same)
 
--- where elimination is asked, a stage has tests
+-- if elimination is asked for, a stage has tests
 pub has_tests : (g : ProcessGraph) (options : Options) (critical : Critical) (stage : Stage) → AreOptions options → options.eliminate ≢ 0 → IsStageOf g options critical stage → IsSome stage.tests
 has_tests g options critical stage limits asked is = is.asked ∙ limits.rounds_by_tests asked
 
--- after as many rounds as are asked the rule names a reason to stop
+-- after as many rounds as are asked for, the rule gives a reason to stop
 pub spent_done : (g : ProcessGraph) (options : Options) (critical : Critical) (count : ℕ) (stage : Stage) → AreOptions options → IsStageOf g options critical stage → count ≡ options.eliminate
     → IsDone options critical count stage.tests
 spent_done g options critical count stage limits is same asked =

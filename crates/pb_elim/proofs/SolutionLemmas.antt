@@ -38,11 +38,11 @@ state_of g gap sweeps (Unconverged k) price flows is = (k, is.here)
 pub state_fits : AscentLaw → (g : ProcessGraph) (k : ℕ) (price : ℕ → ℤ) (flows : List ℤ) → IsProcessGraph g → IsStateAfter g k price flows → PricesFit g price
 state_fits ascent g k price flows limits is = subst (PricesFit g) (sym is.swept) (ascent g is.group k limits is.groups).fit
 
--- the reconciliation of its own graph
+-- the reconciliation of the stage's graph
 pub own_stage : (g : ProcessGraph) (options : Options) (stage : Stage) → IsReconciliationOf g options stage → IsReconciliationOf stage.graph options stage
 own_stage g options stage is = subst (λ (h : ProcessGraph). IsReconciliationOf h options stage) (sym is.graph_is) is
 
--- tests, where there are tests
+-- tests, if there are tests
 shown_if : (g : ProcessGraph) (options : Options) (critical : Critical) (stage : Stage) (o : Option Tests) → stage.graph ≡ g → IfSome o (AreTestsOf g options critical stage)
     → IfSome o (AreShownTests stage)
 shown_if g options critical stage None graph_is are = tt

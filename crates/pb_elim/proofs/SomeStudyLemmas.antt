@@ -63,7 +63,7 @@ item_each price n none k = elim (cases_lt k n) [
 ]
 
 -- ---- the result of each stream
--- all flows are given, those of the streams at hand besides
+-- all flows are given, as well as those of the streams at hand
 abbrev results_of : (ℕ → ℤ) → List Stream → List ℤ → Gap → ℕ → List Classified → List ℤ → List StreamResult
 results_of price ss all gap j [] flows = []
 results_of price ss all gap j (c ∷ cs) [] = []
@@ -83,7 +83,7 @@ flows_same price ss all gap j [] (y ∷ flows) each = absurd (omega (arith, each
 flows_same price ss all gap j (c ∷ cs) [] each = absurd (omega (arith, each))
 flows_same price ss all gap j (c ∷ cs) (y ∷ flows) each = ap (λ (rest : List ℤ). y ∷ rest) (flows_same price ss all gap (suc j) cs flows (omega (arith, each)))
 
--- a stream's bounds and least bounds are those by its certificate
+-- a stream's bounds and least bounds are those given by its certificate
 record IsEnclosedBy (price : ℕ → ℤ) (ss : List Stream) (all : List ℤ) (gap : Gap) (j : ℕ) (r : StreamResult) : Type 0 where
   bounds : r.bounds ≡ stream_bounds price ss gap j r.classified
   least : r.least ≡ stream_least_bounds price ss all gap j r.classified
@@ -153,7 +153,7 @@ some_reconciliation laws g options limits =
       },
     )
 
--- ---- its tests
+-- ---- the tests of a stage
 some_tests : Laws → (g : ProcessGraph) (options : Options) (critical : Critical) (stage : Stage) → IsProcessGraph g → (tests : Tests) × AreTestsOf g options critical stage tests
 some_tests laws g options critical stage limits =
     let (nodal, are_nodal) = laws.nodal g critical.nodal limits in
@@ -175,7 +175,7 @@ some_stage laws g options critical limits =
     tested laws g options critical stage options.tests refl limits is
 
 -- ---- the rounds
--- stages and the streams taken between them, of options within their limits
+-- stages and the streams taken between them, with options within their limits
 record IsBegun (g : ProcessGraph) (options : Options) (critical : Critical) (stages : List Stage) (taken : List Taken) (last : Stage) : Type 0 where
   limits : IsProcessGraph g
   within : AreOptions options
@@ -193,7 +193,7 @@ ended g options critical stages taken last stop begun is = (
   },
 )
 
--- one stream more is taken
+-- one more stream is taken
 begun_more : Laws → (g : ProcessGraph) (options : Options) (critical : Critical) (stages : List Stage) (taken : List Taken) (last : Stage) (t : Taken) → IsBegun g options critical stages taken last
     → length taken < options.eliminate → IsSomeAnd last.tests (IsTakenAfter options critical (length taken) t)
     → (next : Stage) × IsBegun g options critical (stages ++ next ∷ []) (taken ++ t ∷ []) next

@@ -52,7 +52,7 @@ signs_of g (Cycle steps) within = tt
 pub witness_signs : (g : ProcessGraph) (j : ℕ) (c : Classified) → IsCertified g j c → AreWitnessSigns c.witness
 witness_signs g j c shown = signs_of g c.witness (witness_within g j c shown)
 
--- one result more
+-- one more result
 pub results_more : (s : State) (classes : List Classified) (results : List StreamResult) (c : Classified) (r : StreamResult) → AreResultsOf s classes results → IsResultOf s (length results) c r
     → AreResultsOf s (classes ++ c ∷ []) (results ++ r ∷ [])
 results_more s classes results c r are is = record {
@@ -69,12 +69,12 @@ results_more s classes results c r are is = record {
   ];
 }
 
--- the item behind a list
+-- the item after a list
 pub at_end : (xs : List Classified) (c : Classified) (rest : List Classified) → slice_get (xs ++ c ∷ rest) (length xs) ≡ Some c
 at_end [] c rest = refl
 at_end (x ∷ xs) c rest = at_end xs c rest
 
--- one node more has its price
+-- one more node has its price
 pub price_more : (price : ℕ → ℤ) (before : List ℤ) (p : ℤ) (n : ℕ) → length before ≡ n → ((k : ℕ) → k < n → item before k ≡ price k) → p ≡ price n
     → (k : ℕ) → k < n + 1 → item (before ++ p ∷ []) k ≡ price k
 price_more price before p n each so_far is k lt = elim (cases_eq k n) [
@@ -84,7 +84,7 @@ price_more price before p n each so_far is k lt = elim (cases_eq k n) [
       get_or_append_left before (p ∷ []) (pos 0) k (omega (arith, less, each)) ∙ so_far k less
 ]
 
--- a state, the class of each stream, and what was made of them
+-- a state, the class of each stream, and what was made from them
 pub record AreParts (options : Options) (s : State) (classes : List Classified) (stage : Stage) : Type 0 where
   pub state : IsState s
   pub graph : stage.graph ≡ s.graph
@@ -203,7 +203,7 @@ retested g options stage tests is = record {
   high = is.high;
 }
 
--- its statistic is that of the graph, solved
+-- its statistic is the statistic of the solved graph
 abbrev pub solved_statistic : (g : ProcessGraph) (options : Options) (stage : Stage) → IsReconciliationOf g options stage → IsSolvedStatistic g options.gap options.sweeps stage.low stage.high
 solved_statistic g options stage is = record {
   solved = stage.solved;
@@ -214,13 +214,13 @@ solved_statistic g options stage is = record {
   is_high = is.high;
 }
 
--- tests speak of the stage but for its tests
+-- tests depend on the stage apart from its tests
 same_tests : (g : ProcessGraph) (options : Options) (critical : Critical) (stage : Stage) (o tests : Option Tests) → IfSome tests (AreTestsOf g options critical stage)
     → IfSome tests (AreTestsOf g options critical (record stage { tests = o }))
 same_tests g options critical stage o None are = tt
 same_tests g options critical stage o (Some tests) are = record { overall = are.overall; nodal = are.nodal; measure = are.measure }
 
--- with the tests that are asked it is a stage
+-- with the tests that are asked for it is a stage
 pub stage_tested : (g : ProcessGraph) (options : Options) (critical : Critical) (stage : Stage) (tests : Option Tests) → IsReconciliationOf g options stage → is_some tests ≡ options.tests
     → IfSome tests (AreTestsOf g options critical stage) → IsStageOf g options critical (record stage { tests = tests })
 stage_tested g options critical stage tests is asked are =

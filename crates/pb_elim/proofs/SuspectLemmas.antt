@@ -38,14 +38,14 @@ none_rejects (t ∷ tests) none zero test at is =
     not_rejected test.verdict (ap is_suspect (sym (some_same at)) ∙ first) is
 none_rejects (t ∷ tests) none (suc k) test at is = none_rejects tests (or_none (is_suspect t) (list_any is_suspect tests) none).1 k test at is
 
--- ---- one test more
+-- ---- one more test
 none_more : (before : List MeasureTest) (test : MeasureTest) → list_any is_suspect before ≡ false → is_suspect test ≡ false → list_any is_suspect (before ++ test ∷ []) ≡ false
 none_more [] test none other = ap (λ (b : Bool). b || false) other
 none_more (t ∷ before) test none other =
     let parts = or_none (is_suspect t) (list_any is_suspect before) none in
     ap₂ (λ (a b : Bool). a || b) parts.0 (none_more before test parts.1 other)
 
--- the suspect stays, where the test behind it isn't worse
+-- the suspect stays, if the test after it isn't worse
 stays : (before : List MeasureTest) (test : MeasureTest) (t : Taken) → IsSuspect before t → (test.verdict ≡ Reject → test.low ≤ℤ t.low) → IsSuspect (before ++ test ∷ []) t
 stays before test t is less =
     let within = slice_get_within before is.place is.test is.there in
@@ -60,7 +60,7 @@ stays before test t is less =
       earliest = λ k other lt at rejected. is.earliest k other lt (sym (get_push before test k (omega (arith, lt, within))) ∙ at) rejected;
     }
 
--- the test behind them comes in its place, where it is worse than all
+-- the test after them takes its place, if it is worse than all
 comes : (before : List MeasureTest) (test : MeasureTest) → is_suspect test ≡ true
     → ((k : ℕ) (other : MeasureTest) → slice_get before k ≡ Some other → other.verdict ≡ Reject → other.low <ℤ test.low)
     → IsSuspect (before ++ test ∷ []) (record { stream = test.stream; low = test.low })
@@ -75,7 +75,7 @@ comes before test suspect less = record {
   earliest = λ k other lt at rejected. less k other (sym (get_push before test k lt) ∙ at) rejected;
 }
 
--- what holds of either choice
+-- what holds for either choice
 pub pick : {A : Type 0} (b : Bool) (P : A → Type 0) (x y : A) → (b ≡ true → P x) → (b ≡ false → P y) → P (if b then x else y)
 pick true P x y first second = first refl
 pick false P x y first second = second refl
@@ -92,7 +92,7 @@ unsuspected : (before : List MeasureTest) (test : MeasureTest) (worst : Option T
 unsuspected before test None none is = none_more before test is none
 unsuspected before test (Some t) none is = stays before test t is (λ rejected. absurd (not_rejected test.verdict none rejected))
 
--- that of one comes in the place of the worst, where it is worse
+-- the test of a suspect takes the place of the worst, if it is worse
 suspected : (before : List MeasureTest) (test : MeasureTest) (worst : Option Taken) → is_suspect test ≡ true → IsWorst before worst
     → IsSuspect (before ++ test ∷ []) (worse_of worst (record { stream = test.stream; low = test.low }))
 suspected before test None suspect none = comes before test suspect (λ k other at rejected. absurd (none_rejects before none k other at rejected))
@@ -117,7 +117,7 @@ worst_behind before (test ∷ tests) worst is =
 pub worst_is : (tests : List MeasureTest) → IsWorst tests (worst_from None tests)
 worst_is tests = worst_behind [] tests None refl
 
--- ---- there is one
+-- ---- there is only one
 pub one_suspect : (tests : List MeasureTest) (t u : Taken) → IsSuspect tests t → IsSuspect tests u → t ≡ u
 one_suspect tests t u x y = elim (cases_order x.place y.place) [
   | inl same ↦

@@ -13,7 +13,7 @@ length-unmeasured (suc j) [] = refl
 length-unmeasured zero (s ∷ ss) = refl
 length-unmeasured (suc j) (s ∷ ss) = ap suc (length-unmeasured j ss)
 
--- what holds of each stream and of it without its measurement
+-- what holds of each stream, and of the stream without its measurement
 all_unmeasured : (P : Stream → Type 0) → ((s : Stream) → P s → P (record s { meas = None })) → (j : ℕ) (ss : List Stream) → AllByRecursion P ss → AllByRecursion P (unmeasured_at j ss)
 all_unmeasured P each zero [] all = tt
 all_unmeasured P each (suc j) [] all = tt
@@ -45,7 +45,7 @@ pub without_streams : (g : ProcessGraph) (taken : List Taken) → length (withou
 without_streams g [] = refl
 without_streams g (t ∷ taken) = without_streams (record g { streams = unmeasured_at t.stream g.streams }) taken ∙ length-unmeasured t.stream g.streams
 
--- one more
+-- one more stream
 pub without_push : (g : ProcessGraph) (taken : List Taken) (t : Taken) → without_taken g (taken ++ t ∷ []) ≡ record (without_taken g taken) { streams = unmeasured_at t.stream (without_taken g taken).streams }
 without_push g [] t = refl
 without_push g (u ∷ taken) t = without_push (record g { streams = unmeasured_at u.stream g.streams }) taken t

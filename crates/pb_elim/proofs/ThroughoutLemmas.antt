@@ -1,4 +1,4 @@
--- Each stream of a stage of a study has least bounds where it has bounds.
+-- Each stream of a stage of a study has least bounds if it has bounds.
 use Rattle.std.proofs.Common.{◌≡◌, ◌∙◌, List, take, Option, Some, None, get_or, refl, sym, ap}
 use Rattle.std.specs.Prelude.{is_some, option_map}
 use Rattle.std.proofs.lemmas.Option.{slice_get-get_or}

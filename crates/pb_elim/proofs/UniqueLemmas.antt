@@ -154,7 +154,7 @@ same_stage laws g options critical one other limits x y =
     }
 
 -- ---- rounds
--- the stages at a place behind the same streams
+-- the stages at a place after the same streams
 same_at : Laws → (g : ProcessGraph) (options : Options) (critical : Critical) (one other : Study) (n : ℕ) (x y : Stage) → IsProcessGraph g → IsStudyOf g options critical one
     → IsStudyOf g options critical other → take n one.taken ≡ take n other.taken → slice_get one.stages n ≡ Some x → slice_get other.stages n ≡ Some y → x ≡ y
 same_at laws g options critical one other n x y limits a b front at there =
@@ -162,7 +162,7 @@ same_at laws g options critical one other n x y limits a b front at there =
     subst (λ (ts : List Taken). IsStageOf (without_taken g ts) options critical x) front (a.rounds.each n x at) in
     same_stage laws (without_taken g (take n other.taken)) options critical x y (without_limits g (take n other.taken) limits) x_is (b.rounds.each n y there)
 
--- of the same tests one suspect is taken
+-- from the same tests the same suspect is taken
 same_taken : (options : Options) (critical : Critical) (n : ℕ) (o : Option Tests) (t u : Taken) → IsSomeAnd o (IsTakenAfter options critical n t) → IsSomeAnd o (IsTakenAfter options critical n u)
     → t ≡ u
 same_taken options critical n None t u a b = absurd a
@@ -185,7 +185,7 @@ same_front laws g options critical one other (suc n) limits a b few too =
     subst (λ (k : ℕ). take k one.taken ≡ take k other.taken) (sym next)
     (take_more_same one.taken other.taken n t (omega (arith, few)) (omega (arith, too)) front (get_or_from_slice_get one.taken n t t first ∙ item ∙ sym (get_or_from_slice_get other.taken n u t second)))
 
--- tests that name a reason to stop take none
+-- tests that give a reason to stop take none
 apart : (options : Options) (critical : Critical) (n : ℕ) (o : Option Tests) (reason : Stop) (t : Taken) → IsSomeAnd o (λ tests. stop_after options critical n tests ≡ Some reason)
     → IsSomeAnd o (IsTakenAfter options critical n t) → ⊥
 apart options critical n None reason t stops goes = absurd stops
@@ -197,7 +197,7 @@ goes_or_stops : (options : Options) (critical : Critical) (n : ℕ) (stage : Sta
 goes_or_stops options critical n stage None t asked stops goes = asked stops
 goes_or_stops options critical n stage (Some reason) t asked (also, stops) goes = apart options critical n stage.tests reason t stops goes
 
--- so none takes more than the other
+-- so neither takes more than the other
 no_more : Laws → (g : ProcessGraph) (options : Options) (critical : Critical) (one other : Study) → IsProcessGraph g → IsStudyOf g options critical one → IsStudyOf g options critical other
     → length other.taken ≤ length one.taken
 no_more laws g options critical one other limits a b = elim (cases_lt (length one.taken) (length other.taken)) [

@@ -82,13 +82,13 @@ fitted laws options stage limits is =
 prices_within : (stage : Stage) → PricesFit stage.graph (printed_price stage) → length stage.prices ≡ stage.graph.nodes → All IsPrice stage.prices
 prices_within stage fit priced = λ n d lt. subst IsPrice (sym (get_or_default stage.prices n d (pos 0) lt)) (fit.within n (omega (arith, lt, priced)))
 
--- bounds of a signed sum, where there is one
+-- bounds of a signed sum, if there is one
 bounds_if : (g : ProcessGraph) (price : ℕ → ℤ) (flows : List ℤ) (j : ℕ) (o : Option (List Member)) → IsFitted g price flows → IfSome o (SumsTo g j)
     → IfSome (option_map (bounds_of price g.streams (gap_of price g.streams flows)) o) AreBoundsWithin
 bounds_if g price flows j None fitted sums = tt
 bounds_if g price flows j (Some members) fitted sums = fitted.within.bounds members sums.signed
 
--- and least bounds of it
+-- and its least bounds
 least_if : RangeLaws → (g : ProcessGraph) (price : ℕ → ℤ) (flows : List ℤ) (j : ℕ) (o : Option (List Member)) → IsFitted g price flows → IfSome o (SumsTo g j)
     → IfSome (option_map (least_bounds_of price g.streams flows (gap_of price g.streams flows)) o) AreBoundsWithin
 least_if laws g price flows j None fitted sums = tt
@@ -115,7 +115,7 @@ result_within laws options stage j r is fitted at =
     }
 
 -- ---- nodal tests
--- each has the critical value that is given
+-- each test has the critical value that is given
 critical_if : (b : Bool) (test : NodalTest) → IfSome test.critical IsCriticalValue → All (λ (t : NodalTest). IfSome t.critical IsCriticalValue) (if b then test ∷ [] else [])
 critical_if true test is = All-cons (λ (t : NodalTest). IfSome t.critical IsCriticalValue) test [] is (All-nil (λ (t : NodalTest). IfSome t.critical IsCriticalValue))
 critical_if false test is = All-nil (λ (t : NodalTest). IfSome t.critical IsCriticalValue)
@@ -152,7 +152,7 @@ high_drop : (high : Option ℤ) (low : ℤ) → IfSome high IsEnd → IsEnd low 
 high_drop None low ends end = tt
 high_drop (Some high) low ends end = omega (arith, ints, ends.least, ends.wide, end.least, end.wide)
 
--- the ends of the statistic of a graph that is solved
+-- the ends of the statistic of a solved graph
 record AreEndsWithin (low : ℤ) (high : Option ℤ) : Type 0 where
   low_end : IsEnd low
   high_end : IfSome high IsEnd

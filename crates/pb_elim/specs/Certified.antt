@@ -1,4 +1,4 @@
--- Statement. A shown stage, which an auditor can check, and a certified stage: what a shown one promises to whoever reads it.
+-- Statement. A shown stage, which an auditor can check, and a certified stage: what a shown stage promises to whoever reads it.
 use Rattle.std.specs.Prelude.{◌≡◌, ℕ, ℤ, length, map, Option, None, is_some, All, IfSome, MatchOption}
 use Rattle.pb_graph.specs.declared.records.Class.{Class}
 use Rattle.pb_graph.specs.declared.records.Class.TheVariants.{Unobservable}
@@ -29,7 +29,7 @@ use Rattle.pb_elim.specs.StageTests.{redundant_streams}
 use Rattle.pb_elim.specs.Stage.{HasFreedom}
 use Rattle.pb_elim.specs.Printed.{printed_price, printed_flows, printed_gap, EachStream, HasLeastBounds}
 
--- the bounds of a stream, and its least bounds, by the printed flows, prices and gap, and by its certificate
+-- the bounds of a stream, and its least bounds, from the printed flows, prices and gap, and from its certificate
 abbrev pub found_bounds : Stage → ℕ → StreamResult → Option Bounds
 found_bounds stage j r =
     stream_bounds (printed_price stage) stage.graph.streams (printed_gap stage) j r.classified
@@ -39,7 +39,7 @@ found_least stage j r =
     stream_least_bounds (printed_price stage) stage.graph.streams (printed_flows stage)
     (printed_gap stage) j r.classified
 
--- The gap, the bounds, the least bounds where the stage has any, the degrees of freedom and the statistic are what the rules make of the
+-- The gap, the bounds, the least bounds if the stage has any, the degrees of freedom and the statistic are what the rules give for the
 -- printed flows, prices and certificates.
 pub record AreNumbersOf (stage : Stage) : Type 0 where
   pub deviation :
@@ -55,11 +55,11 @@ pub record AreNumbersOf (stage : Stage) : Type 0 where
 abbrev pub IsMeasureVerdict : MeasureTest → Type 0
 IsMeasureVerdict test = test.verdict ≡ measure_verdict test.low test.high test.critical
 
--- and so does that of a nodal test
+-- the verdict of a nodal test follows from its printed numbers
 abbrev pub IsNodalVerdict : NodalTest → Type 0
 IsNodalVerdict test = test.verdict ≡ nodal_verdict test.net test.variance test.critical
 
--- a nodal test before it is held against a critical value
+-- a nodal test before it is compared with a critical value
 abbrev pub unjudged : NodalTest → NodalTest
 unjudged test = record test { critical = None; verdict = NoCritical }
 
@@ -70,19 +70,19 @@ pub record AreShownTests (stage : Stage) (tests : Tests) : Type 0 where
   pub nodal : All IsNodalVerdict tests.nodal
   pub measure : All IsMeasureVerdict tests.measure
 
--- each redundant stream has the test of its measurement, in order, and no other stream has one, where there are tests
+-- if there are tests, each redundant stream has the test of its measurement, in order, and no other stream has one
 abbrev pub TestsEachRedundant : Stage → Type 0
 TestsEachRedundant stage =
     IfSome stage.tests (λ tests.
     map (λ (test : MeasureTest). test.stream) tests.measure ≡ redundant_streams stage.streams)
 
--- the streams that have bounds have least bounds too, and no others have them
+-- the streams that have bounds also have least bounds, and no others have them
 abbrev pub HasLeastThroughout : Stage → Type 0
 HasLeastThroughout stage = EachStream stage (λ j r. is_some r.least ≡ is_some r.bounds)
 
--- A stage is shown where all of this holds, which its printed numbers alone decide:
+-- A stage is shown if all of this holds, which its printed numbers alone decide:
 pub record IsShownStage (stage : Stage) : Type 0 where
-  -- the graph keeps its limits
+  -- the graph is within its limits
   pub limits : IsProcessGraph stage.graph
   -- each stream has a class, and the printed cut or cycle shows it
   pub each : length stage.streams ≡ length stage.graph.streams
@@ -92,11 +92,11 @@ pub record IsShownStage (stage : Stage) : Type 0 where
   -- each node has its price, and the prices fit
   pub priced : length stage.prices ≡ stage.graph.nodes
   pub fit : PricesFit stage.graph (printed_price stage)
-  -- the other numbers follow from these, and so do the tests, where there are tests
+  -- the other numbers follow from these, and so do the tests, if there are tests
   pub numbers : AreNumbersOf stage
   pub tests : IfSome stage.tests (AreShownTests stage)
 
--- x keeps a stream of a class within bounds of it; only an unobservable stream has none
+-- in x, the flow of a stream of a class is within the bounds of the stream; only an unobservable stream has no bounds
 abbrev pub IsEnclosed : Fractional → ℕ → Class → Option Bounds → Type 0
 IsEnclosed x j class bounds = MatchOption bounds (class ≡ Unobservable) (IsStreamWithin x j)
 
@@ -111,8 +111,8 @@ IsUndecided Reject = ⊥
 IsUndecided Accept = ⊥
 IsUndecided verdict = Unit {0}
 
--- what a verdict of the global test says by a critical value: where it rejects, all balanced flows have weighted squares above the
--- value, and where it accepts, the printed flows have not
+-- what a verdict of the global test says with a critical value: if it rejects, all balanced flows have weighted squares above the
+-- value, and if it accepts, the printed flows don't
 abbrev pub IsVerdictRight : Stage → ℤ → Verdict → Type 0
 IsVerdictRight stage critical Reject =
     (x : Fractional) → IsBalancedFractional stage.graph x → AreSquaresAbove stage.graph x critical
@@ -120,28 +120,28 @@ IsVerdictRight stage critical Accept =
     AreSquaresAtMost stage.graph (whole_flows (printed_flows stage)) critical
 IsVerdictRight stage critical verdict = Unit {0}
 
--- the global test decides only where there is a critical value, and is right
+-- the global test decides only if there is a critical value, and is then right
 abbrev pub IsGlobalRight : Stage → GlobalTest → Type 0
 IsGlobalRight stage test =
     MatchOption test.critical (IsUndecided test.verdict) (λ critical. IsVerdictRight stage critical test.verdict)
 
--- A stage is certified where it is shown, and all of this holds, which follows:
+-- A stage is certified if it is shown, and all of this holds, which follows:
 pub record IsCertifiedStage (stage : Stage) : Type 0 where
   pub shown : IsShownStage stage
-  -- each stream's class holds by meaning
+  -- each stream's class holds by its meaning
   pub classes : EachStream stage (λ j r. IsClassOf stage.graph j r.classified.class)
-  -- balanced flows no worse than the printed ones have each measured and each observable stream within its bounds
+  -- in balanced flows no worse than the printed ones, each measured and each observable stream is within its bounds
   pub enclosed : (x : Fractional) → IsAsGood stage x → EachStream stage (λ j r. IsEnclosed x j r.classified.class r.bounds)
-  -- least flows have each measured and each observable stream within its least bounds, where the stage has any
+  -- in least flows, each measured and each observable stream is within its least bounds, if the stage has any
   pub hypercircle : HasLeastBounds stage → (x : Fractional) → IsLeast stage.graph x
       → EachStream stage (λ j r. IsEnclosed x j r.classified.class r.least)
-  -- the printed flows are at most the printed gap from a least vector
+  -- the printed flows are at most the printed gap away from a least vector
   pub near : (x : Fractional) → IsLeast stage.graph x
       → AreWithinGap stage.graph (printed_gap stage) (whole_flows (printed_flows stage)) x
   -- no balanced flows have weighted squares below the low end of the statistic
   pub least : (x : Fractional) → IsBalancedFractional stage.graph x
       → AreSquaresAtLeast stage.graph x stage.low
-  -- the printed flows have weighted squares not above its high end, where there is one
+  -- the weighted squares of the printed flows aren't above the high end of the statistic, if there is one
   pub most : IfSome stage.high (AreSquaresAtMost stage.graph (whole_flows (printed_flows stage)))
-  -- the global test, where it decides, is right
+  -- the global test, if it decides, is right
   pub decided : IfSome stage.tests (λ tests. IsGlobalRight stage tests.global)

@@ -8,7 +8,7 @@ use Rattle.pb_graph.specs.declared.results.Critical.{Critical}
 abbrev pub IsCriticalRow : CriticalRow → Type 0
 IsCriticalRow row = IsCriticalValue row.value
 
--- Critical values within their limits. Where two rows have the same degrees of freedom, the first one counts.
+-- Critical values within their limits. If two rows have the same degrees of freedom, the first one counts.
 pub record AreCritical (critical : Critical) : Type 0 where
   pub rows : All IsCriticalRow critical.global
   pub nodal : IfSome critical.nodal IsCriticalValue

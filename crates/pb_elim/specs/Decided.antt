@@ -1,4 +1,4 @@
--- Statement. What the decided tests of measurements say of the weighted squares themselves.
+-- Statement. What the decided tests of measurements say about the weighted squares themselves.
 use Rattle.std.specs.Prelude.{ℕ, ℤ, List, All, IfSome, MatchOption}
 use Rattle.pb_graph.specs.declared.results.Verdict.{Verdict}
 use Rattle.pb_graph.specs.declared.results.Verdict.TheVariants.{Reject, Accept}
@@ -11,9 +11,9 @@ use Rattle.pb_tests.specs.Decided.{AreSquaresAboveBy, AreSquaresWithinBy}
 use Rattle.pb_elim.specs.Printed.{printed_flows}
 use Rattle.pb_elim.specs.Certified.{IsUndecided}
 
--- What the verdict of the test of a measurement says by a critical value: where it rejects, there are balanced flows without the
--- measurement whose weighted squares are less, by more than the value, than those of all balanced flows with it; and where it accepts,
--- those of the printed flows are above those of no balanced flows without it by more than the value.
+-- What the verdict of the test of a measurement says with a critical value. If it rejects, there are balanced flows without the
+-- measurement whose weighted squares are less than those of all balanced flows with it, by more than the value. If it accepts, the
+-- weighted squares of the printed flows aren't above those of any balanced flows without it by more than the value.
 abbrev pub IsDropRight : Stage → ℕ → ℤ → Verdict → Type 0
 IsDropRight stage stream critical Reject =
     (flows : List ℤ) × IsBalanced (without_measurement stream stage.graph) flows
@@ -25,7 +25,7 @@ IsDropRight stage stream critical Accept =
     (without_measurement stream stage.graph) y critical
 IsDropRight stage stream critical verdict = Unit {0}
 
--- the test of a measurement decides only where there is a critical value, and is right
+-- the test of a measurement decides only if there is a critical value, and is then right
 abbrev pub IsMeasureRight : Stage → MeasureTest → Type 0
 IsMeasureRight stage test =
     MatchOption test.critical (IsUndecided test.verdict)

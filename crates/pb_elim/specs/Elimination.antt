@@ -1,4 +1,4 @@
--- Statement. Serial elimination: what the tests of a stage say of going on (serial elimination of gross errors: Narasimhan and
+-- Statement. Serial elimination: what the tests of a stage say about going on (serial elimination of gross errors: Narasimhan and
 -- Jordache).
 use Rattle.std.specs.Prelude.{◌≡◌, ◌≢◌, ◌==◌, ◌<◌, ◌≤ℤ◌, ◌<ℤ◌, ℕ, ℤ, Bool, true, false, List, Option, Some, None, slice_get, IsSomeAnd, if◌then◌else◌}
 use Rattle.std.specs.List.{list_any}
@@ -13,7 +13,7 @@ use Rattle.pb_graph.specs.declared.results.Taken.{Taken}
 use Rattle.pb_graph.specs.declared.results.Options.{Options}
 use Rattle.pb_graph.specs.declared.results.Critical.{Critical}
 
--- the test says that the limit is passed
+-- the test says that the limit is exceeded
 abbrev pub is_reject : Verdict → Bool
 is_reject Reject = true
 is_reject verdict = false
@@ -23,13 +23,13 @@ abbrev pub is_suspect : MeasureTest → Bool
 is_suspect test = is_reject test.verdict
 
 -- the reason to stop after a rejected stage while rounds are left: there is no critical value for its measurements, or no suspect
--- among them; none where there is a suspect
+-- among them; none if there is a suspect
 abbrev pub stop_of_measures : Option ℤ → List MeasureTest → Option Stop
 stop_of_measures None measures = Some StopNoCritical
 stop_of_measures (Some value) measures = if list_any is_suspect measures then None else Some NoSuspect
 
--- the reason to stop after a stage for which so many streams were taken, by its global test: a rejected one goes on to its
--- measurements, unless as many were taken as rounds are asked
+-- the reason to stop after a stage for which this many streams were taken, by its global test: a rejected stage goes on to its
+-- measurements, unless as many streams were taken as rounds are asked for
 abbrev pub stop_by : Verdict → Options → Critical → ℕ → List MeasureTest → Option Stop
 stop_by Accept options critical taken measures = Some Accepted
 stop_by Undecided options critical taken measures = Some StopUndecided
@@ -38,13 +38,13 @@ stop_by NoTest options critical taken measures = Some StopNoTest
 stop_by Reject options critical taken measures =
     if taken == options.eliminate then Some Spent else stop_of_measures critical.measure measures
 
--- The rule of elimination: why it stops after a stage with these tests, for which so many streams were taken; none where one more
+-- The rule of elimination: why it stops after a stage with these tests, for which this many streams were taken; none if one more
 -- is taken.
 abbrev pub stop_after : Options → Critical → ℕ → Tests → Option Stop
 stop_after options critical taken tests = stop_by tests.global.verdict options critical taken tests.measure
 
--- The suspect that is taken, with the low end of its drop: the measurement whose test rejects it with the greatest low end, and of
--- these the earliest one.
+-- The suspect that is taken, with the low end of its drop: the measurement whose test rejects it with the greatest low end, and the
+-- earliest such measurement if there are several.
 pub record IsSuspect (measures : List MeasureTest) (taken : Taken) : Type 0 where
   pub place : ℕ
   pub test : MeasureTest
@@ -58,14 +58,14 @@ pub record IsSuspect (measures : List MeasureTest) (taken : Taken) : Type 0 wher
       (k : ℕ) (other : MeasureTest) → k < place → slice_get measures k ≡ Some other
       → other.verdict ≡ Reject → other.low <ℤ test.low
 
--- after a stage with these tests, for which so many streams were taken, one more is: the rule names no reason to stop, and it is
--- the suspect
+-- after a stage with these tests, for which this many streams were taken, one more is taken: the rule gives no reason to stop, and
+-- the stream is the suspect
 pub record IsTakenAfter (options : Options) (critical : Critical) (count : ℕ) (taken : Taken)
     (tests : Tests) : Type 0 where
   pub goes_on : stop_after options critical count tests ≡ None
   pub suspect : IsSuspect tests.measure taken
 
--- the reason to stop after the last stage, for which so many streams were taken; none exactly where no elimination is asked
+-- the reason to stop after the last stage, for which this many streams were taken; none exactly when no elimination is asked for
 abbrev pub IsStop : Options → Critical → ℕ → Stage → Option Stop → Type 0
 IsStop options critical taken stage None = options.eliminate ≡ 0
 IsStop options critical taken stage (Some reason) =

@@ -24,17 +24,17 @@ CertifiedLaw = (graph : ProcessGraph) (options : Options) (critical : Critical) 
     → IsProcessGraph graph → IsStudyOf graph options critical study
     → All IsCertifiedStage study.stages
 
--- its tests are those of the redundant streams
+-- the tests of each stage of a study are those of the redundant streams
 abbrev pub TestedLaw : Type 0
 TestedLaw = (graph : ProcessGraph) (options : Options) (critical : Critical) (study : Study)
     → IsStudyOf graph options critical study → All TestsEachRedundant study.stages
 
--- each stream of it that has bounds has least bounds
+-- in each stage of a study, each stream that has bounds has least bounds
 abbrev pub LeastThroughoutLaw : Type 0
 LeastThroughoutLaw = (graph : ProcessGraph) (options : Options) (critical : Critical) (study : Study)
     → IsStudyOf graph options critical study → All HasLeastThroughout study.stages
 
--- and the decided tests of its measurements are right
+-- the decided tests of measurements of each stage of a study are right
 abbrev pub DecidedLaw : Type 0
 DecidedLaw = (graph : ProcessGraph) (options : Options) (critical : Critical) (study : Study)
     → IsProcessGraph graph → AreCritical critical → IsStudyOf graph options critical study
@@ -56,13 +56,13 @@ abbrev pub SolutionLaw : Type 0
 SolutionLaw = (graph : ProcessGraph) (options : Options) (critical : Critical) (study : Study)
     → IsStudyOf graph options critical study → All (IsSolved options) study.stages
 
--- a process graph has a study, at all options within their limits and all critical values
+-- a process graph has a study, for all options within their limits and all critical values
 abbrev pub SomeStudyLaw : Type 0
 SomeStudyLaw = (graph : ProcessGraph) (options : Options) (critical : Critical)
     → IsProcessGraph graph → AreOptions options
     → (study : Study) × IsStudyOf graph options critical study
 
--- a graph has at most one study, so a text made of it is determined by the graph, the options and the critical values
+-- a graph has at most one study, so a text made from the study is determined by the graph, the options and the critical values
 abbrev pub OneStudyLaw : Type 0
 OneStudyLaw = (graph : ProcessGraph) (options : Options) (critical : Critical) (one other : Study)
     → IsProcessGraph graph → IsStudyOf graph options critical one

@@ -3,8 +3,8 @@ use Rattle.std.specs.Prelude.{◌≡◌, ◌≢◌, ◌≤◌, true}
 use Rattle.pb_limits.specs.Limits.{most_gap, most_rounds, most_sweeps}
 use Rattle.pb_graph.specs.declared.results.Options.{Options}
 
--- options within their limits: a gap in thousandths of a standard deviation, a limit of its sweeps, and rounds of elimination, for
--- which tests are made
+-- options within their limits: a gap in thousandths of a standard deviation, a limit on the sweeps, and rounds of elimination, for
+-- which tests must be made
 pub record AreOptions (options : Options) : Type 0 where
   pub some_gap : 1 ≤ options.gap
   pub greatest_gap : options.gap ≤ most_gap

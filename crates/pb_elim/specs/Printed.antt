@@ -1,4 +1,4 @@
--- Statement. What stands in a stage, as it is printed.
+-- Statement. What a stage contains, as it is printed.
 use Rattle.std.specs.Prelude.{◌≡◌, ℕ, ℤ, Bool, List, map, Some, is_some, slice_get, IsTrue}
 use Rattle.std.specs.List.{list_any}
 use Rattle.pb_integers.specs.Sums.{item}
@@ -23,14 +23,14 @@ printed_classes stage = map (λ (r : StreamResult). r.classified) stage.streams
 abbrev pub printed_gap : Stage → Gap
 printed_gap stage = record { g = stage.g; h = stage.h }
 
--- what holds of each stream and its result
+-- what holds for each stream and its result
 abbrev pub EachStream : Stage → (ℕ → StreamResult → Type 0) → Type 0
 EachStream stage P = (j : ℕ) (r : StreamResult) → slice_get stage.streams j ≡ Some r → P j r
 
--- whether some stream of these has least bounds
+-- whether some stream among these has least bounds
 abbrev pub have_least : List StreamResult → Bool
 have_least results = list_any (λ (r : StreamResult). is_some r.least) results
 
--- a stage has least bounds where some stream of it has
+-- a stage has least bounds if some stream of it has
 abbrev pub HasLeastBounds : Stage → Type 0
 HasLeastBounds stage = IsTrue (have_least stage.streams)

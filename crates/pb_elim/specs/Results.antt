@@ -1,4 +1,4 @@
--- Inside. What is printed of the streams of a graph that is solved.
+-- Inside. What is printed for the streams of a solved graph.
 use Rattle.std.specs.Prelude.{◌≡◌, ℕ, List, length, Some, slice_get, IfSome}
 use Rattle.pb_graph.specs.declared.records.Classified.{Classified}
 use Rattle.pb_graph.specs.declared.results.StreamResult.{StreamResult}
@@ -7,7 +7,8 @@ use Rattle.pb_gap.specs.StreamBounds.{stream_bounds}
 use Rattle.pb_gap.specs.LeastBounds.{stream_least_bounds}
 use Rattle.pb_graph.specs.WellFormed.{AreBoundsWithin, IsFlow}
 
--- the result of stream j, which has a class with its certificate: that, its flow, its bounds by the certificate, and its least bounds
+-- the result of stream j, which has a class with its certificate: the class, the flow, the bounds from the certificate, and the least
+-- bounds
 pub record IsResultOf (state : State) (j : ℕ) (c : Classified) (r : StreamResult) : Type 0 where
   pub classified : r.classified ≡ c
   pub flow : slice_get state.flows j ≡ Some r.flow

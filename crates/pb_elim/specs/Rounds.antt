@@ -1,4 +1,4 @@
--- Inside. How streams are taken round by round.
+-- Inside. How streams are taken, round by round.
 use Rattle.std.specs.Prelude.{◌≡◌, ◌≢◌, ◌==◌, ℕ, int_lt, false, List, [], ◌∷◌, Option, None, Some, length, slice_get, is_some, IsSome, IsSomeAnd, MatchOption, if◌then◌else◌}
 use Rattle.std.specs.List.{list_any}
 use Rattle.pb_graph.specs.declared.results.MeasureTest.{MeasureTest}
@@ -14,23 +14,23 @@ use Rattle.pb_graph.specs.WellFormed.{IsWellFormedStudy}
 use Rattle.pb_elim.specs.Elimination.{IsSuspect, is_suspect, stop_after}
 use Rattle.pb_elim.specs.Study.{AreRounds}
 
--- the worst suspect so far, or one more, whose drop has a greater low end
+-- the worst suspect so far, or one more if its drop has a greater low end
 abbrev pub worse_of : Option Taken → Taken → Taken
 worse_of None taken = taken
 worse_of (Some worst) taken = if int_lt worst.low taken.low then taken else worst
 
--- the worst suspect behind one more test
+-- the worst suspect after one more test
 abbrev pub worse : Option Taken → MeasureTest → Option Taken
 worse worst test =
     if is_suspect test then Some (worse_of worst (record { stream = test.stream; low = test.low }))
     else worst
 
--- and behind more tests
+-- the worst suspect after more tests
 abbrev pub worst_from : Option Taken → List MeasureTest → Option Taken
 worst_from worst [] = worst
 worst_from worst (test ∷ tests) = worst_from (worse worst test) tests
 
--- the stream that is taken after a stage with these tests, none where the rule says to stop
+-- the stream that is taken after a stage with these tests, or none if the rule says to stop
 abbrev pub next_of : Options → Critical → ℕ → Tests → Option Taken
 next_of options critical taken tests =
     if is_some (stop_after options critical taken tests) then None else worst_from None tests.measure
@@ -48,12 +48,12 @@ abbrev pub stop_at : Options → Critical → ℕ → Option Tests → Option St
 stop_at options critical taken tests =
     if options.eliminate == 0 then None else reason_at options critical taken tests
 
--- the suspect of a list of tests, none where there is none
+-- the suspect of a list of tests, or none if there is none
 abbrev pub IsWorst : List MeasureTest → Option Taken → Type 0
 IsWorst measures worst =
     MatchOption worst (list_any is_suspect measures ≡ false) (IsSuspect measures)
 
--- where elimination is asked, the rule names a reason to stop
+-- if elimination is asked for, the rule gives a reason to stop
 abbrev pub IsDone : Options → Critical → ℕ → Option Tests → Type 0
 IsDone options critical taken tests =
     options.eliminate ≢ 0 → IsSomeAnd tests (λ tests. IsSome (stop_after options critical taken tests))
@@ -64,7 +64,7 @@ pub record AreRoundsOf (graph : ProcessGraph) (options : Options) (critical : Cr
   pub rounds : AreRounds graph options critical study.stages study.taken
   pub formed : IsWellFormedStudy graph study
 
--- and all rounds of it: after the last stage the rule names a reason to stop
+-- all rounds of a study: after the last stage the rule gives a reason to stop
 pub record AreAllRoundsOf (graph : ProcessGraph) (options : Options) (critical : Critical) (study : Study) : Type 0 where
   pub so_far : AreRoundsOf graph options critical study
   pub done :

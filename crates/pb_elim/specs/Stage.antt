@@ -21,9 +21,9 @@ pub record HasFreedom (streams : List Stream) (dof : ℕ) : Type 0 where
   pub forest : IsForest streams held
   pub count : dof ≡ degrees_of_freedom streams held
 
--- The reconciliation of a graph, which is its stage but for the tests: each stream's class with its canonical certificate, the solution
--- of the graph, which gives prices and flows, and what follows from these: the gap, each stream's bounds and least bounds by its
--- certificate, the degrees of freedom, and the statistic (Narasimhan and Jordache, on steady linear reconciliation).
+-- The reconciliation of a graph, which is its stage except for the tests: each stream's class with its canonical certificate; the
+-- solution of the graph, which gives prices and flows; and what follows from these: the gap, each stream's bounds and least bounds
+-- from its certificate, the degrees of freedom, and the statistic (Narasimhan and Jordache, on steady linear reconciliation).
 pub record IsReconciliationOf (graph : ProcessGraph) (options : Options) (stage : Stage) : Type 0 where
   pub graph_is : stage.graph ≡ graph
   pub classes : IsClassification graph (printed_classes stage)
@@ -43,7 +43,7 @@ pub record IsReconciliationOf (graph : ProcessGraph) (options : Options) (stage 
   pub low : stage.low ≡ low_of graph.streams (printed_flows stage) (printed_gap stage)
   pub high : stage.high ≡ high_of graph.streams (printed_flows stage)
 
--- The stage of a graph: its reconciliation, and tests exactly where they are asked.
+-- The stage of a graph: its reconciliation, and tests exactly when they are asked for.
 pub record IsStageOf (graph : ProcessGraph) (options : Options) (critical : Critical) (stage : Stage)
     : Type 0 where
   pub reconciled : IsReconciliationOf graph options stage

@@ -18,20 +18,20 @@ without_taken graph (t ∷ taken) =
 -- Stages of a graph, and the streams taken between them:
 pub record AreRounds (graph : ProcessGraph) (options : Options) (critical : Critical)
     (stages : List Stage) (taken : List Taken) : Type 0 where
-  -- the stage at a place is that of the graph without the measurements that were taken before it
+  -- the stage at a place is the stage of the graph without the measurements that were taken before it
   pub each :
       (i : ℕ) (stage : Stage) → slice_get stages i ≡ Some stage
       → IsStageOf (without_taken graph (take i taken)) options critical stage
-  -- one stream is taken between each stage and the next, in at most as many rounds as are asked
+  -- one stream is taken between each stage and the next, in at most as many rounds as are asked for
   pub between : length stages ≡ length taken + 1
   pub rounds : length taken ≤ options.eliminate
-  -- it is the suspect of the stage before it, after which the rule doesn't stop
+  -- that stream is the suspect of the stage before it, after which the rule doesn't stop
   pub suspects :
       (i : ℕ) (stage : Stage) (t : Taken) → slice_get stages i ≡ Some stage → slice_get taken i ≡ Some t
       → IsSomeAnd stage.tests (IsTakenAfter options critical i t)
 
--- The study of a graph: the stages of the graph and the streams taken between them, until the rule of elimination says to stop; one
--- stage where no elimination is asked.
+-- The study of a graph: the stages of the graph and the streams taken between them, until the rule of elimination says to stop, or one
+-- stage if no elimination is asked for.
 pub record IsStudyOf (graph : ProcessGraph) (options : Options) (critical : Critical)
     (study : Study) : Type 0 where
   pub rounds : AreRounds graph options critical study.stages study.taken

@@ -1,4 +1,4 @@
-// The rule of elimination: after each stage, whether to stop and why, and else which stream is taken.
+// The rule of elimination: after each stage, whether to stop and why, or which stream is taken.
 
 ghost use Rattle.std.specs.Prelude.{◌≡◌, None};
 ghost use Rattle.std.specs.List.{list_any};
@@ -26,7 +26,7 @@ fn has_suspect(measures: &[MeasureTest]) -> bool
     false
 }
 
-// Why the elimination stops after a rejected stage while rounds are left; `None` where there is a suspect.
+// Why the elimination stops after a rejected stage while rounds are left; `None` if there is a suspect.
 fn stop_of_measures(critical: Option<i64>, measures: &[MeasureTest]) -> Option<Stop>
     ensures { result ≡ stop_of_measures critical measures.now }
 {
@@ -42,7 +42,7 @@ fn stop_of_measures(critical: Option<i64>, measures: &[MeasureTest]) -> Option<S
     }
 }
 
-// Why the elimination stops after a stage with these tests, for which so many streams were taken; `None` where one more is.
+// Why the elimination stops after a stage with these tests, for which this many streams were taken; `None` if one more is taken.
 fn stop_after(options: &Options, critical: &Critical, taken: u32, tests: &Tests) -> Option<Stop>
     ensures { result ≡ stop_after options.now critical.now taken tests.now }
 {
@@ -61,7 +61,7 @@ fn stop_after(options: &Options, critical: &Critical, taken: u32, tests: &Tests)
     }
 }
 
-// The worst suspect so far, or one more, whose drop has a greater low end.
+// The worst suspect so far, or one more if its drop has a greater low end.
 fn worse_of(worst: Option<Taken>, taken: Taken) -> Taken
     ensures { result ≡ worse_of worst taken }
 {
@@ -71,7 +71,7 @@ fn worse_of(worst: Option<Taken>, taken: Taken) -> Taken
     }
 }
 
-// The worst suspect behind one more test.
+// The worst suspect after one more test.
 fn worse(worst: Option<Taken>, test: &MeasureTest) -> Option<Taken>
     ensures { result ≡ worse worst test.now }
 {
@@ -85,7 +85,7 @@ fn worse(worst: Option<Taken>, test: &MeasureTest) -> Option<Taken>
     Some(worse_of(worst, taken))
 }
 
-// The suspect with the greatest low end of its drop, of these the earliest one; `None` where there is no suspect.
+// The suspect with the greatest low end of its drop, or the earliest of several; `None` if there is no suspect.
 fn suspect(measures: &[MeasureTest]) -> Option<Taken>
     ensures { result ≡ worst_from None measures.now }
 {
@@ -96,7 +96,7 @@ fn suspect(measures: &[MeasureTest]) -> Option<Taken>
     worst
 }
 
-/// The stream that is taken after a stage with these tests, for which so many were taken; `None` where the rule says to stop, and where
+/// The stream that is taken after a stage with these tests, for which this many were taken; `None` if the rule says to stop, or if
 /// there are no tests.
 pub fn next_at(
     options: &Options,
@@ -115,7 +115,8 @@ pub fn next_at(
     suspect(tests.measure.as_slice())
 }
 
-/// Why the elimination stops after its last stage with these tests, for which so many streams were taken; `None` where none is asked.
+/// Why the elimination stops after its last stage with these tests, for which this many streams were taken; `None` if no elimination
+/// is asked for.
 pub fn stop_at(
     options: &Options,
     critical: &Critical,

@@ -1,4 +1,4 @@
-// What is proved of the definitions alone. The contract of each function is a law; it calls those that the proof stands on.
+// What is proved of the definitions alone. The contract of each function is a law; the function calls the laws that its proof uses.
 
 ghost use Rattle.pb_elim.specs.Laws.{ShownLaw, CertifiedLaw, TestedLaw, LeastThroughoutLaw, DecidedLaw, FormedLaw, SolutionLaw, SomeStudyLaw, OneStudyLaw};
 
@@ -37,12 +37,12 @@ pub fn certified_law()
     shown_law();
 }
 
-/// Each redundant stream of each stage of a study has the test of its measurement, in order, where there are tests.
+/// If there are tests, each redundant stream of each stage of a study has the test of its measurement, in order.
 pub fn tested_law()
     ensures { TestedLaw }
 {}
 
-/// Each stream of each stage of a study has least bounds where it has bounds.
+/// Each stream of each stage of a study has least bounds if it has bounds.
 pub fn least_throughout_law()
     ensures { LeastThroughoutLaw }
 {}
@@ -71,7 +71,7 @@ pub fn solution_law()
     ensures { SolutionLaw }
 {}
 
-/// A process graph has a study, at all options within their limits and all critical values.
+/// A process graph has a study, for all options within their limits and all critical values.
 pub fn some_study_law()
     ensures { SomeStudyLaw }
 {
@@ -82,7 +82,7 @@ pub fn some_study_law()
     measure_tests_law();
 }
 
-/// A graph has at most one study with the same options and critical values, so a text made of it is one text.
+/// A graph has at most one study with the same options and critical values, so only one text can be made from it.
 pub fn one_study_law()
     ensures { OneStudyLaw }
 {

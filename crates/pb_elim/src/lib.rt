@@ -1,5 +1,5 @@
 //! The whole study of a process graph: classes with their certificates, reconciled flows, bounds, least bounds, prices, the statistic and
-//! tests; and serial elimination, which takes suspects out one after the other.
+//! tests; and serial elimination, which takes out suspects one after another.
 //!
 //! Each stage of a study is certified: what it prints promises by itself what an auditor may rely on, whatever made it.
 #![tactic(auto)]

@@ -1,4 +1,4 @@
-// The measured streams whose signed sum is the flow of a stream, by its class and its certificate.
+// The measured streams whose signed sum is the flow of a stream, from its class and its certificate.
 
 ghost use Rattle.std.specs.Prelude.{◌≡◌, ◌≤◌, [], ◌∷◌, pos, ◌*ℤ◌, neg_ℤ, unsigned_abs, All, IfOk};
 ghost use Rattle.pb_gap.specs.StreamBounds.{sign_in, others_times, sum_for};
@@ -8,7 +8,7 @@ ghost use Rattle.pb_elim.specs.Signs.{HasSign, AreWitnessSigns};
 use pb_graph::{Class, Classified, List, Member, Witness};
 use std::alloc::{AllocError, Global};
 
-// The sign of a stream in a list of members, 0 where it isn't one of them.
+// The sign of a stream in a list of members, or 0 if it isn't among them.
 fn sign_in(stream: u32, members: &[Member]) -> i8
     requires { All HasSign members.now }
     ensures value { result ≡ sign_in stream members.now }
@@ -22,7 +22,7 @@ fn sign_in(stream: u32, members: &[Member]) -> i8
     0
 }
 
-// A sign, turned round.
+// A sign, reversed.
 fn turned(z: i8) -> i8
     requires { unsigned_abs z ≤ 1 }
     ensures value { result ≡ neg_ℤ z }
@@ -63,7 +63,7 @@ fn others_times(
     Ok(others)
 }
 
-// A stream alone, with the sign 1.
+// A single stream, with the sign 1.
 fn itself(alloc: Global, stream: u32) -> Result<List<Member>, AllocError>
     ensures { IfOk result (λ members. members ≡ record { stream = stream; sign = pos 1 } ∷ []) }
 {
@@ -82,7 +82,7 @@ fn others(alloc: Global, stream: u32, members: &[Member]) -> Result<List<Member>
 }
 
 /// The measured streams whose signed sum is the flow of a stream: a measured stream itself, and for an observable one the other
-/// members of its cut, each with its sign times -1 times that of the stream. An unobservable stream has none.
+/// members of its cut, each with its sign times -1 times the sign of the stream. An unobservable stream has none.
 pub fn sum_for(
     alloc: Global,
     stream: u32,

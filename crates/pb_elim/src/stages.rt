@@ -29,7 +29,7 @@ struct Enclosure {
     least: Option<Bounds>,
 }
 
-// The bounds and the least bounds of the flow of a stream by its class and its certificate, none where it is unobservable.
+// The bounds and the least bounds of the flow of a stream, from its class and its certificate, or none if it is unobservable.
 fn enclosure_of(
     alloc: Global,
     solver: &Solver,
@@ -63,7 +63,7 @@ fn enclosure_of(
     }
 }
 
-// What is printed of a stream.
+// What is printed for a stream.
 fn stream_result(
     alloc: Global,
     solver: &Solver,
@@ -84,7 +84,7 @@ fn stream_result(
     })
 }
 
-// What is printed of each stream, in order.
+// What is printed for each stream, in order.
 fn stream_results(
     alloc: Global,
     solver: &Solver,
@@ -173,7 +173,7 @@ fn reconciled<'a>(
     collected(alloc, graph, options, classes, &solver, solved)
 }
 
-/// The stage of a graph: classes, flows, bounds, least bounds, prices, the statistic, and tests where they are asked.
+/// The stage of a graph: classes, flows, bounds, least bounds, prices, the statistic, and tests if they are asked for.
 pub fn stage(
     alloc: Global,
     graph: &Graph,

@@ -38,7 +38,7 @@ fn stage_without(
     stage(alloc, &without, options, critical)
 }
 
-// All rounds of a study from its first stage on, with no reason to stop noted yet: each time the stage without what was taken.
+// All rounds of a study from its first stage on, with no reason to stop recorded yet: each stage is without what was taken before it.
 fn rounds(
     alloc: Global,
     graph: &Graph,
@@ -77,8 +77,8 @@ fn rounds(
 }
 
 /// The study of a graph: its stage, with the class of each stream, reconciled flows, bounds, least bounds, prices, the statistic, and
-/// tests where they are asked; and where elimination is asked, the stages of the graph without the streams that are taken one by one,
-/// each time the worst suspect, with the reason why it stopped (Narasimhan and Jordache, serial elimination).
+/// tests if they are asked for. If elimination is asked for, there are also the stages of the graph without the streams that are taken
+/// one by one, each time the worst suspect, and the reason why the elimination stopped (Narasimhan and Jordache, serial elimination).
 pub fn study(
     alloc: Global,
     graph: &Graph,
@@ -98,7 +98,7 @@ pub fn study(
     study_from(alloc, graph, first, options, critical)
 }
 
-/// The study of a graph whose classes are known, with their certificates: that of `study`.
+/// The study of a graph whose classes are known, with their certificates: the same as `study` gives.
 pub fn study_classed(
     alloc: Global,
     graph: &Graph,

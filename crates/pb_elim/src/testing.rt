@@ -13,7 +13,7 @@ use pb_graph::{Class, Critical, Graph, List, Options, Stage, StreamResult, Tests
 use pb_tests::{global_test, measure_tests, nodal_tests};
 use std::alloc::{AllocError, Global};
 
-// The redundant streams by the results of all streams, in order.
+// The redundant streams according to the results of all streams, in order.
 fn redundant_streams(alloc: Global, results: &[StreamResult]) -> Result<List<u32>, AllocError>
     requires { length results.now ≤ most_streams }
     ensures { IfOk result (λ streams. streams ≡ redundant_streams results.now) }
@@ -27,7 +27,7 @@ fn redundant_streams(alloc: Global, results: &[StreamResult]) -> Result<List<u32
     Ok(streams)
 }
 
-// The tests of a stage, which has none yet.
+// The tests of a stage that has none yet.
 fn tests_of(
     alloc: Global,
     graph: &Graph,
@@ -66,7 +66,7 @@ fn tests_of(
     })
 }
 
-/// The tests of a stage, which has none yet; `None` exactly where none are asked.
+/// The tests of a stage that has none yet; `None` exactly when none are asked for.
 pub fn asked_tests(
     alloc: Global,
     graph: &Graph,

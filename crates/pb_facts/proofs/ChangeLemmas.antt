@@ -77,7 +77,7 @@ map_none p g (x ∷ xs) fails =
     let rest = map_none p g xs (λ k d lt. fails (suc k) d (omega (arith, lt))) in
     rw (here, rest) refl
 
--- one item passes, and it alone is changed
+-- one item passes, and only it is changed
 pub map_one : {X : Type 0} (p : X → Bool) (g : X → X) (xs : List X) (i : ℕ) (d : X) → i < length xs → p (get_or xs i d) ≡ true
     → ((k : ℕ) (e : X) → k < length xs → k ≢ i → p (get_or xs k e) ≡ false) → set xs i (g (get_or xs i d)) ≡ map (λ x. if p x then g x else x) xs
 map_one p g [] i d within here others = absurd (omega (arith, within))
@@ -111,7 +111,7 @@ apart_ids id kept i k d pairs low high apart here = elim (cases_Bool (has_id id 
       ]
 ]
 
--- the live fact with an id has it, is live, and is the one with it
+-- the live fact with an id has it, is live, and is the only fact with it
 pub record IsOnly (id : List ℕ) (kept : List KeptFact) (i : ℕ) (d : KeptFact) : Type 0 where
   pub within : i < length kept
   pub here : has_id id (get_or kept i d) ≡ true
@@ -180,7 +180,7 @@ changed_length (Level m w v) (Reading id s d grams variance) = refl
 changed_length (Level m w v) (Transfer id s first last grams variance) = refl
 changed_length (Level m w v) (Dip id t d mm density variance) = refl
 
--- the day of a new fact and that of a changed one
+-- the day of a new fact and the day of a changed fact
 changed_later : (c : Change) (fact other : Fact) → is_on_day_of fact (changed c other) ≡ is_on_day_of fact other
 changed_later c (Reading id s d grams variance) other = changed_reading s d c other
 changed_later c (Transfer id s first last grams variance) other = refl
@@ -207,7 +207,7 @@ changed_range (Level m w v) (Dip id t d mm density variance) new old = (old.0, n
 abbrev amend_one : List ℕ → Change → KeptFact → KeptFact
 amend_one id c k = if is_live_with id k then record { fact = changed c k.fact; struck = false } else k
 
--- it is as live as it was, and says the same where the values aren't asked
+-- it is as live as it was, and says the same unless its values are looked at
 amend_one_same : {Y : Type 0} (h : Bool → Fact → Y) (id : List ℕ) (c : Change) (k : KeptFact) → ((b : Bool) (fact : Fact) → h b (changed c fact) ≡ h b fact)
     → h (amend_one id c k).struck (amend_one id c k).fact ≡ h k.struck k.fact
 amend_one_same h id c k same = elim (cases_Bool (is_live_with id k)) [
@@ -248,7 +248,7 @@ kept_amended id c kept places new right =
       few = let long = length-map kept one in omega (arith, long, right.few);
     }
 
--- the live fact with the id is the one that is amended
+-- the live fact with the id is the fact that is amended
 pub set_amended : (id : List ℕ) (c : Change) (kept : List KeptFact) (i : ℕ) (d : KeptFact) → IsOnly id kept i d
     → set kept i (record { fact = changed c (get_or kept i d).fact; struck = false }) ≡ amended id c kept
 set_amended id c kept i d only =
@@ -308,7 +308,7 @@ forgotten q id kept i d old one_day pairs only right = elim (cases_Bool (q (get_
   | inr off ↦ rw off (right ∙ sym (position_map (passes_live q) (strike_one id) kept (same off)))
 ]
   where
-    -- no live fact passes, where the struck one does
+    -- no live fact passes if the struck one does
     live_none : q (get_or kept i d).fact ≡ true → (k : ℕ) → k < length kept → k ≢ i → passes_live q (get_or kept k d) ≡ false
     live_none on k within apart = elim (cases_Bool (passes_live q (get_or kept k d))) [
       | inr fails ↦ fails
@@ -367,7 +367,7 @@ kept_struck id kept old new i d only right forgets =
       few = let long = length-map kept one in omega (arith, long, right.few);
     }
 
--- the live fact with the id is the one that is struck
+-- the live fact with the id is the fact that is struck
 pub set_struck : (id : List ℕ) (kept : List KeptFact) (i : ℕ) (d : KeptFact) → IsOnly id kept i d
     → set kept i (record { fact = (get_or kept i d).fact; struck = true }) ≡ struck id kept
 set_struck id kept i d only =
@@ -381,7 +381,7 @@ unknown_id id c kept none =
     let absent : list_any (is_live_with id) kept ≡ false = sym (is_some-position (is_live_with id) kept) ∙ ap is_some none in
     rw absent refl
 
--- the live fact with the id is the one that a change has to fit
+-- the live fact with the id is the fact that a change has to fit
 pub fault_at : (id : List ℕ) (c : Change) (kept : List KeptFact) (i : ℕ) (d : KeptFact) → IsOnly id kept i d
     → amend_fault_of kept id c ≡ (if fits c (get_or kept i d).fact then None else Some Mismatch)
 fault_at id c kept i d only =
@@ -407,7 +407,7 @@ fault_at id c kept i d only =
           rw (there, some, misfit) refl
     ]
 
--- ---- the same of the item that was found at the place
+-- ---- the same for the item that was found at the place
 
 pub kept_struck_item : (id : List ℕ) (kept : List KeptFact) (old new : Places) (i : ℕ) (item : KeptFact) → IsOnly id kept i item → item ≡ get_or kept i item → IsKept kept old
     → Forgets old new item.fact → IsKept (struck id kept) new

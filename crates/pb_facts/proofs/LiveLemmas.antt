@@ -16,7 +16,7 @@ below_next a n = elim (cases_Bool (nat_lt a n)) [
   ]
 ]
 
--- the place of the first item that passes, behind one that fails
+-- the place of the first item that passes, after one that fails
 position_next : {X Y : Type 0} (p : X → Bool) (f : ℕ → Option Y) (x : X) (xs : List X) → p x ≡ false
     → option_and_then f (position p (x ∷ xs)) ≡ option_and_then (λ i. f (suc i)) (position p xs)
 position_next {X} {Y} p f x xs fails = let a = position_or_len p xs in let n = length xs in rw (fails, below_next a n) (by (nat_lt a n) a)
@@ -25,7 +25,7 @@ position_next {X} {Y} p f x xs fails = let a = position_or_len p xs in let n = l
     by true a = let e : 1 + a ≡ suc a = omega arith in ap f e
     by false a = refl
 
--- the first item, where it passes
+-- the first item, if it passes
 position_here : {X Y : Type 0} (p : X → Bool) (f : ℕ → Option Y) (x : X) (xs : List X) → p x ≡ true → option_and_then f (position p (x ∷ xs)) ≡ f 0
 position_here {X} {Y} p f x xs passes = rw (passes, lt-ltb 0 (suc (length xs)) (omega arith)) refl
 
@@ -33,7 +33,7 @@ position_here {X} {Y} p f x xs passes = rw (passes, lt-ltb 0 (suc (length xs)) (
 abbrev pub passes_live : (Fact → Bool) → KeptFact → Bool
 passes_live q k = not k.struck && q k.fact
 
--- the first live fact that passes, where the first kept one is struck, or passes, or fails
+-- the first live fact that passes, if the first kept fact is struck, or passes, or fails
 find_struck : (q : Fact → Bool) (k : KeptFact) (kept : List KeptFact) → k.struck ≡ true → find q (live_facts (k ∷ kept)) ≡ find q (live_facts kept)
 find_struck q k kept struck = rw struck refl
 

@@ -39,7 +39,7 @@ list_any-or p q (x ∷ xs) = rw (list_any-or p q xs) (by (p x) (q x) (list_any p
     by false true false d = refl
     by false false c d = refl
 
--- a fact without a fault is no duplicate and not too long, and there is room for it
+-- a fact without a fault isn't a duplicate and isn't too long, and there is room for it
 no_fault : (kept : List KeptFact) (fact : Fact) → fault_of kept fact ≡ None → (is_duplicate kept fact ≡ false) × (is_full kept ≡ false) × (is_too_long fact ≡ false)
 no_fault kept fact fine = by (is_duplicate kept fact) (is_out_of_order fact) (is_too_long fact) (is_full kept) fine
   where
@@ -134,7 +134,7 @@ kept_more kept old mid new fact place right same notes fine ranges at =
 
 -- ---- looking up
 
--- what stands where no fact stands
+-- what stands at a place without a fact
 abbrev pub no_fact : KeptFact
 no_fact = record { fact = Reading [] [] (pos 0) (pos 0) (pos 0); struck = false }
 

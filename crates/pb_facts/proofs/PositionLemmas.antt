@@ -14,28 +14,28 @@ below_true a b lt = elim (cases_Bool (nat_lt a b)) [ inl passes ↦ passes | inr
 below_false : (a b : ℕ) → b ≤ a → nat_lt a b ≡ false
 below_false a b le = elim (cases_Bool (nat_lt a b)) [ inl passes ↦ absurd (omega (arith, ltb-true a b passes)) | inr fails ↦ fails ]
 
--- the place at which the test passes, where it fails before it
+-- the place at which the test passes, if it fails before this place
 pub position_at : {X : Type 0} (p : X → Bool) (xs : List X) (i : ℕ) (d : X) → i < length xs → ((k : ℕ) → k < i → p (get_or xs k d) ≡ false)
     → p (get_or xs i d) ≡ true → position p xs ≡ Some i
 position_at p xs i d within before here =
     let e = position_or_len_is p xs i d (omega arith) before (λ _. here) in
     rw (e, below_true i (length xs) within) refl
 
--- no place, where the test fails everywhere
+-- no place, if the test fails everywhere
 pub position_none : {X : Type 0} (p : X → Bool) (xs : List X) → ((k : ℕ) (d : X) → k < length xs → p (get_or xs k d) ≡ false) → position p xs ≡ None
 position_none p [] fails = refl
 position_none p (x ∷ xs) fails =
     let e = position_or_len_is p (x ∷ xs) (length (x ∷ xs)) x (omega arith) (λ k lt. fails k x lt) (λ past. absurd (omega arith)) in
     rw (e, below_false (length (x ∷ xs)) (length (x ∷ xs)) (omega arith)) refl
 
--- where no item passes, the item at each place fails
+-- if no item passes, the item at each place fails
 pub any_absent : {X : Type 0} (p : X → Bool) (xs : List X) → list_any p xs ≡ false → (k : ℕ) (d : X) → k < length xs → p (get_or xs k d) ≡ false
 any_absent p xs none k d within = elim (cases_Bool (p (get_or xs k d))) [
   | inl passes ↦ cc (sym none ∙ list_any_at p xs k d within passes)
   | inr fails ↦ fails
 ]
 
--- there is a place exactly where some item passes
+-- there is a place exactly when some item passes
 pub is_some-position : {X : Type 0} (p : X → Bool) (xs : List X) → is_some (position p xs) ≡ list_any p xs
 is_some-position p [] = refl
 is_some-position p (x ∷ xs) = by (p x) refl (is_some-position p xs)
@@ -55,7 +55,7 @@ is_some-position p (x ∷ xs) = by (p x) refl (is_some-position p xs)
         let a = position_or_len p xs in
         rw (e, tail (nat_lt a n) a n refl) (test (nat_lt a n) a n ∙ so_far)
 
--- one more item that passes, where none did
+-- one more item that passes, if none did
 pub position_push_new : {X : Type 0} (p : X → Bool) (xs : List X) (x : X) → list_any p xs ≡ false → p x ≡ true → position p (xs ++ x ∷ []) ≡ Some (length xs)
 position_push_new p xs x none here =
     let long = length-append xs (x ∷ []) in

@@ -1,4 +1,4 @@
--- The facts as they stand on their shelf, looked up, added and changed.
+-- The facts on the shelf, looked up, added and changed.
 use Rattle.std.proofs.Common.{◌≡◌, ◌<◌, ◌≤◌, ◌+◌, ◌++◌, ◌∷◌, [], ◌∙◌, ℕ, zero, suc, List, Bool, true, false, Some, All, length, get_or, set, map, arith, ap, ap₂, cond, sym, refl, inl, inr, length-append, slice_get}
 use Rattle.std.specs.Prelude.{◌||◌, not, position}
 use Rattle.std.specs.Cmp.Lexicographic.{bytes_decides}
@@ -53,11 +53,11 @@ told_id id name entry (ReadingTold day grams) = refl
 told_id id name entry (TransferTold first last grams) = refl
 told_id id name entry (DipTold day mm density) = refl
 
--- an id is that of the fact that stands under it
+-- an id is the id of the fact that is stored under it
 is_under : (id : List ℕ) (names : List (List ℕ)) (one : List ℕ × Entry) → same_name id one.0 ≡ has_id id (kept_of names one)
 is_under id names one = same_flip id one.0 ∙ ap (λ (q : List ℕ). same_name q id) (sym (told_id one.0 (get_or names one.1.name []) one.1 one.1.told))
 
--- so the place of an id is that of the fact
+-- so the place of an id is the place of the fact
 pub place_under : (id : List ℕ) (names : List (List ℕ)) (entries : List (List ℕ × Entry)) → position (same_name id) (map (λ e. e.0) entries) ≡ position (has_id id) (kept_facts names entries)
 place_under id names entries = position_images (same_name id) (has_id id) (λ (e : List ℕ × Entry). e.0) (kept_of names) entries (λ e. is_under id names e)
 
@@ -66,7 +66,7 @@ any_under id names entries = any_images (same_name id) (has_id id) (λ (e : List
 
 -- ---- one more fact
 
--- a new id goes behind the others
+-- a new id goes after the others
 pub entry_behind : (entries : List (List ℕ × Entry)) (id : List ℕ) (entry : Entry) → list_any (same_name id) (map (λ e. e.0) entries) ≡ false → insert_entry same_name entries id entry ≡ entries ++ (id, entry) ∷ []
 entry_behind [] id entry new = refl
 entry_behind (e ∷ entries) id entry new = elim (cases_Bool (same_name id e.0)) [
@@ -74,7 +74,7 @@ entry_behind (e ∷ entries) id entry new = elim (cases_Bool (same_name id e.0))
   | inr other ↦ rw other (ap (λ (es : List (List ℕ × Entry)). e ∷ es) (entry_behind entries id entry (rw other at new)))
 ]
 
--- the facts stay where names are put behind the others
+-- the facts stay the same if names are put after the others
 names_behind : (names more : List (List ℕ)) (entries : List (List ℕ × Entry)) → All (λ one. one.1.name < length names) entries → kept_facts (names ++ more) entries ≡ kept_facts names entries
 names_behind names more [] numbered = refl
 names_behind names more (e ∷ entries) numbered =
@@ -82,7 +82,7 @@ names_behind names more (e ∷ entries) numbered =
     let rest = names_behind names more entries (λ k d lt. numbered (suc k) d (omega (arith, lt))) in
     rw (get_or-append names more [] e.1.name low, rest) refl
 
--- a name is there, or goes behind the others
+-- a name is there, or goes after the others
 pub same_facts : (names : List (List ℕ)) (name : List ℕ) (entries : List (List ℕ × Entry)) → All (λ one. one.1.name < length names) entries
     → kept_facts (insert_key same_name names name) entries ≡ kept_facts names entries
 same_facts names name entries numbered = elim (cases_Bool (list_any (same_name name) names)) [
@@ -188,7 +188,7 @@ shelf_changed names entries i old new shelf at same =
       few = omega (arith, long, shelf.few);
     }
 
--- the facts after one more value is set, where that stands for what a new fact says
+-- the facts after one more value is set, if this value stands for what a new fact says
 pub facts_changed : (names : List (List ℕ)) (entries : List (List ℕ × Entry)) (i : ℕ) (change : Change) (d : KeptFact) (old new : Entry) → slice_get (map (λ e. e.1) entries) i ≡ Some old
     → ((id name : List ℕ) → told_fact id name new.variance new.told ≡ changed change (told_fact id name old.variance old.told)) → new.name ≡ old.name → new.struck ≡ false
     → kept_facts names (set_value_at entries i new) ≡ set (kept_facts names entries) i (record { fact = changed change (get_or (kept_facts names entries) i d).fact; struck = false })

@@ -38,7 +38,7 @@ places_from-push passes from (y ∷ xs) x =
       | inr failing ↦ rw (failing) rest
     ]
 
--- there are no more of them than items
+-- there are no more places than items
 pub places_from-few : {X : Type 0} (passes : X → Bool) (from : ℕ) (xs : List X) → length (places_from passes from xs) ≤ length xs
 places_from-few passes from [] = omega arith
 places_from-few passes from (x ∷ xs) =
@@ -88,7 +88,7 @@ next_or_same a b from to = by_lt_z a b
     or_true true = refl
     or_true false = refl
 
--- a transfer that has a day in a period begins in the block of the period's last day, or in the one before it
+-- a transfer that has a day in a period begins in the block of the period's last day, or in the block before
 begins_about : (first last from to : ℤ) → first ≤ℤ to → from ≤ℤ last → (last -ℤ first) <ℤ pos most_days_of_transfer → (to -ℤ from) <ℤ pos most_days_of_period
     → (int_eq (block_of first) (block_of to) || int_eq (block_of first +ℤ pos 1) (block_of to)) ≡ true
 begins_about first last from to begins ends short brief = next_or_same (block_of first) (block_of to)
@@ -111,7 +111,7 @@ about stream from to (Transfer id s first last grams variance) brief short withi
     let blocks = begins_about first last from to (omega (arith, ints, front.1)) (omega (arith, ints, parts.1)) (omega (arith, ints, short)) brief in
     rw (front.0, blocks) refl
 
--- no item that passes a test is left out where all items that pass it are kept
+-- no item that passes a test is left out if all items that pass it are kept
 kept_pass : {X Y : Type 0} (keeps : X → Bool) (passes : Y → Bool) (f : X → Option Y) (xs : List X)
     → ((i : ℕ) (d : X) → i < length xs → keeps (get_or xs i d) ≡ false → filter passes (filter_map f (get_or xs i d ∷ [])) ≡ [])
     → filter passes (filter_map f xs) ≡ filter passes (filter_map f (filter keeps xs))

@@ -1,4 +1,4 @@
--- Statement. What an amendment makes of the kept facts, what a strike takes out, and the first fault of an amendment.
+-- Statement. How an amendment changes the kept facts, what a strike removes, and the first fault of an amendment.
 use Rattle.std.specs.Prelude.{◌&&◌, ℕ, List, map, Bool, true, false, not, Option, Some, None, if◌then◌else◌}
 use Rattle.std.specs.List.{list_any}
 use Rattle.pb_limits.specs.Ranges.{IsDensity, IsGrams, IsLevel, IsVariance}
@@ -11,14 +11,14 @@ use Rattle.pb_facts.specs.declared.fact.FactFault.{FactFault}
 use Rattle.pb_facts.specs.declared.fact.FactFault.TheVariants.{Unknown, Mismatch}
 use Rattle.pb_facts.specs.declared.facts.KeptFact.{KeptFact}
 
--- a level is that of a dip, an amount that of a reading or a transfer
+-- a level fits a dip, an amount fits a reading or a transfer
 abbrev pub fits : Change → Fact → Bool
 fits (Level mm density variance) (Dip id tank day old_mm old_density old_variance) = true
 fits (Level mm density variance) fact = false
 fits (Amount grams variance) (Dip id tank day mm density old_variance) = false
 fits (Amount grams variance) fact = true
 
--- a fact with these values in place of its own: its id, its stream or tank and its days stay
+-- a fact with its values replaced by these: its id, its stream or tank and its days stay the same
 abbrev pub changed : Change → Fact → Fact
 changed (Amount grams variance) (Reading id stream day old_grams old_variance) =
     Reading id stream day grams variance
@@ -28,12 +28,12 @@ changed (Level mm density variance) (Dip id tank day old_mm old_density old_vari
     Dip id tank day mm density variance
 changed change fact = fact
 
--- the kept facts where the live one with this id has these values in place of its own
+-- the kept facts, with the values of the live fact with this id replaced by these
 abbrev pub amended : List ℕ → Change → List KeptFact → List KeptFact
 amended id change kept =
     map (λ (k : KeptFact). if is_live_with id k then record { fact = changed change k.fact; struck = false } else k) kept
 
--- the kept facts where the one with this id is struck
+-- the kept facts, with the fact with this id struck
 abbrev pub struck : List ℕ → List KeptFact → List KeptFact
 struck id kept = map (λ (k : KeptFact). if has_id id k then record { fact = k.fact; struck = true } else k) kept
 
@@ -41,7 +41,7 @@ struck id kept = map (λ (k : KeptFact). if has_id id k then record { fact = k.f
 abbrev pub is_live_without : List ℕ → Change → KeptFact → Bool
 is_live_without id change kept = is_live_with id kept && not (fits change kept.fact)
 
--- the first fault of an amendment: no live fact has the id, or the change is of another kind than the fact
+-- the first fault of an amendment: no live fact has the id, or the change is of a different kind from the fact
 abbrev pub amend_fault_of : List KeptFact → List ℕ → Change → Option FactFault
 amend_fault_of kept id change =
     if not (list_any (is_live_with id) kept) then Some Unknown

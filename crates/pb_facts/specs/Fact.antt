@@ -1,4 +1,4 @@
--- Statement. One fact: its id, its stream or tank and its days, and what can be wrong with it alone.
+-- Statement. One fact: its id, its stream or tank and its days, and what can be wrong with it by itself.
 use Rattle.std.specs.Prelude.{◌-ℤ◌, ◌≤ℤ◌, ◌&&◌, ℕ, ℤ, pos, neg_ℤ, int_le, int_lt, List, Bool, false}
 use Rattle.std.specs.Ordering.{int_eq}
 use Rattle.pb_limits.specs.Limits.{most_days_of_transfer}
@@ -41,7 +41,7 @@ abbrev pub is_out_of_order : Fact → Bool
 is_out_of_order (Transfer id stream first last grams variance) = int_lt last first
 is_out_of_order _ = false
 
--- a transfer of too many days, its first and its last among them
+-- a transfer of too many days, counting its first and its last
 abbrev pub is_too_long : Fact → Bool
 is_too_long (Transfer id stream first last grams variance) =
     int_le (pos most_days_of_transfer) (last -ℤ first)

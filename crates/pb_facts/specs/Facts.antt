@@ -37,7 +37,7 @@ is_repeat fact kept = has_id (id_of fact) kept || is_repeat_by_day fact kept
 abbrev pub is_duplicate : List KeptFact → Fact → Bool
 is_duplicate kept fact = list_any (is_repeat fact) kept
 
--- as many facts were added as there may be, struck ones counted
+-- as many facts were added as there may be, including struck ones
 abbrev pub is_full : List KeptFact → Bool
 is_full kept = nat_le most_facts (length kept)
 
@@ -55,7 +55,7 @@ abbrev pub fault_of : List KeptFact → Fact → Option FactFault
 fault_of kept fact =
     first_fault (is_duplicate kept fact) (is_out_of_order fact) (is_too_long fact) (is_full kept)
 
--- no fact repeats an earlier one: so no id comes twice, and no two live readings or dips share a stream or tank and day
+-- no fact repeats an earlier one: so no id occurs twice, and no two live readings or dips share a stream or tank and day
 abbrev pub NoRepeats : List KeptFact → Type 0
 NoRepeats kept = AllPairs (λ earlier later. is_repeat later.fact earlier ≡ false) kept
 
@@ -79,7 +79,7 @@ live_facts kept = filter_map live_fact kept
 abbrev pub live_at : List KeptFact → ℕ → Option Fact
 live_at kept place = option_and_then live_fact (slice_get kept place)
 
--- Among the facts at these places are the live transfers of the stream that have a day from `from` to `to`: all of them, in order.
+-- The facts at these places include all live transfers of the stream that have a day from `from` to `to`, in order.
 abbrev pub HoldsTransfers : List KeptFact → List ℕ → ℤ → ℤ → List ℕ → Type 0
 HoldsTransfers kept stream from to places =
     filter (is_transfer_within stream from to) (live_facts kept)

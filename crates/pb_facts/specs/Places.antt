@@ -1,4 +1,4 @@
--- Inside. Where the kept facts stand, as the maps of facts have it.
+-- Inside. The places of the kept facts, as the maps of facts give them.
 use Rattle.std.specs.Prelude.{◌≡◌, ◌+◌, ◌<◌, ◌≤◌, ◌&&◌, ◌||◌, ◌++◌, ℕ, ℤ, pos, ◌+ℤ◌, List, [], ◌∷◌, length, Bool, false, Some, None, IsSomeAnd, if◌then◌else◌, All, position, vec_len, vec_capacity}
 use Rattle.std.specs.Int.{int_div_euclid}
 use Rattle.std.specs.Option.{option_map_or}
@@ -22,19 +22,19 @@ same_key a b = same_name a.0 b.0 && int_eq a.1 b.1
 abbrev pub block_of : ℤ → ℤ
 block_of day = int_div_euclid day (pos 512)
 
--- a transfer of this stream that begins in this block of days, or in the one before it
+-- a transfer of this stream that begins in this block of days, or in the block before
 abbrev pub is_about : List ℕ × ℤ → Fact → Bool
 is_about key (Transfer id stream first last grams variance) =
     same_name stream key.0 && (int_eq (block_of first) key.1 || int_eq (block_of first +ℤ pos 1) key.1)
 is_about key _ = false
 
--- the places of the items that pass, the first item's being `from`
+-- the places of the items that pass, where the first item has the place `from`
 abbrev pub places_from : {X : Type 0} → (X → Bool) → ℕ → List X → List ℕ
 places_from passes from [] = []
 places_from passes from (x ∷ xs) =
     if passes x then from ∷ places_from passes (from + 1) xs else places_from passes (from + 1) xs
 
--- the places at a key; none where the map has no entry
+-- the places at a key; none if the map has no entry
 abbrev pub places_at : {S : Type 0} → HashMap (List ℕ × ℤ) (Vec ℕ) S → List ℕ × ℤ → List ℕ
 places_at transfers key =
     option_map_or (λ (places : Vec ℕ). places.items) (get same_key transfers key) []
@@ -63,7 +63,7 @@ pub record SamePlaces (old new : Places) : Type 0 where
   pub dips : (key : List ℕ × ℤ) → get same_key new.dips key ≡ get same_key old.dips key
   pub transfers : (key : List ℕ × ℤ) → places_at new.transfers key ≡ places_at old.transfers key
 
--- there is room for the place of a new fact: by its stream or tank, and its day or the blocks of days about its first one
+-- there is room for the place of a new fact: by its stream or tank, and its day, or the block of its first day and the next block
 abbrev pub HasRoom : Places → Fact → Type 0
 HasRoom places (Reading id stream day grams variance) = 0 < spare places.readings
 HasRoom places (Transfer id stream first last grams variance) =
@@ -71,7 +71,7 @@ HasRoom places (Transfer id stream first last grams variance) =
     × HasRoomAt places.transfers (stream, block_of first +ℤ pos 1)
 HasRoom places (Dip id tank day mm density variance) = 0 < spare places.dips
 
--- the maps give the place of a new fact by its stream or tank and day or days, and else what they gave
+-- the maps give the place of a new fact by its stream or tank and day or days, and otherwise what they gave before
 pub record Notes (old new : Places) (fact : Fact) (place : ℕ) : Type 0 where
   pub readings : (key : List ℕ × ℤ)
       → get same_key new.readings key
@@ -83,7 +83,7 @@ pub record Notes (old new : Places) (fact : Fact) (place : ℕ) : Type 0 where
       → places_at new.transfers key
       ≡ places_at old.transfers key ++ (if is_about key fact then place ∷ [] else [])
 
--- the maps don't give the place of a fact by its stream or tank and day, and else what they gave
+-- the maps don't give the place of a fact by its stream or tank and day, and otherwise give what they gave before
 pub record Forgets (old new : Places) (fact : Fact) : Type 0 where
   pub readings : (key : List ℕ × ℤ)
       → get same_key new.readings key

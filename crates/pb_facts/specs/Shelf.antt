@@ -1,4 +1,4 @@
--- Inside. The facts as they stand on their shelf: each under its id, with the number of its stream's or tank's name.
+-- Inside. The facts as the shelf stores them: each under its id, with the number of the name of its stream or tank.
 use Rattle.std.specs.Prelude.{◌<◌, ◌≤◌, ℕ, ℤ, List, [], length, map, All, slice_index_or}
 use Rattle.pb_limits.specs.Limits.{most_facts}
 use Rattle.pb_facts.specs.declared.fact.Fact.{Fact}
@@ -31,7 +31,7 @@ kept_of names one = record {
 abbrev pub kept_facts : List (List ℕ) → List (List ℕ × Entry) → List KeptFact
 kept_facts names entries = map (kept_of names) entries
 
--- each entry has the number of a name, and there are no more names than facts, and no more of these than there may be
+-- each entry has the number of a name, and there are no more names than facts, and no more facts than there may be
 pub record IsShelf (names : List (List ℕ)) (entries : List (List ℕ × Entry)) : Type 0 where
   pub numbered : All (λ one. one.1.name < length names) entries
   pub few_names : length names ≤ length entries

@@ -19,7 +19,7 @@ pub enum Fact {
         grams: i64,
         variance: i128,
     },
-    /// What a batch stream carried from a first day to a last one, both included: grams, with their variance in squared grams.
+    /// What a batch stream carried from a first to a last day, both included: grams, with their variance in squared grams.
     Transfer {
         id: Name,
         stream: Name,
@@ -40,7 +40,7 @@ pub enum Fact {
     },
 }
 
-/// New values of a fact: its id, its stream or tank and its days stay.
+/// New values of a fact: its id, its stream or tank and its days stay the same.
 #[derive(Clone, Copy)]
 pub enum Change {
     /// What a reading or a transfer carried: grams, with their variance in squared grams.
@@ -57,7 +57,7 @@ pub enum Change {
     },
 }
 
-/// Why a fact or a change of one isn't taken.
+/// Why a fact, or a change of a fact, isn't accepted.
 #[derive(Clone, Copy, PartialEq, Eq, Debug)]
 pub enum FactFault {
     /// No live fact has the id.
@@ -66,7 +66,7 @@ pub enum FactFault {
     Duplicate,
     /// The first day comes after the last.
     Order,
-    /// The change is of another kind than the fact.
+    /// The change is of a different kind from the fact.
     Mismatch,
     /// A transfer of more than 366 days.
     Range,
@@ -119,7 +119,7 @@ impl Fact {
         }
     }
 
-    /// The fact with these values in place of its own, where they are of its kind.
+    /// The fact with its values replaced by these, if they are of its kind.
     pub fn changed(&self, change: Change) -> Fact
         ensures { result ≡ changed change self.now }
     {
@@ -177,7 +177,7 @@ impl Fact {
 }
 
 impl Change {
-    /// Whether it is of a fact's kind: a level of a dip, an amount of a reading or a transfer.
+    /// Whether the change is of a fact's kind: a level for a dip, an amount for a reading or a transfer.
     pub fn fits(&self, fact: &Fact) -> bool
         ensures { result ≡ fits self.now fact.now }
     {

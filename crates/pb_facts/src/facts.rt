@@ -44,7 +44,7 @@ impl Model for Facts {
 }
 
 impl Facts {
-    /// No fact.
+    /// No facts yet.
     pub fn new(alloc: Global) -> Facts
         ensures { result ≡ [] }
     {
@@ -59,9 +59,9 @@ impl Facts {
         }
     }
 
-    /// The first fault of a new fact, of Duplicate, Order, Range and Full: its id was added before, struck or not, or a live
+    /// The first fault of a new fact, among Duplicate, Order, Range and Full: its id was added before, struck or not, or a live
     /// reading or dip has its stream or tank and day; a transfer's first day comes after its last; a transfer has more than 366
-    /// days; as many facts as there may be were added. `None` exactly where there is none.
+    /// days; as many facts as there may be were added. `None` exactly when there is none.
     pub fn judge(&self, fact: &Fact) -> Option<FactFault>
         ensures { result ≡ fault_of self.now fact.now }
     {
@@ -78,7 +78,7 @@ impl Facts {
         }
     }
 
-    /// Adds a fact that has no fault. After an `Err`, want of memory, the facts are as they were.
+    /// Adds a fact that has no fault. After an `Err`, out of memory, the facts are as they were.
     pub fn add(&mut self, fact: Fact) -> Result<(), AllocError>
         requires in_range { IsInRange fact }
         requires no_fault { fault_of self.old fact ≡ None }
@@ -93,8 +93,8 @@ impl Facts {
         Ok(())
     }
 
-    /// The first fault of an amendment, of Unknown and Mismatch: no live fact has the id; the change is a level and the fact no dip,
-    /// or an amount and the fact a dip. `None` exactly where there is none.
+    /// The first fault of an amendment, among Unknown and Mismatch: no live fact has the id; the change is a level and the fact isn't
+    /// a dip, or the change is an amount and the fact is a dip. `None` exactly when there is none.
     pub fn judge_amend(&self, id: &Name, change: &Change) -> Option<FactFault>
         ensures { result ≡ amend_fault_of self.now id.now change.now }
     {
@@ -110,7 +110,7 @@ impl Facts {
         }
     }
 
-    /// Gives the live fact that has the id new values, by a change that has no fault. Its stream or tank and its days stay.
+    /// Gives the live fact that has the id new values, by a change that has no fault. Its stream or tank and its days stay the same.
     pub fn amend(&mut self, id: &Name, change: Change)
         requires in_range { IsChangeInRange change }
         requires no_fault { amend_fault_of self.old id.now change ≡ None }
@@ -121,7 +121,7 @@ impl Facts {
         }
     }
 
-    /// Takes the live fact that has the id out. The id stays used, and the fact can still be asked for by its place.
+    /// Strikes the live fact that has the id. The id stays in use, and the fact can still be looked up by its place.
     pub fn strike(&mut self, id: &Name)
         requires { IsSome (live_place_of id.now self.old) }
         ensures { self.new ≡ struck id.now self.old }
@@ -132,7 +132,7 @@ impl Facts {
         }
     }
 
-    /// The number of facts added, struck ones counted.
+    /// The number of facts added, including struck ones.
     pub fn len(&self) -> u32
         ensures value { result ≡ length self.now }
         ensures within { length self.now ≤ most_facts }
@@ -157,7 +157,7 @@ impl Facts {
         self.shelf.at(place)
     }
 
-    /// The fact at a place, counted from 0 in the order of adding, with its last values; `None` exactly where it was struck.
+    /// The fact at a place, counted from 0 in the order of adding, with its last values; `None` exactly when it was struck.
     pub fn live(&self, place: u32) -> Option<Fact>
         requires { place < length self.now }
         ensures value { result ≡ live_at self.now place }
@@ -168,7 +168,7 @@ impl Facts {
         if kept.struck { None } else { Some(kept.fact) }
     }
 
-    /// The place of the live fact that has the id; `None` exactly where there is none. No fact repeats an earlier one.
+    /// The place of the live fact that has the id; `None` exactly when there is none. No fact repeats an earlier one.
     pub fn find(&self, id: &Name) -> Option<u32>
         ensures value { result ≡ live_place_of id.now self.now }
         ensures within { IfSome result (λ place. place < length self.now) }
@@ -182,14 +182,14 @@ impl Facts {
         }
     }
 
-    /// The place of the fact that has the id, struck or not; `None` exactly where there is none.
+    /// The place of the fact that has the id, struck or not; `None` exactly when there is none.
     pub fn place_of(&self, id: &Name) -> Option<u32>
         ensures { result ≡ place_of id.now self.now }
     {
         self.shelf.place_of(id)
     }
 
-    /// The place of the live reading of a stream on a day; `None` exactly where there is none.
+    /// The place of the live reading of a stream on a day; `None` exactly when there is none.
     pub fn reading_on(&self, stream: &Name, day: i32) -> Option<u32>
         ensures value { result ≡ position (is_live_reading_on stream.now day) self.now }
         ensures found { option_and_then (live_at self.now) result
@@ -198,7 +198,7 @@ impl Facts {
         self.places.readings.get(&(*stream, day)).copied()
     }
 
-    /// The place of the live dip of a tank at the end of a day; `None` exactly where there is none.
+    /// The place of the live dip of a tank at the end of a day; `None` exactly when there is none.
     pub fn dip_on(&self, tank: &Name, day: i32) -> Option<u32>
         ensures value { result ≡ position (is_live_dip_on tank.now day) self.now }
         ensures found { option_and_then (live_at self.now) result
@@ -207,8 +207,8 @@ impl Facts {
         self.places.dips.get(&(*tank, day)).copied()
     }
 
-    /// Places of transfers, in the order of adding: those of all transfers of the stream that have a day from `first` to `last`, and
-    /// of none that begins long before or after these days.
+    /// Places of transfers, in the order of adding: they include all transfers of the stream that have a day from `first` to
+    /// `last`, and none that begins long before or after these days.
     pub fn transfers_within(&self, stream: &Name, first: i32, last: i32) -> &[u32]
         requires { (last -ℤ first) <ℤ pos most_days_of_period }
         ensures transfers { HoldsTransfers self.now stream.now first last result.now }

@@ -1,9 +1,9 @@
-// The laws of shares.
+// Laws about shares.
 
 ghost use Rattle.pb_facts.specs.Share.{SharesLaw};
 
-/// Shares add up: what falls on some days and what falls on those behind them make up what falls on all of these days, and all
-/// days have the whole total.
+/// The law that shares add up: what falls on some days and what falls on the days after them make up what falls on all of these days,
+/// and all days together have the whole total.
 pub fn shares_law()
     ensures { SharesLaw }
 {}

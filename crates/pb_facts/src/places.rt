@@ -1,4 +1,4 @@
-// The places of kept facts, so that no look-up walks the facts.
+// The places of kept facts, so that no look-up walks through the facts.
 
 ghost use Rattle.std.specs.Prelude.{◌≡◌, ◌<◌, ◌+◌, ◌∷◌, ◌++◌, [], ℕ, ℤ, pos, neg_ℤ, ◌+ℤ◌, ◌≤ℤ◌, ◌^◌, List, Some, None, if◌then◌else◌, IsSome, OnOk};
 ghost use Rattle.std.specs.HashMap.{get, spare};
@@ -14,7 +14,7 @@ use std::collections::HashMap;
 use std::hash::Hash;
 
 /// The places of the kept facts: of the live readings and dips by stream or tank and day, and of the transfers by stream and each
-/// block of days in which they may be asked for.
+/// block of days in which they may be looked up.
 #[derive(Drop)]
 pub struct Places {
     pub readings: HashMap<(Name, i32), u32>,
@@ -51,7 +51,7 @@ impl Places {
         }
     }
 
-    /// Takes out the place of a fact that is struck, by its stream or tank and day. A transfer keeps its place.
+    /// Removes the place of a fact that is struck, by its stream or tank and day. A transfer keeps its place.
     pub fn forget(&mut self, fact: &Fact)
         ensures { Forgets self.old self.new fact.now }
     {
@@ -63,7 +63,7 @@ impl Places {
     }
 }
 
-// Takes out the entry at a key.
+// Removes the entry at a key.
 fn take(map: &mut HashMap<(Name, i32), u32>, key: (Name, i32))
     ensures { (q : List ℕ × ℤ) → get same_key map.new q
         ≡ (if same_key key q then None else get same_key map.old q) }
@@ -90,7 +90,7 @@ fn put<K: Eq + Hash + Drop, V: Drop>(map: &mut HashMap<K, V>, key: K, value: V)
     }
 }
 
-// Makes room for one more place under a stream and a block of days, and under the block behind it.
+// Makes room for one more place under a stream and a block of days, and under the next block.
 fn make_room(
     alloc: Global,
     transfers: &mut HashMap<(Name, i32), Vec<u32>>,
@@ -156,7 +156,7 @@ fn reserve_at(
     }
 }
 
-// Puts the place of a transfer under its stream and a block of days, and under the block behind it.
+// Puts the place of a transfer under its stream and a block of days, and under the next block.
 fn put_transfer(
     transfers: &mut HashMap<(Name, i32), Vec<u32>>,
     stream: Name,
@@ -175,7 +175,7 @@ fn put_transfer(
     put_at(transfers, (stream, block + 1), place);
 }
 
-// Puts a place behind the others at a key at which there is room.
+// Appends a place at a key at which there is room.
 fn put_at(transfers: &mut HashMap<(Name, i32), Vec<u32>>, key: (Name, i32), place: u32)
     requires { HasRoomAt transfers.old key }
     ensures put { (q : List ℕ × ℤ) → places_at transfers.new q

@@ -4,9 +4,9 @@ ghost use Rattle.std.specs.Prelude.{◌≡◌, ◌*◌, ◌≤◌, ◌≤ℤ◌,
 ghost use Rattle.pb_limits.specs.Limits.{most_days_of_transfer, most_row_variance};
 ghost use Rattle.pb_facts.specs.Share.{share_of, up_to};
 
-/// What falls on the days behind the first `before` up to the first `until`, of a total spread evenly over `days` days: the total
-/// up to `until`, rounded down, less the total up to `before`, rounded down. So the shares of any division of the days add up to
-/// the total, for negative totals too. None is more than the total, and none turns its sign.
+/// What falls on the days after the first `before` up to the first `until`, of a total spread evenly over `days` days: the total
+/// up to `until`, rounded down, minus the total up to `before`, rounded down. So the shares of any division of the days add up to
+/// the total, for negative totals too. No share is more than the total, and none has the opposite sign.
 pub fn share(total: i128, days: u32, before: u32, until: u32) -> i128
     requires some_days { 1 ≤ days }
     requires few_days { days ≤ most_days_of_transfer }

@@ -1,4 +1,4 @@
-// The facts on their shelf, in the order in which they were added: each under its id, its stream or tank by a number.
+// The facts on their shelf, in the order in which they were added: each under its id, with its stream or tank as a number.
 
 ghost use Rattle.std.specs.Prelude.{◌≡◌, ℕ, ◌<◌, ◌≤◌, ◌∷◌, ◌++◌, [], List, length, set, true, false, IfSome, OnOk, OnErr, slice_get, slice_index_or};
 ghost use Rattle.std.specs.List.{list_any};
@@ -18,7 +18,7 @@ use pb_rows::Name;
 use std::alloc::{AllocError, Global};
 use std::marker::Model;
 
-/// What a fact says beside its id, its stream or tank and the variance.
+/// What a fact says besides its id, its stream or tank and the variance.
 #[derive(Clone, Copy)]
 pub enum Told {
     Reading { day: i32, grams: i64 },
@@ -26,7 +26,7 @@ pub enum Told {
     Dip { day: i32, mm: i64, density: i64 },
 }
 
-/// A fact beside its id: its stream or tank is told by the number of its name.
+/// A fact without its id: its stream or tank is given by the number of its name.
 #[derive(Clone, Copy)]
 pub struct Entry {
     pub variance: i128,
@@ -35,7 +35,7 @@ pub struct Entry {
     pub struck: bool,
 }
 
-/// The facts in the order in which they were added: each id stands once, and each name of a stream or tank.
+/// The facts in the order in which they were added: each id is stored once, and so is each name of a stream or tank.
 #[derive(Drop)]
 pub struct Shelf {
     names: IndexSet<Name>,
@@ -57,7 +57,7 @@ impl Model for Shelf {
 impl Shelf {
     ghost use Rattle.pb_facts.specs.declared.facts.KeptFact.{KeptFact};
 
-    /// No fact.
+    /// An empty shelf.
     pub fn new(alloc: Global) -> Shelf
         ensures { result ≡ [] }
     {
@@ -75,7 +75,7 @@ impl Shelf {
         self.entries.len() as u32
     }
 
-    /// Puts a fact with a new id behind the others. After an `Err`, want of memory, the shelf is as it was.
+    /// Appends a fact with a new id. After an `Err`, out of memory, the shelf is as it was.
     pub fn push(&mut self, fact: &Fact) -> Result<(), AllocError>
         requires room { length self.old < most_facts }
         requires new { list_any (has_id (id_of fact.now)) self.old ≡ false }
@@ -112,7 +112,7 @@ impl Shelf {
         self.entries[place as usize].struck
     }
 
-    /// Gives the fact at a place new values, where they are of its kind, and takes it as live.
+    /// Gives the fact at a place new values, if they are of its kind, and marks it as live.
     pub fn change(&mut self, place: u32, change: Change)
         requires { place < length self.old }
         ensures { (d : KeptFact) → self.new ≡ set self.old place (record {
@@ -124,7 +124,7 @@ impl Shelf {
         self.entries[place as usize] = entry.changed(change);
     }
 
-    /// Takes the fact at a place as struck.
+    /// Marks the fact at a place as struck.
     pub fn strike(&mut self, place: u32)
         requires { place < length self.old }
         ensures { (d : KeptFact) → self.new ≡ set self.old place (record {
@@ -135,7 +135,7 @@ impl Shelf {
         self.entries[place as usize].struck = true;
     }
 
-    /// The place of the fact that has the id; `None` exactly where there is none.
+    /// The place of the fact that has the id; `None` exactly when there is none.
     pub fn place_of(&self, id: &Name) -> Option<u32>
         ensures value { result ≡ place_of id.now self.now }
         ensures within { IfSome result (λ place. place < length self.now) }
@@ -217,7 +217,7 @@ impl Entry {
         }
     }
 
-    // The entry with these values in place of its own, where they are of its kind, and live.
+    // The entry with its values replaced by these, if they are of its kind, and live.
     fn changed(&self, change: Change) -> Entry
         ensures told { (id : List ℕ) (name : List ℕ) → told_fact id name result.variance result.told
             ≡ changed change (told_fact id name self.now.variance self.now.told) }
@@ -250,7 +250,7 @@ impl Entry {
     }
 }
 
-// The number of a name, which is put behind the others where it is new.
+// The number of a name, which is appended to the others if it is new.
 fn number_of(names: &mut IndexSet<Name>, name: Name) -> u32
     requires room { 0 < names_of.spare names.old }
     requires few { length names.old.keys < most_facts }
@@ -263,7 +263,7 @@ fn number_of(names: &mut IndexSet<Name>, name: Name) -> u32
     }
 }
 
-// Puts an entry with a new id behind the others.
+// Appends an entry with a new id.
 fn put_entry(entries: &mut IndexMap<Name, Entry>, id: Name, entry: Entry)
     requires room { 0 < entries_of.spare entries.old }
     requires new { list_any (same_name id) (entries_of.keys entries.old) ≡ false }

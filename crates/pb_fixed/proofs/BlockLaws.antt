@@ -19,7 +19,7 @@ use Rattle.pb_fixed.proofs.SearchLaws.{least_upto-least, least_upto-passes}
 pub pow_mono : (i j : ℕ) → i ≤ j → 2 ^ i ≤ 2 ^ j
 pow_mono i j le = pow-le-pow_right {n = 2} (omega arith) {i = i} {j = j} le
 
--- a power is below another only where its exponent is
+-- a power is below another only if its exponent is
 pow_below : (i j : ℕ) → 2 ^ i < 2 ^ j → i < j
 pow_below i j less = elim (cases_lt i j) [
   | inl lt ↦ lt

@@ -154,7 +154,7 @@ nearest_shift k n d d_pos =
     (plus (plus (times (lit (pos 2)) (var 1)) (var 2)) (times (var 0) (times (lit (pos 2)) (var 2)))) refl in
     ap (λ (x : ℤ). floor_div x (pos 2 *ℤ d)) e ∙ floor_shift k ((pos 2 *ℤ n) +ℤ d) (pos 2 *ℤ d) (twice_positive d d_pos)
 
--- the nearest quotient by an even divisor: half of it added, and rounded down
+-- the nearest quotient by an even divisor: half the divisor is added, and the quotient rounded down
 pub nearest_even : (n h : ℤ) → pos 0 <ℤ h → nearest_div n (pos 2 *ℤ h) ≡ floor_div (n +ℤ h) (pos 2 *ℤ h)
 nearest_even n h h_pos =
     let d = pos 2 *ℤ h in
@@ -201,7 +201,7 @@ ceiling_to_floor n d d_pos =
     let next = (floor_is n d d_pos).next in
     ceiling_to (floor_div n d +ℤ pos 1) n d d_pos (omega (arith, ints, e, next))
 
--- ---- no quotient by a whole number is greater than what is divided
+-- ---- no quotient by a whole number is greater than the dividend
 size_from : (n d : ℤ) → pos 0 <ℤ d → (neg_ℤ (pos (unsigned_abs n)) *ℤ d) ≤ℤ n
 size_from n d d_pos =
     let m = mul_mono (pos 1) d (pos (unsigned_abs n)) (omega (arith, ints, d_pos)) (omega (arith, ints)) in
@@ -243,7 +243,7 @@ ceiling_more n d r d_pos is some =
     let next = (floor_is n d d_pos).next in
     ceiling_only n d (floor_div n d +ℤ pos 1) d_pos (record { above = omega (arith, ints, next, f); last = omega (arith, ints, e, f, is, some) })
 
--- a factor of both goes out
+-- a common factor cancels
 pub ceiling_scaled : (k n d q : ℤ) → pos 0 <ℤ k → IsCeiling n d q → IsCeiling (n *ℤ k) (d *ℤ k) q
 ceiling_scaled k n d q k_pos h =
     let e : q *ℤ (d *ℤ k) ≡ (q *ℤ d) *ℤ k = sym (mul_assoc q d k) in

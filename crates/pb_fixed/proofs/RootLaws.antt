@@ -8,7 +8,7 @@ use Rattle.pb_integers.proofs.Order.{root_strict}
 use Rattle.pb_fixed.specs.Roots.{IsRootFloor, IsRootCeiling, IsScaledRoot, root_floor_of, root_ceil_of, scaled_root_of}
 use Rattle.pb_fixed.proofs.SearchLaws.{greatest_upto-greatest, greatest_upto-passes, least_upto-least, least_upto-passes}
 
--- a number is no greater than another where its square is below that of the next
+-- a number is no greater than another if its square is below the square of the next
 below_next : (s r n : ℕ) → s * s ≤ n → n < (r + 1) * (r + 1) → s ≤ r
 below_next s r n low high = elim (cases_lt r s) [
   | inl less ↦

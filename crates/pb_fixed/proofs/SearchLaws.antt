@@ -4,7 +4,7 @@ use Rattle.std.proofs.Common.{◌≡◌, ℕ, zero, suc, ◌≤◌, inl, inr, ar
 use Rattle.std.proofs.lemmas.Bool.{cases_Bool, cases_eq}
 use Rattle.pb_fixed.specs.Search.{greatest_upto, least_upto}
 
--- the greatest passes, where 0 does
+-- the greatest passes, if 0 does
 pub greatest_upto-passes : (pass : ℕ → Bool) (n : ℕ) → pass 0 ≡ true → pass (greatest_upto pass n) ≡ true
 unfolding greatest_upto
 greatest_upto-passes pass zero h = h
@@ -25,7 +25,7 @@ greatest_upto-greatest pass (suc n) k le h = elim (cases_Bool (pass (suc n))) [
   ])
 ]
 
--- the least passes, where some number up to n does
+-- the least passes, if some number up to n does
 pub least_upto-passes : (pass : ℕ → Bool) (n k : ℕ) → k ≤ n → pass k ≡ true → pass (least_upto pass n) ≡ true
 unfolding least_upto
 least_upto-passes pass zero k le h =

@@ -22,7 +22,7 @@ pub record IsBlockExponent (items : List ℤ) (h : ℕ) : Type 0 where
 abbrev pub fit_blocks : List ℤ → ℕ → Bool
 fit_blocks items h = list_all (λ a. int_le a (pos (2 ^ (57 + h)))) items
 
--- the least number h with every item at most 2 ^ (57 + h), found by a search that ends at the sum of the items, which is enough
+-- the least number h with every item at most 2 ^ (57 + h), found by a search up to the sum of the items, which is far enough
 abbrev pub block_exponent_of : List ℤ → ℕ
 block_exponent_of items = least_upto (fit_blocks items) (unsigned_abs (sum_over (λ a. pos (unsigned_abs a)) items))
 

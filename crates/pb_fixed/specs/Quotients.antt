@@ -13,7 +13,7 @@ pub record IsCeiling (n d q : ℤ) : Type 0 where
   pub above : n ≤ℤ (q *ℤ d)
   pub last : (q *ℤ d) <ℤ (n +ℤ d)
 
--- q is the greatest whole number not above n/d + 1/2: the nearest to n/d, and the upper one of two that are as near
+-- q is the greatest whole number not above n/d + 1/2: the nearest to n/d, or the upper of two that are equally near
 abbrev pub IsNearest : ℤ → ℤ → ℤ → Type 0
 IsNearest n d q = IsFloor ((pos 2 *ℤ n) +ℤ d) (pos 2 *ℤ d) q
 
@@ -25,6 +25,6 @@ floor_div n d = int_div_euclid n d
 abbrev pub ceil_div : ℤ → ℤ → ℤ
 ceil_div n d = neg_ℤ (floor_div (neg_ℤ n) d)
 
--- n over d, rounded to the nearest, and up where two are as near
+-- n over d, rounded to the nearest, and up if two are equally near
 abbrev pub nearest_div : ℤ → ℤ → ℤ
 nearest_div n d = floor_div ((pos 2 *ℤ n) +ℤ d) (pos 2 *ℤ d)

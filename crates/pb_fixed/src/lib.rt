@@ -1,5 +1,5 @@
 //! Directed whole-number arithmetic: quotients and square roots whose direction of rounding is
-//! certain, and sums of squares that stay within 128 bits. No call takes memory and none refuses.
+//! certain, and sums of squares that stay within 128 bits. No call allocates memory, and none fails.
 //!
 //! A bound is only as good as the direction of its roundings: a lower end goes down, an upper end
 //! goes up, and a printed value goes to the nearest.

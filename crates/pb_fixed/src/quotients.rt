@@ -28,7 +28,7 @@ pub fn div_ceil(n: i128, d: i128) -> i128
     }
 }
 
-/// The greatest whole number not above `n / d + 1/2`: the nearest to `n / d`, and the upper one of two that are as near.
+/// The greatest whole number not above `n / d + 1/2`: the nearest to `n / d`, or the upper of two that are equally near.
 pub fn div_nearest(n: i128, d: i128) -> i128
     requires dividend { unsigned_abs n < 2 ^ 125 }
     requires positive { pos 0 <ℤ d }
@@ -40,7 +40,7 @@ pub fn div_nearest(n: i128, d: i128) -> i128
     (2 * n + d).div_euclid(2 * d)
 }
 
-/// The greatest whole number not above `n / 2^bits + 1/2`: `div_nearest` of a power of two, from 2 on, by a sum and a shift.
+/// The greatest whole number not above `n / 2^bits + 1/2`: `div_nearest` by a power of two, from 2 on, with a sum and a shift.
 pub fn shift_nearest(n: i128, bits: u32) -> i128
     requires dividend { unsigned_abs n < 2 ^ 125 }
     requires some { 0 < bits }

@@ -1,4 +1,4 @@
--- The forest has no cycle, and there is one.
+-- The forest has no cycle, and there is only one forest.
 use Rattle.std.proofs.Common.{◌≡◌, ◌⊎◌, ◌∙◌, ℕ, zero, suc, ◌+◌, ◌<◌, ◌≤◌, Bool, true, false, not, ◌==◌, nat_lt, List, length, Some, None, slice_get, get_or, ap, sym, refl, subst, inl, inr, arith}
 use Rattle.std.proofs.lemmas.Bool.{cases_Bool, cases_eq, and_parts, and_from, or_right, not-true, eq-eqb, ltb-true, lt-ltb}
 use Rattle.std.proofs.lemmas.Option.{slice_get_within, slice_get-get_or}
@@ -14,13 +14,13 @@ use Rattle.pb_forest.proofs.OrderLemmas.{before_earlier, before_other}
 use Rattle.pb_forest.proofs.SpansLemmas.{before_unmeasured}
 use Rattle.pb_graph.proofs.ReachLemmas.{IsPartBut, more_cases}
 
--- a part of a set without cycle has none
+-- a part of a set without a cycle has none
 pub acyclic_part : (ss : List Stream) (some may : ℕ → Stream → Bool) → IsPart ss some may → IsAcyclic ss may → IsAcyclic ss some
 acyclic_part ss some may part acyclic j s at ok r =
     acyclic j s at (part j s at ok)
     (reach_more (except j some) (except j may) ss s.from s.to (λ k t here both. let parts = and_parts (some k t) (not (k == j)) both in and_from _ _ (part k t here parts.0) parts.1) r)
 
--- one stream more, whose ends the others do not join, makes no cycle
+-- one more stream, whose ends the others don't join, makes no cycle
 acyclic_more : (ss : List Stream) (x y : ℕ → Stream → Bool) (i : ℕ) (u : Stream) → slice_get ss i ≡ Some u → (Reaches (ends_of x ss) u.from u.to → ⊥)
     → IsPartBut ss i y x → IsAcyclic ss x → IsAcyclic ss y
 acyclic_more ss x y i u at_u apart but acyclic j s at ok r = elim (cases_eq j i) [
@@ -109,7 +109,7 @@ acyclic_law ss held forest =
     and_from _ _ ok (or_right (not (is_measured t)) (nat_lt k (length ss)) (lt-ltb k (length ss) (slice_get_within ss k t at))) in
     acyclic_part ss (is_open held) (held_before held true (length ss)) part all
 
--- one stream has one mark
+-- a stream has only one mark
 marks_same : (ss : List Stream) (j : ℕ) (s : Stream) (x y : Bool) → slice_get ss j ≡ Some s → IsDecided ss j x → IsDecided ss j y → x ≡ y
 marks_same ss j s true true at d e = refl
 marks_same ss j s true false at d e = absurd (d.apart refl s at (e.tied refl s at))

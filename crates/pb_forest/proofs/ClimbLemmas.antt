@@ -1,4 +1,4 @@
--- From two nodes of one tree up to where they meet: a walk without a node twice.
+-- From two nodes of one tree up to where they meet: a walk on which no node appears twice.
 use Rattle.std.proofs.Common.{◌≡◌, ◌≢◌, ◌∙◌, ◌⊎◌, ℕ, zero, suc, ◌+◌, ◌<◌, ◌≤◌, Bool, true, false, not, ◌==◌, List, [], ◌∷◌, ◌++◌, reverse, length, Option, Some, None, slice_get, get_or, refl, sym, ap, subst, inl, inr, arith}
 use Rattle.std.specs.List.{list_any}
 use Rattle.std.proofs.lemmas.Bool.{cases_Bool, cases_eq, and_parts, and_from, not-true, not_from_false, eq-eqb, ne_eqb}
@@ -66,7 +66,7 @@ root_first nodes ss held t (suc bound) n r whole each lt less found = elim (up_o
       omega (arith, rest, rise.before)
 ] refl
 
--- so of two nodes of a tree the one found later has a parent
+-- so of two nodes of a tree, the node found later has a parent
 pub later_hangs : (nodes : ℕ) (ss : List Stream) (held : List Bool) (t : RootedTrees) (a b : ℕ) → AreWhole nodes ss held t → AreStreams nodes ss → a < nodes → b < nodes
     → root_of t a ≡ root_of t b → place_of t b < place_of t a → (k : ℕ) × (up_of t a ≡ Some k)
 later_hangs nodes ss held t a b whole each la lb same less = elim (up_of t a) as (λ (o : Option ℕ). up_of t a ≡ o → (k : ℕ) × (o ≡ Some k)) [
@@ -78,7 +78,7 @@ later_hangs nodes ss held t a b whole each la lb same less = elim (up_of t a) as
   | Some k ↦ λ e. (k, refl)
 ] refl
 
--- two nodes have two places
+-- two different nodes have different places
 pub placed_once : (nodes : ℕ) (ss : List Stream) (held : List Bool) (t : RootedTrees) (a b : ℕ) → AreWhole nodes ss held t → a < nodes → b < nodes
     → place_of t a ≡ place_of t b → a ≡ b
 placed_once nodes ss held t a b whole la lb same =
@@ -102,7 +102,7 @@ joined_level nodes ss held t a b whole (steps, w) =
     so_far ∙ along_level (root_of t) s u.forward x y (whole.level u.stream s at ok) goes) w refl
 
 -- ---- paths
--- a key that no item has, put behind a list of distinct keys
+-- a key that no item has, put after a list of distinct keys
 distinct_once : {A : Type 0} (key : A → ℕ) (xs : List A) (x : A) → is_distinct key xs ≡ true → list_any (λ y. key y == key x) xs ≡ false → is_distinct key (xs ++ x ∷ []) ≡ true
 distinct_once key [] x once none = refl
 distinct_once key (y ∷ xs) x once none =
@@ -122,7 +122,7 @@ pub record IsLow (nodes : ℕ) (ss : List Stream) (held : List Bool) (t : Rooted
   pub path : IsPath (ends_of (is_open held) ss) nodes ss a steps b
   pub low : (n : ℕ) → list_any (λ y. begin_of nodes ss y == n) steps ≡ true → (place_of t n ≤ place_of t a) ⊎ (place_of t n ≤ place_of t b)
 
--- a node found later than both ends isn't on it
+-- a node found later than both ends isn't on the path
 not_on : (nodes : ℕ) (ss : List Stream) (held : List Bool) (t : RootedTrees) (a b n : ℕ) (steps : List Step) → IsLow nodes ss held t a steps b
     → place_of t a < place_of t n → place_of t b < place_of t n → list_any (λ y. begin_of nodes ss y == n) steps ≡ false
 not_on nodes ss held t a b n steps low la lb = elim (cases_Bool (list_any (λ y. begin_of nodes ss y == n) steps)) [
@@ -165,7 +165,7 @@ low_front nodes ss held t a b p step steps less rise low =
 abbrev pub turned : Step → Step
 turned step = record { stream = step.stream; forward = not step.forward }
 
--- the step down to a node found later than the other end, behind a path to its parent
+-- the step down to a node found later than the other end, after a path to its parent
 low_back : (nodes : ℕ) (ss : List Stream) (held : List Bool) (t : RootedTrees) (a b p : ℕ) (step : Step) (steps : List Step) → place_of t a < place_of t b
     → IsRise nodes ss held t b p step → IsLow nodes ss held t a steps p → IsLow nodes ss held t a (steps ++ turned step ∷ []) b
 low_back nodes ss held t a b p step steps less rise low =
@@ -197,8 +197,8 @@ low_back nodes ss held t a b p step steps less rise low =
     }
 
 -- ---- the climb
--- From one end the steps forth lead to node a, and from node b those back, from the last to the first, to the other end: with any
--- path between that has no node found later than a and b, they are one from end to end.
+-- From the first end, the steps forth lead to node a. From node b, the steps back, from the last to the first, lead to the other end.
+-- With any path between a and b that has no node found later than a and b, they make one path from end to end.
 pub record IsClimb (nodes : ℕ) (ss : List Stream) (held : List Bool) (t : RootedTrees) (from to a b : ℕ) (forth back : List Step) : Type 0 where
   pub there : a < nodes
   pub here : b < nodes

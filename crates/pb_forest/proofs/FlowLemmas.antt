@@ -1,4 +1,4 @@
--- The flow of a held stream follows from those of the streams not held, over the side that it cuts off.
+-- The flow of a held stream follows from the flows of the streams that aren't held, over the side that it cuts off.
 use Rattle.std.proofs.Common.{◌≡◌, ◌≢◌, ◌∙◌, ℕ, zero, suc, ◌<◌, ℤ, pos, neg_ℤ, ◌+ℤ◌, ◌-ℤ◌, ◌*ℤ◌, Bool, true, false, ◌==◌, List, [], ◌∷◌, length, Some, slice_get, get_or, set, refl, sym, ap, ap₂, subst, inl, inr, arith}
 use Rattle.std.proofs.lemmas.Bool.{cases_Bool, cases_eq, ne_eqb, not_from_false, and_from}
 use Rattle.std.proofs.lemmas.Int.{ints}
@@ -123,7 +123,7 @@ chord_held held xs k h = rw h refl
 pub chord_other : (held : List Bool) (xs : List ℤ) (k : ℕ) → get_or held k false ≡ false → chord_flow held xs k ≡ item xs k
 chord_other held xs k h = rw h refl
 
--- the sum over the streams is what the streams not held bring, less the held one's flow
+-- the sum over the streams is what the streams that aren't held bring, less the held one's flow
 pub side_sum : (ss : List Stream) (held : List Bool) (j : ℕ) (side : List Bool) (xs : List ℤ) → length xs ≡ length ss → j < length ss → get_or held j false ≡ true
     → Crosses ss held j side → priced_streams (side_price side) ss xs ≡ crossing (is_in side) ss held xs (length ss) -ℤ item xs j
 side_sum ss held j side xs each lt here cut =
@@ -161,7 +161,7 @@ crossing_same inside ss held xs ys each agree =
       | inr out ↦ chord_other held xs k out ∙ agree k (omega (arith, less, each)) out ∙ sym (chord_other held ys k out)
     ]))
 
--- prices that no held stream rises along rise along none
+-- prices that rise along no held stream rise along no stream
 pub level_all : (ss : List Stream) (held : List Bool) (q : ℕ → ℤ) → IsForest ss held
     → ((k : ℕ) (t : Stream) → slice_get ss k ≡ Some t → get_or held k false ≡ true → q t.to ≡ q t.from)
     → (k : ℕ) (t : Stream) → slice_get ss k ≡ Some t → q t.to ≡ q t.from
@@ -179,7 +179,7 @@ level_all ss held q forest level k t at =
         let (s, here, ok, goes) = stream_of (is_open held) ss w (x, y) e in
         ways s w.forward x y goes (level w.stream s here ok) ∙ is
 
--- balanced vectors that agree off the forest are one
+-- balanced vectors that agree off the forest are the same
 pub balanced_one : (g : ProcessGraph) (held : List Bool) (xs ys : List ℤ) → IsProcessGraph g → IsForest g.streams held
     → ((j : ℕ) → j < length g.streams → get_or held j false ≡ true → (side : List Bool) × IsSideOf g held j side) → IsBalanced g xs → IsBalanced g ys → AgreeOffForest held xs ys → xs ≡ ys
 balanced_one g held xs ys graph forest cuts bx by_ agree =

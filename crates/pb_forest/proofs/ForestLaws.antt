@@ -1,5 +1,5 @@
--- What crates above may cite of the spanning forest: its laws; that a path takes no stream twice; the ends of a stream, and the streams
--- at a node.
+-- What crates above may cite about the spanning forest: its laws; that a path takes no stream twice; the ends of a stream, and the
+-- streams at a node.
 pub use Rattle.pb_forest.proofs.SpansLemmas.{spans_law, chord_law, along_reach}
 pub use Rattle.pb_forest.proofs.AcyclicLemmas.{acyclic_law, one_forest_law}
 pub use Rattle.pb_forest.proofs.PathLemmas.{unique_law, part_law, begin_is, walk_without, streams_once}

@@ -20,7 +20,7 @@ none_before ss k t at = elim (cases_Bool (is_before false 0 k t)) [
   | inr out ↦ out
 ]
 
--- one stream of the kind more
+-- one more stream of the kind
 pub one_more : (ss : List Stream) (m : Bool) (j : ℕ) (s : Stream) → slice_get ss j ≡ Some s → is_measured s ≡ m → IsOneMore ss (is_before m j) (is_before m (j + 1)) j s
 one_more ss m j s at kind = record {
   there = at;
@@ -66,7 +66,7 @@ decided_by ss nodes m labels j s at stream kind l =
 abbrev pub DecidedBelow : List Stream → Bool → ℕ → List Bool → Type 0
 DecidedBelow ss m j held = (k : ℕ) (s : Stream) → k < j → slice_get ss k ≡ Some s → is_measured s ≡ m → IsDecided ss k (get_or held k false)
 
--- one mark more
+-- one more mark
 pub marks_next : (ss : List Stream) (m : Bool) (j : ℕ) (held : List Bool) (mark : Bool) → j < length held → DecidedBelow ss m j held → IsDecided ss j mark
     → DecidedBelow ss m (j + 1) (set held j mark)
 marks_next ss m j held mark within below here k s lt at kind = elim (cases_eq k j) [
@@ -88,7 +88,7 @@ marks_stay ss m j held s at_j other below k t lt at kind = elim (cases_eq k j) [
   | inr apart ↦ below k t (omega (arith, lt, apart)) at kind
 ]
 
--- a mark leaves those of the other kind
+-- a mark leaves the marks of the other kind as they are
 pub others_stay : (ss : List Stream) (m : Bool) (j : ℕ) (held : List Bool) (mark : Bool) (s t : Stream) (k : ℕ) → slice_get ss j ≡ Some s → is_measured s ≡ m
     → slice_get ss k ≡ Some t → is_measured t ≡ not m → get_or (set held j mark) k false ≡ get_or held k false
 others_stay ss m j held mark s t k at_j kind at other = elim (cases_eq k j) [

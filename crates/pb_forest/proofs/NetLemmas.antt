@@ -1,4 +1,4 @@
--- Net flows kept at the branches of trees: from the flows of the streams not held they settle into one balanced vector.
+-- Net flows kept at the branches of trees: from the flows of the streams that aren't held they settle into one balanced vector.
 use Rattle.std.proofs.Common.{◌≡◌, ◌≢◌, ◌∙◌, ◌⊎◌, ℕ, zero, suc, ◌+◌, ◌*◌, ◌^◌, ◌<◌, ◌≤◌, ℤ, pos, neg_ℤ, ◌+ℤ◌, ◌-ℤ◌, ◌*ℤ◌, unsigned_abs, Bool, true, false, cond, ◌==◌, List, [], ◌∷◌, length, All, Option, Some, None, get_or, set, refl, sym, ap, ap₂, subst, inl, inr, arith}
 use Rattle.std.proofs.lemmas.Bool.{cases_Bool, cases_eq, cases_lt, eq-eqb, ne_eqb}
 use Rattle.std.proofs.lemmas.Int.{ints}
@@ -100,7 +100,7 @@ no_up nodes ss held t k whole none n up =
     let a = branch_of nodes ss held t n k whole up in
     none a.place a.within (ap (up_of t) a.is ∙ up)
 
--- ---- an amount that joins a net flow
+-- ---- an amount that is added to a net flow
 pub length_added : (o : Option ℕ) (x : ℤ) (out : List ℤ) → length (added_at o x out) ≡ length out
 length_added None x out = refl
 length_added (Some k) x out = length-set out k (item out k +ℤ x)
@@ -109,7 +109,7 @@ added_other : (o : Option ℕ) (x : ℤ) (out : List ℤ) (k : ℕ) → o ≢ So
 added_other None x out k ne = refl
 added_other (Some j) x out k ne = get_or-set_other out j k (item out j +ℤ x) (pos 0) (λ e. ne (ap (λ (i : ℕ). Some i) (sym e)))
 
--- what comes to node n of an amount that comes to node m
+-- what node n gets of an amount that node m gets
 abbrev pub comes : ℕ → ℕ → ℤ → ℤ
 comes m n x = cond (m == n) x (pos 0)
 
@@ -173,8 +173,8 @@ crossing_bound : (inside : ℕ → Bool) (ss : List Stream) (held : List Bool) (
     → unsigned_abs (crossing inside ss held xs n) < 2 ^ 68
 crossing_bound inside ss held xs n small few = let le = crossing_small inside ss held xs most_given_flow n small in omega (arith, le, few)
 
--- ---- the net flows of the streams not held
--- all that the code asks of the net flows so far
+-- ---- the net flows of the streams that aren't held
+-- all that the code requires of the net flows so far
 pub nets_small : (nodes : ℕ) (ss : List Stream) (held : List Bool) (off : List ℤ) (t : RootedTrees) (j : ℕ) (out : List ℤ) → AreWhole nodes ss held t
     → All IsGivenFlow off → j ≤ most_streams → AreNets ss held off t j out → (k : ℕ) → unsigned_abs (item out k) < 2 ^ 68
 nets_small nodes ss held off t j out whole small few nets k = elim (cases_lt k (length ss)) [
@@ -205,7 +205,7 @@ both_ends true false z x = omega (arith, ints)
 both_ends false true z x = omega (arith, ints)
 both_ends false false z x = omega (arith, ints)
 
--- one stream more
+-- one more stream
 pub nets_more : (nodes : ℕ) (ss : List Stream) (held : List Bool) (off : List ℤ) (t : RootedTrees) (j : ℕ) (out : List ℤ) → AreWhole nodes ss held t
     → AreNets ss held off t j out
     → AreNets ss held off t (j + 1) (added_at (up_of t (get_or ss j some_stream).to) (chord_flow held off j) (added_at (up_of t (get_or ss j some_stream).from) (neg_ℤ (chord_flow held off j)) out))
@@ -255,7 +255,7 @@ settle_none nodes ss held off t out whole marks few small nets = record {
   below = λ b k lt up. nets.net (node_at t b) k up;
 }
 
--- ---- one node more is balanced
+-- ---- one more node is balanced
 share_none : (n : ℕ) (s : Stream) → brought_to n s (pos 0) ≡ pos 0
 share_none n s = none (s.to == n) (s.from == n)
   where
@@ -327,7 +327,7 @@ settle_root nodes ss held off t i out root before =
       below = λ b k lt up. before.below b k (omega (arith, lt)) up;
     }
 
--- ---- where net flows come to
+-- ---- where net flows go
 -- node c hands its net flow to node p
 abbrev handed : ℕ → ℕ → (ℕ → ℕ) → ℕ → ℕ
 handed c p home m = cond (home m == c) p (home m)
@@ -366,7 +366,7 @@ handed_other c p n home m np nc = elim (cases_eq (home m) c) [
   | inr other ↦ rw (ne_eqb (home m) c other) refl
 ]
 
--- another node has its own
+-- another node has its own net flow
 crossing_other : (c p n : ℕ) (home : ℕ → ℕ) (ss : List Stream) (held : List Bool) (off : List ℤ) (j : ℕ) → n ≢ p → n ≢ c
     → crossing (λ m. handed c p home m == n) ss held off j ≡ crossing (λ m. home m == n) ss held off j
 crossing_other c p n home ss held off j np nc =
@@ -382,7 +382,7 @@ balancing_small c s a small = elim (cases_Bool (s.to == c)) [
   | inr from ↦ rw from small
 ]
 
--- what the vector is after node c was balanced by stream e, and its net flow a added_at that of its parent p
+-- the vector after node c was balanced by stream e, and its net flow a was added to that of its parent p
 record Steps (t : RootedTrees) (c p e : ℕ) (x a : ℤ) (out new : List ℤ) : Type 0 where
   own : item new e ≡ x
   rest : (k : ℕ) → k ≢ e → up_of t p ≢ Some k → item new k ≡ item out k

@@ -5,7 +5,7 @@ use Rattle.pb_graph.specs.declared.records.Stream.{Stream}
 use Rattle.pb_graph.specs.ProcessGraph.{is_measured}
 use Rattle.pb_forest.specs.Forest.{is_before}
 
--- the same over the two kinds alone
+-- the same over only the two kinds
 abbrev comes : Bool → Bool → ℕ → ℕ → Bool
 comes true x k j = not x || nat_lt k j
 comes false x k j = not x && nat_lt k j
@@ -14,7 +14,7 @@ comes_is : (m : Bool) (j k : ℕ) (t : Stream) → is_before m j k t ≡ comes m
 comes_is true j k t = refl
 comes_is false j k t = refl
 
--- the place in the order of the j-th stream of a kind, of so many streams
+-- the place in the order of the j-th stream of a kind, out of this many streams
 abbrev pub place_of : ℕ → Bool → ℕ → ℕ
 place_of count true j = count + j
 place_of count false j = j
@@ -48,7 +48,7 @@ comes_earlier true false j k ne h = refl
 comes_earlier false true j k ne h = cc h
 comes_earlier false false j k ne h = let a = ltb-true k (j + 1) h in lt-ltb k j (omega (arith, a, ne))
 
--- what comes before the next place comes before this one, or is there
+-- what comes before the next place comes before this place, or is at it
 pub before_earlier : (m : Bool) (j k : ℕ) (t : Stream) → (k ≡ j → ⊥) → is_before m (j + 1) k t ≡ true → is_before m j k t ≡ true
 before_earlier m j k t ne h = comes_is m j k t ∙ comes_earlier m (is_measured t) j k ne (sym (comes_is m (j + 1) k t) ∙ h)
 

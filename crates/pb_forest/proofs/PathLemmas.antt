@@ -1,4 +1,4 @@
--- Walks without a node twice, in a set of streams without cycle.
+-- Walks on which no node appears twice, in a set of streams without a cycle.
 use Rattle.std.proofs.Common.{◌≡◌, ◌≢◌, ◌∙◌, ◌⊎◌, ℕ, Bool, true, false, not, ◌==◌, List, [], ◌∷◌, Option, Some, slice_get, ap, ap₂, sym, refl, subst, inl, inr}
 use Rattle.std.specs.List.{list_any}
 use Rattle.std.proofs.lemmas.Bool.{cases_Bool, cases_eq, and_parts, and_from, or_parts, not-true, not_from_false, eq-eqb, ne_eqb}
@@ -11,11 +11,11 @@ use Rattle.pb_graph.proofs.WalkLemmas.{some_same, ends_is, stream_of, ends_back,
 use Rattle.pb_forest.specs.Laws.{except, IsAcyclic, IsPart, UniqueLaw, PartLaw}
 use Rattle.pb_forest.proofs.SpansLemmas.{joins_ends}
 
--- a step begins where it does, whatever else may be taken
+-- a step begins at the same node, whatever else may be taken
 pub begin_is : (may : ℕ → Stream → Bool) (nodes : ℕ) (ss : List Stream) (t : Step) (a c : ℕ) → ends_of may ss t ≡ Some (a, c) → begin_of nodes ss t ≡ a
 begin_is may nodes ss t a c e = ap (first_or nodes) (ends_more may any_stream ss t (a, c) (λ k s at ok. refl) e)
 
--- behind the first step of a path is a path
+-- after the first step of a path comes a path
 pub path_rest : (ends : Step → Option (ℕ × ℕ)) (nodes : ℕ) (ss : List Stream) (a b : ℕ) (t : Step) (rest : List Step) → IsPath ends nodes ss a (t ∷ rest) b
     → (c : ℕ) × (ends t ≡ Some (a, c)) × IsPath ends nodes ss c rest b
 path_rest ends nodes ss a b t rest path =
@@ -39,7 +39,7 @@ leaves may nodes ss a b c t rest path e =
     (and_parts (not (list_any (λ y. begin_of nodes ss y == begin_of nodes ss t) rest)) (is_distinct (begin_of nodes ss) rest) path.once).0 in
     ((λ z. cc (sym here ∙ eq-eqb (begin_of nodes ss t) b (begin ∙ sym z))), subst (λ (n : ℕ). list_any (λ y. begin_of nodes ss y == n) rest ≡ false) begin later)
 
--- a walk that never begins a step at a node, and ends elsewhere, does not begin there
+-- a walk that never begins a step at a node, and ends elsewhere, doesn't begin there
 not_there : (may : ℕ → Stream → Bool) (nodes : ℕ) (ss : List Stream) (a b d : ℕ) (steps : List Step) → b ≢ a → Walks (ends_of may ss) d steps b
     → list_any (λ y. begin_of nodes ss y == a) steps ≡ false → d ≢ a
 not_there may nodes ss a b d [] out w none is = out (sym w ∙ is)
@@ -54,7 +54,7 @@ two_ways s true false a n c d x y = inr (sym (ap (λ (p : ℕ × ℕ). p.1) y) �
 two_ways s false true a n c d x y = inr (sym (ap (λ (p : ℕ × ℕ). p.1) y) ∙ ap (λ (p : ℕ × ℕ). p.0) x)
 two_ways s false false a n c d x y = inl (sym (ap (λ (p : ℕ × ℕ). p.0) y) ∙ ap (λ (p : ℕ × ℕ). p.0) x)
 
--- a walk that never is at a node takes no stream from there
+-- a walk that is never at a node takes no stream from there
 not_again : (may : ℕ → Stream → Bool) (nodes : ℕ) (ss : List Stream) (a b c n : ℕ) (t : Step) (rest : List Step) → ends_of may ss t ≡ Some (a, n) → b ≢ a
     → Walks (ends_of may ss) c rest b → list_any (λ y. begin_of nodes ss y == a) rest ≡ false → list_any (λ y. y.stream == t.stream) rest ≡ false
 not_again may nodes ss a b c n t [] e out w none = refl
@@ -73,7 +73,7 @@ not_again may nodes ss a b c n t (u ∷ us) e out (d, f, w) none =
           ]
     ]
 
--- a walk that does not take a stream is one without it
+-- a walk that doesn't take a stream is a walk without it
 pub walk_without : (may : ℕ → Stream → Bool) (ss : List Stream) (j a b : ℕ) (steps : List Step) → Walks (ends_of may ss) a steps b
     → list_any (λ y. y.stream == j) steps ≡ false → Walks (ends_of (except j may) ss) a steps b
 walk_without may ss j a b [] w none = w
@@ -96,7 +96,7 @@ streams_once may nodes ss a b (t ∷ rest) path =
     (not_from_false (list_any (λ (y : Step). y.stream == t.stream) rest) (not_again may nodes ss a b c c t rest e out later.walk none))
     (streams_once may nodes ss c b rest later)
 
--- behind its first step a path goes on without that stream
+-- after its first step a path goes on without that stream
 rest_without : (may : ℕ → Stream → Bool) (nodes : ℕ) (ss : List Stream) (a b c : ℕ) (t : Step) (rest : List Step) → IsPath (ends_of may ss) nodes ss a (t ∷ rest) b
     → ends_of may ss t ≡ Some (a, c) → Walks (ends_of may ss) c rest b → Reaches (ends_of (except t.stream may) ss) c b
 rest_without may nodes ss a b c t rest path e w =
@@ -108,7 +108,7 @@ empty_not may nodes ss a b t rest same path =
     let (c, e, w) = path.walk in
     (leaves may nodes ss a b c t rest path e).0 (sym same)
 
--- two steps along one stream from one node are one
+-- two steps along one stream from one node are the same
 same_way : (s : Stream) (f g : Bool) (a c d : ℕ) → s.from ≢ s.to → along f s ≡ (a, c) → along g s ≡ (a, d) → (f ≡ g) × (d ≡ c)
 same_way s true true a c d ne x y = (refl, sym (ap (λ (p : ℕ × ℕ). p.1) y) ∙ ap (λ (p : ℕ × ℕ). p.1) x)
 same_way s true false a c d ne x y = absurd (ne (ap (λ (p : ℕ × ℕ). p.0) x ∙ sym (ap (λ (p : ℕ × ℕ). p.0) y)))

@@ -1,4 +1,4 @@
--- Each forest has a balanced flow vector with given flows off it: the flow of each chord circulates along the chord's own cycle.
+-- Each forest has a balanced flow vector with given flows off it: the flow of each chord circulates along the cycle of that chord.
 use Rattle.std.proofs.Common.{◌≡◌, ◌≢◌, ◌∙◌, ℕ, zero, suc, ◌<◌, ◌≤◌, ℤ, pos, ◌+ℤ◌, ◌-ℤ◌, ◌*ℤ◌, Bool, true, false, cond, ◌==◌, List, [], ◌∷◌, length, Some, None, slice_get, get_or, refl, sym, ap, ap₂, subst, inl, inr, arith}
 use Rattle.std.proofs.lemmas.Bool.{cases_Bool, cases_eq, ne_eqb}
 use Rattle.std.proofs.lemmas.Option.{slice_get-get_or, slice_get_within}
@@ -78,7 +78,7 @@ held_takes held ss i a b (t ∷ rest) (c, e, w) out =
     let other : t.stream ≢ i = λ z. cc (sym ok ∙ ap (λ (k : ℕ). get_or held k false) z ∙ out) in
     rw (ne_eqb t.stream i other) (held_takes held ss i c b rest w out)
 
--- a balanced vector with one unit at a chord, and none at another
+-- a balanced vector with one unit at a chord, and none at the others
 record HasUnit (graph : ProcessGraph) (held : List Bool) (j : ℕ) : Type 0 where
   flows : List ℤ
   balanced : IsBalanced graph flows

@@ -1,4 +1,4 @@
--- Where a walk leads from one node to another, a walk without a node twice does: what lies between two visits of a node is left out.
+-- If a walk leads from one node to another, a path does too: what lies between two visits of a node is left out.
 use Rattle.std.proofs.Common.{◌≡◌, ◌∙◌, ℕ, Bool, true, false, not, ◌==◌, List, [], ◌∷◌, Some, sym, refl, subst, inl, inr}
 use Rattle.std.specs.List.{list_any}
 use Rattle.std.proofs.lemmas.Bool.{cases_Bool, cases_eq, and_from, not_from_false, ne_eqb, eqb-true}
@@ -10,7 +10,7 @@ use Rattle.pb_graph.specs.Path.{IsPath}
 use Rattle.pb_forest.specs.Laws.{SomePathLaw}
 use Rattle.pb_forest.proofs.PathLemmas.{begin_is, path_rest}
 
--- a path that begins a step at a node is one from there on
+-- a path that begins a step at a node is a path from there on
 path_from : (may : ℕ → Stream → Bool) (nodes : ℕ) (ss : List Stream) (a b c : ℕ) (steps : List Step) → IsPath (ends_of may ss) nodes ss c steps b
     → list_any (λ y. begin_of nodes ss y == a) steps ≡ true → (path : List Step) × IsPath (ends_of may ss) nodes ss a path b
 path_from may nodes ss a b c [] path some = cc some

@@ -1,4 +1,4 @@
--- What streams before a place join, the held ones among them join.
+-- If streams before a place join two nodes, the held ones among them do too.
 use Rattle.std.proofs.Common.{◌≡◌, ◌∙◌, ℕ, zero, suc, ◌<◌, ◌≤◌, Bool, true, false, not, nat_lt, List, [], ◌∷◌, length, Some, get_or, ap, sym, subst, inl, inr, arith}
 use Rattle.std.proofs.lemmas.Bool.{cases_Bool, and_parts, and_from, or_left, or_right, or_cases, ltb-true, lt-ltb}
 use Rattle.std.proofs.lemmas.Option.{slice_get_within}
@@ -12,7 +12,7 @@ use Rattle.pb_forest.specs.Forest.{is_before, IsForest}
 use Rattle.pb_forest.specs.Laws.{held_before, held_unmeasured, SpansLaw, ChordLaw}
 use Rattle.pb_forest.proofs.OrderLemmas.{place_of, before_less, before_trans}
 
--- a walk between a stream's ends leads the way that a step along it does
+-- a walk between a stream's ends leads the same way as a step along it
 pub along_reach : (may : ℕ → Stream → Bool) (ss : List Stream) (s : Stream) (forward : Bool) (a c : ℕ) → along forward s ≡ (a, c)
     → Reaches (ends_of may ss) s.from s.to → Reaches (ends_of may ss) a c
 along_reach may ss s true a c e r = subst (λ (p : ℕ × ℕ). Reaches (ends_of may ss) p.0 p.1) e r
@@ -91,7 +91,7 @@ spans_law ss held forest = record {
       reach_more (held_before held true 0) (held_unmeasured held) ss a b part all;
 }
 
--- a stream without measurement comes behind unmeasured ones alone
+-- a stream without measurement comes after unmeasured ones only
 bare_before : (ss : List Stream) (m : Bool) (j : ℕ) → m ≡ false → IsWithin ss (is_before m j) unmeasured
 bare_before ss true j kind k t at ok = cc kind
 bare_before ss false j kind k t at ok = (and_parts _ _ ok).0

@@ -85,7 +85,7 @@ found_within nodes ss held t n r trees found = elim (cases_lt n nodes) [
 pub node_within : (nodes : ℕ) (ss : List Stream) (held : List Bool) (t : RootedTrees) (i : ℕ) → AreTrees nodes ss held t → i < length t.order → node_at t i < nodes
 node_within nodes ss held t i trees lt = let (r, found) = trees.seen i lt in found_within nodes ss held t (node_at t i) r trees found
 
--- a node has one place
+-- a node has only one place
 pub one_place : (nodes : ℕ) (ss : List Stream) (held : List Bool) (t : RootedTrees) (i k : ℕ) → AreTrees nodes ss held t → i < length t.order → k < length t.order
     → node_at t i ≡ node_at t k → i ≡ k
 one_place nodes ss held t i k trees li lk same = elim (cases_lt i k) [
@@ -131,7 +131,7 @@ kept_followed nodes ss held done t u g ext i k lt there h touch =
     let was = g.followed i k lt there h (ap (λ (n : ℕ). touches n (get_or ss k some_stream)) (sym same) ∙ touch) in
     ap (λ (n : ℕ). root_of u (end_from ss n k)) same ∙ kept_both nodes ss held t u (end_from ss (node_at t i) k) i g.trees ext less was
 
--- ---- one node more
+-- ---- one more node
 hung_last : (t : RootedTrees) (m : ℕ) (root up : Option ℕ) → node_at (hung t m root up) (length t.order) ≡ m
 hung_last t m root up = ap (λ (i : ℕ). get_or (t.order ++ m ∷ []) i 0) (omega arith) ∙ get_or-append-add t.order (m ∷ []) 0 0
 
@@ -250,7 +250,7 @@ hung_growing nodes ss held done t m r up g new lt by_ here =
       one_tree = λ i le less. all i le less ∙ sym (all done (omega arith) (omega (arith, le, less)));
     }
 
--- a root more
+-- one more root
 pub record IsRooted (nodes : ℕ) (ss : List Stream) (held : List Bool) (m : ℕ) (t u : RootedTrees) : Type 0 where
   pub growing : AreGrowing nodes ss held (length t.order) u
   pub extends : Extends t u
@@ -264,7 +264,7 @@ hung_root nodes ss held t m g new lt = record {
   found = get_or-set_same t.root m (Some m) None (omega (arith, lt, g.trees.roots));
 }
 
--- ---- one stream more
+-- ---- one more stream
 pub some_of : (o : Option ℕ) → is_some o ≡ true → (r : ℕ) × (o ≡ Some r)
 some_of None e = cc e
 some_of (Some r) e = (r, refl)

@@ -17,12 +17,12 @@ abbrev pub chord_at : List Stream → RootedTrees → ℕ → Chord
 chord_at streams trees k =
     record { stream = k; from = up_of trees (get_or streams k some_stream).from; to = up_of trees (get_or streams k some_stream).to }
 
--- the streams not held among the first n
+-- the streams among the first n that aren't held
 abbrev pub chords_of : List Stream → List Bool → RootedTrees → ℕ → List Chord
 chords_of streams held trees zero = []
 chords_of streams held trees (suc n) = chords_of streams held trees n ++ (if get_or held n false then [] else chord_at streams trees n ∷ [])
 
--- the branch that node n hangs by, if it has one, with that of its parent
+-- the branch that node n hangs by, if it has one, with the branch of its parent
 abbrev pub branch_from : List Stream → RootedTrees → ℕ → Option ℕ → Option Branch
 branch_from streams trees n None = None
 branch_from streams trees n (Some k) =
@@ -32,7 +32,7 @@ branch_from streams trees n (Some k) =
 abbrev pub branches_of : List Stream → RootedTrees → List (Option Branch)
 branches_of streams trees = map (λ n. branch_from streams trees n (up_of trees n)) trees.order
 
--- what a spanning forest is kept with: its trees, its chords, and the branch of each node in the order found
+-- what is kept with a spanning forest: its trees, its chords, and the branch of each node in the order found
 pub record IsKept (graph : ProcessGraph) (held : List Bool) (trees : RootedTrees) (chords : List Chord) (branches : List (Option Branch)) : Type 0 where
   pub forest : IsForest graph.streams held
   pub rooted : AreWhole graph.nodes graph.streams held trees
@@ -44,43 +44,43 @@ pub record IsKept (graph : ProcessGraph) (held : List Bool) (trees : RootedTrees
 abbrev pub entering_of : (ℕ → Bool) → Stream → ℤ → ℤ
 entering_of inside stream flow = entering (inside stream.from) (inside stream.to) flow
 
--- the flow at a place where the stream isn't held, and 0 where it is
+-- the flow at a place if the stream there isn't held, and 0 if it is
 abbrev pub chord_flow : List Bool → List ℤ → ℕ → ℤ
 chord_flow held flows k = if get_or held k false then pos 0 else item flows k
 
--- what the streams not held among the first n bring into a set of nodes
+-- what the streams among the first n that aren't held bring into a set of nodes
 abbrev pub crossing : (ℕ → Bool) → List Stream → List Bool → List ℤ → ℕ → ℤ
 crossing inside streams held flows n = sum_below (λ k. entering_of inside (get_or streams k some_stream) (chord_flow held flows k)) n
 
--- the net flow at node n, where flow k is that of the k-th stream
+-- the net flow at node n, with flow k as the flow of the k-th stream
 abbrev pub net_by : ℕ → List Stream → (ℕ → ℤ) → ℤ
 net_by n streams flow = sum_below (λ k. brought_to n (get_or streams k some_stream) (flow k)) (length streams)
 
--- an amount joins what is kept at a branch; none is kept at a root
+-- an amount is added to what is kept at a branch; nothing is kept at a root
 abbrev pub added_at : Option ℕ → ℤ → List ℤ → List ℤ
 added_at None amount out = out
 added_at (Some k) amount out = set out k (item out k +ℤ amount)
 
--- the flow of a chord joins the net flows of its ends
+-- the flow of a chord is added to the net flows of its ends
 abbrev pub brought : Chord → ℤ → List ℤ → List ℤ
 brought chord flow out = added_at chord.to flow (added_at chord.from (neg_ℤ flow) out)
 
--- the flows of chords join the net flows of their ends
+-- the flows of chords are added to the net flows of their ends
 abbrev pub gathered : List Chord → List ℤ → List ℤ → List ℤ
 gathered [] off out = out
 gathered (chord ∷ chords) off out = gathered chords off (brought chord (item off chord.stream) out)
 
--- the flow of a branch that balances its lower end n, where the net flow there is this without it
+-- the flow of a branch that balances its lower end n, if this is the net flow there without it
 abbrev pub balancing : ℕ → Stream → ℤ → ℤ
 balancing n stream net = if stream.to == n then neg_ℤ net else net
 
--- node n was balanced by its branch, if it has one: its net flow joined that of its parent
+-- node n was balanced by its branch, if it has one: its net flow was added to that of its parent
 abbrev pub settled : List Stream → RootedTrees → ℕ → Option ℕ → List ℤ → List ℤ
 settled streams trees n None out = out
 settled streams trees n (Some k) out =
     added_at (up_of trees (end_from streams n k)) (item out k) (set out k (balancing n (get_or streams k some_stream) (item out k)))
 
--- the same by the branch of a node
+-- the same, by the branch of a node
 abbrev pub settled_by : Option Branch → List ℤ → List ℤ
 settled_by None out = out
 settled_by (Some b) out =
@@ -96,15 +96,15 @@ pub record IsBranchWithin (n : ℕ) (branch : Branch) : Type 0 where
   pub stream : branch.stream < n
   pub parent : (k : ℕ) → branch.parent ≡ Some k → k < n
 
--- The net flows of the streams not held are kept at the branches: at that of node n what the streams not held before place j
--- bring to n.
+-- The net flows of the streams that aren't held are kept at the branches: at the branch of node n, what those before place j bring
+-- to n.
 pub record AreNets (streams : List Stream) (held : List Bool) (off : List ℤ) (trees : RootedTrees) (j : ℕ) (out : List ℤ) : Type 0 where
   pub each : length out ≡ length streams
   pub net : (n e : ℕ) → up_of trees n ≡ Some e → item out e ≡ crossing (λ m. m == n) streams held off j
   pub rest : (k : ℕ) → k < length streams → ((n : ℕ) → up_of trees n ≢ Some k) → item out k ≡ chord_flow held off k
 
--- The nodes from place i of the order on are balanced. At the branch of an earlier one its net flow is kept: that of the flows
--- decided so far, which is what the streams not held bring to the nodes below it.
+-- The nodes from place i of the order on are balanced. The branch of an earlier node keeps the net flow of that node, given the flows
+-- decided so far. This is what the streams that aren't held bring to the nodes below it.
 pub record AreBalancedFrom (streams : List Stream) (held : List Bool) (off : List ℤ) (trees : RootedTrees) (i : ℕ) (out : List ℤ) : Type 0 where
   pub each : length out ≡ length streams
   pub agree : AgreeOffForest held out off

@@ -1,4 +1,4 @@
--- Inside. The trees of a spanning forest, each hung from a root: its node that a search found first.
+-- Inside. The trees of a spanning forest, each hung from a root, which is the node of the tree that a search found first.
 use Rattle.std.specs.Prelude.{◌≡◌, ◌≢◌, ℕ, ◌+◌, ◌<◌, ◌≤◌, Bool, true, false, List, [], ◌∷◌, ◌++◌, length, Option, Some, None, slice_get, get_or, set}
 use Rattle.pb_graph.specs.declared.records.Stream.{Stream}
 use Rattle.pb_graph.specs.declared.records.Step.{Step}
@@ -7,8 +7,8 @@ use Rattle.pb_graph.specs.Walk.{ends_of}
 use Rattle.pb_graph.specs.Path.{is_open}
 use Rattle.pb_graph.specs.ProcessGraph.{other_end, some_stream}
 
--- the nodes in the order found; for each node its place in the order, the root of its tree (none while it isn't found), and the held
--- stream to its parent (none at a root)
+-- the nodes in the order found; for each node, its place in the order, the root of its tree (none if it hasn't been found yet), and
+-- the held stream to its parent (none at a root)
 pub record RootedTrees : Type 0 where
   pub order : List ℕ
   pub place : List ℕ
@@ -27,11 +27,11 @@ root_of t n = get_or t.root n None
 abbrev pub up_of : RootedTrees → ℕ → Option ℕ
 up_of t n = get_or t.up n None
 
--- the end other than node n of the stream at place k
+-- the end of the stream at place k other than node n
 abbrev pub end_from : List Stream → ℕ → ℕ → ℕ
 end_from streams n k = other_end n (get_or streams k some_stream)
 
--- how many nodes aren't found yet
+-- how many nodes haven't been found yet
 abbrev pub unfound : List (Option ℕ) → ℕ
 unfound [] = 0
 unfound (None ∷ os) = 1 + unfound os
@@ -46,7 +46,7 @@ pub record IsBranch (streams : List Stream) (held : List Bool) (order : List ℕ
   pub before : place < i
   pub parent : get_or order place 0 ≡ end_from streams (get_or order i 0) k
 
--- each node found comes once in the order, and hangs from an earlier one by a held stream, or is the root of its tree
+-- each node found appears once in the order, and hangs from an earlier one by a held stream, or is the root of its tree
 pub record AreTrees (nodes : ℕ) (streams : List Stream) (held : List Bool) (t : RootedTrees) : Type 0 where
   pub places : length t.place ≡ nodes
   pub roots : length t.root ≡ nodes
@@ -58,13 +58,13 @@ pub record AreTrees (nodes : ℕ) (streams : List Stream) (held : List Bool) (t 
   pub branch : (i k : ℕ) → i < length t.order → up_of t (node_at t i) ≡ Some k → IsBranch streams held t.order i k
   pub top : (n r : ℕ) → root_of t n ≡ Some r → up_of t n ≡ None → r ≡ n
 
--- the trees have every node, and what a held stream joins is in one tree
+-- the trees have every node, and both ends of a held stream are in the same tree
 pub record AreWhole (nodes : ℕ) (streams : List Stream) (held : List Bool) (t : RootedTrees) : Type 0 where
   pub trees : AreTrees nodes streams held t
   pub all : (n : ℕ) → n < nodes → (r : ℕ) × (root_of t n ≡ Some r)
   pub level : (k : ℕ) (s : Stream) → slice_get streams k ≡ Some s → get_or held k false ≡ true → root_of t s.from ≡ root_of t s.to
 
--- trees of which the last grows: held streams from the first nodes of the order were followed, and the other nodes are in one tree
+-- trees, the last of which still grows: held streams from the first nodes of the order were followed, and the other nodes are in one tree
 pub record AreGrowing (nodes : ℕ) (streams : List Stream) (held : List Bool) (done : ℕ) (t : RootedTrees) : Type 0 where
   pub trees : AreTrees nodes streams held t
   pub within : done ≤ length t.order
@@ -72,14 +72,14 @@ pub record AreGrowing (nodes : ℕ) (streams : List Stream) (held : List Bool) (
       → root_of t (end_from streams (node_at t i) k) ≡ root_of t (node_at t i)
   pub one_tree : (i : ℕ) → done ≤ i → i < length t.order → root_of t (node_at t i) ≡ root_of t (node_at t done)
 
--- trees with more nodes, behind those before
+-- trees with more nodes, which come after those that were there before
 pub record Extends (t u : RootedTrees) : Type 0 where
   pub same : (i : ℕ) → i < length t.order → node_at u i ≡ node_at t i
   pub more : length t.order ≤ length u.order
   pub kept : (n r : ℕ) → root_of t n ≡ Some r → root_of u n ≡ Some r
   pub left : length u.order + unfound u.root ≡ length t.order + unfound t.root
 
--- one node more, in the tree of a root, by a stream to its parent
+-- one more node, in the tree of a root, by a stream to its parent
 abbrev pub hung : RootedTrees → ℕ → Option ℕ → Option ℕ → RootedTrees
 hung t n root up = record { order = t.order ++ n ∷ []; place = set t.place n (length t.order); root = set t.root n root; up = set t.up n up }
 

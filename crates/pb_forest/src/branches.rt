@@ -9,7 +9,7 @@ use crate::trees::Trees;
 use pb_graph::{Graph, Stream};
 use std::alloc::{AllocError, Global};
 
-/// A held stream from a node to its parent, with the one from there to the parent's parent; None where the parent is a root.
+/// A held stream from a node to its parent, with the held stream from there to the parent's parent, or None if the parent is a root.
 #[derive(Clone, Copy, Debug)]
 pub struct Branch {
     pub stream: u32,
@@ -18,7 +18,7 @@ pub struct Branch {
     pub parent: Option<u32>,
 }
 
-// The branch that a node hangs by; None at a root.
+// The branch that a node hangs by, or None at a root.
 fn branch_up(streams: &[Stream], trees: &Trees, node: u32) -> Option<Branch>
     requires node { node < length trees.now.up }
     requires there { (k : ℕ) → up_of trees.now node ≡ Some k → k < length streams.now }

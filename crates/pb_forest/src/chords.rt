@@ -1,4 +1,4 @@
-// The streams not held, each with the branches that its ends hang by.
+// The streams that aren't held, each with the branches that its ends hang by.
 
 ghost use Rattle.std.specs.Prelude.{◌≡◌, ◌<◌, length, get_or, IfOk};
 ghost use Rattle.pb_graph.specs.ProcessGraph.{IsStream, some_stream};
@@ -9,7 +9,7 @@ use crate::trees::Trees;
 use pb_graph::{Graph, Stream};
 use std::alloc::{AllocError, Global};
 
-/// A stream not held, a chord of the forest, with the held streams from its ends to their parents; None at a root.
+/// A stream that isn't held, a chord of the forest, with the held streams from its ends to their parents, or None at a root.
 #[derive(Clone, Copy, Debug)]
 pub struct Chord {
     pub stream: u32,
@@ -34,7 +34,7 @@ fn as_chord(trees: &Trees, k: u32, stream: &Stream) -> Chord
     }
 }
 
-/// The streams not held.
+/// The streams that aren't held.
 pub fn chords_of(
     alloc: Global,
     graph: &Graph,

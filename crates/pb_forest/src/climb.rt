@@ -8,7 +8,7 @@ use crate::trees::Trees;
 use pb_graph::{Graph, List, Step};
 use std::alloc::{AllocError, Global};
 
-// The step from a node to its parent, and the parent, where another node of its tree was found before it.
+// The step from a node to its parent, and the parent, if another node of its tree was found before it.
 fn step_up(graph: &Graph, held: &[bool], trees: &Trees, node: u32) -> (Step, u32)
     requires trees { AreWhole graph.now.nodes graph.now.streams held.now trees.now }
     requires node { node < graph.now.nodes }
@@ -32,8 +32,8 @@ fn step_up(graph: &Graph, held: &[bool], trees: &Trees, node: u32) -> (Step, u32
     }
 }
 
-// Climbs from two nodes of one tree, each time from the one found later, until they meet. The steps from the one are written in
-// order, and those to the other from the last to the first.
+// Climbs from two nodes of one tree, each time from the node found later, until they meet. The steps from the first node are written
+// in order, and those to the second from the last to the first.
 fn meet(
     graph: &Graph,
     held: &[bool],
@@ -71,7 +71,7 @@ fn meet(
     Ok(())
 }
 
-/// The path of held streams between two nodes of one tree. The work is in proportion to its steps.
+/// The path of held streams between two nodes of one tree. The work is proportional to the number of its steps.
 pub fn path_in_tree(
     alloc: Global,
     graph: &Graph,

@@ -1,4 +1,4 @@
-// The balanced flows that the forest repairs: from the leaves of each tree to its root.
+// The balanced flows that the forest completes: from the leaves of each tree to its root.
 
 ghost use Rattle.std.specs.Prelude.{◌≡◌, ℕ, ◌<◌, ◌≤◌, ◌^◌, ℤ, neg_ℤ, List as Seq, All, Some, length, unsigned_abs};
 ghost use Rattle.pb_limits.specs.Limits.{most_streams};
@@ -15,7 +15,7 @@ use crate::chords::Chord;
 use crate::trees::Trees;
 use pb_graph::Graph;
 
-// The flow at a place where the stream isn't held, and 0 where it is.
+// The flow at a place if the stream there isn't held, and 0 if it is.
 fn chord_flow(held: &[bool], off: &[i128], k: usize) -> i128
     requires each { length off.now ≡ length held.now }
     requires place { k < length held.now }
@@ -26,7 +26,7 @@ fn chord_flow(held: &[bool], off: &[i128], k: usize) -> i128
     if held[k] { 0 } else { off[k] }
 }
 
-// Writes the flows of the streams not held, and 0 for each held one.
+// Writes the flows of the streams that aren't held, and 0 for each held one.
 fn write_chords(held: &[bool], off: &[i128], out: &mut [i128])
     requires each { length off.now ≡ length held.now }
     requires room { length out.old ≡ length held.now }
@@ -38,7 +38,7 @@ fn write_chords(held: &[bool], off: &[i128], out: &mut [i128])
     }
 }
 
-// Adds to the net flow that is kept at a branch; none is kept at a root.
+// Adds to the net flow that is kept at a branch; nothing is kept at a root.
 fn add(branch: Option<u32>, amount: i128, out: &mut [i128])
     requires branch { (k : ℕ) → branch ≡ Some k → k < length out.old }
     requires small { unsigned_abs amount < 2 ^ 70 }
@@ -75,7 +75,7 @@ fn gather(chords: &[Chord], off: &[i128], out: &mut [i128])
     }
 }
 
-// Balances a node: its branch takes its net flow, which the parent's net flow grows by.
+// Balances a node: its branch takes its net flow, and its parent's net flow grows by it.
 fn settle(branch: &Option<Branch>, out: &mut [i128])
     requires there { (b : Branch) → branch.now ≡ Some b → IsBranchWithin (length out.old) b }
     requires nets { All IsFlow out.old }

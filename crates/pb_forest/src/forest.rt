@@ -21,7 +21,7 @@ use std::marker::Model;
 
 /// The spanning forest of a process graph (Kruskal 1956; Narasimhan and Jordache, chapter 3).
 ///
-/// Streams are taken in order, the unmeasured ones by id and then the measured ones by id. A stream is held exactly where no
+/// Streams are taken in order, the unmeasured ones by id and then the measured ones by id. A stream is held exactly when no
 /// walk of streams before it joins its ends.
 #[derive(Debug, Drop)]
 pub struct Forest<'a> {
@@ -85,9 +85,9 @@ impl<'a> Forest<'a> {
         measured_held(self.graph.streams(), &self.held)
     }
 
-    /// The walk of held streams from one node to another without a node twice, or None where held streams don't join them.
+    /// The path of held streams from one node to another, on which no node appears twice, or None if held streams don't join them.
     ///
-    /// The work is in proportion to the steps of the walk.
+    /// The work is proportional to the number of steps of the path.
     pub fn path(&self, alloc: Global, from: u32, to: u32) -> Result<Option<List<Step>>, AllocError>
         requires from { from < self.now.graph.nodes }
         requires to { to < self.now.graph.nodes }
@@ -105,11 +105,11 @@ impl<'a> Forest<'a> {
         Ok(Some(steps))
     }
 
-    /// Writes the one balanced flow vector that has given flows off the forest, in grams: `off` and `out` have one item for each
-    /// stream, and the items of `off` at held streams count for nothing.
+    /// Writes the only balanced flow vector that has given flows off the forest, in grams. `off` and `out` have one item for each
+    /// stream, and the items of `off` at held streams are ignored.
     ///
     /// From the leaves of each tree to its root, the flow of the held stream to a node's parent is the one that balances the node.
-    /// The work is in proportion to nodes and streams. It takes no memory.
+    /// The work is proportional to the number of nodes and streams. It takes no memory.
     pub fn flows(&self, graph: &Graph, off: &[i128], out: &mut [i128])
         requires graph { graph.now ≡ self.now.graph }
         requires each { length off.now ≡ length graph.now.streams }

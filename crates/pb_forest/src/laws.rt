@@ -3,7 +3,7 @@
 ghost use Rattle.pb_forest.specs.Laws.{SpansLaw, AcyclicLaw, SomePathLaw, UniqueLaw, PartLaw, ChordLaw, SomeForestLaw, OneForestLaw, FewHeldLaw};
 ghost use Rattle.pb_forest.specs.Flows.{SomeBalancedLaw, OneBalancedLaw};
 
-/// What any streams join, the forest joins.
+/// If any streams join two nodes, the forest joins them.
 pub fn spans_law()
     ensures { SpansLaw }
 {}
@@ -13,22 +13,22 @@ pub fn acyclic_law()
     ensures { AcyclicLaw }
 {}
 
-/// Where a walk leads from one node to another, a walk without a node twice does.
+/// If a walk leads from one node to another, a path does too: a walk on which no node appears twice.
 pub fn some_path_law()
     ensures { SomePathLaw }
 {}
 
-/// Where there is no cycle, two walks without a node twice from one node to another are one.
+/// If there is no cycle, two paths from one node to another are the same.
 pub fn unique_law()
     ensures { UniqueLaw }
 {}
 
-/// Where there is no cycle, a walk without a node twice takes only streams of any part that joins its ends.
+/// If there is no cycle, a path takes only streams of any part that joins its ends.
 pub fn part_law()
     ensures { PartLaw }
 {}
 
-/// An unmeasured stream outside the forest has its ends joined by held unmeasured streams.
+/// The ends of an unmeasured stream outside the forest are joined by held unmeasured streams.
 pub fn chord_law()
     ensures { ChordLaw }
 {}
@@ -38,7 +38,7 @@ pub fn some_forest_law()
     ensures { SomeForestLaw }
 {}
 
-/// A list of streams has one spanning forest.
+/// A list of streams has only one spanning forest.
 pub fn one_forest_law()
     ensures { OneForestLaw }
 {}

@@ -1,7 +1,7 @@
 //! The spanning forest of a process graph: which streams it holds, its degrees of freedom, its paths, the balanced
-//! flows that it repairs, and its laws.
+//! flows that it completes, and its laws.
 //!
-//! The laws stand on empty functions, whose contracts state them for the crates above.
+//! The laws are the contracts of empty functions, which state them for the crates above.
 #![tactic(auto)]
 
 mod branches;

@@ -12,13 +12,13 @@ use std::marker::Model;
 /// The trees of a forest, each found by a search from its root.
 #[derive(Debug, Drop)]
 pub struct Trees {
-    // The nodes in the order found: a node comes behind its parent.
+    // The nodes in the order found: a node comes after its parent.
     order: Vec<u32>,
-    // For each node its place in the order.
+    // For each node, its place in the order.
     place: Vec<usize>,
-    // For each node the root of its tree; None while it isn't found.
+    // For each node, the root of its tree, or None if it hasn't been found yet.
     root: Vec<Option<u32>>,
-    // For each node the held stream to its parent; None at a root.
+    // For each node, the held stream to its parent, or None at a root.
     up: Vec<Option<u32>>,
 }
 
@@ -51,7 +51,7 @@ impl Trees {
         self.order[i]
     }
 
-    /// The held stream from a node to its parent; None at a root.
+    /// The held stream from a node to its parent, or None at a root.
     pub fn up(&self, node: u32) -> Option<u32>
         requires { node < length self.now.up }
         ensures { result ≡ up_of self.now node }
@@ -67,7 +67,7 @@ impl Trees {
         self.place[node as usize]
     }
 
-    /// Whether two nodes are in one tree.
+    /// Whether two nodes are in the same tree.
     pub fn are_joined(&self, node: u32, other: u32) -> bool
         requires node { node < length self.now.root }
         requires other { other < length self.now.root }
@@ -76,7 +76,7 @@ impl Trees {
         self.root(node) == self.root(other)
     }
 
-    // The root of a node's tree; None while the node isn't found.
+    // The root of a node's tree, or None if the node hasn't been found yet.
     fn root(&self, node: u32) -> Option<u32>
         requires { node < length self.now.root }
         ensures { result ≡ root_of self.now node }
@@ -84,7 +84,7 @@ impl Trees {
         self.root[node as usize]
     }
 
-    // Hangs a node into the tree of a root: by a held stream to its parent, or by none where it is the root.
+    // Hangs a node into the tree of a root: by a held stream to its parent, or by no stream if it is the root.
     fn hang(&mut self, node: u32, root: Option<u32>, up: Option<u32>) -> Result<(), AllocError>
         requires place { node < length self.old.place }
         requires root { node < length self.old.root }
@@ -168,7 +168,7 @@ impl Trees {
         Ok(())
     }
 
-    // Finds the tree of a node, unless it is found.
+    // Finds the tree of a node, unless the node has already been found.
     fn grow(
         &mut self,
         graph: &Graph,

@@ -1,4 +1,4 @@
--- The text of a day writes it: it stands among those of all dates.
+-- The text of a day writes it: it stands among the texts of all dates.
 use Rattle.std.specs.Prelude.{◌==◌, ◌||◌, map, Option, Some, None, if◌then◌else◌}
 use Rattle.std.specs.List.{flat_map, range_with_len}
 use Rattle.std.proofs.Common.{◌≡◌, ◌∙◌, ◌⊎◌, inl, inr, ◌≤◌, ◌<◌, ◌+◌, ℕ, zero, suc, ℤ, pos, Bool, true, false, List, [], ◌∷◌, ◌++◌, refl, sym, ap, subst, arith}

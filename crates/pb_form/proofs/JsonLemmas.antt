@@ -1,4 +1,4 @@
--- A record as JSON: it has no float, and the members so far joined to the fields that are left are all of them.
+-- A record as JSON: it has no float, and the members so far, joined to the fields that are left, make up all members.
 use Rattle.std.specs.Prelude.{map}
 use Rattle.std.proofs.Common.{◌≡◌, ℕ, ◌+◌, ◌<◌, List, [], ◌∷◌, length, drop, get_or, false, refl, add-one, IsOk, Result, Ok, Err, rules, Ordering, Less, Equal, Greater, nat_cmp}
 use Rattle.std.specs.Prelude.{MatchResult}

@@ -73,16 +73,16 @@ abbrev other_word : holds.Holds → holds.Holds → Bool
 other_word (holds.Word (a ∷ [])) (holds.Word (b ∷ [])) = not (bytes_eq a b)
 other_word a b = false
 
--- two lists of columns take other words at some place
+-- two lists of columns take different words at some place
 abbrev other_words : List Column → List Column → Bool
 other_words (a ∷ xs) (b ∷ ys) = other_word a.holds b.holds || other_words xs ys
 other_words xs ys = false
 
--- two schemas without tails have another number of columns
+-- two schemas without tails have different numbers of columns
 abbrev other_count : Schema → Schema → Bool
 other_count a b = ((length a.tail == 0) && (length b.tail == 0)) && not (length a.columns == length b.columns)
 
--- two schemas have other words, or another number of columns
+-- two schemas have different words, or different numbers of columns
 abbrev differ : Schema → Schema → Bool
 differ a b = other_words a.columns b.columns || other_count a b
 
@@ -278,7 +278,7 @@ front_filled (suc k) [] some rest = refl
 front_filled (suc k) (field ∷ fields) some rest =
     filled_before field fields (omega (arith, some, length-drop k fields)) (front_filled k fields some rest)
 
--- the fields of a record of a schema: either it has a tail and some turns of it, or it has just one field a column
+-- the fields of a record of a schema: either it has a tail and some turns of it, or it has just one field for each column
 schema_filled : (schema : Schema) (values : List Value) (fields : List (List ℕ)) → ends_filled schema.columns ≡ true → list_all is_filled schema.tail ≡ true
     → IsRead schema values fields → without_trailing_empty fields ≡ fields
 schema_filled schema values fields ends turns read = by schema.tail (length (drop (length schema.columns) fields)) turns refl refl read.tail
@@ -339,7 +339,7 @@ schemas_from schemas start same =
     ap (map schema_seen) (take_all (length schemas - start) (drop start schemas) (omega (arith, length-drop start schemas)))
     ∙ sym (drop-map schema_seen start schemas) ∙ ap (drop start) same ∙ drop-map session_schema start session_kinds
 
--- the kind that they tell
+-- the kind that they give
 pub kind_from_told : (start place : ℕ) (fields : List (List ℕ)) → schema_told (map session_schema (drop start session_kinds)) fields ≡ Ok place
     → start + place < length session_kinds → session_told (drop start session_kinds) fields ≡ Ok (get_or session_kinds (start + place) kind.Version)
 unfolding session_told
@@ -429,7 +429,7 @@ same_kind fields a b one other =
         let both : (let a_there : Option SessionKind = Some a in a_there) ≡ Some b = sym at ∙ ap (slice_get session_kinds) same ∙ there in
         cc both
 
--- a record that is of the kind of readings is told to be a reading among the kinds of each version
+-- a record that is of the kind of readings is identified as a reading among the kinds of each version
 pub reading_told : (start : ℕ) (fields : List (List ℕ)) → start ≤ 6 → is_of fields (session_schema kind.Reading) ≡ true
     → session_told (drop start session_kinds) fields ≡ Ok kind.Reading
 unfolding session_told

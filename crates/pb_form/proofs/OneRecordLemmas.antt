@@ -21,7 +21,7 @@ use Rattle.pb_form.specs.declared.fault.FormFault.TheVariants as fault
 
 -- ---- one field
 
--- the number of a field that passes is that of the field
+-- a number within the range is the number of the field
 passed : (lo hi z : ℤ) (number : Option ℤ) → within lo hi number ≡ Some z → number ≡ Some z
 passed lo hi z None is = cc is
 passed lo hi z (Some n) is = by (int_le lo n && int_le n hi) is

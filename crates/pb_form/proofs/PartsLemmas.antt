@@ -39,7 +39,7 @@ parts_of (Ok v) (Err bad) values says = absurd (cc says)
 parts_of (Err bad) (Ok others) values says = absurd (cc says)
 parts_of (Err bad) (Err other) values says = absurd (cc says)
 
--- the number of fields of a record that was read is right, its fields say the values, and those of its tail say some too
+-- the number of fields of a record that was read is right, its fields say the values, and the fields of its tail say some too
 pub record IsRead (schema : Schema) (values : List Value) (row : List (List ℕ)) : Type 0 where
   pub counts : has_count schema (length row) ≡ true
   pub says : fields_read schema.columns row ≡ Ok values
@@ -62,7 +62,7 @@ read_parts schema values row reads = by (has_count schema (length row)) refl rea
         record { counts = counts; says = parts.0; others = parts.1.0; tail = parts.1.1 }
     by false counts is = cc is
 
--- a row of a schema has at least one field a column
+-- a row of a schema has at least one field for each column
 pub least_count : (schema : Schema) (n : ℕ) → has_count schema n ≡ true → nat_le (length schema.columns) n ≡ true
 least_count schema n counts = (and_parts (nat_le (length schema.columns) n) (are_turns schema.tail (n - length schema.columns)) counts).0
 
@@ -71,7 +71,7 @@ has_columns schema n counts =
     let least : nat_le (length schema.columns) n ≡ true = least_count schema n counts in
     grind (arith, nat_tests)
 
--- without a tail it has just one field a column
+-- without a tail it has just one field for each column
 pub just_count : (schema : Schema) (n : ℕ) → schema.tail ≡ [] → has_count schema n ≡ true → n ≡ length schema.columns
 just_count schema n none counts =
     let parts = and_parts (nat_le (length schema.columns) n) (are_turns schema.tail (n - length schema.columns)) counts in

@@ -42,7 +42,7 @@ count_said (column ∷ columns) (field ∷ fields) fit = ap suc (count_said colu
 
 -- ---- faults
 
--- what was told, and what wasn't
+-- what was reported, and what wasn't
 pub fault_told : {A : Type 0} (read : Result A FormFault) (fault : FormFault) → Some fault ≡ fault_in read → Err fault ≡ read
 fault_told (Ok said) fault told = cc told
 fault_told (Err other) fault told = cc told

@@ -29,7 +29,7 @@ within_seen schema_of schemas kinds place kind same at =
     let within = slice_get_within kinds place kind at in
     omega (arith, within, ap length same, length-map schemas schema_seen, length-map kinds schema_of)
 
--- what passes at each of several passes at each place of them
+-- if each kind passes a test, so does the kind at any place among them
 pub passes_at : {K : Type 0} (test : K → Bool) (kinds : List K) (place : ℕ) (kind : K) → list_all test kinds ≡ true → slice_get kinds place ≡ Some kind → test kind ≡ true
 passes_at test [] place kind all at = cc at
 passes_at test (first ∷ kinds) zero kind all at = by (test first) refl all
@@ -43,7 +43,7 @@ passes_at test (first ∷ kinds) (suc place) kind all at = passes_at test kinds 
     by true all = all
     by false all = cc all
 
--- no kind has more columns than there is room for: so it is with the columns of the code
+-- no kind has more columns than there is room for: nor has it in the code
 pub few_seen : {K : Type 0} (schema_of : K → Schema) (schemas : List coded.Schema) (kinds : List K) (place : ℕ) (kind : K) (d : coded.Schema)
     → map schema_seen schemas ≡ map schema_of kinds → slice_get kinds place ≡ Some kind
     → list_all (λ kind. nat_le (length (schema_of kind).columns) 16) kinds ≡ true → length (get_or schemas place d).columns.now ≤ 16

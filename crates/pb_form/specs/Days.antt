@@ -4,15 +4,15 @@ use Rattle.std.specs.List.{flat_map, range_with_len}
 use Rattle.std.specs.Ordering.{int_eq}
 use Rattle.pb_rows.specs.Date.{date_text, day_of, first_year}
 
--- the texts of the dates of a month, and of some that the calendar doesn't have
+-- the texts of the dates of a month, and of some dates that the calendar doesn't have
 unfoldable pub dates_of_month : ℕ → ℕ → List (List ℕ)
 dates_of_month year month = map (date_text year month) (range_with_len 1 31)
 
--- those of a year
+-- the texts of a year
 unfoldable pub dates_of_year : ℕ → List (List ℕ)
 dates_of_year year = flat_map (dates_of_month year) (range_with_len 1 12)
 
--- those of n years from 1900 on
+-- the texts of n years from 1900 on
 unfoldable pub dates_of_years : ℕ → List (List ℕ)
 dates_of_years n = flat_map dates_of_year (range_with_len first_year n)
 
@@ -26,6 +26,6 @@ abbrev pub first_writing : ℤ → List (List ℕ) → List ℕ
 first_writing day [] = []
 first_writing day (text ∷ texts) = if is_this_day day (day_of text) then text else first_writing day texts
 
--- The text `YYYY-MM-DD` of a day from 1900 to 2199: the one that writes it. Another day has no text.
+-- The text `YYYY-MM-DD` of a day from 1900 to 2199: the text that writes it. Any other day has no text.
 unfoldable pub text_of_day : ℤ → List ℕ
 text_of_day day = first_writing day (dates_of_years 300)

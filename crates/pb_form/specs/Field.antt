@@ -16,7 +16,7 @@ abbrev pub found : {A : Type 0} → (A → Value) → FormFault → Option A →
 found value bad (Some a) = Ok (value a)
 found value bad None = Err bad
 
--- the value of a field that is of a form, or this fault
+-- the value of a field that has a form, or this fault
 abbrev pub formed : (List ℕ → Bool) → (List ℕ → Value) → FormFault → List ℕ → Result Value FormFault
 formed is_form value bad field = if is_form field then Ok (value field) else Err bad
 

@@ -1,4 +1,4 @@
--- Inside. The values that are given to be written, as those of the definitions.
+-- Inside. The values that are given to be written, as values of the definitions.
 use Rattle.std.specs.Prelude.{ℕ, List, [], ◌∷◌}
 use Rattle.pb_form.specs.Columns.{Column}
 use Rattle.pb_form.specs.Holds.{Holds}
@@ -21,7 +21,7 @@ value_as takes (given.Text text) = text_as takes text.now
 value_as takes (given.Number number) = value.Number number
 value_as takes (given.Day day) = value.Date day
 
--- the values that are given, one a column
+-- the values that are given, one for each column
 abbrev pub values_as : List Column → List coded.Value → List value.Value
 values_as (column ∷ columns) (one ∷ values) = value_as column.holds one ∷ values_as columns values
 values_as columns values = []

@@ -4,7 +4,7 @@ use Rattle.serde_json.specs.Data.{Data, Members, no_members, object, put, string
 use Rattle.serde_json.specs.Written.{compact_text}
 use Rattle.pb_form.specs.Columns.{Column}
 
--- members in byte order of their keys, with the text of each field put at its column's key
+-- members in byte order of their keys, with the text of each field put under its column's key
 abbrev pub members_after : Members → List Column → List (List ℕ) → Members
 members_after members (column ∷ columns) (field ∷ fields) = members_after (put column.key (string field) members) columns fields
 members_after members columns fields = members

@@ -12,7 +12,7 @@ use Rattle.pb_form.specs.declared.output.OutputKind.TheVariants as kind
 abbrev pub natural_range : Holds
 natural_range = Number (pos 0) (pos (2 ^ 64 - 1))
 
--- a number that no limit of a plant bounds: a bound of a flow, a net flow with its variance, an end of a statistic
+-- a number that no limit of a plant bounds: a bound of a flow, a net flow or its variance, an end of a statistic
 abbrev pub wide_range : Holds
 wide_range = Number (neg_ℤ (pos most_wide)) (pos most_wide)
 
@@ -44,11 +44,11 @@ variance_range = Number (pos 1) (pos most_variance)
 abbrev pub flow_range : Holds
 flow_range = Number (neg_ℤ (pos (2 ^ 68 - 1))) (pos (2 ^ 68 - 1))
 
--- the number of the gap beside its exponent
+-- the number of the gap, which is given with an exponent
 abbrev pub gap_number_range : Holds
 gap_number_range = Number (pos 0) (pos (2 ^ 63))
 
--- that exponent
+-- the exponent of the gap
 abbrev pub exponent_range : Holds
 exponent_range = Number (pos 0) (pos 32)
 
@@ -56,7 +56,7 @@ exponent_range = Number (pos 0) (pos 32)
 abbrev pub dof_range : Holds
 dof_range = Number (pos 0) (pos most_freedom)
 
--- The columns of each kind. A stream had no least bounds before there were any.
+-- The columns of each kind. `StreamBefore` is a stream as it was written before there were least bounds.
 abbrev pub output_columns : OutputKind → List Column
 output_columns kind.Refused =
     word_column (codes "row") (codes "refused") ∷ column (codes "at") natural_range ∷ column (codes "code") natural_range

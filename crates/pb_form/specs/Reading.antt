@@ -36,23 +36,23 @@ abbrev pub fields_read : List Column → List (List ℕ) → Result (List Value)
 fields_read (column ∷ columns) (field ∷ fields) = joined (one_read (field_read column field)) (fields_read columns fields)
 fields_read columns fields = Ok []
 
--- n columns: those that are left of a tail, and then those of the tail, over and over
+-- n columns: the rest of a tail, and then the columns of the tail, repeated
 abbrev pub repeated : List Column → List Column → ℕ → List Column
 repeated tail rest zero = []
 repeated tail (column ∷ rest) (suc n) = column ∷ repeated tail rest n
 repeated (column ∷ tail) [] (suc n) = column ∷ repeated (column ∷ tail) tail n
 repeated [] [] (suc n) = []
 
--- what the fields behind the columns of a schema say, by the columns of its tail, over and over
+-- what the fields after the columns of a schema say, by the columns of its tail, repeated
 abbrev pub tail_read : Schema → List (List ℕ) → Result (List Value) FormFault
 tail_read schema fields =
     fields_read (repeated schema.tail [] (length fields - length schema.columns)) (drop (length schema.columns) fields)
 
--- n fields are some turns of a tail
+-- n fields make up whole turns of a tail
 abbrev pub are_turns : List Column → ℕ → Bool
 are_turns tail n = if length tail == 0 then n == 0 else n % length tail == 0
 
--- a row of a schema has this number of fields: one a column, and some turns of the tail
+-- a row of a schema has this number of fields: one for each column, and whole turns of the tail
 abbrev pub has_count : Schema → ℕ → Bool
 has_count schema n = nat_le (length schema.columns) n && are_turns schema.tail (n - length schema.columns)
 
@@ -63,8 +63,8 @@ before (Ok values) (Err fault) = Err fault
 before (Err fault) (Ok rest) = Err fault
 before (Err fault) (Err other) = Err (sooner fault other)
 
--- The value of each column of a schema in the fields of a row, or their first fault: their number, or the first of the faults of
--- the single fields, those of the tail among them.
+-- The value of each column of a schema in the fields of a row, or the row's first fault: the number of fields, or the first of the
+-- faults of the single fields, including the fields of the tail.
 abbrev pub row_read : Schema → List (List ℕ) → Result (List Value) FormFault
 row_read schema fields =
     if has_count schema (length fields) then before (fields_read schema.columns fields) (tail_read schema fields) else Err Fields

@@ -14,7 +14,7 @@ value_in (Err fault) = Missing
 abbrev pub value_said : Column → List ℕ → Value
 value_said column field = value_in (field_read column field)
 
--- what fields say, one a column
+-- what fields say, one for each column
 abbrev pub values_said : List Column → List (List ℕ) → List Value
 values_said (column ∷ columns) (field ∷ fields) = value_said column field ∷ values_said columns fields
 values_said columns fields = []

@@ -1,4 +1,4 @@
--- Inside. The columns of the code as those of the definitions.
+-- Inside. The columns of the code as columns of the definitions.
 use Rattle.std.specs.Prelude.{map}
 use Rattle.pb_form.specs.Columns.{Column, Schema}
 use Rattle.pb_form.specs.Holds as holds

@@ -20,7 +20,7 @@ no_variance = Number (pos 0) (pos 0)
 abbrev pub row_variance : Holds
 row_variance = Number (pos 0) (pos most_row_variance)
 
--- grams, either way
+-- grams, in either direction
 abbrev pub either_grams : Holds
 either_grams = Number (neg_ℤ (pos most_grams)) (pos most_grams)
 
@@ -52,7 +52,7 @@ grade_range = Number (pos 0) (pos most_grade)
 abbrev pub grade_variance_range : Holds
 grade_variance_range = Number (pos 0) (pos most_grade_variance)
 
--- the greatest cost of a meter, in whatever unit
+-- the greatest cost of a meter, in any unit
 abbrev pub most_meter_cost : ℕ
 most_meter_cost = 10 ^ 12
 
@@ -60,7 +60,7 @@ most_meter_cost = 10 ^ 12
 abbrev pub cost_range : Holds
 cost_range = Number (pos 0) (pos most_meter_cost)
 
--- the columns of a stream of a kind, which has this word and this base variance
+-- the columns of a kind of streams, which has this word and this base variance
 abbrev pub stream_columns : List ℕ → Holds → List Column
 stream_columns word base =
     word_column (codes "row") (codes "stream") ∷ column (codes "name") Name ∷ column (codes "from") Name ∷ column (codes "to") Name
@@ -70,7 +70,7 @@ stream_columns word base =
 abbrev pub service_columns : List Column
 service_columns = column (codes "since") Date ∷ column (codes "until") Date ∷ []
 
--- the columns of a fact behind its word
+-- the columns of a fact after its word
 abbrev pub reading_columns : List Column
 reading_columns =
     column (codes "id") Name ∷ column (codes "stream") Name ∷ column (codes "day") Date ∷ column (codes "grams") either_grams
@@ -86,7 +86,7 @@ dip_columns =
     column (codes "id") Name ∷ column (codes "tank") Name ∷ column (codes "day") Date ∷ column (codes "mm") level_range
     ∷ column (codes "density") density_range ∷ column (codes "variance") row_variance ∷ []
 
--- the columns of a late fact: the word `late`, and the fact's own
+-- the columns of a late fact: the word `late`, the fact's word, and the columns of the fact
 abbrev pub late_columns : List ℕ → List Column → List Column
 late_columns word columns = word_column (codes "row") (codes "late") ∷ word_column (codes "word") word ∷ columns
 
@@ -151,7 +151,7 @@ session_columns kind.Component =
 abbrev pub cost_columns : List Column
 cost_columns = column (codes "stream") Name ∷ column (codes "cost") cost_range ∷ []
 
--- The columns that come after those of a kind, over and over.
+-- The columns that are repeated after those of a kind.
 abbrev pub session_tail : SessionKind → List Column
 session_tail kind.Advise = cost_columns
 session_tail kind = []
@@ -173,7 +173,7 @@ session_kinds =
 abbrev pub session_schemas : List Schema
 session_schemas = map session_schema session_kinds
 
--- a session of version 2 has rows of this kind; the record that makes a session one of version 2 is of none that it then has
+-- a session of version 2 has rows of this kind; the record that makes it a session of version 2 isn't one of these rows
 abbrev pub is_of_version_2 : SessionKind → Bool
 is_of_version_2 kind.Version = false
 is_of_version_2 kind = true
@@ -200,7 +200,7 @@ abbrev pub kind_at : Option SessionKind → Result SessionKind FormFault
 kind_at (Some kind) = Ok kind
 kind_at None = Err fault.Kind
 
--- the kind, among some kinds, of a schema that a row is of
+-- the kind, among some kinds, whose schema a row is of
 abbrev pub kind_in : List SessionKind → Result ℕ FormFault → Result SessionKind FormFault
 kind_in kinds (Ok place) = kind_at (slice_get kinds place)
 kind_in kinds (Err fault) = Err fault

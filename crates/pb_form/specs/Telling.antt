@@ -7,12 +7,12 @@ use Rattle.pb_form.specs.Reading.{has_count}
 use Rattle.pb_form.specs.declared.fault.FormFault.{FormFault}
 use Rattle.pb_form.specs.declared.fault.FormFault.TheVariants as fault
 
--- a field has the word of a column that takes one word alone
+-- a field has the word of a column that takes just one word
 abbrev pub has_word : Holds → List ℕ → Bool
 has_word (Word (word ∷ [])) field = bytes_eq field word
 has_word holds field = true
 
--- the fields of a row, as far as they go, have the words that tell the kind of these columns
+-- the fields of a row, as far as they go, have the words that identify the kind of these columns
 abbrev pub agrees : List Column → List (List ℕ) → Bool
 agrees (column ∷ columns) (field ∷ fields) = has_word column.holds field && agrees columns fields
 agrees columns fields = true
@@ -25,7 +25,7 @@ is_of fields schema = has_count schema (length fields) && agrees schema.columns 
 abbrev pub has_words : List (List ℕ) → Schema → Bool
 has_words fields schema = agrees schema.columns fields
 
--- no schema is that of a row: none has its words, or none with its words has its number of fields
+-- why a row is of no schema: none has its words, or none with its words has its number of fields
 abbrev pub untold : List Schema → List (List ℕ) → FormFault
 untold schemas fields = if list_any (has_words fields) schemas then fault.Fields else fault.Kind
 
@@ -34,6 +34,6 @@ abbrev pub told_at : List Schema → List (List ℕ) → Option ℕ → Result �
 told_at schemas fields (Some place) = Ok place
 told_at schemas fields None = Err (untold schemas fields)
 
--- The place among schemas of the first one that a row is of, or why there is none.
+-- The place of the first schema that a row is of, or why there is none.
 abbrev pub schema_told : List Schema → List (List ℕ) → Result ℕ FormFault
 schema_told schemas fields = told_at schemas fields (position (is_of fields) schemas)

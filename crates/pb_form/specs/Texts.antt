@@ -13,7 +13,7 @@ abbrev pub held_word : Holds → ℕ → List ℕ
 held_word (holds.Word words) place = word_at words place
 held_word takes place = []
 
--- the text of a value by what its column takes: nothing for one that is missing, the word at its place, the name, reason or list as
+-- the text of a value by what its column takes: nothing for a missing value, the word at its place, the name, reason or list as
 -- it is, the digits of the number, or the date of the day
 abbrev pub value_text : Holds → Value → List ℕ
 value_text takes Missing = []
@@ -24,7 +24,7 @@ value_text takes (Number number) = whole_text number
 value_text takes (Date day) = text_of_day day
 value_text takes (Items text) = text
 
--- The fields of a row: the text of each value, one a column.
+-- The fields of a row: the text of each value, one for each column.
 abbrev pub texts_of : List Column → List Value → List (List ℕ)
 texts_of (column ∷ columns) (value ∷ values) = value_text column.holds value ∷ texts_of columns values
 texts_of columns values = []

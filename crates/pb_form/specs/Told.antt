@@ -1,4 +1,4 @@
--- Inside. The fault that a reading tells, and readings under way.
+-- Inside. The fault that a reading reports, and readings in progress.
 use Rattle.std.specs.Prelude.{List, Option, Some, None, Result, Ok, Err}
 use Rattle.pb_form.specs.Reading.{sooner}
 use Rattle.pb_form.specs.Value.{Value}

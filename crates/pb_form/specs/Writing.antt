@@ -1,4 +1,4 @@
--- Statement. Values that fit their columns, and the record that writes them: the one that reads back as them.
+-- Statement. Values that fit their columns, and the record that writes them: the record that reads back as the values.
 use Rattle.std.specs.Prelude.{◌≡◌, ℕ, ◌==◌, ◌≤ℤ◌, ◌&&◌, Bool, true, false, List, [], ◌∷◌, length, Ok, Some, bytes_eq, position, slice_index_or}
 use Rattle.pb_rows.specs.Date.{IsDay}
 use Rattle.pb_rows.specs.Name.{is_name}
@@ -13,16 +13,16 @@ use Rattle.pb_form.specs.Value.{Value, Missing, Word, Name, Reason, Number, Date
 abbrev pub word_at : List (List ℕ) → ℕ → List ℕ
 word_at words place = slice_index_or words place []
 
--- a text isn't taken for a field that is left out
+-- a text isn't mistaken for a field that is left out
 abbrev pub IsTold : Bool → List ℕ → Type 0
 IsTold optional text = (optional && (length text == 0)) ≡ false
 
--- the first of some words that is the word at a place stands at that place
+-- the word at a place stands at no earlier place
 abbrev pub IsFirst : List (List ℕ) → ℕ → Type 0
 IsFirst words place = position (bytes_eq (word_at words place)) words ≡ Some place
 
--- a value is one that a column takes: none if the column is optional, a word by its place, a name, a reason, a number of its range,
--- a day of a date, or a list
+-- a value is one that a column takes: none if the column is optional, a word by its place, a name, a reason, a number in its range,
+-- the day of a date, or a list
 abbrev pub FitsIn : Holds → Bool → Value → Type 0
 FitsIn takes optional Missing = optional ≡ true
 FitsIn (holds.Word words) optional (Word place) = IsFirst words place × IsTold optional (word_at words place)

@@ -3,18 +3,18 @@
 /// What a column takes.
 #[derive(Clone, Copy)]
 pub enum Holds {
-    /// One of these words. A column of one word tells the kind of its row.
+    /// One of these words. A column of one word identifies the kind of its row.
     Word(&'static [&'static str]),
     Name,
     Reason,
     /// A whole number from `lo` to `hi`, both included.
     Number { lo: i128, hi: i128 },
     Date,
-    /// A list in whatever bytes, which are kept as they are.
+    /// A list of any bytes, which are kept as they are.
     Items,
 }
 
-/// A column: its key, and what it takes. An optional one also takes an empty field.
+/// A column: its key, and what it takes. An optional column also takes an empty field.
 #[derive(Clone, Copy)]
 pub struct Column {
     pub key: &'static str,
@@ -22,7 +22,7 @@ pub struct Column {
     pub optional: bool,
 }
 
-/// The columns of a kind of rows, of which the first holds the kind's word. Those of `tail` come after them, over and over, as often
+/// The columns of a kind of rows, the first of which holds the kind's word. The columns of `tail` are repeated after them, as often
 /// as a row has fields for.
 #[derive(Clone, Copy)]
 pub struct Schema {

@@ -13,7 +13,7 @@ const FIRST_DAY: i32 = -25_567;
 
 const LAST_DAY: i32 = 84_005;
 
-// Appends the text of a day, counted from 1970-01-01, or nothing if no date from 1900 to 2199 is the day's.
+// Appends the text of a day, counted from 1970-01-01: an empty field if no date from 1900 to 2199 is the day's.
 pub(crate) fn push_day(day: i32, row: &mut Row) -> Result<(), AllocError>
     ensures adds { OnOk result (row.new ≡ row.old ++ text_of_day day ∷ []) }
     ensures texts { OnOk result (All IsUtf8 row.old → All IsUtf8 row.new) }

@@ -4,7 +4,7 @@ ghost use Rattle.std.specs.Prelude.{◌≡◌};
 ghost use Rattle.pb_form.specs.Reading.{order_of, sooner};
 ghost use Rattle.pb_form.specs.Told.{soonest};
 
-/// What is wrong with a row, by its fields alone. Of several faults of a row the first of these is told.
+/// What is wrong with a row, by its fields alone. If a row has several faults, the first of these is reported.
 #[derive(Clone, Copy, PartialEq, Eq, Debug)]
 pub enum FormFault {
     /// No kind of rows has these words.
@@ -13,7 +13,7 @@ pub enum FormFault {
     Fields,
     /// A field isn't a name, or a reason.
     Name,
-    /// A field isn't a whole number of its range.
+    /// A field isn't a whole number in its range.
     Number,
     /// A field isn't a date.
     Date,

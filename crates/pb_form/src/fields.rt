@@ -6,7 +6,7 @@ ghost use Rattle.pb_rows.specs.Records.{without_trailing_empty};
 use pb_rows::Row;
 use std::marker::Model;
 
-/// Fields of a record, one after the other, lent.
+/// Consecutive fields of a record, borrowed.
 #[derive(Drop)]
 pub struct Fields<'a> {
     row: &'a Row,

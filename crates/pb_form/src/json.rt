@@ -34,7 +34,7 @@ fn line_of(alloc: Global, columns: &[Column], row: &Row) -> Result<String, Alloc
     Ok(line)
 }
 
-// The same without a line feed.
+// The same without the line feed.
 #[tactic(auto, using(crate::proofs::JsonLemmas::record_has_no_float))]
 fn text_of(alloc: Global, columns: &[Column], row: &Row) -> Result<String, AllocError>
     requires each { length row.now ≡ length columns.now }

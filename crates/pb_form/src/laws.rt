@@ -4,7 +4,7 @@ ghost use Rattle.pb_form.specs.Laws.{FittingLaw, OneKindLaw, OneRecordLaw};
 
 use pb_rows::{date_text_law, number_text_law};
 
-/// The law that no two records write the same values by a schema without a tail: a record that was read and is written again
+/// The law that no two records write the same values by a schema without a tail: a record that is read and written again
 /// stays as it was.
 pub fn one_record_law()
     ensures { OneRecordLaw }

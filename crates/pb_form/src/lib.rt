@@ -1,7 +1,8 @@
 //! The form of rows: what a column takes, which columns a kind of rows has, and rows read and written by them.
 //!
 //! A schema is the list of a kind's columns, the first of which holds the kind's word. A record is read by a schema to one value
-//! a column, or to its first fault in one order of faults; values are written by a schema to the one record that reads back as them.
+//! for each column, or to its first fault in one order of faults; values are written by a schema to the only record that reads back
+//! as them.
 #![tactic(auto)]
 
 mod column;

@@ -54,7 +54,7 @@ pub enum OutputKind {
     Component,
 }
 
-// 2^126, the greatest of the numbers that aren't bounded by a plant's limits.
+// 2^126, the greatest of the numbers that no limit of a plant bounds.
 const WIDEST: i128 = 85_070_591_730_234_615_865_843_651_857_942_052_864;
 
 // 2^120, the greatest price.
@@ -387,7 +387,7 @@ pub fn output_schema(kind: OutputKind) -> &'static Schema
     }
 }
 
-/// The record of a kind: the text of each value, of which the first is the kind's word.
+/// The record of a kind: the text of each value, the first of which is the kind's word.
 pub fn output_record(alloc: Global, kind: OutputKind, values: &[Value]) -> Result<Row, AllocError>
     requires { length values.now ≡ length (output_columns kind) }
     ensures fields { IfOk result (λ row. row

@@ -36,7 +36,7 @@ pub(crate) fn has_count(schema: &Schema, count: usize) -> bool
     columns <= count && are_turns(schema.tail, count - columns)
 }
 
-// Whether this number of fields is some turns of a tail.
+// Whether this number of fields makes up whole turns of a tail.
 #[inline(always)]
 fn are_turns(tail: &[Column], count: usize) -> bool
     ensures { result ≡ are_turns (map column_seen tail.now) count }
@@ -48,7 +48,8 @@ fn are_turns(tail: &[Column], count: usize) -> bool
     }
 }
 
-/// The values of the first fields, one a column, or their first fault: so are those of a turn of a tail read.
+/// The values of the first fields, one for each column, or their first fault. The fields of a turn of a tail are read in the
+/// same way.
 pub fn read_columns<'a>(columns: &'a [Column], fields: &Fields<'a>) -> Result<Values<'a>, FormFault>
     requires { length columns.now ≤ length fields.now }
     ensures value { result ≡ fields_read (map column_seen columns.now) fields.now }
@@ -60,7 +61,7 @@ pub fn read_columns<'a>(columns: &'a [Column], fields: &Fields<'a>) -> Result<Va
     }
 }
 
-// The first fault of the first fields, one a column.
+// The first fault of the first fields, one for each column.
 fn columns_fault(columns: &[Column], fields: &Fields) -> Option<FormFault>
     requires { length columns.now ≤ length fields.now }
     ensures { result ≡ fault_in (fields_read (map column_seen columns.now) fields.now) }
@@ -74,7 +75,7 @@ fn columns_fault(columns: &[Column], fields: &Fields) -> Option<FormFault>
     first
 }
 
-// The first fault of the fields from a place on, by the columns of a tail, over and over.
+// The first fault of the fields from a place on, by the columns of a tail, repeated.
 fn tail_fault(tail: &[Column], fields: &Fields, start: usize) -> Option<FormFault>
     requires { start ≤ length fields.now }
     ensures { result ≡ fault_in (fields_read

@@ -23,8 +23,8 @@ use pb_limits::{
 use pb_rows::Row;
 use std::alloc::{AllocError, Global};
 
-/// The kinds of the rows of a session. The record of the first one makes it a session of version 2, which has the next ones beside
-/// those of version 1: from `Unit` on.
+/// The kinds of the rows of a session. The record of the first kind makes it a session of version 2. Version 1 has the kinds from
+/// `Unit` on; version 2 also has those between `Version` and `Unit`.
 #[derive(Clone, Copy, PartialEq, Eq, Debug)]
 pub enum SessionKind {
     Version,
@@ -99,12 +99,12 @@ static KINDS: [SessionKind; 33] = [
     SessionKind::Component,
 ];
 
-// The places of the first kind of version 2 and of the first one of version 1.
+// The places of the first kind of version 2 and of the first kind of version 1.
 const FIRST_OF_VERSION_2: usize = 1;
 
 const FIRST_OF_VERSION_1: usize = 6;
 
-// The greatest cost of a meter, in whatever unit.
+// The greatest cost of a meter, in any unit.
 pub(crate) const MOST_METER_COST: i128 = 1_000_000_000_000;
 
 const BASE: Column = number!("base", 1, MOST_ROW_VARIANCE);
@@ -334,7 +334,7 @@ pub fn kind_of_version_2(fields: &Fields) -> Result<SessionKind, FormFault>
     kind_from(FIRST_OF_VERSION_2, fields)
 }
 
-// The kind of a record among those from a place on, or `Kind` or `Fields`. Most records are readings.
+// The kind of a record among those from a place on, or `Kind` or `Fields`. A reading is tried first: most records are readings.
 fn kind_from(start: usize, fields: &Fields) -> Result<SessionKind, FormFault>
     requires { start ≤ FIRST_OF_VERSION_1 }
     ensures { result ≡ session_told (drop start session_kinds) fields.now }
@@ -353,8 +353,8 @@ pub fn is_of_kind(kind: SessionKind, fields: &Fields) -> bool
     is_of(session_schema(kind), fields)
 }
 
-/// The record of a kind that writes values, one a column: their texts. It reads back as them, it is of this kind, and no empty field
-/// stands at its end.
+/// The record of a kind that writes values, one for each column: their texts. It reads back as the values, it is of this kind, and it
+/// doesn't end with an empty field.
 pub fn session_record(alloc: Global, kind: SessionKind, values: &[Value]) -> Result<Row, AllocError>
     requires each { length values.now ≡ length (session_columns kind) }
     requires fit { FitEach (session_columns kind) (values_as (session_columns kind) values.now) }

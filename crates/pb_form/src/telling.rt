@@ -11,8 +11,8 @@ use crate::field::is_word;
 use crate::fields::Fields;
 use crate::reading::has_count;
 
-/// The place among schemas of the one that a record is of: it has the words and the number of fields of that one. Otherwise
-/// `Fields`, if it has the words of one of them as far as it goes, and `Kind` if it hasn't.
+/// The place of the first schema that a record is of: the record has the words and the number of fields of this schema. Otherwise
+/// `Fields`, if it has the words of one of the schemas as far as it goes, and `Kind` if it doesn't.
 #[tactic(auto, using(crate::proofs::ListLemmas::position_map))]
 pub fn tell(schemas: &[Schema], fields: &Fields) -> Result<usize, FormFault>
     ensures value { result ≡ schema_told (map schema_seen schemas.now) fields.now }
@@ -58,7 +58,7 @@ pub(crate) fn is_of(schema: &Schema, fields: &Fields) -> bool
     has_count(schema, fields.len()) && agrees(schema.columns, fields)
 }
 
-// Whether a record, as far as it goes, has the words that tell the kind of these columns.
+// Whether a record, as far as it goes, has the words that identify the kind of these columns.
 #[inline(always)]
 fn agrees(columns: &[Column], fields: &Fields) -> bool
     ensures { result ≡ agrees (map column_seen columns.now) fields.now }
@@ -71,7 +71,7 @@ fn agrees(columns: &[Column], fields: &Fields) -> bool
     true
 }
 
-// Whether the field at a place, if a record goes so far, has the word of a column that takes one word alone.
+// Whether the field at a place, if a record goes that far, has the word of a column that takes just one word.
 #[inline(always)]
 fn has_word(column: &Column, fields: &Fields, i: usize) -> bool
     ensures there { i < length fields.now

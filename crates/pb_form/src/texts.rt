@@ -12,7 +12,7 @@ use crate::value::Value;
 use pb_rows::{Row, date_text_law, number_text_law};
 use std::alloc::{AllocError, Global};
 
-/// The law that the texts of values which fit the columns of a schema read back as them.
+/// The law that the texts of values which fit the columns of a schema read back as the values.
 pub fn text_law()
     ensures { TextLaw }
 {
@@ -20,7 +20,7 @@ pub fn text_law()
     date_text_law();
 }
 
-// The record of the texts of values, one a column.
+// The record of the texts of values, one for each column.
 pub(crate) fn write_texts(
     alloc: Global,
     columns: &[Column],

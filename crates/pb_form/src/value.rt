@@ -17,10 +17,10 @@ use crate::fields::Fields;
 use pb_rows::{Name, Reason};
 use std::marker::Model;
 
-/// The most columns of a schema, beside its tail.
+/// The most columns that a schema has, not counting its tail.
 pub const ROOM: usize = 16;
 
-/// A value that is to be written.
+/// A value to be written.
 #[derive(Clone, Copy)]
 pub enum Value<'a> {
     /// Nothing, in an optional column.
@@ -52,7 +52,7 @@ impl<'a> Value<'a> {
     }
 }
 
-/// The values of a row, one a column: each is read from its field when it is asked for.
+/// The values of a row, one for each column: each is read from its field when it is asked for.
 #[derive(Drop)]
 pub struct Values<'a> {
     columns: &'a [Column],

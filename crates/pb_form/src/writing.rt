@@ -12,7 +12,8 @@ use crate::value::Value;
 use pb_rows::Row;
 use std::alloc::{AllocError, Global};
 
-/// The record that writes values by a schema, one a column: their texts. It reads back as them, and no other record does.
+/// The record that writes values by a schema, one for each column: their texts. It reads back as the values, and no other
+/// record does.
 pub fn write(alloc: Global, schema: &Schema, values: &[Value]) -> Result<Row, AllocError>
     requires each { length values.now ≡ length schema.now.columns.now }
     requires fit { FitEach (map column_seen schema.now.columns.now)

@@ -1,4 +1,4 @@
--- A gap that is met has no deviations whose squares add up to more than its own.
+-- A gap that is met has no deviations whose squares add up to more than the square of the gap.
 use Rattle.std.proofs.Common.{◌≡◌, ℕ, zero, suc, ◌*◌, ◌/◌, ◌^◌, ◌<◌, ◌≤◌, ℤ, pos, ◌+ℤ◌, ◌*ℤ◌, ◌≤ℤ◌, Bool, false, List, [], ◌∷◌, take, refl, subst, arith, ◌∙◌, ap, sym}
 use Rattle.std.proofs.lemmas.Int.{ints}
 use Rattle.pb_integers.proofs.Lists.{AllByRecursion-every}
@@ -17,7 +17,7 @@ use Rattle.pb_gap.specs.Iterate.{AreFar}
 use Rattle.pb_gap.proofs.Enclosure.{power_positive}
 use Rattle.pb_gap.proofs.Gaps.{gaps}
 
--- one square is at most that of its blocks
+-- a square is at most the square of its blocks
 one_in_blocks : (a r p : ℤ) → pos 0 ≤ℤ a → pos 0 ≤ℤ p → a ≤ℤ (r *ℤ p) → (a *ℤ a) ≤ℤ ((p *ℤ p) *ℤ (r *ℤ r))
 one_in_blocks a r p a_pos p_pos le =
     let first = mul_mono a (r *ℤ p) a le a_pos in
@@ -47,7 +47,7 @@ squares_in_blocks h p (x ∷ xs) (suc n) is nonneg =
     (plus (times (times (var 0) (var 0)) (times (var 1) (var 1))) (times (times (var 0) (var 0)) (var 2))) refl in
     le_by_eq _ _ _ _ refl same both
 
--- the squares of the first items are at most that of the gap
+-- the squares of the first items are at most the square of the gap
 squares_within : (xs : List ℤ) (n : ℕ) → ((k : ℕ) → k < n → pos 0 ≤ℤ item xs k)
     → sum_over (λ a. a *ℤ a) (take n xs) ≤ℤ (pos (gap_size (gap_from xs)) *ℤ pos (gap_size (gap_from xs)))
 squares_within xs n nonneg =
@@ -61,7 +61,7 @@ squares_within xs n nonneg =
     le_trans (sum_over (λ a. a *ℤ a) (take n xs)) ((p *ℤ p) *ℤ block_squares_of xs gap.h) ((g *ℤ p) *ℤ (g *ℤ p)) blocks
     (le_by_eq ((p *ℤ p) *ℤ block_squares_of xs gap.h) ((g *ℤ p) *ℤ (g *ℤ p)) ((p *ℤ p) *ℤ block_squares_of xs gap.h) ((p *ℤ p) *ℤ (g *ℤ g)) refl (sym same) more)
 
--- a gap is not met where deviations are far
+-- a gap isn't met if deviations are far
 pub none_far : (xs : List ℤ) (thousandths : ℕ) (limit : ℤ) → limit ≡ pos (thousandths * 2 ^ 20 / 1000) → AreFar limit xs
     → MeetsGap thousandths (gap_from xs) → ⊥
 none_far xs thousandths limit is far met =
@@ -77,7 +77,7 @@ none_far xs thousandths limit is far met =
     at_most : (size n : ℕ) (limit : ℤ) → size * 1000 ≤ n → limit ≡ pos (n / 1000) → pos size ≤ℤ limit
     at_most size n limit met is = omega (arith, ints, met, is)
 
--- a gap is not met where the deviations of a pair are far
+-- a gap isn't met if the deviations of a pair are far
 pub not_near : (p : PairedFlows) (g : ProcessGraph) (us xs : List ℤ) (ss : List Stream) (thousandths : ℕ) (near : Bool) (limit : ℤ) (price : ℕ → ℤ)
     → record { graph = g; dual_flows = us; flows = xs } ≡ p → ss ≡ g.streams → limit ≡ pos (thousandths * 2 ^ 20 / 1000) → near ≡ false
     → (near ≡ false → (price : ℕ → ℤ) → us ≡ dual_flows_of price ss → AreFar limit (deviations_of price ss xs))

@@ -108,7 +108,7 @@ within_gap g price ps l_pos w =
 glue : (a b x y z : ℤ) → a ≤ℤ b → a ≡ x +ℤ y → b ≡ x +ℤ z → y ≤ℤ z
 glue a b x y z h e f = omega (arith, ints, h, e, f)
 
--- whole flows beside a balanced vector
+-- whole flows in place of a balanced vector
 pub whole_pair : (g : ProcessGraph) (price : ℕ → ℤ) (ps : List ℤ) (x : Fractional) → IsDualPair g price x → IsBalanced g ps → IsDualPair g price (whole_flows ps)
 whole_pair g price ps x h even = record { limits = h.limits; fit = h.fit; balanced = record { positive = omega (arith, ints); balanced = even } }
 
@@ -145,7 +145,7 @@ member_schwarz g price x ms h is =
     subst (λ (z : ℤ). (variance_product g.streams *ℤ (z *ℤ z)) ≤ℤ (variance_sum g.streams ms *ℤ residual_squares price g x)) (sum_residual g price x ms each is.each)
     (error_schwarz g errors ms h.limits (by_stream_length (residual_of x.denominator price) g.streams x.numerators each) is)
 
--- the half width of a list that is not empty
+-- the half width of a list that isn't empty
 half_width : (g : ProcessGraph) (price : ℕ → ℤ) (ps : List ℤ) (x : Fractional) (m : Member) (ms : List Member) → IsDualPair g price x → IsBalanced g ps
     → IsNoWorse g x (whole_flows ps) → AreSigned g (m ∷ ms)
     → HasHalfWidth (variance_product g.streams) x.denominator ((signed_sum (m ∷ ms) x.numerators *ℤ scale) -ℤ (x.denominator *ℤ dual_flow_sum price g.streams (m ∷ ms))) (variance_sum g.streams (m ∷ ms)) (residual_squares price g x)

@@ -38,7 +38,7 @@ use Rattle.pb_gap.proofs.LeastLemmas.{excess}
 use Rattle.pb_gap.proofs.StreamSums.{stream_sum}
 
 -- ---- the parallelogram law: the middle of a vector and the dual flows, their difference, and the residuals of both
--- two equations between sums of squares, in one
+-- two equations between sums of squares, combined
 add_four : (k m n a b c d e f g h : ℤ) → a +ℤ (k *ℤ b) ≡ (m *ℤ c) +ℤ (n *ℤ d) → e +ℤ (k *ℤ f) ≡ (m *ℤ g) +ℤ (n *ℤ h)
     → (a +ℤ e) +ℤ (k *ℤ (b +ℤ f)) ≡ (m *ℤ (c +ℤ g)) +ℤ (n *ℤ (d +ℤ h))
 add_four k m n a b c d e f g h one two =
@@ -98,8 +98,8 @@ all_middle l q price (s ∷ ss) (p ∷ ps) (y ∷ ys) h k =
     (one_middle l q u y p s.meas) (all_middle l q price ss ps ys (omega (arith, h)) (omega (arith, k)))
 
 -- ---- the hypercircle
--- w the squares of the flows with the residuals r, x those of the least vector with the residuals s, d those of the difference, v the
--- dual value, e those of the distance from the middle
+-- w is the squares of the flows with the residuals r, x those of the least vector with the residuals s, d those of the difference, v
+-- the dual value, e those of the distance from the middle
 on_sphere : (k l q w x v r s d e : ℤ) → k *ℤ w ≡ (((pos 1 *ℤ pos 1) *ℤ l) *ℤ v) +ℤ r → k *ℤ x ≡ (((q *ℤ q) *ℤ l) *ℤ v) +ℤ s
     → (q *ℤ q) *ℤ w ≡ ((pos 1 *ℤ pos 1) *ℤ x) +ℤ d → e +ℤ ((q *ℤ q) *ℤ r) ≡ (pos 2 *ℤ s) +ℤ ((pos 2 *ℤ k) *ℤ d) → e ≡ (q *ℤ q) *ℤ r
 on_sphere k l q w x v r s d e own least apart middle =

@@ -50,7 +50,7 @@ one l q d None y h = subst (λ (x : ℤ). One l q x None y) (sym h)
     (plus zero (times (times (times (lit (pos 2)) (lit scale)) (times (var 0) (var 1))) (times zero (var 2)))) refl)
 one l q d (Some m) y h = measured (int_div_euclid l m.variance) m.variance l q d m.value y h.weight
 
--- two such equations in one
+-- two such equations combined
 add : (c k p a b x y e f g h : ℤ) → (c *ℤ a) +ℤ (k *ℤ x) ≡ e +ℤ (p *ℤ g) → (c *ℤ b) +ℤ (k *ℤ y) ≡ f +ℤ (p *ℤ h)
     → (c *ℤ (a +ℤ b)) +ℤ (k *ℤ (x +ℤ y)) ≡ (e +ℤ f) +ℤ (p *ℤ (g +ℤ h))
 add c k p a b x y e f g h first rest =

@@ -1,4 +1,4 @@
--- Inner products of errors, one error of each stream.
+-- Inner products of errors, with one error for each stream.
 use Rattle.std.proofs.Common.{◌≡◌, ℕ, zero, suc, ℤ, pos, ◌-ℤ◌, ◌*ℤ◌, ◌≤ℤ◌, List, [], ◌∷◌, length, Option, Some, None, slice_get, refl, ap, arith}
 use Rattle.std.specs.Int.{int_div_euclid}
 use Rattle.std.specs.List.{AllByRecursion}
@@ -13,7 +13,7 @@ use Rattle.pb_dual.specs.DualValue.{scale, flow_at}
 use Rattle.pb_gap.specs.Residuals.{residual_of}
 use Rattle.pb_gap.proofs.Weights.{MayWeigh}
 
--- ---- one number of each stream
+-- ---- one number for each stream
 pub by_stream_length : (f : Stream → ℤ → ℤ) (ss : List Stream) (ys : List ℤ) → length ys ≡ length ss → length (by_stream f ss ys) ≡ length ss
 by_stream_length f [] ys each = refl
 by_stream_length f (s ∷ ss) [] each = absurd (omega (arith, each))
@@ -42,7 +42,7 @@ residual_square_at l q o d y = weighted_product l o (residual_at q o d y) (resid
 abbrev pub residuals_from : ℤ → ℤ → (ℕ → ℤ) → List Stream → List ℤ → ℤ
 residuals_from l q price ss ys = weighted_sum_of_squares l ss (by_stream (residual_of q price) ss ys)
 
--- ---- none is negative
+-- ---- no square is negative
 pub square_nonneg : (l : ℤ) (o : Option Meas) (e : ℤ) → MayWeigh l o → pos 0 ≤ℤ weighted_product l o e e
 square_nonneg l None e h = omega (arith, ints)
 square_nonneg l (Some m) e h = mul_nonneg (int_div_euclid l m.variance) _ h.nonneg (square_pos e)

@@ -41,7 +41,7 @@ state_at s g group k same is groups swept =
 pub put_back : {A : Type 0} (n : ℕ) (xs ys : List A) → length xs ≡ n → take n (xs ++ drop (length xs) ys) ≡ xs
 put_back n xs ys each = take-append-le n xs (drop (length xs) ys) (omega (arith, each)) ∙ take_all n xs (omega (arith, each))
 
--- a graph has as many degrees of freedom by each of its forests
+-- a graph has the same degrees of freedom by each of its forests
 pub one_freedom : (g h : ProcessGraph) (dof : ℕ) (mine held : List Bool) → h ≡ g → dof ≡ degrees_of_freedom h.streams mine → IsForest h.streams mine
     → IsForest g.streams held → dof ≡ degrees_of_freedom g.streams held
 one_freedom g h dof mine held same value forest other =

@@ -64,7 +64,7 @@ combined_balance g a b xs ys h k = record {
 }
 
 -- ---- the squares of a vector that is moved
--- two equations between sums of squares and of products, in one
+-- two equations between sums of squares and of products, combined
 add_squares : (k p q r a b c d e f g h : ℤ) → k *ℤ a ≡ ((p *ℤ b) +ℤ (q *ℤ c)) +ℤ (r *ℤ d) → k *ℤ e ≡ ((p *ℤ f) +ℤ (q *ℤ g)) +ℤ (r *ℤ h)
     → k *ℤ (a +ℤ e) ≡ ((p *ℤ (b +ℤ f)) +ℤ (q *ℤ (c +ℤ g))) +ℤ (r *ℤ (d +ℤ h))
 add_squares k p q r a b c d e f g h one two =
@@ -141,7 +141,7 @@ from_squares l r q (s ∷ ss) (p ∷ ps) (x ∷ xs) h k =
     (from_one l r q s.meas p x) (from_squares l r q ss ps xs (omega (arith, h)) (omega (arith, k)))
 
 -- ---- orthogonality
--- w the squares of x, wz those of n·x + t·y, i the inner product of the errors of x with y, s the squares of y
+-- w is the squares of x, wz those of n·x + t·y, i the inner product of the errors of x with y, s the squares of y
 not_less : (w wz n q l t i s : ℤ) → pos 1 ≤ℤ l → pos 1 ≤ℤ q → (w *ℤ (((n *ℤ q) *ℤ (n *ℤ q)) *ℤ l)) ≤ℤ (wz *ℤ ((q *ℤ q) *ℤ l))
     → pos 1 *ℤ wz ≡ (((n *ℤ n) *ℤ w) +ℤ (((pos 2 *ℤ n) *ℤ t) *ℤ i)) +ℤ ((t *ℤ t) *ℤ s) → pos 0 ≤ℤ ((((pos 2 *ℤ n) *ℤ t) *ℤ i) +ℤ ((t *ℤ t) *ℤ s))
 not_less w wz n q l t i s l_pos q_pos least is =
@@ -224,7 +224,8 @@ excess g p x limits even least =
     (whole_orthogonal g x difference limits least (combined_balance g q (neg_ℤ r) p.numerators x.numerators even.balanced least.0.balanced))
 
 -- ---- the distance of whole flows
--- w the squares of the flows, x those of the least vector over q, d those of the difference, v the dual value, gg the square of the gap
+-- w is the squares of the flows, x those of the least vector over q, d those of the difference, v the dual value, gg the square of
+-- the gap
 within_gap : (k l q w x d v gg : ℤ) → pos 1 ≤ℤ l → (pos (2 ^ 112) *ℤ w) ≤ℤ (((pos 1 *ℤ pos 1) *ℤ l) *ℤ (v +ℤ (pos (2 ^ 72) *ℤ gg)))
     → (((q *ℤ q) *ℤ l) *ℤ v) ≤ℤ (pos (2 ^ 112) *ℤ x) → (q *ℤ q) *ℤ w ≡ ((pos 1 *ℤ pos 1) *ℤ x) +ℤ d → (d *ℤ pos (2 ^ 40)) ≤ℤ (gg *ℤ (((pos 1 *ℤ q) *ℤ (pos 1 *ℤ q)) *ℤ l))
 within_gap k l q w x d v gg l_pos gap weak excess =

@@ -37,7 +37,7 @@ half_once streams gap m ms =
     (half_again n c (ceil_div c (pos 2)) (ceiling_is n (pos (2 ^ 40)) (omega (arith, ints))) (ceiling_is c (pos 2) (omega (arith, ints))))
 
 -- ---- the range
--- half of a sum that bounds within the range stand about is within it
+-- half of a sum is within the range if the bounds about the sum are
 half_within : (f half low high : ℤ) → unsigned_abs f ≤ 2 ^ 80 → unsigned_abs (low -ℤ half) ≤ 2 ^ 126 → unsigned_abs (high +ℤ half) ≤ 2 ^ 126
     → AreBoundsWithin (record { lo = floor_div (f +ℤ low) (pos 2) -ℤ ceil_div half (pos 2); hi = ceil_div (f +ℤ high) (pos 2) +ℤ ceil_div half (pos 2) })
 half_within f half low high flows lo hi =
@@ -52,7 +52,7 @@ half_within f half low high flows lo hi =
     high_end : (c w : ℤ) → (f +ℤ high) ≤ℤ (c *ℤ pos 2) → (c *ℤ pos 2) <ℤ ((f +ℤ high) +ℤ pos 2) → half ≤ℤ (w *ℤ pos 2) → (w *ℤ pos 2) <ℤ (half +ℤ pos 2) → unsigned_abs (c +ℤ w) ≤ 2 ^ 126
     high_end c w above last wide near = omega (arith, ints, flows, hi, above, last, wide, near)
 
--- the same of wider sums
+-- the same for wider sums
 pub middle_within : (flows dual_flows half : ℤ) → unsigned_abs flows < 2 ^ 124 → unsigned_abs dual_flows < 2 ^ 124 → pos 0 ≤ℤ half → half ≤ℤ pos (2 ^ 118)
     → AreBoundsWithin (record { lo = floor_div (flows +ℤ floor_div dual_flows scale) (pos 2) -ℤ ceil_div half (pos 2); hi = ceil_div (flows +ℤ ceil_div dual_flows scale) (pos 2) +ℤ ceil_div half (pos 2) })
 middle_within f t half flows dual_flows least most =

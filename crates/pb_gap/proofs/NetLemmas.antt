@@ -1,4 +1,4 @@
--- The net dual flow of a group, beside the residuals of balanced flows at its border.
+-- The net dual flow of a group, compared with the residuals of balanced flows at its border.
 use Rattle.std.proofs.Common.{◌≡◌, ◌∙◌, ◌==◌, ◌^◌, ◌*◌, ◌/◌, ℕ, ◌+◌, ◌<◌, ◌≤◌, ℤ, pos, negsuc, neg_ℤ, ◌+ℤ◌, ◌-ℤ◌, ◌*ℤ◌, ◌≤ℤ◌, ◌<ℤ◌, unsigned_abs, Bool, true, false, not, List, [], ◌∷◌, ◌++◌, length, Option, Some, None, inl, inr, refl, sym, subst, ap, ap₂, arith}
 use Rattle.std.specs.Prelude.{if◌then◌else◌, is_some}
 use Rattle.std.specs.Int.{int_div_euclid}
@@ -223,7 +223,7 @@ net_is g group price ps k is groups fit even =
           le_trans _ _ _ named (mul_mono_left _ _ (group_variance group k ss) (le_trans _ _ _ (squares l group k ss es weights) within) v_nonneg));
     }
 
--- the root of it
+-- the root of a net dual flow
 net_root : (n l v g r : ℤ) → IsNet n l v g → pos 0 ≤ℤ g → pos 0 ≤ℤ r → (v *ℤ pos (2 ^ 40)) <ℤ ((r +ℤ pos 1) *ℤ (r +ℤ pos 1)) → pos (unsigned_abs n) ≤ℤ (((r +ℤ pos 1) *ℤ pos (2 ^ 16)) *ℤ g)
 net_root n l v g r is g_pos r_pos next =
     let z = r +ℤ pos 1 in
@@ -292,7 +292,7 @@ small_root r from to = record { from = omega (arith, ints, from); to = omega (ar
 pub few_variances : (v : ℤ) → v ≤ℤ pos most_group_variance → v <ℤ pos (2 ^ 86)
 few_variances v h = omega (arith, ints, h)
 
--- one number more
+-- one more number
 pub pushed : (P : ℕ → ℤ → Type 0) (xs : List ℤ) (x : ℤ) (k : ℕ) → length xs ≡ k → P k x → ((j : ℕ) → j < k → P j (item xs j)) → (j : ℕ) → j < k + 1 → P j (item (xs ++ x ∷ []) j)
 pushed P xs x k each own before j lt = elim (cases_lt j k) [
   | inl less ↦ subst (P j) (sym (get_or-append xs (x ∷ []) (pos 0) j (omega (arith, less, each)))) (before j less)

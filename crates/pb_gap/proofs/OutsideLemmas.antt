@@ -13,7 +13,7 @@ use Rattle.pb_dual.specs.Sweeps.{prices_after, swept}
 use Rattle.pb_dual.proofs.SweepLaws.{prices_fit}
 use Rattle.pb_gap.specs.Solution.{OutsideLaw}
 
--- two numbers with one group keep one price
+-- two numbers of the same group keep the same price
 same_swept : (g : ProcessGraph) (group : List ℕ) (price : ℕ → ℤ) (n m : ℕ) → group_at group n ≡ group_at group m → price n ≡ price m → (j : ℕ)
     → swept group g.streams price j n ≡ swept group g.streams price j m
 same_swept g group price n m same start zero = start

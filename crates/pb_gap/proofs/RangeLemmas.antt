@@ -35,7 +35,7 @@ use Rattle.pb_gap.proofs.MemberLists.{members_few}
 use Rattle.pb_gap.proofs.Widths.{ceiling_nonneg, deviation_width, floor_nonneg, measured_root}
 use Rattle.pb_gap.proofs.SmallFlowLemmas.{small_flows, turned}
 
--- what holds of each item holds of the item at a place, and past the end, where it holds of 0
+-- what holds of each item holds of the item at a place, and past the end if it holds of 0
 item_has : (P : ℤ → Type 0) (xs : List ℤ) (k : ℕ) → P (pos 0) → AllByRecursion P xs → P (item xs k)
 item_has P [] k none all = none
 item_has P (x ∷ xs) zero none all = all.0
@@ -123,7 +123,7 @@ adjustments_nonneg r each [] ps limits = tt
 adjustments_nonneg r each (s ∷ ss) [] limits = tt
 adjustments_nonneg r each (s ∷ ss) (p ∷ ps) limits = (each s.meas p limits.0, adjustments_nonneg r each ss ps limits.1)
 
--- a square of an adjustment that is at most the most
+-- the square of an adjustment that is at most the cap
 square_of : (b : ℤ) → pos 0 ≤ℤ b → b ≤ℤ adjustment_cap → (pos 0 ≤ℤ (b *ℤ b)) × (unsigned_abs (b *ℤ b) ≤ 2 ^ 104)
 square_of b least most =
     let low = square_mono (pos 0) b (omega (arith, ints)) least in

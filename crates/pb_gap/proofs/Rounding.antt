@@ -5,7 +5,7 @@ use Rattle.pb_integers.proofs.Order.{le_by_eq, le_trans, mul_cancel, mul_mono, m
 use Rattle.pb_integers.proofs.Ring.{var, lit, plus, times, less, square, ring}
 use Rattle.pb_integers.proofs.RingLaws.{mul_comm}
 
--- l times the square of so many blocks of p, in units of 2^-72
+-- l times the square of b blocks of p, in units of 2^-72
 abbrev pub bound : ℤ → ℤ → ℤ → ℤ
 bound l p b = l *ℤ (pos (2 ^ 72) *ℤ ((p *ℤ p) *ℤ b))
 
@@ -54,7 +54,7 @@ bound_add l p a b =
     let at = λ (x : _). times (var 0) (times (lit (pos (2 ^ 72))) (times (square (var 1)) x)) in
     ring (l ∷ p ∷ a ∷ b ∷ []) (at (plus (var 2) (var 3))) (plus (at (var 2)) (at (var 3))) refl
 
--- what the half width of a signed sum stands on: a is the residual of the sum over q, s the sum of the variances, b the weighted
+-- what the half width of a signed sum relies on: a is the residual of the sum over q, s the sum of the variances, b the weighted
 -- squares of the residuals, gg the gap and root the scaled root of s
 pub record HasHalfWidth (l q a s b gg root half : ℤ) : Type 0 where
   pub l_pos : pos 1 ≤ℤ l

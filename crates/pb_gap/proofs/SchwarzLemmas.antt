@@ -86,7 +86,7 @@ sign_out s e w h =
 square_is : (l : ℤ) (o : Option Meas) (m : Meas) (e : ℤ) → o ≡ Some m → int_div_euclid l (variance_of o) *ℤ (e *ℤ e) ≡ weighted_product l o e e
 square_is l o m e is = subst (λ (o : Option Meas). int_div_euclid l (variance_of o) *ℤ (e *ℤ e) ≡ weighted_product l o e e) (sym is) refl
 
--- a member's weighted square is that of its stream
+-- a member's weighted square is the weighted square of its stream
 member_square : (l : ℤ) (g : ProcessGraph) (es : List ℤ) (m : Member) → length es ≡ length g.streams → IsSigned g m
     → weight_at l g.streams m *ℤ ((m.sign *ℤ item es m.stream) *ℤ (m.sign *ℤ item es m.stream)) ≡ item (parts l g.streams es) m.stream
 member_square l g es m each is =

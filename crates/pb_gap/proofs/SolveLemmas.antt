@@ -1,4 +1,4 @@
--- What the steps of a solution find, as states after so many sweeps.
+-- What the steps of a solution find, as states after a number of sweeps.
 use Rattle.std.proofs.Common.{◌≡◌, ◌∙◌, ℕ, suc, ◌<◌, Bool, true, false, ℤ, pos, List, get_or, ap₂, refl, sym, subst, arith, rules}
 use Rattle.std.specs.Prelude.{IsTrue, ◌↔◌}
 use Rattle.pb_graph.specs.ProcessGraph.{ProcessGraph}
@@ -29,7 +29,7 @@ same_price s t h = λ i n. get_or (h.prices i) (group_at (h.numbers i) n) (pos 0
 pub kept_prices : (g : ProcessGraph) (group : List ℕ) (k : ℕ) (s t : State) → IsPricedAfter g group k s → HasSamePrices s t → IsPricedAfter g group k t
 kept_prices g group k s t is same = record { graph = same.graph ∙ is.graph; numbers = same.numbers ∙ is.numbers; groups = is.groups; after = same_price s t same ∙ is.after }
 
--- what a test of the flows that belong to the prices of a state says of any that do
+-- what a test of the flows that belong to the prices of a state says of any flows that belong to them
 pub far_same : (s t : State) (gap : ℕ) (met : Bool) → HasSamePrices s t → IsState t → (IsTrue met ↔ MeetsGap gap (gap_in t)) → met ≡ false → (flows : List ℤ) → AreRoundedFlows s.graph (price_in s) flows
     → MeetsGap gap (gap_of (price_in s) s.graph.streams flows) → ⊥
 far_same s t gap met same is test fails flows rounded meets =
@@ -38,7 +38,7 @@ far_same s t gap met same is test fails flows rounded meets =
     (subst (λ (h : ProcessGraph). AreRoundedFlows h (price_in t) flows) (sym same.graph) (subst (λ (p : ℕ → ℤ). AreRoundedFlows s.graph p flows) (sym price) rounded))
     (subst (λ (h : ProcessGraph). MeetsGap gap (gap_of (price_in t) h.streams flows)) (sym same.graph) (subst (λ (p : ℕ → ℤ). MeetsGap gap (gap_of p s.graph.streams flows)) (sym price) meets))
 
--- a sweep more
+-- one more sweep
 pub swept_prices : (g : ProcessGraph) (group : List ℕ) (k : ℕ) (t u : State) → IsPricedAfter g group k t → u.graph ≡ t.graph → u.group ≡ t.group
     → ((k : ℕ) → price_in t ≡ prices_after t.graph t.group k → price_in u ≡ prices_after t.graph t.group (suc k)) → IsPricedAfter g group (suc k) u
 swept_prices g group k t u is graph numbers more = record {
@@ -67,7 +67,7 @@ met_now g group gap k t met is state meets passes =
       met = subst (λ (h : ProcessGraph). MeetsGap gap (gap_of (price_in t) h.streams t.flows)) is.graph (meets told);
     }
 
--- a sweep that changed no price: t are the prices before it, u those after it, and v the state that is left
+-- a sweep that changed no price: t are the prices before it, u those after it, and v is the state that is left
 pub idle_now : (g : ProcessGraph) (group : List ℕ) (gap sweeps k : ℕ) (t u v : State) → IsPricedAfter g group k t → IsPricedAfter g group (suc k) u → price_in u ≡ price_in t → HasSamePrices u v → IsState v → k < sweeps
     → EachMissesBefore g gap k → MissesAfter g gap k → IsUnconverged g gap sweeps sweeps (price_in v) v.flows
 idle_now g group gap sweeps k t u v before after idle same state lt each here =

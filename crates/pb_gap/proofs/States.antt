@@ -16,7 +16,7 @@ use Rattle.pb_gap.specs.State.{AreRoundedFlows, IsState, IsStateAfter, State, ga
 use Rattle.pb_gap.specs.Statistic.{high_of, low_of}
 use Rattle.pb_gap.specs.Solution.{EachMissesBefore, IsMetAfter, IsSolution, MissesAfter, OneSolutionLaw, OneSolvedStatisticLaw, OneStateLaw, SomeSolutionLaw, SomeSolvedStatisticLaw, SomeStateLaw}
 
--- the flows that belong to prices are one vector
+-- only one vector of flows belongs to prices
 pub one_rounded : (g : ProcessGraph) (price : ℕ → ℤ) (xs ys : List ℤ) → IsProcessGraph g → AreRoundedFlows g price xs → AreRoundedFlows g price ys → xs ≡ ys
 one_rounded g price xs ys limits a b =
     let near : AgreeOffForest a.held ys (nearest_flows price g.streams) =
@@ -37,13 +37,13 @@ some_state g k limits =
     let (flows, balanced, nearest) = some_balanced_law g held (nearest_flows price g.streams) forest in
     (price, flows, record { group = group; groups = groups; swept = refl; rounded = record { held = held; forest = forest; balanced = balanced; nearest = nearest } })
 
--- no state after so many sweeps both misses the gap and meets it
+-- no state after a number of sweeps both misses the gap and meets it
 pub not_both : (g : ProcessGraph) (gap k : ℕ) (p : ℕ → ℤ) (xs : List ℤ) → IsProcessGraph g → MissesAfter g gap k → IsMetAfter g gap k p xs → ⊥
 not_both g gap k p xs limits miss met =
     let same = one_state g k p miss.price xs miss.flows limits met.state miss.state in
     miss.missed (subst (λ (f : ℕ → ℤ). MeetsGap gap (gap_of f g.streams miss.flows)) same.price (subst (λ (ys : List ℤ). MeetsGap gap (gap_of p g.streams ys)) same.flows met.met))
 
--- one number of sweeps more after which the gap is missed
+-- one more number of sweeps after which the gap is missed
 pub misses_more : (g : ProcessGraph) (gap k : ℕ) → EachMissesBefore g gap k → MissesAfter g gap k → EachMissesBefore g gap (suc k)
 misses_more g gap k each here j lt = elim (cases_lt j k) [
   | inl less ↦ each j less
@@ -116,7 +116,7 @@ misses_at g group gap k price groups swept far =
     let rounded : AreRoundedFlows g price flows = record { held = held; forest = forest; balanced = balanced; nearest = nearest } in
     record { price = price; flows = flows; state = record { group = group; groups = groups; swept = swept; rounded = rounded }; missed = far flows rounded }
 
--- the flows of a state are all that belong to its prices
+-- the flows of a state are the only ones that belong to its prices
 pub none_near : (s : State) (gap : ℕ) (met : Bool) → IsState s → (IsTrue met ↔ MeetsGap gap (gap_in s)) → met ≡ false → (flows : List ℤ) → AreRoundedFlows s.graph (price_in s) flows
     → MeetsGap gap (gap_of (price_in s) s.graph.streams flows) → ⊥
 none_near s gap met is test fails flows rounded meets =
@@ -126,7 +126,7 @@ none_near s gap met is test fails flows rounded meets =
     clash : (met : Bool) → IsTrue met → met ≡ false → ⊥
     clash met yes_ no_ = search rules
 
--- where a sweep changes no price, the gap is missed ever after
+-- if a sweep changes no price, the gap is missed ever after
 misses_later : (g : ProcessGraph) (group : List ℕ) (gap j k : ℕ) → AreGroups g group → prices_after g group j ≡ prices_after g group k → MissesAfter g gap k → MissesAfter g gap j
 misses_later g group gap j k groups same miss =
     let own = numbering_law.one g miss.state.group group miss.state.groups groups in

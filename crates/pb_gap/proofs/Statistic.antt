@@ -25,7 +25,7 @@ use Rattle.pb_gap.proofs.Identity.{identity, weak_duality}
 use Rattle.pb_gap.proofs.Enclosure.{root_below, root_positive, whole_pair, within_gap}
 
 -- ---- the squares from below
--- what counts of an adjustment is not more than it
+-- what an adjustment counts for is not more than the adjustment
 capped : (b : ℤ) → pos 0 ≤ℤ b → (pos 0 ≤ℤ int_min b adjustment_cap) × (int_min b adjustment_cap ≤ℤ b)
 capped b h = let e = int_min_is b adjustment_cap in (omega (arith, ints, h, e), omega (arith, ints, h, e))
 
@@ -48,7 +48,7 @@ square_below l w v c r x e w_pos root c_pos below =
     mul_cancel (l *ℤ (c *ℤ c)) ((w *ℤ (x *ℤ x)) *ℤ pos (2 ^ 40)) (pos (2 ^ 40))
     (le_by_eq _ _ _ _ left right (le_trans _ _ _ one (le_by_eq _ _ _ _ mid refl two))) (omega (arith, ints))
 
--- a whole flow less a value, however it is written
+-- a whole flow less a value, written in two ways
 one_times : (w y b : ℤ) → w *ℤ ((y -ℤ (pos 1 *ℤ b)) *ℤ (y -ℤ (pos 1 *ℤ b))) ≡ w *ℤ ((y -ℤ b) *ℤ (y -ℤ b))
 one_times w y b = ring (w ∷ y ∷ b ∷ []) (times (var 0) (square (less (var 1) (times (lit (pos 1)) (var 2))))) (times (var 0) (square (less (var 1) (var 2)))) refl
 
@@ -139,7 +139,7 @@ all_high l (s ∷ ss) (y ∷ ys) h =
     (one_high l s.meas y h.0) (all_high l ss ys h.1)
 
 -- ---- the low end
--- x the squares of a vector, n those of the flows, v the dual value times l, e the residuals of the flows
+-- x is the squares of a vector, n those of the flows, v the dual value times l, e the residuals of the flows
 join_low : (n v e b gg : ℤ) → pos (2 ^ 112) *ℤ n ≡ v +ℤ e → e ≤ℤ (pos (2 ^ 72) *ℤ gg) → b ≤ℤ (n *ℤ pos (2 ^ 40)) → (pos (2 ^ 72) *ℤ (b -ℤ gg)) ≤ℤ v
 join_low n v e b gg i j k = omega (arith, ints, i, j, k)
 
@@ -165,7 +165,7 @@ lowest lw q l v x n e b gg l_pos weak own gap below floor =
     last (lw *ℤ (qq *ℤ l)) x ((qq *ℤ l) *ℤ v) ((pos (2 ^ 72) *ℤ ((l *ℤ b) -ℤ (l *ℤ gg))) *ℤ qq) ((pos 1000 *ℤ (b -ℤ gg)) *ℤ (qq *ℤ l))
     (le_by_eq _ _ _ _ (sym seven) refl four) five (le_by_eq _ _ _ _ refl (sym six) three) weak
 
--- what holds of two numbers holds of the one that is chosen
+-- what holds of two numbers holds of the number that is chosen
 either : (P : ℤ → Type 0) (b : Bool) (x y : ℤ) → P x → P y → P (cond b x y)
 either P true x y h k = h
 either P false x y h k = k

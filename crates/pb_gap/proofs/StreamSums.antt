@@ -1,4 +1,4 @@
--- A stream that is not unobservable is a signed sum of measured streams.
+-- A stream that isn't unobservable is a signed sum of measured streams.
 use Rattle.std.proofs.Common.{◌≡◌, ◌≢◌, ◌∙◌, ℕ, suc, ◌+◌, ◌≤◌, ℤ, pos, negsuc, neg_ℤ, ◌+ℤ◌, ◌-ℤ◌, ◌*ℤ◌, ◌≤ℤ◌, Bool, true, false, ◌==◌, List, [], ◌∷◌, Option, Some, None, slice_get, IsSome, refl, sym, subst, ap, ap₂, inl, inr, arith}
 use Rattle.std.specs.Prelude.{◌⊎◌, IfSome, option_map}
 use Rattle.std.specs.List.{AllByRecursion, list_any}
@@ -84,12 +84,12 @@ distinct gs side i (s ∷ ss) same =
     let next : (k : ℕ) → slice_get gs ((i + 1) + k) ≡ slice_get ss k = λ k. ap (slice_get gs) (omega arith) ∙ same (suc k) in
     distinct_first gs i (is_in side s.from) (is_in side s.to) (members_from side (i + 1) ss) (placed gs side (i + 1) ss next) (distinct gs side (i + 1) ss next)
 
--- ---- the others of a cut
+-- ---- the other members of a cut
 meas_of : (o : Option Meas) → IsSome o → (m : Meas) × (o ≡ Some m)
 meas_of None h = cc h
 meas_of (Some m) h = (m, refl)
 
--- what the others of a cut have
+-- what the other members of a cut have
 abbrev IsOther : List Stream → ℕ → Member → Type 0
 IsOther ss j m = m.stream ≢ j → (s : Stream) → slice_get ss m.stream ≡ Some s → IsSome s.meas
 
@@ -127,7 +127,7 @@ sign_is ss j (m ∷ ms) p has = elim (cases_eq m.stream j) [
   | inr ne ↦ rw (ne_eqb m.stream j ne) (sign_is ss j ms p.1 (rw (ne_eqb m.stream j ne) at has))
 ]
 
--- the sum of the others
+-- the sum of the other members
 one_more : (z s x r t : ℤ) → t ≡ z *ℤ r → ((s *ℤ z) *ℤ x) +ℤ t ≡ z *ℤ ((s *ℤ x) +ℤ r)
 one_more z s x r t e =
     ap (λ (y : ℤ). ((s *ℤ z) *ℤ x) +ℤ y) e

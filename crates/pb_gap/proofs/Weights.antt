@@ -53,7 +53,7 @@ weight_one : (l k : ℤ) (o : Option Meas) → IfSome o IsMeasurement → pos 1 
 weight_one l k None h l_pos e = tt
 weight_one l k (Some m) h l_pos e = divides l k m.variance l_pos h.least e
 
--- each of some streams, where l is the product of their variances times a further factor
+-- each of some streams, if l is the product of their variances times a further factor
 weights : (l front : ℤ) (ss : List Stream) → AllByRecursion IsWithinLimits ss → pos 1 ≤ℤ l → l ≡ front *ℤ variance_product ss → AllByRecursion (λ s. MayWeigh l s.meas) ss
 weights l front [] h l_pos e = tt
 weights l front (s ∷ ss) h l_pos e =
@@ -82,7 +82,7 @@ have_weights g is =
     let each = AllByRecursion-map (λ s. MayWeigh l s.meas) (λ s. IfSome s.meas (λ m. int_div_euclid l m.variance *ℤ m.variance ≡ l)) g.streams (λ s h. weight_alone l s.meas h) (weights_of g is) in
     record { positive = product_of g is; each = All-from_recursion (λ (s : Stream). IfSome s.meas (λ m. int_div_euclid l m.variance *ℤ m.variance ≡ l)) g.streams each }
 
--- what is known of a stream: the price doesn't rise along it where it is unmeasured, and it has a weight where it is measured
+-- what is known of a stream: the price doesn't rise along it if it is unmeasured, and it has a weight if it is measured
 abbrev pub Weighs : ℤ → Option Meas → ℤ → Type 0
 Weighs l None d = d ≡ pos 0
 Weighs l (Some m) d = HasWeight l m.variance

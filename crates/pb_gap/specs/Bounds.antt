@@ -24,12 +24,12 @@ pub record IsSigned (g : ProcessGraph) (m : Member) : Type 0 where
   pub measured : stream.meas ≡ Some meas
   pub sign : (m.sign ≡ pos 1) ⊎ (m.sign ≡ negsuc 0)
 
--- a signed list of measured streams, none twice
+-- a signed list of measured streams, each at most once
 pub record AreSigned (g : ProcessGraph) (members : List Member) : Type 0 where
   pub each : AllByRecursion (IsSigned g) members
   pub distinct : AreDistinctBy (λ (m : Member). m.stream) members
 
--- the dual flow and the variance of the stream that was found at a place, 0 where there is none
+-- the dual flow and the variance of the stream that was found at a place, or 0 if there is none
 abbrev pub dual_flow_in : (ℕ → ℤ) → Option Stream → ℤ
 dual_flow_in price None = pos 0
 dual_flow_in price (Some s) = dual_flow price s
@@ -42,16 +42,16 @@ variance_in (Some s) = variance_of s.meas
 abbrev pub dual_flow_sum : (ℕ → ℤ) → List Stream → List Member → ℤ
 dual_flow_sum price ss members = sum_over (λ (m : Member). m.sign *ℤ dual_flow_in price (slice_get ss m.stream)) members
 
--- the sum of their variances
+-- the sum of the variances of a list of streams
 abbrev pub variance_sum : List Stream → List Member → ℤ
 variance_sum ss members = sum_over (λ (m : Member). variance_in (slice_get ss m.stream)) members
 
--- The half width of the bounds of a signed sum: the gap times the standard deviation of the sum, rounded up; 0 for no stream.
+-- The half width of the bounds of a signed sum: the gap times the standard deviation of the sum, rounded up; 0 if there is no stream.
 abbrev pub half_width_in : List Stream → Gap → List Member → ℤ
 half_width_in ss gap [] = pos 0
 half_width_in ss gap (m ∷ ms) = half_width_of (scaled_root_of (variance_sum ss (m ∷ ms)) +ℤ pos 1) gap.g gap.h
 
--- The bounds of a signed sum of flows, in grams: its dual flows, rounded outward, less and plus the half width.
+-- The bounds of a signed sum of flows, in grams: the sum of its dual flows, rounded outward, less and plus the half width.
 abbrev pub bounds_of : (ℕ → ℤ) → List Stream → Gap → List Member → Bounds
 bounds_of price ss gap members = record {
   lo = floor_div (dual_flow_sum price ss members) scale -ℤ half_width_in ss gap members;

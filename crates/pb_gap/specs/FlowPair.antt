@@ -1,4 +1,4 @@
--- Statement. The flows of a graph beside the dual flows of prices: what the gap, the bounds and the statistic follow from.
+-- Statement. The flows of a graph together with the dual flows of prices: the gap, the bounds and the statistic follow from these.
 use Rattle.std.specs.Prelude.{◌≡◌, ◌≤◌, ℕ, ℤ, List, All, length, unsigned_abs}
 use Rattle.pb_limits.specs.Limits.{most_streams}
 use Rattle.pb_graph.specs.declared.records.Stream.{Stream}
@@ -7,17 +7,17 @@ use Rattle.pb_graph.specs.WellFormed.{IsFlow}
 use Rattle.pb_dual.specs.DualValue.{dual_flows_of, most_dual_flow}
 use Rattle.pb_gap.specs.Gap.{standard_deviations_of}
 
--- a graph with a dual flow and a flow of each stream
+-- a graph with a dual flow and a flow for each stream
 pub record PairedFlows : Type 0 where
   pub graph : ProcessGraph
   pub dual_flows : List ℤ
   pub flows : List ℤ
 
--- the dual flows are those of the price of each node
+-- the dual flows are those at the prices of the nodes
 abbrev pub AreOfPrices : (ℕ → ℤ) → PairedFlows → Type 0
 AreOfPrices price pair = pair.dual_flows ≡ dual_flows_of price pair.graph.streams
 
--- streams within their limits, with the standard deviation and a flow of each
+-- streams within their limits, with a standard deviation and a flow for each
 pub record AreMeasured (streams : List Stream) (standard_deviations flows : List ℤ) : Type 0 where
   pub few : length streams ≤ most_streams
   pub limits : All IsWithinLimits streams
@@ -25,7 +25,7 @@ pub record AreMeasured (streams : List Stream) (standard_deviations flows : List
   pub each : length flows ≡ length streams
   pub small : All IsFlow flows
 
--- a dual flow of each stream
+-- a dual flow for each stream
 pub record AreDualFlows (streams : List Stream) (dual_flows : List ℤ) : Type 0 where
   pub each : length dual_flows ≡ length streams
   pub small : All (λ flow. unsigned_abs flow ≤ most_dual_flow) dual_flows

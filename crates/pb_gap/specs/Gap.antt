@@ -9,7 +9,7 @@ use Rattle.pb_graph.specs.Prices.{rise_of}
 use Rattle.pb_dual.specs.DualValue.{scale, flow_at}
 pub use Rattle.pb_gap.specs.declared.gap.Gap.{Gap}
 
--- the standard deviation of a measurement in units of 2^-20 gram, rounded down; 0 where there is none
+-- the standard deviation of a measurement in units of 2^-20 gram, rounded down; 0 if there is no measurement
 abbrev pub standard_deviation_of : Option Meas → ℤ
 standard_deviation_of None = pos 0
 standard_deviation_of (Some m) = scaled_root_of m.variance
@@ -18,7 +18,7 @@ abbrev pub standard_deviations_of : List Stream → List ℤ
 standard_deviations_of streams = map (λ s. standard_deviation_of s.meas) streams
 
 -- how far the flow p of a measurement along which the price rises by d is from its dual flow, in standard deviations, in units of
--- 2^-20, rounded up; 0 where there is no measurement
+-- 2^-20, rounded up; 0 if there is no measurement
 abbrev pub deviation_at : Option Meas → ℤ → ℤ → ℤ
 deviation_at None d p = pos 0
 deviation_at (Some m) d p = ceil_div (pos (unsigned_abs ((p *ℤ scale) -ℤ flow_at (Some m) d))) (scaled_root_of m.variance *ℤ pos (2 ^ 16))
@@ -37,8 +37,8 @@ deviations_of price (s ∷ ss) (p ∷ ps) = deviation_of price s p ∷ deviation
 abbrev pub gap_size : Gap → ℕ
 gap_size gap = gap.g * 2 ^ gap.h
 
--- h is the least number with every deviation at most 2^(57 + h), and g the least whose square is at least the sum of the squares of
--- the deviations in blocks of 2^h
+-- h is the least number with every deviation at most 2^(57 + h), and g is the least number whose square is at least the sum of the
+-- squares of the deviations in blocks of 2^h
 pub record IsGap (deviations : List ℤ) (gap : Gap) : Type 0 where
   pub exponent : IsBlockExponent deviations gap.h
   pub above : block_squares_of deviations gap.h ≤ℤ pos (gap.g * gap.g)
@@ -49,11 +49,11 @@ abbrev pub gap_from : List ℤ → Gap
 gap_from deviations =
     record { g = root_ceil_of (unsigned_abs (block_squares_of deviations (block_exponent_of deviations))); h = block_exponent_of deviations }
 
--- Statement. The gap of prices and flows: the root of the sum of the squares of the deviations, rounded up. It bounds by how much the weighted
--- squares of the flows are above the dual value (the duality gap: Rockafellar, Network Flows and Monotropic Optimization).
+-- Statement. The gap of prices and flows: the root of the sum of the squares of the deviations, rounded up. It bounds how far the
+-- weighted squares of the flows are above the dual value (the duality gap: Rockafellar, Network Flows and Monotropic Optimization).
 abbrev pub gap_of : (ℕ → ℤ) → List Stream → List ℤ → Gap
 gap_of price ss ps = gap_from (deviations_of price ss ps)
 
--- the gap is met at so many thousandths of a standard deviation
+-- the gap is met at this many thousandths of a standard deviation
 abbrev pub MeetsGap : ℕ → Gap → Type 0
 MeetsGap thousandths gap = gap_size gap * 1000 ≤ thousandths * 2 ^ 20

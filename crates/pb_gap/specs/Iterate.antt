@@ -46,7 +46,7 @@ pub record HaveRoots (d : Priced) (roots : List ℤ) : Type 0 where
   pub are : (k : ℕ) → k < group_count d.group → item roots k ≡ imbalance_root (group_variance d.group k d.graph.streams)
   pub small : (k : ℕ) → k < group_count d.group → IsSmallRoot (item roots k)
 
--- a standard deviation and a flow of each stream, and room for one number of each
+-- a standard deviation and a flow for each stream, and room for one number for each stream
 pub record HaveRoom (g : ProcessGraph) (standard_deviations nearest flows deviations : List ℤ) : Type 0 where
   pub rooted : standard_deviations ≡ standard_deviations_of g.streams
   pub of_nearest : length nearest ≡ length g.streams
@@ -59,7 +59,7 @@ pub record IsIterate (f : SpanningForest) (d : Priced) (standard_deviations root
   pub nets : HaveRoots d roots
   pub room : HaveRoom d.graph standard_deviations nearest flows deviations
 
--- a gap is that of a state, and within its range
+-- a gap is the gap of a state, and is within its range
 pub record IsGapOf (state : State) (gap : Gap) : Type 0 where
   pub value : gap ≡ gap_in state
   pub range : IsGapInRange gap
@@ -69,7 +69,7 @@ pub record IsSettled (state : State) (gap : Gap) : Type 0 where
   pub is : IsState state
   pub measure : IsGapOf state gap
 
--- the first of these deviations have squares that add up to more than that of a limit
+-- the squares of the first of these deviations add up to more than the square of a limit
 pub record AreFar (limit : ℤ) (deviations : List ℤ) : Type 0 where
   pub count : ℕ
   pub nonneg : (k : ℕ) → k < count → pos 0 ≤ℤ item deviations k

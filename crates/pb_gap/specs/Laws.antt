@@ -28,8 +28,8 @@ pub record HasWeights (graph : ProcessGraph) : Type 0 where
 abbrev pub WeightLaw : Type 0
 WeightLaw = (graph : ProcessGraph) → IsProcessGraph graph → HasWeights graph
 
--- The inequality of Cauchy and Schwarz: the square of a signed sum of errors of measured streams, none twice, over the sum of their
--- variances, is at most the weighted sum of squares of all errors.
+-- The inequality of Cauchy and Schwarz: the square of a signed sum of errors of measured streams, each at most once, over the sum of
+-- their variances, is at most the weighted sum of squares of all errors.
 abbrev pub SchwarzLaw : Type 0
 SchwarzLaw = (graph : ProcessGraph) (errors : List ℤ) (members : List Member)
     → IsProcessGraph graph → length errors ≡ length graph.streams → AreSigned graph members
@@ -43,7 +43,7 @@ pub record IsDualPair (graph : ProcessGraph) (price : ℕ → ℤ) (x : Fraction
   pub fit : PricesFit graph price
   pub balanced : IsBalancedFractional graph x
 
--- The weighted squares of balanced flows are the dual value of any prices that fit and the weighted squares of the residuals
+-- The weighted squares of balanced flows are the dual value of any prices that fit plus the weighted squares of the residuals
 -- (Rockafellar, Network Flows and Monotropic Optimization, on the duality gap).
 abbrev pub IdentityLaw : Type 0
 IdentityLaw = (graph : ProcessGraph) (price : ℕ → ℤ) (x : Fractional) → IsDualPair graph price x
@@ -65,7 +65,7 @@ pub record AreGaps : Type 0 where
 abbrev pub gap_square : Gap → ℤ
 gap_square gap = pos (2 ^ 72) *ℤ (pos (gap_size gap) *ℤ pos (gap_size gap))
 
--- The gap of balanced whole flows bounds by how much their weighted squares exceed the dual value of any prices that fit.
+-- The gap of balanced whole flows bounds how far their weighted squares exceed the dual value of any prices that fit.
 abbrev pub GapLaw : Type 0
 GapLaw = (graph : ProcessGraph) (price : ℕ → ℤ) (flows : List ℤ)
     → IsDualPair graph price (whole_flows flows)
@@ -73,8 +73,8 @@ GapLaw = (graph : ProcessGraph) (price : ℕ → ℤ) (flows : List ℤ)
     ≤ℤ (squares_unit graph (whole_flows flows)
     *ℤ (dual_value price graph.streams +ℤ gap_square (gap_of price graph.streams flows)))
 
--- The enclosure: for any prices that fit and any balanced whole flows, each balanced fractional vector no worse than the flows has
--- the signed sum of any list of measured streams, none twice, within its bounds.
+-- The enclosure: for any prices that fit and any balanced whole flows, and in each balanced fractional vector no worse than the flows,
+-- the signed sum of any list of measured streams, each at most once, is within its bounds.
 abbrev pub EnclosureLaw : Type 0
 EnclosureLaw = (graph : ProcessGraph) (price : ℕ → ℤ) (flows : List ℤ) (x : Fractional)
     (members : List Member)
@@ -82,7 +82,7 @@ EnclosureLaw = (graph : ProcessGraph) (price : ℕ → ℤ) (flows : List ℤ) (
     → AreSigned graph members
     → IsWithin x members (bounds_of price graph.streams (gap_of price graph.streams flows) members)
 
--- a signed list of measured streams, none twice, whose signed sum is the flow of stream j in all balanced flows
+-- a signed list of measured streams, each at most once, whose signed sum is the flow of stream j in all balanced flows
 pub record SumsTo (graph : ProcessGraph) (j : ℕ) (members : List Member) : Type 0 where
   pub signed : AreSigned graph members
   pub sum : (flows : List ℤ) → IsBalanced graph flows → signed_sum members flows ≡ item flows j
@@ -107,7 +107,7 @@ LowLaw = (graph : ProcessGraph) (price : ℕ → ℤ) (flows : List ℤ) (x : Fr
     → IsDualPair graph price x → IsBalanced graph flows
     → AreSquaresAtLeast graph x (low_of graph.streams flows (gap_of price graph.streams flows))
 
--- the weighted squares of the flows themselves are at most the high end, where there is one
+-- the weighted squares of the flows themselves are at most the high end, if there is one
 abbrev pub HighLaw : Type 0
 HighLaw = (graph : ProcessGraph) (flows : List ℤ) → IsProcessGraph graph
     → IfSome (high_of graph.streams flows) (AreSquaresAtMost graph (whole_flows flows))

@@ -33,7 +33,7 @@ OrthogonalityLaw = (graph : ProcessGraph) (x y : Fractional)
     → inner_product (variance_product graph.streams) graph.streams (errors_of graph.streams x)
     y.numerators ≡ pos 0
 
--- The weighted squares of a balanced vector p less those of a least vector x are those of their difference (Pythagoras), by cross
+-- The weighted squares of a balanced vector p less those of a least vector x are the square of their distance (Pythagoras), by cross
 -- products.
 abbrev pub ExcessLaw : Type 0
 ExcessLaw = (graph : ProcessGraph) (p x : Fractional)
@@ -41,13 +41,13 @@ ExcessLaw = (graph : ProcessGraph) (p x : Fractional)
     → (x.denominator *ℤ x.denominator) *ℤ weighted_squares graph p
     ≡ ((p.denominator *ℤ p.denominator) *ℤ weighted_squares graph x) +ℤ squared_distance graph p x
 
--- two flow vectors are at most a gap apart: so many standard deviations, all streams together
+-- two flow vectors are at most a gap apart, in standard deviations, over all streams together
 abbrev pub AreWithinGap : ProcessGraph → Gap → Fractional → Fractional → Type 0
 AreWithinGap graph gap p x =
     (squared_distance graph p x *ℤ pos (2 ^ 40))
     ≤ℤ ((pos (gap_size gap) *ℤ pos (gap_size gap)) *ℤ squares_unit graph (difference_of p x))
 
--- Balanced whole flows are at most their gap, for any prices that fit, from a least vector.
+-- For any prices that fit, balanced whole flows are at most their gap away from a least vector.
 abbrev pub DistanceLaw : Type 0
 DistanceLaw = (graph : ProcessGraph) (price : ℕ → ℤ) (flows : List ℤ) (x : Fractional)
     → IsDualPair graph price (whole_flows flows) → IsLeast graph x

@@ -1,7 +1,7 @@
--- Statement. Least bounds: bounds of a signed sum of measured flows that hold of least vectors. Each least vector lies on the sphere
--- on which balanced flows and the dual flows of prices that fit are two opposite points: about their middle, with half their distance
--- as radius (the hypercircle: Prager and Synge, Approximations in Elasticity Based on the Concept of Function Space; Synge, The
--- Hypercircle in Mathematical Physics).
+-- Statement. Least bounds: bounds of a signed sum of measured flows that hold for least vectors. Balanced flows and the dual flows of
+-- prices that fit are two opposite points of a sphere, whose centre is their middle and whose radius is half their distance. Each
+-- least vector lies on this sphere (the hypercircle: Prager and Synge, Approximations in Elasticity Based on the Concept of Function
+-- Space; Synge, The Hypercircle in Mathematical Physics).
 use Rattle.std.specs.Prelude.{ℕ, ℤ, pos, ◌+ℤ◌, ◌-ℤ◌, ◌*ℤ◌, List, Option, option_map}
 use Rattle.pb_fixed.specs.Quotients.{floor_div, ceil_div}
 use Rattle.pb_graph.specs.declared.records.Stream.{Stream}
@@ -15,7 +15,7 @@ use Rattle.pb_gap.specs.Gap.{Gap}
 use Rattle.pb_gap.specs.Bounds.{dual_flow_sum, half_width_in}
 use Rattle.pb_gap.specs.StreamBounds.{sum_for}
 
--- a stream's flow and its dual flow, in units of 2^-56 gram: twice their middle
+-- a stream's flow plus its dual flow, in units of 2^-56 gram: twice their middle
 abbrev pub twice_middle : (ℕ → ℤ) → Stream → ℤ → ℤ
 twice_middle price stream flow = (flow *ℤ scale) +ℤ dual_flow price stream
 
@@ -39,7 +39,7 @@ least_bounds_of price streams flows gap members = record {
       +ℤ least_half_width_in streams gap members;
 }
 
--- the least bounds of the flow of stream j, none where it is unobservable
+-- the least bounds of the flow of stream j, or none if it is unobservable
 abbrev pub stream_least_bounds : (ℕ → ℤ) → List Stream → List ℤ → Gap → ℕ → Classified → Option Bounds
 stream_least_bounds price streams flows gap j c =
     option_map (least_bounds_of price streams flows gap) (sum_for j c.class c.witness)

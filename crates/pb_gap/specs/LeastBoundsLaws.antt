@@ -33,13 +33,13 @@ LeastWidthLaw = (streams : List Stream) (gap : Gap) (m : Member) (ms : List Memb
     → least_half_width_in streams gap (m ∷ ms)
     ≡ ceil_div ((scaled_root_of (variance_sum streams (m ∷ ms)) +ℤ pos 1) *ℤ pos (gap_size gap)) (pos (2 ^ 41))
 
--- Each least vector has the signed sum of any list of measured streams, none twice, within its least bounds.
+-- In each least vector, the signed sum of any list of measured streams, each at most once, is within its least bounds.
 abbrev pub LeastBoundsLaw : Type 0
 LeastBoundsLaw = (graph : ProcessGraph) (price : ℕ → ℤ) (flows : List ℤ) (x : Fractional) (members : List Member)
     → IsDualPair graph price (whole_flows flows) → IsLeast graph x → AreSigned graph members
     → IsWithin x members (least_bounds_of price graph.streams flows (gap_of price graph.streams flows) members)
 
--- Each stream that has least bounds is within them in each least vector, by any class with its certificate.
+-- In each least vector, each stream that has least bounds is within them, for any class with its certificate.
 abbrev pub LeastStreamLaw : Type 0
 LeastStreamLaw = (graph : ProcessGraph) (price : ℕ → ℤ) (flows : List ℤ) (x : Fractional) (j : ℕ) (c : Classified)
     → IsDualPair graph price (whole_flows flows) → IsLeast graph x → IsCertified graph j c

@@ -1,4 +1,4 @@
--- Statement. How great the numbers of a state are: each is within the range in which it is printed.
+-- Statement. The ranges of the numbers of a state: each number is within the range in which it is printed.
 use Rattle.std.specs.Prelude.{ℕ, ℤ, pos, ◌≤ℤ◌, List, All, IfSome}
 use Rattle.pb_graph.specs.declared.records.Member.{Member}
 use Rattle.pb_graph.specs.ProcessGraph.{ProcessGraph, IsProcessGraph}

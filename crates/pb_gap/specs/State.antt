@@ -16,7 +16,7 @@ use Rattle.pb_gap.specs.Gap.{Gap, gap_of}
 abbrev pub nearest_grams : List ℤ → List ℤ
 nearest_grams dual_flows = map (λ flow. nearest_div flow scale) dual_flows
 
--- the dual flow of each stream, to the nearest gram; 0 where the stream is unmeasured
+-- the dual flow of each stream, to the nearest gram; 0 if the stream is unmeasured
 abbrev pub nearest_flows : (ℕ → ℤ) → List Stream → List ℤ
 nearest_flows price streams = nearest_grams (dual_flows_of price streams)
 
@@ -34,7 +34,7 @@ pub record State : Type 0 where
   pub prices : List ℤ
   pub flows : List ℤ
 
--- the price of a node is that of its group
+-- the price of a node is the price of its group
 abbrev pub price_in : State → ℕ → ℤ
 price_in s n = get_or s.prices (group_at s.group n) (pos 0)
 

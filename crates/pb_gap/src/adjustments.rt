@@ -17,7 +17,7 @@ use crate::gap::{Gap, size};
 use pb_fixed::{div_ceil, div_floor};
 use pb_graph::Stream;
 
-// The adjustment of a flow in standard deviations, in units of 2^-20, rounded down; 0 where the stream is unmeasured.
+// The adjustment of a flow in standard deviations, in units of 2^-20, rounded down; 0 if the stream is unmeasured.
 fn below(stream: &Stream, root: i128, flow: i128) -> i128
     requires limits { IsWithinLimits stream.now }
     requires root { root ≡ standard_deviation_of stream.now.meas }
@@ -45,7 +45,7 @@ fn above(stream: &Stream, root: i128, flow: i128) -> i128
     }
 }
 
-// The sum of the squares of the adjustments, each rounded down and counted up to the most.
+// The sum of the squares of the adjustments, each rounded down and capped.
 fn capped_squares(streams: &[Stream], standard_deviations: &[i128], flows: &[i128]) -> i128
     requires { AreMeasured streams.now standard_deviations.now flows.now }
     ensures value { result
@@ -60,7 +60,7 @@ fn capped_squares(streams: &[Stream], standard_deviations: &[i128], flows: &[i12
     total
 }
 
-// The sum of the squares of the adjustments, each rounded up; None where one is above the most.
+// The sum of the squares of the adjustments, each rounded up, or None if one of these is above the cap.
 fn full_squares(streams: &[Stream], standard_deviations: &[i128], flows: &[i128]) -> Option<i128>
     requires { AreMeasured streams.now standard_deviations.now flows.now }
     ensures value { let bs = adjustments_by adjustment_above streams.now flows.now in

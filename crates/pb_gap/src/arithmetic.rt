@@ -13,7 +13,7 @@ ghost use Rattle.pb_gap.specs.Statistic.{adjustment_cap};
 use pb_dual::SCALE;
 use pb_fixed::{div_ceil, div_floor, shift_nearest};
 
-/// The most that an adjustment counts.
+/// The most that an adjustment counts for.
 pub const ADJUSTMENT_CAP: i128 = 1 << 52;
 
 /// A dual flow to the nearest gram.
@@ -62,7 +62,7 @@ pub fn adjustment(flow: i128, value: i128) -> i128
     (flow - value).abs() * (1 << 40)
 }
 
-/// An adjustment, counted up to the most.
+/// An adjustment, capped at the most that it counts for.
 pub fn capped(adjustment: i128) -> i128
     requires { pos 0 ≤ℤ adjustment }
     ensures value { result ≡ int_min adjustment adjustment_cap }
@@ -83,7 +83,7 @@ pub fn square(adjustment: i128) -> i128
     adjustment * adjustment
 }
 
-/// The square of a deviation, which counts up to one above a limit.
+/// The square of a deviation. A deviation above the limit counts as one more than the limit.
 pub fn square_up_to(deviation: i128, limit: i128) -> i128
     requires deviation { pos 0 ≤ℤ deviation }
     requires from { pos 0 ≤ℤ limit }
@@ -124,7 +124,7 @@ pub fn size_square(size: u128) -> i128
     (size * size) as i128
 }
 
-/// A thousand times the squares of adjustments less that of the gap, in whole numbers, rounded down, and at least 0.
+/// A thousand times the squares of the adjustments less the square of the gap, rounded down to a whole number, and at least 0.
 pub fn low_end(squares: i128, size_square: i128) -> i128
     requires squares_from { pos 0 ≤ℤ squares }
     requires squares_to { squares ≤ℤ pos (most_streams * 2 ^ 104) }

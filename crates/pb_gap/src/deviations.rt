@@ -13,7 +13,7 @@ ghost use Rattle.pb_gap.specs.Iterate.{AreFar};
 use crate::arithmetic::{deviation, square, square_up_to};
 use pb_graph::Stream;
 
-// The deviation of the flow of a stream; 0 where it is unmeasured.
+// The deviation of the flow of a stream, or 0 if the stream is unmeasured.
 fn stream_deviation(stream: &Stream, root: i128, dual: i128, flow: i128) -> i128
     requires limits { IsWithinLimits stream.now }
     requires root { root ≡ standard_deviation_of stream.now.meas }
@@ -49,7 +49,8 @@ pub fn write_deviations(
     }
 }
 
-/// Writes the deviation of each stream's flow, until their squares add up to more than that of a limit. Whether they never do.
+/// Writes the deviation of each stream's flow, until their squares add up to more than the square of a limit. Returns whether they
+/// never do.
 pub fn write_near_deviations(
     streams: &[Stream],
     standard_deviations: &[i128],

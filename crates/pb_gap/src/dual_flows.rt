@@ -9,7 +9,7 @@ ghost use Rattle.pb_dual.specs.DualValue.{dual_flows_of, most_dual_flow};
 use pb_dual::dual_flow;
 use pb_graph::Graph;
 
-/// Writes the dual flow of each stream at the prices of the nodes, in order of nodes.
+/// Writes the dual flow of each stream at the prices of the nodes, which are in the order of the nodes.
 pub fn write_dual_flows(graph: &Graph, prices: &[i128], out: &mut [i128])
     requires each { length prices.now ≡ graph.now.nodes }
     requires small { All IsPrice prices.now }

@@ -1,4 +1,4 @@
-// The flows of a graph beside the dual flows of prices, and the numbers that follow from them.
+// The flows of a graph together with the dual flows of prices, and the numbers that follow from them.
 
 ghost use Rattle.std.specs.Prelude.{◌≡◌, ◌↔◌, ◌≤◌, ◌^◌, ℕ, ℤ, pos, ◌≤ℤ◌, length, unsigned_abs, IsTrue, IfSome};
 ghost use Rattle.pb_graph.specs.WellFormed.{IsWide};
@@ -17,14 +17,14 @@ use crate::sums::{dual_flow_sum, half_width_of, outward};
 use pb_graph::{Bounds, Graph, Member};
 use std::marker::Model;
 
-/// The flows of a graph beside the dual flows of prices.
+/// The flows of a graph together with the dual flows of prices.
 ///
 /// The gap between them, the bounds that it gives and the statistic follow from these, wherever the
 /// prices and the flows come from: from sweeps, or from a report that is read back.
 #[derive(Drop)]
 pub struct FlowPair<'a> {
     graph: &'a Graph,
-    // For each stream its standard deviation in units of 2^-20 gram, rounded down.
+    // For each stream, its standard deviation in units of 2^-20 gram, rounded down.
     standard_deviations: &'a [i128],
     // In units of 2^-56 gram.
     dual_flows: &'a [i128],
@@ -44,7 +44,7 @@ impl<'a> Model for FlowPair<'a> {
 }
 
 impl<'a> FlowPair<'a> {
-    /// A dual flow and a flow of each stream of a graph, with the standard deviation of each.
+    /// A dual flow and a flow for each stream of a graph, with the standard deviation of each.
     pub fn new(
         graph: &'a Graph,
         standard_deviations: &'a [i128],
@@ -64,7 +64,7 @@ impl<'a> FlowPair<'a> {
         }
     }
 
-    /// The gap between the flows and the dual flows. `deviations` is room for one number of each
+    /// The gap between the flows and the dual flows. `deviations` is room for one number for each
     /// stream.
     pub fn gap(&self, deviations: &mut [i128]) -> Gap
         requires { length deviations.old ≡ length self.now.graph.streams }
@@ -83,8 +83,8 @@ impl<'a> FlowPair<'a> {
         gap_from(deviations)
     }
 
-    /// Whether the gap is met at so many thousandths of a standard deviation. `deviations` is room
-    /// for one number of each stream.
+    /// Whether the gap is met at this many thousandths of a standard deviation. `deviations` is room
+    /// for one number for each stream.
     pub fn is_met(&self, thousandths: u32, deviations: &mut [i128]) -> bool
         requires { length deviations.old ≡ length self.now.graph.streams }
         ensures met { (price : ℕ → ℤ) → AreOfPrices price self.now
@@ -138,8 +138,8 @@ impl<'a> FlowPair<'a> {
         about_middle(flows, dual_flows, half_width_of(streams, members, gap))
     }
 
-    /// The ends of the statistic at a gap, in thousandths. There is no high end where an adjustment
-    /// is above 2^32 standard deviations. They are at most 2^126.
+    /// The ends of the statistic at a gap, in thousandths. There is no high end if an adjustment
+    /// is above 2^32 standard deviations. The ends are at most 2^126.
     pub fn statistic(&self, gap: Gap) -> (i128, Option<i128>)
         requires { IsGapInRange gap }
         ensures value { result ≡ statistic_of self.now.graph.streams self.now.flows gap }

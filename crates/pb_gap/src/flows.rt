@@ -23,7 +23,7 @@ fn write_nearest(dual_flows: &[i128], out: &mut [i128])
     }
 }
 
-/// Writes the flows that belong to prices. `nearest` is room for one number of each stream.
+/// Writes the flows that belong to prices. `nearest` is room for one number for each stream.
 pub fn write_flows(forest: &Forest, dual: &Dual, nearest: &mut [i128], flows: &mut [i128])
     requires few { length dual.now.graph.streams ≤ most_streams }
     requires forest { forest.now.graph ≡ dual.now.graph }

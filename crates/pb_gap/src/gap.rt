@@ -37,7 +37,7 @@ pub fn size(gap: Gap) -> u128
     u128::from(gap.g) << gap.h
 }
 
-/// Whether a gap is met at so many thousandths of a standard deviation.
+/// Whether a gap is met at this many thousandths of a standard deviation.
 pub fn is_met(gap: Gap, thousandths: u32) -> bool
     requires { IsGapInRange gap }
     ensures { IsTrue result ↔ MeetsGap thousandths gap }
@@ -45,7 +45,7 @@ pub fn is_met(gap: Gap, thousandths: u32) -> bool
     size(gap) * 1_000 <= u128::from(thousandths) << 20
 }
 
-/// The greatest deviation of a gap that is met at so many thousandths of a standard deviation.
+/// The greatest deviation of a gap that is met at this many thousandths of a standard deviation.
 pub fn most_deviation(thousandths: u32) -> i128
     ensures { result ≡ pos (thousandths * 2 ^ 20 / 1000) }
 {

@@ -1,4 +1,4 @@
-// Prices of the sweeps with flows beside them, and all that the next sweeps need.
+// The prices of the sweeps together with flows, and all that the next sweeps need.
 
 ghost use Rattle.std.specs.Prelude.{◌≡◌, ◌↔◌, ℕ, suc, ◌<◌, ◌≤◌, ◌^◌, ℤ, Bool, false, List as Seq, Some, length, slice_get, unsigned_abs, IsTrue, IfOk};
 ghost use Rattle.pb_graph.specs.Balance.{IsBalanced};
@@ -25,21 +25,21 @@ use pb_merge::Groups;
 use std::alloc::{AllocError, Global};
 use std::marker::Model;
 
-/// Prices of the sweeps with flows beside them, and room for all that the next sweeps need. The flows
+/// The prices of the sweeps together with flows, and room for all that the next sweeps need. The flows
 /// belong to the prices once they are settled.
 #[derive(Drop)]
 pub struct Iterate<'a> {
     forest: Forest<'a>,
     dual: Dual<'a>,
     standard_deviations: Vec<i128>,
-    // For each group the standard deviation of its imbalance.
+    // For each group, the standard deviation of its imbalance.
     roots: Vec<i128>,
     // Room for the dual flows to the nearest gram.
     nearest: Vec<i128>,
     flows: Vec<i128>,
     // Room for the deviations.
     deviations: Vec<i128>,
-    // The group whose net dual flow is asked for first: those before it were found small.
+    // The group whose net dual flow is checked first: those of the groups before it were found to be small.
     first: u32,
 }
 
@@ -120,7 +120,7 @@ impl<'a> Iterate<'a> {
         self.forest.rank()
     }
 
-    /// The flows beside the dual flows of the prices.
+    /// The flows together with the dual flows of the prices.
     pub fn pair(&self) -> FlowPair<'_>
         ensures graph { result.graph ≡ self.now.graph }
         ensures flows { result.flows ≡ self.now.flows }
@@ -144,7 +144,7 @@ impl<'a> Iterate<'a> {
         write_flows(&self.forest, &self.dual, &mut self.nearest, &mut self.flows);
     }
 
-    // Begins again at prices of 0. The flows stay.
+    // Begins again at prices of 0, and leaves the flows as they are.
     fn reset(&mut self)
         ensures graph { self.new.graph ≡ self.old.graph }
         ensures group { self.new.group ≡ self.old.group }
@@ -155,7 +155,7 @@ impl<'a> Iterate<'a> {
         self.first = 0;
     }
 
-    // Sweeps once. The flows stay. Whether a price changed.
+    // Sweeps once, and leaves the flows as they are. Returns whether a price changed.
     fn sweep(&mut self) -> bool
         ensures graph { self.new.graph ≡ self.old.graph }
         ensures group { self.new.group ≡ self.old.group }
@@ -194,7 +194,7 @@ impl<'a> Iterate<'a> {
         pair.is_met(gap, &mut self.deviations)
     }
 
-    // Whether the net dual flow of a group tells that the gap isn't met, whatever the flows are.
+    // Whether the net dual flow of a group shows that the gap isn't met, whatever the flows are.
     fn has_far_net(&mut self, gap: u32) -> bool
         ensures same { self.new ≡ self.old }
         ensures far { IsTrue result → (flows : Seq ℤ) → IsBalanced self.old.graph flows
@@ -203,8 +203,8 @@ impl<'a> Iterate<'a> {
         is_beyond(&self.dual, &self.roots, gap, &mut self.first)
     }
 
-    // Whether the gap of the flows that belong to the prices is met. They are written, unless the
-    // groups' net dual flows tell that it isn't.
+    // Whether the gap of the flows that belong to the prices is met. The flows are written, unless the
+    // groups' net dual flows show that it isn't.
     fn is_met(&mut self, gap: u32) -> bool
         ensures graph { self.new.graph ≡ self.old.graph }
         ensures group { self.new.group ≡ self.old.group }
@@ -222,8 +222,8 @@ impl<'a> Iterate<'a> {
         self.is_near(gap)
     }
 
-    /// Sweeps from prices of 0 until the gap is met, and at most so many times. A sweep that changes no
-    /// price is the last one, since each later one would leave the same prices.
+    /// Sweeps from prices of 0 until the gap is met, but no more than `sweeps` times. A sweep that changes
+    /// no price is the last one, since each later one would leave the same prices.
     pub fn solve(&mut self, gap: u32, sweeps: u32) -> Solved
         ensures graph { self.new.graph ≡ self.old.graph }
         ensures group { self.new.group ≡ self.old.group }

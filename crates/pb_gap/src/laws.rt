@@ -12,20 +12,20 @@ pub fn weight_law()
     ensures { WeightLaw }
 {}
 
-/// The weighted squares of balanced flows are the dual value of any prices that fit and the weighted squares of the residuals, so
+/// The weighted squares of balanced flows are the dual value of any prices that fit plus the weighted squares of the residuals, so
 /// the dual value is never above them.
 pub fn duality_law()
     ensures identity { IdentityLaw }
     ensures weak { DualityLaw }
 {}
 
-/// The inequality of Cauchy and Schwarz for errors of the streams, summed with signs over some measured ones, none twice.
+/// The inequality of Cauchy and Schwarz for errors of the streams, summed with signs over some measured ones, each at most once.
 pub fn schwarz_law()
     ensures { SchwarzLaw }
 {}
 
-/// The gap of a list of deviations is what its two numbers are said to be, and the only one. It bounds by how much the weighted
-/// squares of balanced whole flows exceed the dual value.
+/// The gap that is computed from a list of deviations has the properties that define it, and only that gap has them. It bounds how far
+/// the weighted squares of balanced whole flows exceed the dual value.
 pub fn gap_law()
     ensures numbers { AreGaps }
     ensures excess { GapLaw }
@@ -39,8 +39,8 @@ pub fn least_law()
     ensures distance { DistanceLaw }
 {}
 
-/// Where the gap of balanced whole flows is met, the net dual flow of each group is at most so many standard deviations of the
-/// group's imbalance.
+/// If the gap of balanced whole flows is met at a number of thousandths, the net dual flow of each group is at most that many
+/// thousandths of the standard deviation of the group's imbalance.
 pub fn net_law()
     ensures { NetLaw }
 {}
@@ -73,7 +73,7 @@ pub fn some_state_law()
     ensures { SomeStateLaw }
 {}
 
-/// And at most one.
+/// A process graph has at most one state after each number of sweeps.
 pub fn one_state_law()
     ensures { OneStateLaw }
 {}
@@ -83,17 +83,17 @@ pub fn outside_law()
     ensures { OutsideLaw }
 {}
 
-/// A process graph has a solution at each gap and greatest number of sweeps.
+/// A process graph has a solution at each gap and each greatest number of sweeps.
 pub fn some_solution_law()
     ensures { SomeSolutionLaw }
 {}
 
-/// And at most one.
+/// A process graph has at most one solution at each gap and each greatest number of sweeps.
 pub fn one_solution_law()
     ensures { OneSolutionLaw }
 {}
 
-/// The statistic of a process graph, solved at a gap with at most so many sweeps, has one pair of ends.
+/// The statistic of a process graph, solved at a gap with a greatest number of sweeps, has exactly one pair of ends.
 pub fn solved_statistic_law()
     ensures some { SomeSolvedStatisticLaw }
     ensures one { OneSolvedStatisticLaw }

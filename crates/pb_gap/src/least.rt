@@ -1,4 +1,4 @@
-// Bounds of a signed sum of flows that hold of least vectors.
+// Bounds of a signed sum of flows that hold for least vectors.
 
 ghost use Rattle.std.specs.Prelude.{◌≡◌, ◌<◌, ◌≤◌, ◌^◌, pos, ◌≤ℤ◌, ◌+ℤ◌, ◌-ℤ◌, length, unsigned_abs, All};
 ghost use Rattle.pb_limits.specs.Limits.{most_streams};

@@ -1,8 +1,8 @@
 //! The solver: flows that belong to prices, the gap between them, the bounds that it gives, and the statistic.
 //!
 //! Prices that fit give a lower bound on the weighted squares of every balanced vector, their dual value. Flows whose weighted squares
-//! are near it are near the least vector, and so is every vector no worse than they are: the gap says how near, and the bounds and the
-//! statistic follow from it. The laws stand on empty functions, whose contracts state them for the crates above.
+//! are near it are near the least vector, and so is every vector no worse than they are. The gap says how near, and the bounds and the
+//! statistic follow from it. The laws are the contracts of empty functions, which state them for the crates above.
 #![tactic(auto)]
 
 mod adjustments;

@@ -8,7 +8,7 @@ use pb_fixed::scaled_root;
 use pb_graph::Stream;
 use std::alloc::{AllocError, Global};
 
-// The standard deviation of a stream in units of 2^-20 gram, rounded down; 0 where it is unmeasured.
+// The standard deviation of a stream in units of 2^-20 gram, rounded down; 0 if it is unmeasured.
 fn standard_deviation(stream: &Stream) -> i128
     requires { IsWithinLimits stream.now }
     ensures { result ≡ standard_deviation_of stream.now.meas }
@@ -19,7 +19,7 @@ fn standard_deviation(stream: &Stream) -> i128
     }
 }
 
-/// The standard deviation of each stream in units of 2^-20 gram, rounded down; 0 where it is
+/// The standard deviation of each stream in units of 2^-20 gram, rounded down; 0 if it is
 /// unmeasured.
 pub fn standard_deviations(alloc: Global, streams: &[Stream]) -> Result<Vec<i128>, AllocError>
     requires { All IsWithinLimits streams.now }

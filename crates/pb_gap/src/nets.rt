@@ -1,4 +1,4 @@
-// The net dual flows of groups, beside what a met gap allows.
+// The net dual flows of groups, compared with what a met gap allows.
 
 ghost use Rattle.std.specs.Prelude.{◌≡◌, ◌↔◌, ◌^◌, ◌<◌, ◌≤◌, pos, ◌*ℤ◌, ◌≤ℤ◌, ◌<ℤ◌, List as Seq, ℤ, unsigned_abs, IsTrue, IfOk};
 ghost use Rattle.pb_graph.specs.Balance.{IsBalanced};
@@ -35,7 +35,7 @@ pub fn imbalance_roots(alloc: Global, groups: &Groups) -> Result<Vec<i128>, Allo
     Ok(roots)
 }
 
-// So many standard deviations of an imbalance, in units of 2^-56 gram: `most` is in units of 2^-20.
+// The standard deviation of an imbalance times `most`, in units of 2^-56 gram; `most` is in units of 2^-20.
 fn allowed(most: i128, root: i128) -> i128
     requires most_from { pos 0 ≤ℤ most }
     requires most_to { most <ℤ pos (2 ^ 43) }
@@ -55,9 +55,9 @@ fn is_far(net: i128, allowed: i128) -> bool
     allowed < net.abs()
 }
 
-/// Whether the net dual flow of a group is beyond what a gap that is met at so many thousandths
-/// allows. The groups before `first` aren't asked; it becomes the first one that is beyond. (So over sweeps each group is asked
-/// until its net dual flow is small, and not again.)
+/// Whether the net dual flow of a group is beyond what a gap that is met at this many thousandths
+/// allows. The groups before `first` aren't checked, and `first` becomes the first group that is beyond. (So over the sweeps each group
+/// is checked until its net dual flow is small, and not again.)
 pub fn is_beyond(dual: &Dual, roots: &[i128], thousandths: u32, first: &mut u32) -> bool
     requires { HaveRoots dual.now roots.now }
     ensures { IsTrue result → (flows : Seq ℤ) → IsBalanced dual.now.graph flows

@@ -51,7 +51,7 @@ impl<'a> Solver<'a> {
         Solver::with_forest(alloc, graph, forest)
     }
 
-    /// The same, where the spanning forest of the graph is at hand.
+    /// The same, given the spanning forest of the graph.
     pub fn with_forest(
         alloc: Global,
         graph: &'a Graph,
@@ -67,7 +67,7 @@ impl<'a> Solver<'a> {
         Ok(Solver { iterate, gap })
     }
 
-    /// Sweeps from prices of 0 until the gap is met, and at most so many times. The gap is in thousandths of a standard deviation,
+    /// Sweeps from prices of 0 until the gap is met, but no more than `sweeps` times. The gap is in thousandths of a standard deviation,
     /// from 1 to 1,000,000; there are at most 100,000 sweeps.
     pub fn solve(&mut self, gap: u32, sweeps: u32) -> Solved
         requires gap_from { 1 ≤ gap }
@@ -105,7 +105,7 @@ impl<'a> Solver<'a> {
         self.iterate.flow(stream)
     }
 
-    /// How many blocks of 2^h the gap is of, at most 2^63.
+    /// How many blocks of 2^h make up the gap, at most 2^63.
     pub fn g(&self) -> u64
         ensures value { result ≡ (gap_in self.now).g }
         ensures most { result ≤ 2 ^ 63 }
@@ -113,7 +113,7 @@ impl<'a> Solver<'a> {
         self.gap.g
     }
 
-    /// The exponent of the gap's blocks of 2^h, in units of 2^-20 standard deviation.
+    /// The exponent of the gap's blocks, each of 2^h units of 2^-20 standard deviation.
     pub fn h(&self) -> u32
         ensures value { result ≡ (gap_in self.now).h }
         ensures most { result ≤ 32 }
@@ -145,7 +145,7 @@ impl<'a> Solver<'a> {
         self.iterate.pair().bounds(members, self.gap)
     }
 
-    /// Least bounds of a signed sum of measured flows, in grams: every least vector is within them. They stand about the middle of the
+    /// Least bounds of a signed sum of measured flows, in grams: every least vector is within them. They lie about the middle of the
     /// present flows and the dual flows, with half the width of the bounds (Synge, The Hypercircle in Mathematical Physics). They are at
     /// most 2^126 either way.
     pub fn least(&self, members: &[Member]) -> Bounds
@@ -161,9 +161,9 @@ impl<'a> Solver<'a> {
         self.iterate.pair().least(members, self.gap)
     }
 
-    /// The ends of the statistic in thousandths: the weighted squares of every balanced fractional vector are at least the low one,
-    /// and those of the present flows at most the high one. There is no high end where an adjustment is above 2^32 standard
-    /// deviations. They are at most 2^126.
+    /// The ends of the statistic in thousandths: the weighted squares of every balanced fractional vector are at least the low end,
+    /// and those of the present flows at most the high end. There is no high end if an adjustment is above 2^32 standard
+    /// deviations. The ends are at most 2^126.
     pub fn statistic(&self) -> (i128, Option<i128>)
         ensures value { result
             ≡ statistic_of self.now.graph.streams self.now.flows (gap_in self.now) }

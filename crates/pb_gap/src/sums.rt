@@ -34,7 +34,7 @@ pub fn dual_flow_sum(streams: &[Stream], dual_flows: &[i128], members: &[Member]
     total
 }
 
-// The variance of a stream, 0 where it is unmeasured.
+// The variance of a stream, or 0 if it is unmeasured.
 fn variance(stream: &Stream) -> i128
     requires { IsWithinLimits stream.now }
     ensures value { result ≡ variance_of stream.now.meas }
@@ -84,7 +84,7 @@ pub fn half_width_of(streams: &[Stream], members: &[Member], gap: Gap) -> i128
     )
 }
 
-/// The bounds of a signed sum, in grams: its dual flows, rounded outward, less and plus the half width.
+/// The bounds of a signed sum, in grams: the sum of its dual flows, rounded outward, less and plus the half width.
 pub fn outward(sum: i128, half: i128) -> Bounds
     requires sum { unsigned_abs sum < 2 ^ 124 }
     requires half_from { pos 0 ≤ℤ half }

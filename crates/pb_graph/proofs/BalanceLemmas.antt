@@ -1,11 +1,11 @@
--- One stream more in a net flow.
+-- One more stream in a net flow.
 use Rattle.std.proofs.Common.{◌≡◌, ℕ, ◌+◌, ◌<◌, ℤ, ◌+ℤ◌, List, length, get_or, drop, ap₂, arith}
 use Rattle.std.proofs.lemmas.Int.{ints}
 use Rattle.pb_integers.proofs.Lists.{drop_next}
 use Rattle.pb_graph.specs.declared.records.Stream.{Stream}
 use Rattle.pb_graph.specs.Balance.{brought_to, net_of}
 
--- the net flow from a place on is the share there and the net flow behind it
+-- the net flow from a place on is the share there and the net flow after it
 pub net_more : (n j : ℕ) (ss : List Stream) (xs : List ℤ) (s : Stream) (x : ℤ) → j < length ss → length xs ≡ length ss
     → net_of n (drop j ss) (drop j xs) ≡ brought_to n (get_or ss j s) (get_or xs j x) +ℤ net_of n (drop (j + 1) ss) (drop (j + 1) xs)
 net_more n j ss xs s x lt each =

@@ -11,7 +11,7 @@ members_next : (side : List Bool) (ss : List Stream) (j : ℕ) (s : Stream) → 
     → members_from side j (drop j ss) ≡ with_first (member_at side j (get_or ss j s)) (members_from side (j + 1) (drop (j + 1) ss))
 members_next side ss j s lt = ap (members_from side j) (drop_next ss j s lt)
 
--- a stream that is no member leaves the members so far as they are
+-- a stream that isn't a member leaves the members so far as they are
 pub no_member : (side : List Bool) (ss : List Stream) (whole front : List Member) (j : ℕ) (s : Stream) → j < length ss
     → member_at side j (get_or ss j s) ≡ None
     → whole ≡ front ++ members_from side j (drop j ss) → whole ≡ front ++ members_from side (j + 1) (drop (j + 1) ss)
@@ -44,14 +44,14 @@ member_missing whole ms rest at m le other so_far is =
     ap (λ (l : List Member). get_or l at m) all ∙ ap (λ (n : ℕ). get_or (take at ms ++ m ∷ rest) n m) (sym (omega (arith, front))) ∙ get_or-append-add (take at ms) (m ∷ rest) 0 m in
     other (slice_get-get_or ms at m lt ∙ ap (λ (x : Member). Some x) here)
 
--- at the end the list is the boundary where all of it was compared
+-- at the end the list is the boundary if all of it was compared
 pub members_end : (side : List Bool) (ss : List Stream) (whole ms : List Member) (at j : ℕ) → length ss ≤ j → at ≤ length ms
     → whole ≡ take at ms ++ members_from side j (drop j ss) → (at ≡ length ms → ms ≡ whole) × (ms ≡ whole → at ≡ length ms)
 members_end side ss whole ms at j le within so_far =
     let is : whole ≡ take at ms = so_far ∙ ap (λ (r : List Stream). take at ms ++ members_from side j r) (drop_all j ss le) ∙ append-nil (take at ms) in
     ((λ e. sym (is ∙ take_all at ms (omega (arith, e)))), (λ e. omega (arith, ap length (e ∙ is), length-take-le at ms within)))
 
--- what is made so far, where a stream is no member
+-- what is made so far, if a stream isn't a member
 pub no_member_more : (side : List Bool) (ss : List Stream) (members : List Member) (j : ℕ) (s : Stream) → j < length ss → member_at side j (get_or ss j s) ≡ None
     → boundary_of side ss ≡ members ++ members_from side j (drop j ss) → boundary_of side ss ≡ members ++ members_from side (j + 1) (drop (j + 1) ss)
 no_member_more side ss members j s lt none so_far = no_member side ss (boundary_of side ss) members j s lt none so_far

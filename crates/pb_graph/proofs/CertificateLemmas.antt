@@ -1,4 +1,4 @@
--- A certificate speaks of nodes and streams of its graph alone.
+-- A certificate refers only to nodes and streams of its graph.
 use Rattle.std.specs.List.{AllByRecursion}
 use Rattle.std.proofs.Common.{◌≡◌, ◌+◌, ◌<◌, ◌≤◌, ℕ, List, [], ◌∷◌, length, Bool, true, false, Option, Some, None, slice_get, refl, inl, inr, arith}
 use Rattle.std.proofs.lemmas.List.Elements.{All-from_recursion}
@@ -36,7 +36,7 @@ cut_within g side members cut =
     let each : AllByRecursion (IsMember g) members = rw cut.boundary (members_within g side 0 g.streams (omega arith)) in
     (cut.each, All-from_recursion (IsMember g) members each)
 
--- the steps of a walk go along streams that are there
+-- the steps of a walk go along streams that exist
 step_there : (ss : List Stream) (t : Step) (found : Option Stream) (ends : ℕ × ℕ) → slice_get ss t.stream ≡ found → ends_at any_stream t.stream t.forward found ≡ Some ends → t.stream < length ss
 step_there ss t None ends at is = cc is
 step_there ss t (Some s) ends at is = slice_get_within ss t.stream s at

@@ -1,4 +1,4 @@
--- A closed walk on which no node comes twice: it has no more steps than nodes, and a stream comes twice on it only there and back.
+-- A closed walk on which no node appears twice: it has no more steps than nodes, and a stream appears twice on it only there and back.
 use Rattle.std.proofs.Common.{◌≡◌, ◌≢◌, ◌⊎◌, ◌∙◌, ℕ, zero, suc, ◌+◌, ◌<◌, ◌≤◌, Bool, true, false, not, ◌||◌, ◌==◌, List, [], ◌∷◌, ◌++◌, length, get_or, take, drop, set, replicate, Some, slice_get, ap, sym, refl, subst, inl, inr, arith}
 use Rattle.std.specs.List.{list_any}
 use Rattle.std.proofs.lemmas.Bool.{cases_Bool, cases_eq, and_parts, or_right, eq-eqb, ne_eqb, not-true}
@@ -34,7 +34,7 @@ any_false_from : {A : Type 0} (p : A → Bool) (xs : List A) → ((y : A) → Is
 any_false_from p [] each = refl
 any_false_from p (x ∷ xs) each = rw (each x (inl refl)) (any_false_from p xs (λ y here. each y (inr here)))
 
--- the first key comes no more, and the rest are distinct
+-- the first key doesn't appear again, and the rest are distinct
 distinct_parts : {A : Type 0} (key : A → ℕ) (x : A) (xs : List A) → is_distinct key (x ∷ xs) ≡ true → (list_any (λ y. key y == key x) xs ≡ false) × (is_distinct key xs ≡ true)
 distinct_parts key x xs once =
     let parts = and_parts (not (list_any (λ y. key y == key x) xs)) (is_distinct key xs) once in
@@ -43,11 +43,11 @@ distinct_parts key x xs once =
 distinct_from : {A : Type 0} (key : A → ℕ) (x : A) (xs : List A) → list_any (λ y. key y == key x) xs ≡ false → is_distinct key xs ≡ true → is_distinct key (x ∷ xs) ≡ true
 distinct_from key x xs none once = rw none once
 
--- two items of one key aren't both in a list of distinct keys with one before the other
+-- an item of a list that doesn't have a key has a different key
 key_apart : {A : Type 0} (key : A → ℕ) (xs : List A) (x y : A) → list_any (λ z. key z == key x) xs ≡ false → IsIn y xs → key y ≢ key x
 key_apart key xs x y none here e = cc (sym (eq-eqb (key y) (key x) e) ∙ any_false_at (λ z. key z == key x) xs y none here)
 
--- distinct keys below n are at most n
+-- if the keys are distinct and below n, there are at most n of them
 pub distinct_few : {A : Type 0} (key : A → ℕ) (xs : List A) (ps : List ℕ) → is_distinct key xs ≡ true → ((x : A) → IsIn x xs → (key x < length ps) × (get_or ps (key x) 0 ≡ 0))
     → length xs ≤ unfound ps
 distinct_few key [] ps once each = omega arith
@@ -72,7 +72,7 @@ walk_first : (nodes : ℕ) (ss : List Stream) (c b : ℕ) (us : List Step) → W
 walk_first nodes ss c b [] w = inl w
 walk_first nodes ss c b (v ∷ vs) (f, e_v, w) = inr (rw (eq-eqb (begin_of nodes ss v) c (begin_is nodes ss v c f e_v)) refl)
 
--- behind each step of a walk the next one begins, or the walk ends
+-- after each step of a walk the next one begins, or the walk ends
 walk_next : (nodes : ℕ) (ss : List Stream) (d b : ℕ) (us : List Step) (y : Step) (a e : ℕ) → Walks (ends_of any_stream ss) d us b → IsIn y us → ends_of any_stream ss y ≡ Some (a, e)
     → (e ≡ b) ⊎ (list_any (λ z. begin_of nodes ss z == e) us ≡ true)
 walk_next nodes ss d b [] y a e w here is = absurd here
@@ -98,7 +98,7 @@ walk_ends ss d b (u ∷ us) y (c, e_u, w) here = elim here [
   | inr there ↦ walk_ends ss c b us y w there
 ]
 
--- two steps along one stream begin at one node, or each begins where the other ends
+-- two steps along one stream begin at the same node, or each begins where the other ends
 two_ways : (ss : List Stream) (u y : Step) (a c d e : ℕ) → u.stream ≡ y.stream → ends_of any_stream ss u ≡ Some (a, c) → ends_of any_stream ss y ≡ Some (d, e)
     → (d ≡ a) ⊎ ((d ≡ c) × (e ≡ a))
 two_ways ss u y a c d e same e_u e_y =
@@ -113,7 +113,7 @@ two_ways ss u y a c d e same e_u e_y =
     ways s true false p q = inr (sym (ap (λ (z : ℕ × ℕ). z.0) q) ∙ ap (λ (z : ℕ × ℕ). z.1) p, sym (ap (λ (z : ℕ × ℕ). z.1) q) ∙ ap (λ (z : ℕ × ℕ). z.0) p)
     ways s false true p q = inr (sym (ap (λ (z : ℕ × ℕ). z.0) q) ∙ ap (λ (z : ℕ × ℕ). z.1) p, sym (ap (λ (z : ℕ × ℕ). z.1) q) ∙ ap (λ (z : ℕ × ℕ). z.0) p)
 
--- on a path no stream comes twice
+-- on a path no stream appears twice
 path_streams : (nodes : ℕ) (ss : List Stream) (c b : ℕ) (us : List Step) → Walks (ends_of any_stream ss) c us b → is_distinct (begin_of nodes ss) us ≡ true
     → list_any (λ z. begin_of nodes ss z == b) us ≡ false → is_distinct (λ (t : Step). t.stream) us ≡ true
 path_streams nodes ss c b [] w once last = refl
@@ -136,7 +136,7 @@ path_streams nodes ss c b (u ∷ us) (d, e_u, w) once last =
     ])) in
     distinct_from (λ (t : Step). t.stream) u us none (path_streams nodes ss d b us w parts.1 last_us)
 
--- on a closed walk on which no node comes twice, and that isn't there and back, no stream comes twice
+-- on a closed walk on which no node appears twice, and that isn't there and back, no stream appears twice
 pub round_streams : (nodes : ℕ) (ss : List Stream) (a : ℕ) (steps : List Step) → Walks (ends_of any_stream ss) a steps a → is_distinct (begin_of nodes ss) steps ≡ true
     → is_there_and_back steps ≡ false → is_distinct (λ (t : Step). t.stream) steps ≡ true
 round_streams nodes ss a [] w once simple = refl
@@ -181,7 +181,7 @@ not_there_and_back (t ∷ u ∷ []) once =
     ne_eqb t.stream u.stream (λ same. key_apart (λ (t : Step). t.stream) (u ∷ []) t u parts.0 (inl refl) (sym same))
 not_there_and_back (t ∷ u ∷ v ∷ rest) once = refl
 
--- a walk on which no node comes twice has no more steps than the graph has nodes
+-- a walk on which no node appears twice has no more steps than the graph has nodes
 pub walk_few : (nodes : ℕ) (ss : List Stream) (a b : ℕ) (steps : List Step) → ((k : ℕ) (s : Stream) → slice_get ss k ≡ Some s → IsStream nodes s)
     → Walks (ends_of any_stream ss) a steps b → is_distinct (begin_of nodes ss) steps ≡ true → length steps ≤ nodes
 walk_few nodes ss a b steps each w once =
@@ -212,7 +212,7 @@ any_at : {A : Type 0} (p : A → Bool) (xs ys : List A) (x : A) → p x ≡ true
 any_at p [] ys x here = rw here refl
 any_at p (w ∷ xs) ys x here = later p w (xs ++ x ∷ ys) (any_at p xs ys x here)
 
--- a key that was there before comes twice
+-- a key that was there before appears twice
 distinct_twice : {A : Type 0} (key : A → ℕ) (xs ys : List A) (x : A) → list_any (λ y. key y == key x) xs ≡ true → is_distinct key (xs ++ x ∷ ys) ≡ false
 distinct_twice key [] ys x some = cc some
 distinct_twice key (z ∷ xs) ys x some = elim (cases_eq (key z) (key x)) [
@@ -225,7 +225,7 @@ distinct_twice key (z ∷ xs) ys x some = elim (cases_eq (key z) (key x)) [
       ]
 ]
 
--- a new key behind distinct ones
+-- a new key after distinct ones
 distinct_once : {A : Type 0} (key : A → ℕ) (xs : List A) (x : A) → is_distinct key xs ≡ true → list_any (λ y. key y == key x) xs ≡ false → is_distinct key (xs ++ x ∷ []) ≡ true
 distinct_once key [] x once none = refl
 distinct_once key (z ∷ xs) x once none =
@@ -236,7 +236,7 @@ distinct_once key (z ∷ xs) x once none =
     let none_z : list_any (λ y. key y == key z) (xs ++ x ∷ []) ≡ false = any-append (λ y. key y == key z) xs x ∙ rw (parts.0, other) refl in
     distinct_from key z (xs ++ x ∷ []) none_z (distinct_once key xs x parts.1 rest)
 
--- one step more, of which the node isn't seen
+-- one more step, whose node hasn't been seen
 pub seen_next : (nodes : ℕ) (ss : List Stream) (steps : List Step) (seen : List Bool) (i : ℕ) (d : Step) → i < length steps → begin_of nodes ss (get_or steps i d) < length seen
     → AreSeen nodes ss (take i steps) seen → AreSeen nodes ss (take (i + 1) steps) (set seen (begin_of nodes ss (get_or steps i d)) true)
 seen_next nodes ss steps seen i d lt within so_far = λ n le.

@@ -52,7 +52,7 @@ any-append : {A : Type 0} (p : A → Bool) (zs : List A) (z : A) → p z ≡ fal
 any-append p [] z none = rw none refl
 any-append p (w ∷ zs) z none = ap (λ (b : Bool). p w || b) (any-append p zs z none)
 
--- a key that no item has, put behind a list of distinct keys
+-- a key that no item has, put after a list of distinct keys
 distinct-append : {A : Type 0} (key : A → ℕ) (xs : List A) (x : A) → is_distinct key xs ≡ true → AllByRecursion (λ (y : A). key x ≢ key y) xs → is_distinct key (xs ++ x ∷ []) ≡ true
 distinct-append key [] x once other = refl
 distinct-append key (y ∷ xs) x once (ne, other) =

@@ -16,7 +16,7 @@ use Rattle.pb_graph.proofs.ReachLemmas.{more_cases}
 pub label_low : (streams : List Stream) (nodes : ℕ) (may : ℕ → Stream → Bool) (labels : List ℕ) (n : ℕ) → n < nodes → IsLabelling streams nodes may labels → label_at labels n ≤ n
 label_low streams nodes may labels n lt is = is.least n n lt (reach_none (ends_of may streams) n)
 
--- nodes that one reaches have its label
+-- nodes one of which reaches the other have the same label
 pub labels_kept : (streams : List Stream) (nodes : ℕ) (may : ℕ → Stream → Bool) (labels : List ℕ) (a b : ℕ) → a < nodes → b < nodes → IsLabelling streams nodes may labels
     → Reaches (ends_of may streams) a b → label_at labels a ≡ label_at labels b
 labels_kept streams nodes may labels a b la lb is r =
@@ -33,7 +33,7 @@ label_own streams nodes may labels n lt is =
     let low = label_low streams nodes may labels n lt is in
     sym (labels_kept streams nodes may labels n (label_at labels n) lt (omega (arith, low, lt)) is (is.reached n lt))
 
--- nodes have one label exactly where one reaches the other
+-- nodes have the same label exactly when one reaches the other
 pub labels_tell : (streams : List Stream) (nodes : ℕ) (may : ℕ → Stream → Bool) (labels : List ℕ) (a b : ℕ) → a < nodes → b < nodes → IsLabelling streams nodes may labels
     → (label_at labels a ≡ label_at labels b) ↔ Reaches (ends_of may streams) a b
 labels_tell streams nodes may labels a b la lb is =
@@ -53,7 +53,7 @@ labels_same streams nodes may more labels there back is = record {
   least = λ n m lt r. is.least n m lt (reach_more more may streams n m back r);
 }
 
--- where no stream may be taken each node reaches itself alone
+-- if no stream may be taken, each node reaches only itself
 none_reached : (streams : List Stream) (may : ℕ → Stream → Bool) (a b : ℕ) (steps : List Step) → TakesNone streams may → Walks (ends_of may streams) a steps b → a ≡ b
 none_reached streams may a b [] none w = w
 none_reached streams may a b (t ∷ rest) none (c, e, w) =
@@ -68,14 +68,14 @@ labels_apart streams nodes may labels none each own = record {
   least = λ n m lt (steps, w). let same = none_reached streams may n m steps none w in omega (arith, own n lt, same);
 }
 
--- ---- one stream more
+-- ---- one more stream
 lowered_high : (high low label : ℕ) → label ≡ high → lowered high low label ≡ low
 lowered_high high low label e = rw (eq-eqb label high e) refl
 
 lowered_other : (high low label : ℕ) → label ≢ high → lowered high low label ≡ label
 lowered_other high low label ne = rw (ne_eqb label high ne) refl
 
--- the label of a node that gave way, or that of before
+-- the label of a node that was replaced, or the label it had before
 lowered_cases : (high low label : ℕ) → ((label ≡ high) × (lowered high low label ≡ low)) ⊎ ((label ≢ high) × (lowered high low label ≡ label))
 lowered_cases high low label = elim (cases_eq label high) [
   | inl e ↦ inl (e, lowered_high high low label e)

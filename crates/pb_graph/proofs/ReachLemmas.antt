@@ -47,7 +47,7 @@ over ends s true a c b e tail =
 over ends s false a c b e tail =
     subst (λ (n : ℕ). Cases ends s n b) (ap (λ (p : ℕ × ℕ). p.0) e) (over_backward ends s b (subst (λ (n : ℕ). Cases ends s n b) (sym (ap (λ (p : ℕ × ℕ). p.1) e)) tail))
 
--- all streams of the one test but the j-th pass the other
+-- all streams of the first test except the j-th pass the second
 abbrev pub IsPartBut : List Stream → ℕ → (ℕ → Stream → Bool) → (ℕ → Stream → Bool) → Type 0
 IsPartBut ss j more may = (k : ℕ) (t : Stream) → slice_get ss k ≡ Some t → k ≢ j → more k t ≡ true → may k t ≡ true
 
@@ -112,7 +112,7 @@ decided_as forth back p = elim p [ inl x ↦ inl (forth x) | inr out ↦ inr (λ
 abbrev AllDecided : List Stream → (ℕ → Stream → Bool) → Type 0
 AllDecided ss may = (a b : ℕ) → IsDecidable (Reaches (ends_of may ss) a b)
 
--- where one stream more may be taken
+-- if one more stream may be taken
 decided_more : (ss : List Stream) (may more : ℕ → Stream → Bool) (j : ℕ) (s : Stream) → slice_get ss j ≡ Some s → more j s ≡ true → IsWithin ss may more → IsPartBut ss j more may
     → AllDecided ss may → AllDecided ss more
 decided_more ss may more j s at ok within but decided a b =
@@ -160,7 +160,7 @@ reach_decided ss may a b = decided_as
     (decided_below ss may (length ss) (omega arith) a b)
 
 -- ---- the nodes that a node reaches
--- a list of bits for the first n numbers, each true exactly where a fact holds
+-- a list of bits for the first n numbers, each true exactly when a fact holds
 record Marked (P : ℕ → Type 0) (n : ℕ) : Type 0 where
   pub marks : List Bool
   pub each : length marks ≡ n
@@ -210,7 +210,7 @@ some_reach ss nodes may a lt each =
       },
     )
 
--- bits that say the same are the same
+-- bits that agree are the same list
 bits_same : (xs ys : List Bool) → length xs ≡ length ys → ((n : ℕ) → get_or xs n false ≡ true → get_or ys n false ≡ true) → ((n : ℕ) → get_or ys n false ≡ true → get_or xs n false ≡ true) → xs ≡ ys
 bits_same [] [] size there back = refl
 bits_same [] (y ∷ ys) size there back = absurd (omega (arith, size))
@@ -222,7 +222,7 @@ bits_same (x ∷ xs) (y ∷ ys) size there back = ap₂ (λ (b : Bool) (l : List
     same_bit false true f g = g refl
     same_bit false false f g = refl
 
--- there is one set of nodes that a node reaches
+-- there is only one set of nodes that a node reaches
 pub one_reach : (ends : Step → Option (ℕ × ℕ)) (nodes node : ℕ) (one other : List Bool) → IsReach ends nodes node one → IsReach ends nodes node other → one ≡ other
 one_reach ends nodes node one other is also =
     bits_same one other (is.each ∙ sym also.each) (λ n h. also.whole n (is.reached n h)) (λ n h. is.whole n (also.reached n h))

@@ -13,7 +13,7 @@ use Rattle.pb_graph.specs.Neighbours.{touches, touching_from, touching}
 use Rattle.pb_graph.specs.Search.{SearchTree, IsTree, IsClosedTo, place_of, way_of, unfound, hung, step_back, followed, visited, begun}
 use Rattle.pb_graph.proofs.WalkLemmas.{along_within, ends_is, stream_of, some_same}
 
--- a node found takes one from those not found
+-- finding a node takes one from those not found
 pub unfound-set : (ps : List ℕ) (i p : ℕ) → i < length ps → get_or ps i 0 ≡ 0 → 0 < p → unfound (set ps i p) + 1 ≡ unfound ps
 unfound-set [] i p lt none some = absurd (omega (arith, lt))
 unfound-set (q ∷ ps) zero (suc p) lt none some = rw (none, ne_eqb (suc p) 0 (λ e. absurd (omega (arith, e)))) (omega arith)
@@ -22,11 +22,11 @@ unfound-set (q ∷ ps) (suc i) p lt none some =
     let rest = unfound-set ps i p (omega (arith, lt)) none some in
     omega (arith, rest)
 
--- where a node isn't found there is room in the order
+-- if a node isn't found, there is room in the order
 pub room_left : (ps : List ℕ) (i : ℕ) → i < length ps → get_or ps i 0 ≡ 0 → 0 < unfound ps
 room_left ps i lt none = omega (arith, unfound-set ps i 1 lt none (omega arith))
 
--- what one more node leaves: the places of the others, and a place behind all
+-- what one more node leaves: the places of the others, and a place after all of them
 pub record Grows (t u : SearchTree) : Type 0 where
   pub each : (n : ℕ) → (place_of u n ≡ place_of t n) ⊎ ((place_of t n ≡ 0) × (t.found < place_of u n))
   pub more : t.found ≤ u.found
@@ -64,7 +64,7 @@ place_old t at n step ne = get_or-set_other t.place at n (t.found + 1) 0 ne
 no_step : Step
 no_step = record { stream = 0; forward = false }
 
--- one node more, hung below a node found
+-- one more node, hung below a node found
 pub hung_tree : (ends : Step → Option (ℕ × ℕ)) (nodes : ℕ) (t : SearchTree) (at next : ℕ) (step : Step) → IsTree ends nodes t → place_of t at ≡ 0
     → at < nodes → ends step ≡ Some (at, next) → 0 < place_of t next → IsTree ends nodes (hung t at step)
 hung_tree ends nodes t at next step tree new lt leads below =
@@ -274,7 +274,7 @@ touches_begin n m s false e = elim (cases_Bool (s.from == n)) [
   | inr away ↦ rw (away, eq-eqb s.to n (ap (λ (p : ℕ × ℕ). p.0) e)) refl
 ]
 
--- the node that comes next in the order is visited: steps from it lead to nodes found, and so do those from earlier ones
+-- the next node of the order is visited: steps from it lead to nodes found, and so do those from earlier nodes
 pub closed_more : (marks : List Bool) (ss : List Stream) (nodes done node : ℕ) (t u : SearchTree) → IsTree (ends_of (is_open marks) ss) nodes t → done < t.found
     → get_or t.order done 0 ≡ node → Visits (ends_of (is_open marks) ss) nodes node (touching node ss) t u
     → IsClosedTo (ends_of (is_open marks) ss) t done → IsClosedTo (ends_of (is_open marks) ss) u (done + 1)
@@ -296,7 +296,7 @@ closed_more marks ss nodes done node t u tree lt is v closed = λ n m step some 
           reached m step (omega arith) (e ∙ ap (λ (k : ℕ). Some (k, m)) here)
     ]
 
--- an order's nodes are nodes
+-- the nodes of an order are nodes of the graph
 pub listed_within : (ends : Step → Option (ℕ × ℕ)) (nodes i : ℕ) (t : SearchTree) → IsTree ends nodes t → i < t.found → get_or t.order i 0 < nodes
 listed_within ends nodes i t tree lt = elim (cases_lt (get_or t.order i 0) nodes) [
   | inl within ↦ within
@@ -334,7 +334,7 @@ pub unfound-zeros : (n : ℕ) → unfound (replicate {A = ℕ} n 0) ≡ n
 unfound-zeros zero = refl
 unfound-zeros (suc n) = omega (arith, unfound-zeros n)
 
--- a search begins with a tree of its root alone
+-- a search begins with a tree of only its root
 pub begun_tree : (ends : Step → Option (ℕ × ℕ)) (nodes root : ℕ) → root < nodes → IsTree ends nodes (begun nodes root)
 begun_tree ends nodes root lt =
     let t = begun nodes root in

@@ -1,4 +1,4 @@
--- A graph without one measurement keeps the limits.
+-- A graph without one measurement is within the limits.
 use Rattle.std.proofs.Common.{◌≡◌, ℕ, zero, suc, ◌<◌, List, [], ◌∷◌, length, All, get_or, set, None, ◌⊎◌, ap, sym, refl, subst, inl, inr, arith}
 use Rattle.pb_graph.specs.declared.records.Stream.{Stream}
 use Rattle.pb_graph.specs.ProcessGraph.{ProcessGraph, IsStream, IsWithinLimits, IsProcessGraph, unmeasured_at}

@@ -1,4 +1,4 @@
--- Walks: one step, one walk behind another, the same walk back, the same walk where more streams may be taken.
+-- Walks: one step, one walk after another, the same walk back, the same walk if more streams may be taken.
 use Rattle.std.proofs.Common.{◌≡◌, ◌∙◌, ℕ, ◌<◌, Bool, true, false, not, List, [], ◌∷◌, ◌++◌, Option, Some, None, slice_get, ap, sym, refl, subst, inl, inr, arith}
 use Rattle.std.proofs.lemmas.Bool.{cases_Bool}
 pub use Rattle.pb_integers.proofs.Lists.{some_same}
@@ -7,7 +7,7 @@ use Rattle.pb_graph.specs.declared.records.Step.{Step}
 use Rattle.pb_graph.specs.ProcessGraph.{IsStream}
 use Rattle.pb_graph.specs.Walk.{along, ends_at, ends_of, Walks, Reaches, IsStricter}
 
--- a step along a stream that is there and may be taken
+-- a step along a stream that exists and may be taken
 pub ends_is : (may : ℕ → Stream → Bool) (ss : List Stream) (k : ℕ) (s : Stream) (forward : Bool) → slice_get ss k ≡ Some s → may k s ≡ true
     → ends_of may ss (record { stream = k; forward = forward }) ≡ Some (along forward s)
 ends_is may ss k s forward at ok = ap (ends_at may k forward) at ∙ rw ok refl
@@ -47,7 +47,7 @@ ends_back may ss t a c e =
     let (s, at, ok, is) = stream_of may ss t (a, c) e in
     ends_is may ss t.stream s (not t.forward) at ok ∙ ap (λ (p : ℕ × ℕ). Some p) (along_back s t.forward a c is)
 
--- one walk behind another
+-- one walk after another
 pub walks_both : (ends : Step → Option (ℕ × ℕ)) (a b c : ℕ) (xs ys : List Step) → Walks ends a xs b → Walks ends b ys c → Walks ends a (xs ++ ys) c
 walks_both ends a b c [] ys w v = subst (λ (n : ℕ). Walks ends n ys c) (sym w) v
 walks_both ends a b c (t ∷ xs) ys (d, e, w) v = (d, e, walks_both ends d b c xs ys w v)
@@ -66,11 +66,11 @@ walk_back may ss a b [] w = ([], sym w)
 walk_back may ss a b (t ∷ rest) (c, e, w) =
     reach_both (ends_of may ss) b c a (walk_back may ss c b rest w) (reach_one (ends_of may ss) c a (record { stream = t.stream; forward = not t.forward }) (ends_back may ss t a c e))
 
--- who reaches is reached
+-- a node that is reached reaches back
 pub reach_back : (may : ℕ → Stream → Bool) (ss : List Stream) (a b : ℕ) → Reaches (ends_of may ss) a b → Reaches (ends_of may ss) b a
 reach_back may ss a b (steps, w) = walk_back may ss a b steps w
 
--- every stream that the one test lets pass, the other does
+-- every stream that passes the first test passes the second
 abbrev pub IsWithin : List Stream → (ℕ → Stream → Bool) → (ℕ → Stream → Bool) → Type 0
 IsWithin ss may more = IsStricter ss may more
 

@@ -1,4 +1,4 @@
--- Statement. Graphs that differ in values and variances alone.
+-- Statement. Graphs that differ only in values and variances.
 use Rattle.std.specs.Prelude.{◌≡◌, ℕ, Bool, List, map}
 use Rattle.pb_graph.specs.declared.records.Stream.{Stream}
 use Rattle.pb_graph.specs.ProcessGraph.{ProcessGraph, is_measured}
@@ -17,7 +17,8 @@ shape_of stream = record { from = stream.from; to = stream.to; measured = is_mea
 abbrev pub shapes_of : List Stream → List StreamShape
 shapes_of streams = map shape_of streams
 
--- Two graphs are alike where they have as many nodes, and streams with the same ends in the same order, of which the same are measured.
+-- Two graphs are alike if they have the same number of nodes and of streams, and the streams at each place have the same ends and are
+-- both measured or both unmeasured.
 pub record AreAlike (one other : ProcessGraph) : Type 0 where
   pub nodes : one.nodes ≡ other.nodes
   pub streams : shapes_of one.streams ≡ shapes_of other.streams

@@ -3,7 +3,7 @@ use Rattle.std.specs.Prelude.{◌≡◌, ℕ, ◌<◌, ℤ, pos, ◌+ℤ◌, ◌
 use Rattle.pb_graph.specs.declared.records.Stream.{Stream}
 use Rattle.pb_graph.specs.ProcessGraph.{ProcessGraph}
 
--- what the flow of a stream brings to a node: the flow where the stream enters, less the flow where it leaves
+-- what the flow of a stream brings to a node: the flow if the stream enters it, less the flow if the stream leaves it
 abbrev pub brought_to : ℕ → Stream → ℤ → ℤ
 brought_to node stream flow = (if stream.to == node then flow else pos 0) -ℤ (if stream.from == node then flow else pos 0)
 
@@ -13,8 +13,8 @@ net_of node [] flows = pos 0
 net_of node (stream ∷ streams) [] = pos 0
 net_of node (stream ∷ streams) (flow ∷ flows) = brought_to node stream flow +ℤ net_of node streams flows
 
--- One flow for each stream, and at every node, the environment among them, what enters equals what leaves: the steady
--- mass balance of Narasimhan and Jordache.
+-- One flow for each stream, and at every node, including the environment, what enters equals what leaves: the steady mass
+-- balance of Narasimhan and Jordache.
 pub record IsBalanced (graph : ProcessGraph) (flows : List ℤ) : Type 0 where
   pub each : length flows ≡ length graph.streams
   pub even : (n : ℕ) → n < graph.nodes → net_of n graph.streams flows ≡ pos 0

@@ -5,7 +5,7 @@ use Rattle.pb_graph.specs.declared.records.Member.{Member}
 use Rattle.pb_graph.specs.ProcessGraph.{ProcessGraph}
 use Rattle.pb_graph.specs.Walk.{is_in}
 
--- the sign of a stream at a side: 1 where it enters, -1 where it leaves, none where both ends are on the same side
+-- the sign of a stream at a side: 1 if it enters, -1 if it leaves, none if both ends are on the same side
 abbrev pub sign_at : Bool → Bool → Option ℤ
 sign_at from_in to_in = if to_in then (if from_in then None else Some (pos 1)) else (if from_in then Some (negsuc 0) else None)
 
@@ -14,7 +14,7 @@ abbrev pub member_by : ℕ → Option ℤ → Option Member
 member_by stream_id None = None
 member_by stream_id (Some sign) = Some (record { stream = stream_id; sign = sign })
 
--- a stream as a member of the boundary of a side, where it has exactly one end in the side
+-- a stream as a member of the boundary of a side, if it has exactly one end in the side
 abbrev pub member_at : List Bool → ℕ → Stream → Option Member
 member_at side stream_id stream = member_by stream_id (sign_at (is_in side stream.from) (is_in side stream.to))
 
@@ -23,7 +23,7 @@ abbrev pub with_first : Option Member → List Member → List Member
 with_first None rest = rest
 with_first (Some member) rest = member ∷ rest
 
--- the members among streams that are counted from this number on
+-- the members among streams that are numbered from this number on
 abbrev pub members_from : List Bool → ℕ → List Stream → List Member
 members_from side stream_id [] = []
 members_from side stream_id (stream ∷ streams) = with_first (member_at side stream_id stream) (members_from side (stream_id + 1) streams)

@@ -27,8 +27,8 @@ pub record GoesRound (graph : ProcessGraph) (stream_id : ℕ) (steps : List Step
   pub others :
       AllByRecursion (λ (t : Step). t.stream ≢ stream_id → (stream : Stream) → slice_get graph.streams t.stream ≡ Some stream → stream.meas ≡ None) steps
 
--- what a class and its certificate claim of a stream: a cut shows how the others determine it, and a cycle how any amount may
--- circulate along it unseen
+-- what a class and its certificate claim about a stream: a cut shows how the other streams determine it, and a cycle how any
+-- amount may circulate along it unseen
 abbrev pub Shows : ProcessGraph → ℕ → Stream → Class → Witness → Type 0
 Shows graph stream_id stream Observable (Cut side members) = (stream.meas ≡ None) × CutsOff graph stream_id side members
 Shows graph stream_id stream Redundant (Cut side members) = IsSome stream.meas × CutsOff graph stream_id side members
@@ -39,7 +39,7 @@ Shows graph stream_id stream Redundant (Cycle steps) = ⊥
 Shows graph stream_id stream Unobservable (Cut side members) = ⊥
 Shows graph stream_id stream Nonredundant (Cut side members) = ⊥
 
--- the class of the stream at a place stands with its certificate
+-- the class of the stream at a place is shown by its certificate
 abbrev pub IsCertified : ProcessGraph → ℕ → Classified → Type 0
 IsCertified graph stream_id classified =
     (stream : Stream) × (slice_get graph.streams stream_id ≡ Some stream) × Shows graph stream_id stream classified.class classified.witness

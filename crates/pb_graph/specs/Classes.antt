@@ -1,4 +1,4 @@
--- Statement. The class of a stream, by what the measured flows determine.
+-- Statement. The class of a stream, according to what the measured flows determine.
 use Rattle.std.specs.Prelude.{◌≡◌, ◌≢◌, ℕ, ℤ, List, Some, None, slice_get, IsSome}
 use Rattle.pb_integers.specs.Sums.{item}
 use Rattle.pb_graph.specs.declared.records.Stream.{Stream}
@@ -7,7 +7,7 @@ use Rattle.pb_graph.specs.declared.records.Class.TheVariants.{Observable, Unobse
 use Rattle.pb_graph.specs.ProcessGraph.{ProcessGraph}
 use Rattle.pb_graph.specs.Balance.{IsBalanced}
 
--- two flow vectors agree on every measured stream but one, if that one is measured
+-- two flow vectors agree on every measured stream other than this one
 abbrev pub AgreeBut : ProcessGraph → ℕ → List ℤ → List ℤ → Type 0
 AgreeBut graph but xs ys =
     (k : ℕ) (stream : Stream) → slice_get graph.streams k ≡ Some stream → k ≢ but → IsSome stream.meas → item xs k ≡ item ys k
@@ -28,8 +28,8 @@ pub record TellsApart (graph : ProcessGraph) (stream_id : ℕ) (xs ys : List ℤ
 abbrev pub IsFree : ProcessGraph → ℕ → Type 0
 IsFree graph stream_id = (xs : List ℤ) × (ys : List ℤ) × TellsApart graph stream_id xs ys
 
--- The class of a stream by meaning (Narasimhan and Jordache, chapter 3): an unmeasured stream is observable where the measured
--- flows determine it, and a measured one is redundant where the other measured flows do.
+-- The class of a stream by its meaning (Narasimhan and Jordache, chapter 3): an unmeasured stream is observable if the measured
+-- flows determine it, and a measured one is redundant if the other measured flows do.
 abbrev pub IsClass : ProcessGraph → ℕ → Stream → Class → Type 0
 IsClass graph stream_id stream Observable = (stream.meas ≡ None) × IsDetermined graph stream_id
 IsClass graph stream_id stream Unobservable = (stream.meas ≡ None) × IsFree graph stream_id

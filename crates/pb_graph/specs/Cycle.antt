@@ -1,4 +1,4 @@
--- Statement. Cycles: closed walks on which nothing comes twice.
+-- Statement. Cycles: closed walks on which nothing appears twice.
 use Rattle.std.specs.Prelude.{ℕ, ◌<◌, Bool, true, not, ◌&&◌, ◌==◌, List, [], ◌∷◌, length, Option, Some, None, IsTrue}
 use Rattle.std.specs.List.{list_any}
 use Rattle.pb_graph.specs.declared.records.Stream.{Stream}
@@ -6,17 +6,17 @@ use Rattle.pb_graph.specs.declared.records.Step.{Step}
 use Rattle.pb_graph.specs.ProcessGraph.{ProcessGraph}
 use Rattle.pb_graph.specs.Walk.{ends_of, any_stream, Walks}
 
--- no two items of a list have one key
+-- no two items of a list have the same key
 abbrev pub is_distinct : {A : Type 0} → (A → ℕ) → List A → Bool
 is_distinct key [] = true
 is_distinct key (x ∷ xs) = not (list_any (λ y. key y == key x) xs) && is_distinct key xs
 
--- where a step begins that has these ends, if it has any
+-- the node where a step with these ends begins, or n if it has none
 abbrev pub first_or : ℕ → Option (ℕ × ℕ) → ℕ
 first_or n None = n
 first_or n (Some ends) = ends.0
 
--- the node where a step begins, or the number of nodes where there is no such stream
+-- the node where a step begins, or the number of nodes if there is no such stream
 abbrev pub begin_of : ℕ → List Stream → Step → ℕ
 begin_of nodes streams step = first_or nodes (ends_of any_stream streams step)
 
@@ -25,7 +25,7 @@ abbrev pub start_of : ProcessGraph → List Step → ℕ
 start_of graph [] = 0
 start_of graph (step ∷ rest) = begin_of graph.nodes graph.streams step
 
--- A cycle: a closed walk of at least one step in which no stream and no node comes twice.
+-- A cycle: a closed walk of at least one step on which no stream and no node appears twice.
 pub record IsCycle (graph : ProcessGraph) (steps : List Step) : Type 0 where
   pub some : 0 < length steps
   pub back : Walks (ends_of any_stream graph.streams) (start_of graph steps) steps (start_of graph steps)

@@ -5,7 +5,7 @@ use Rattle.pb_graph.specs.declared.records.Stream.{Stream}
 use Rattle.pb_graph.specs.ProcessGraph.{ProcessGraph}
 use Rattle.pb_graph.specs.Walk.{ends_of, unmeasured, Reaches}
 
--- two nodes are in one group where a walk of unmeasured streams, each in either direction, leads from one to the other
+-- two nodes are in the same group if a walk of unmeasured streams, each in either direction, leads from one to the other
 abbrev pub SameGroup : List Stream → ℕ → ℕ → Type 0
 SameGroup streams a b = Reaches (ends_of unmeasured streams) a b
 
@@ -14,18 +14,18 @@ abbrev pub CrossesGroup : List Stream → ℕ → Stream → Type 0
 CrossesGroup streams node stream =
     (SameGroup streams node stream.from × (SameGroup streams node stream.to → ⊥)) ⊎ ((SameGroup streams node stream.from → ⊥) × SameGroup streams node stream.to)
 
--- The group of a node is free where it isn't that of the environment, node 0, and some stream has exactly one end in it.
+-- The group of a node is free if it isn't the group of the environment, node 0, and some stream has exactly one end in it.
 pub record IsFreeGroup (graph : ProcessGraph) (node : ℕ) : Type 0 where
   pub apart : SameGroup graph.streams 0 node → ⊥
   pub crossed : Any (CrossesGroup graph.streams node) graph.streams
 
--- the number of a node's group, in the list that has it for each node
+-- the number of a node's group, in the list that has the number for each node
 abbrev pub group_at : List ℕ → ℕ → ℕ
 group_at group node = get_or group node 0
 
--- The groups of a graph, as a list that has the number of each node's group. Two nodes have one number exactly where they are
--- in one group. Each number below a node's own is that of an earlier node: groups are numbered from 0 in order of their least
--- node (a restricted growth string: Knuth, The Art of Computer Programming 4A, 7.2.1.5).
+-- The groups of a graph, as a list that has the number of each node's group. Two nodes have the same number exactly when they are
+-- in the same group. Each number below that of a node is the number of an earlier node: groups are numbered from 0 in the order
+-- of their least nodes (a restricted growth string: Knuth, The Art of Computer Programming 4A, 7.2.1.5).
 pub record AreGroups (graph : ProcessGraph) (group : List ℕ) : Type 0 where
   pub each : length group ≡ graph.nodes
   pub same : (a b : ℕ) → a < graph.nodes → b < graph.nodes → ((group_at group a ≡ group_at group b) ↔ SameGroup graph.streams a b)
@@ -36,7 +36,7 @@ abbrev pub group_count : List ℕ → ℕ
 group_count [] = 0
 group_count (number ∷ group) = max (number + 1) (group_count group)
 
--- whether exactly one of two ends is in the group with this number, where their groups have these
+-- whether exactly one of two ends is in the group with this number, given the numbers of the groups of the ends
 abbrev pub is_one_end : ℕ → ℕ → ℕ → Bool
 is_one_end from to number = if to == number then not (from == number) else from == number
 
@@ -48,7 +48,7 @@ has_one_end group number stream = is_one_end (group_at group stream.from) (group
 abbrev pub is_free_group : List ℕ → List Stream → ℕ → Bool
 is_free_group group streams number = not (group_at group 0 == number) && list_any (has_one_end group number) streams
 
--- what a flow brings into a set of nodes, by which ends of its stream are in it: the flow where the stream enters, its negative
--- where it leaves, and 0 where both ends are on one side
+-- what a flow brings into a set of nodes, by which ends of its stream are in the set: the flow if the stream enters, its negative
+-- if the stream leaves, and 0 if both ends are on the same side
 abbrev pub entering : Bool → Bool → ℤ → ℤ
 entering from_in to_in flow = if to_in then (if from_in then pos 0 else flow) else (if from_in then neg_ℤ flow else pos 0)

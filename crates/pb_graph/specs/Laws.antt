@@ -23,7 +23,7 @@ pub record IsEquivalence : Type 0 where
       (streams : List Stream) (may : ℕ → Stream → Bool) (k : ℕ) (stream : Stream)
       → slice_get streams k ≡ Some stream → may k stream ≡ true → Reaches (ends_of may streams) stream.from stream.to
 
--- a walk along fewer streams is one along more
+-- a walk along fewer streams is also a walk along more
 abbrev pub MoreStreamsLaw : Type 0
 MoreStreamsLaw =
     (streams : List Stream) (may more : ℕ → Stream → Bool) (a b : ℕ) → IsStricter streams may more → Reaches (ends_of may streams) a b → Reaches (ends_of more streams) a b
@@ -42,21 +42,21 @@ SomeReachLaw =
     (graph : ProcessGraph) (may : ℕ → Stream → Bool) (node : ℕ) → IsProcessGraph graph → node < graph.nodes
     → (side : List Bool) × IsReach (ends_of may graph.streams) graph.nodes node side
 
--- there is one such set
+-- there is only one such set
 abbrev pub OneReachLaw : Type 0
 OneReachLaw = (ends : Step → Option (ℕ × ℕ)) (nodes node : ℕ) (one other : List Bool) → IsReach ends nodes node one → IsReach ends nodes node other → one ≡ other
 
--- two nodes have one label exactly where one reaches the other
+-- two nodes have the same label exactly when one reaches the other
 abbrev pub LabelsLaw : Type 0
 LabelsLaw =
     (streams : List Stream) (nodes : ℕ) (may : ℕ → Stream → Bool) (labels : List ℕ) (a b : ℕ) → IsLabelling streams nodes may labels → a < nodes → b < nodes
     → ((label_at labels a ≡ label_at labels b) ↔ Reaches (ends_of may streams) a b)
 
--- a certificate that shows a stream's class speaks of nodes and streams of the graph alone
+-- a certificate that shows a stream's class refers only to nodes and streams of the graph
 abbrev pub CertificateFormLaw : Type 0
 CertificateFormLaw =
     (graph : ProcessGraph) (stream_id : ℕ) (classified : Classified) → IsCertified graph stream_id classified → IsWitnessWithin graph classified.witness
 
--- the constants of the code are the numbers of the definitions
+-- the constants of the code equal the numbers in the definitions
 abbrev pub PriceLimitsLaw : Type 0
 PriceLimitsLaw = (MOST_PRICE ≡ pos most_price) × (MOST_ADJUSTMENT ≡ pos most_adjustment)

@@ -1,4 +1,4 @@
--- Statement. For each node the streams with an end there.
+-- Statement. For each node, the streams with an end there.
 use Rattle.std.specs.Prelude.{◌≡◌, ℕ, ◌+◌, ◌<◌, Bool, ◌||◌, ◌==◌, List, [], ◌∷◌, length, Some, slice_get, if◌then◌else◌}
 use Rattle.pb_graph.specs.declared.records.Stream.{Stream}
 use Rattle.pb_graph.specs.ProcessGraph.{ProcessGraph}
@@ -7,7 +7,7 @@ use Rattle.pb_graph.specs.ProcessGraph.{ProcessGraph}
 abbrev pub touches : ℕ → Stream → Bool
 touches node stream = (stream.from == node) || (stream.to == node)
 
--- the places of those with an end at a node, among streams that are counted from this number on
+-- the places of the streams with an end at a node, among streams that are numbered from this number on
 abbrev pub touching_from : ℕ → ℕ → List Stream → List ℕ
 touching_from node stream_id [] = []
 touching_from node stream_id (stream ∷ streams) =

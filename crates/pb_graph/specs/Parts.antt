@@ -17,7 +17,7 @@ pub record IsLabelling (streams : List Stream) (nodes : ℕ) (may : ℕ → Stre
 abbrev pub TakesNone : List Stream → (ℕ → Stream → Bool) → Type 0
 TakesNone streams may = (k : ℕ) (stream : Stream) → slice_get streams k ≡ Some stream → may k stream ≡ false
 
--- this stream of the list may be taken beside those of before
+-- this stream of the list may be taken, in addition to those that could be taken before
 pub record IsOneMore (streams : List Stream) (may more : ℕ → Stream → Bool) (stream_id : ℕ) (stream : Stream) : Type 0 where
   pub there : slice_get streams stream_id ≡ Some stream
   pub here : more stream_id stream ≡ true

@@ -1,4 +1,4 @@
--- Statement. Paths: walks on which no node comes twice.
+-- Statement. Paths: walks on which no node appears twice.
 use Rattle.std.specs.Prelude.{◌≡◌, ℕ, Bool, false, ◌==◌, List, Option, IsTrue, get_or}
 use Rattle.std.specs.List.{list_any}
 use Rattle.pb_graph.specs.declared.records.Stream.{Stream}
@@ -6,13 +6,13 @@ use Rattle.pb_graph.specs.declared.records.Step.{Step}
 use Rattle.pb_graph.specs.Walk.{ends_of, Walks}
 use Rattle.pb_graph.specs.Cycle.{is_distinct, begin_of}
 
--- A path from a to b: a walk on which no node comes twice.
+-- A path from a to b: a walk on which no node appears twice.
 pub record IsPath (ends : Step → Option (ℕ × ℕ)) (nodes : ℕ) (streams : List Stream) (a : ℕ) (steps : List Step) (b : ℕ) : Type 0 where
   pub walk : Walks ends a steps b
   pub once : IsTrue (is_distinct (begin_of nodes streams) steps)
   pub last : list_any (λ step. begin_of nodes streams step == b) steps ≡ false
 
--- the streams of a list of marks that may be taken: those that are marked
+-- the streams that may be taken according to a list of marks: those that are marked
 abbrev pub is_open : List Bool → ℕ → Stream → Bool
 is_open marks stream_id stream = get_or marks stream_id false
 

@@ -11,16 +11,16 @@ use Rattle.pb_graph.specs.Groups.{SameGroup, IsFreeGroup}
 abbrev pub most_adjustment : ℕ
 most_adjustment = 2 ^ 112
 
--- how much the price rises from the begin of a stream to its end
+-- how much the price rises from the node where a stream begins to the node where it ends
 abbrev pub rise_of : (ℕ → ℤ) → Stream → ℤ
 rise_of price stream = price stream.to -ℤ price stream.from
 
--- the adjustment of a measured flow, its variance times the rise of the price along the stream, is within its limit
+-- the adjustment of a measured flow, which is its variance times the rise of the price along the stream, is within its limit
 abbrev pub IsInBox : (ℕ → ℤ) → Stream → Type 0
 IsInBox price stream = IfSome stream.meas (λ meas. unsigned_abs (meas.variance *ℤ rise_of price stream) ≤ most_adjustment)
 
--- Prices fit where the nodes of one group share a price, nodes of groups that aren't free have price 0, each price is within
--- its limit, and every measured stream is in the box.
+-- Prices fit if the nodes of a group share a price, nodes of groups that aren't free have price 0, each price is within its
+-- limit, and every measured stream is in the box.
 pub record PricesFit (graph : ProcessGraph) (price : ℕ → ℤ) : Type 0 where
   pub shared : (a b : ℕ) → a < graph.nodes → b < graph.nodes → SameGroup graph.streams a b → price a ≡ price b
   pub fixed : (n : ℕ) → n < graph.nodes → (IsFreeGroup graph n → ⊥) → price n ≡ pos 0

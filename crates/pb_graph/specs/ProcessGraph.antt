@@ -22,7 +22,7 @@ pub record IsMeasurement (meas : Meas) : Type 0 where
   pub least : pos 1 ≤ℤ meas.variance
   pub greatest : meas.variance ≤ℤ pos most_variance
 
--- what a measured stream has, within the limits
+-- the measurement of a stream, if it has one, is within the limits
 abbrev pub IsWithinLimits : Stream → Type 0
 IsWithinLimits stream = IfSome stream.meas IsMeasurement
 
@@ -34,7 +34,7 @@ pub record IsProcessGraph (graph : ProcessGraph) : Type 0 where
   pub joins : All (IsStream graph.nodes) graph.streams
   pub limits : All IsWithinLimits graph.streams
 
--- the graph with this stream behind its own keeps the limits
+-- the graph with this stream appended is within the limits
 pub record Fits (graph : ProcessGraph) (stream : Stream) : Type 0 where
   pub room : length graph.streams < most_streams
   pub joins : IsStream graph.nodes stream
@@ -44,16 +44,16 @@ pub record Fits (graph : ProcessGraph) (stream : Stream) : Type 0 where
 abbrev pub is_measured : Stream → Bool
 is_measured stream = is_some stream.meas
 
--- the streams without the measurement of one
+-- the streams, with the measurement of one of them removed
 abbrev pub unmeasured_at : ℕ → List Stream → List Stream
 unmeasured_at stream_id [] = []
 unmeasured_at zero (stream ∷ streams) = record stream { meas = None } ∷ streams
 unmeasured_at (suc stream_id) (stream ∷ streams) = stream ∷ unmeasured_at stream_id streams
 
--- a stream's end other than this one
+-- the end of a stream that isn't this node
 abbrev pub other_end : ℕ → Stream → ℕ
 other_end node stream = if stream.to == node then stream.from else stream.to
 
--- a stream, for the places behind the last
+-- a stream, for the places past the last
 abbrev pub some_stream : Stream
 some_stream = record { from = 0; to = 0; meas = None }

@@ -5,7 +5,7 @@ use Rattle.pb_graph.specs.declared.records.Step.{Step}
 use Rattle.pb_graph.specs.ProcessGraph.{other_end, some_stream}
 use Rattle.pb_graph.specs.Walk.{ends_of, any_stream}
 
--- the nodes found so far in order, for each node one more than its place there (0 where it isn't found), and its step
+-- the nodes found so far in order; for each node, one more than its place in that order (0 if it isn't found), and its step
 -- toward the root
 pub record SearchTree : Type 0 where
   pub root : ℕ
@@ -20,12 +20,12 @@ place_of t n = get_or t.place n 0
 abbrev pub way_of : SearchTree → ℕ → Step
 way_of t n = get_or t.way n (record { stream = 0; forward = false })
 
--- how many nodes aren't found yet
+-- how many nodes haven't been found yet
 abbrev pub unfound : List ℕ → ℕ
 unfound [] = 0
 unfound (p ∷ ps) = (if p == 0 then 1 else 0) + unfound ps
 
--- each node found but the root has a step to one that was found before it
+-- each node found, except the root, has a step to a node that was found before it
 pub record IsTree (ends : Step → Option (ℕ × ℕ)) (nodes : ℕ) (t : SearchTree) : Type 0 where
   pub places : length t.place ≡ nodes
   pub ways : length t.way ≡ nodes
@@ -47,7 +47,7 @@ pub record IsSearch (ends : Step → Option (ℕ × ℕ)) (nodes : ℕ) (t : Sea
   pub tree : IsTree ends nodes t
   pub closed : IsClosedTo ends t t.found
 
--- one node more
+-- one more node
 abbrev pub hung : SearchTree → ℕ → Step → SearchTree
 hung t at step =
     record t { place = set t.place at (t.found + 1); way = set t.way at step; order = set t.order t.found at; found = t.found + 1 }
@@ -65,7 +65,7 @@ abbrev pub visited : List Stream → List Bool → ℕ → List ℕ → SearchTr
 visited streams marks node [] t = t
 visited streams marks node (j ∷ js) t = visited streams marks node js (followed node j (get_or marks j false) (get_or streams j some_stream) t)
 
--- a search that has found its root alone
+-- a search that has found only its root
 abbrev pub begun : ℕ → ℕ → SearchTree
 begun nodes root =
     hung
@@ -77,6 +77,6 @@ abbrev pub second_or_env : Option (ℕ × ℕ) → ℕ
 second_or_env None = 0
 second_or_env (Some ends) = ends.1
 
--- the node where a step ends, or the environment where there is no such stream
+-- the node where a step ends, or the environment if there is no such stream
 abbrev pub end_of : List Stream → Step → ℕ
 end_of streams t = second_or_env (ends_of any_stream streams t)

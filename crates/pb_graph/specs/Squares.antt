@@ -20,23 +20,23 @@ pub record IsBalancedFractional (graph : ProcessGraph) (x : Fractional) : Type 0
 abbrev pub whole_flows : List ℤ → Fractional
 whole_flows flows = record { numerators = flows; denominator = pos 1 }
 
--- a variance, and 1 where there is no measurement
+-- a variance, or 1 if there is no measurement
 abbrev pub variance_or_one : Option Meas → ℤ
 variance_or_one None = pos 1
 variance_or_one (Some m) = m.variance
 
--- the product of the variances of the measured streams, 1 where there are none
+-- the product of the variances of the measured streams, or 1 if there are none
 abbrev pub variance_product : List Stream → ℤ
 variance_product [] = pos 1
 variance_product (s ∷ streams) = variance_or_one s.meas *ℤ variance_product streams
 
--- the product of two errors of a measurement over its variance, in units of 1 / product; 0 where there is none
+-- the product of two errors of a measurement over its variance, in units of 1 / product; 0 if there is no measurement
 abbrev pub weighted_product : ℤ → Option Meas → ℤ → ℤ → ℤ
 weighted_product product None a b = pos 0
 weighted_product product (Some m) a b = int_div_euclid product m.variance *ℤ (a *ℤ b)
 
--- The inner product of two lists of errors, one error of each stream: the sum over measured streams of their products over the
--- variance.
+-- The inner product of two lists of errors, with one error for each stream: the sum over measured streams of the product of the
+-- two errors over the variance.
 abbrev pub inner_product : ℤ → List Stream → List ℤ → List ℤ → ℤ
 inner_product product [] errors others = pos 0
 inner_product product (s ∷ streams) [] others = pos 0
@@ -48,13 +48,13 @@ inner_product product (s ∷ streams) (a ∷ errors) (b ∷ others) =
 abbrev pub weighted_sum_of_squares : ℤ → List Stream → List ℤ → ℤ
 weighted_sum_of_squares product streams errors = inner_product product streams errors errors
 
--- what f makes of each stream and its flow, in order
+-- f of each stream and its flow, in order
 abbrev pub by_stream : (Stream → ℤ → ℤ) → List Stream → List ℤ → List ℤ
 by_stream f [] flows = []
 by_stream f (s ∷ streams) [] = []
 by_stream f (s ∷ streams) (y ∷ flows) = f s y ∷ by_stream f streams flows
 
--- a measured value, and 0 where there is no measurement
+-- a measured value, or 0 if there is no measurement
 abbrev pub value_or_zero : Option Meas → ℤ
 value_or_zero None = pos 0
 value_or_zero (Some m) = m.value
@@ -73,7 +73,7 @@ abbrev pub weighted_squares : ProcessGraph → Fractional → ℤ
 weighted_squares graph x =
     weighted_sum_of_squares (variance_product graph.streams) graph.streams (errors_of graph.streams x)
 
--- what they are a fraction of
+-- the denominator of that fraction
 abbrev pub squares_unit : ProcessGraph → Fractional → ℤ
 squares_unit graph x = (x.denominator *ℤ x.denominator) *ℤ variance_product graph.streams
 
@@ -81,11 +81,11 @@ squares_unit graph x = (x.denominator *ℤ x.denominator) *ℤ variance_product 
 abbrev pub IsNoWorse : ProcessGraph → Fractional → Fractional → Type 0
 IsNoWorse graph x p = (weighted_squares graph x *ℤ squares_unit graph p) ≤ℤ (weighted_squares graph p *ℤ squares_unit graph x)
 
--- a least vector is balanced and no worse than each balanced one
+-- a least vector is balanced and no worse than any balanced one
 abbrev pub IsLeast : ProcessGraph → Fractional → Type 0
 IsLeast graph x = IsBalancedFractional graph x × ((y : Fractional) → IsBalancedFractional graph y → IsNoWorse graph x y)
 
--- the weighted squares of x are at least, and at most, so many thousandths
+-- the weighted squares of x are at least, and at most, this many thousandths
 abbrev pub AreSquaresAtLeast : ProcessGraph → Fractional → ℤ → Type 0
 AreSquaresAtLeast graph x low = (low *ℤ squares_unit graph x) ≤ℤ (pos 1000 *ℤ weighted_squares graph x)
 

@@ -1,4 +1,4 @@
--- Statement. The form of certificates, results, stages and studies: what those who write and read them stand on.
+-- Statement. The form of certificates, results, stages and studies: what those who write and read them rely on.
 use Rattle.std.specs.Prelude.{◌≡◌, ◌⊎◌, ℕ, ◌+◌, ◌^◌, ◌<◌, ◌≤◌, ℤ, pos, negsuc, unsigned_abs, length, All, IfSome}
 use Rattle.pb_limits.specs.Limits.{most_freedom, most_price, most_sweeps, most_wide}
 use Rattle.pb_limits.specs.Ranges.{IsCriticalValue}
@@ -31,7 +31,7 @@ pub record IsMember (graph : ProcessGraph) (member : Member) : Type 0 where
 abbrev pub IsStep : ProcessGraph → Step → Type 0
 IsStep graph step = step.stream < length graph.streams
 
--- a certificate speaks of nodes and streams of the graph alone, and a side has one item for each node
+-- a certificate refers only to nodes and streams of the graph, and a side has one item for each node
 abbrev pub IsWitnessWithin : ProcessGraph → Witness → Type 0
 IsWitnessWithin graph (Cut side members) = (length side ≡ graph.nodes) × All (IsMember graph) members
 IsWitnessWithin graph (Cycle steps) = All (IsStep graph) steps
@@ -49,28 +49,28 @@ pub record AreBoundsWithin (bounds : Bounds) : Type 0 where
   pub lo : IsWide bounds.lo
   pub hi : IsWide bounds.hi
 
--- a stream's result keeps the ranges
+-- a stream's result is within the ranges
 pub record IsResultWithin (graph : ProcessGraph) (stream : StreamResult) : Type 0 where
   pub witness : IsWitnessWithin graph stream.classified.witness
   pub flow : IsFlow stream.flow
   pub bounds : IfSome stream.bounds AreBoundsWithin
   pub least : IfSome stream.least AreBoundsWithin
 
--- a test of a group of nodes is named by one of the nodes
+-- a test of a group of nodes is named by one of the nodes of the graph
 pub record IsNodalWithin (graph : ProcessGraph) (test : NodalTest) : Type 0 where
   pub node : test.node < graph.nodes
   pub net : IsWide test.net
   pub variance : IsWide test.variance
   pub critical : IfSome test.critical IsCriticalValue
 
--- a test of a measurement is of a stream of the graph
+-- a test of a measurement belongs to a stream of the graph
 pub record IsMeasureWithin (graph : ProcessGraph) (test : MeasureTest) : Type 0 where
   pub stream : test.stream < length graph.streams
   pub low : IsWide test.low
   pub high : IfSome test.high IsWide
   pub critical : IfSome test.critical IsCriticalValue
 
--- tests are of nodes and streams of the graph
+-- tests belong to nodes and streams of the graph
 pub record AreTestsWithin (graph : ProcessGraph) (tests : Tests) : Type 0 where
   pub overall : IfSome tests.global.critical IsCriticalValue
   pub nodal : All (IsNodalWithin graph) tests.nodal
@@ -99,7 +99,7 @@ pub record IsWellFormed (stage : Stage) : Type 0 where
   pub high : IfSome stage.high IsWide
   pub tests : IfSome stage.tests (AreTestsWithin stage.graph)
 
--- a stage is of a graph with as many nodes and streams as this one
+-- the graph of a stage has as many nodes and streams as this one
 pub record HasShapeOf (graph : ProcessGraph) (stage : Stage) : Type 0 where
   pub nodes : stage.graph.nodes ≡ graph.nodes
   pub streams : length stage.graph.streams ≡ length graph.streams

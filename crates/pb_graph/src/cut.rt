@@ -9,7 +9,7 @@ use crate::list::List;
 use crate::records::{Member, Stream};
 use std::alloc::{AllocError, Global};
 
-// The sign of a stream whose ends are in a side or not.
+// The sign of a stream, by whether each of its ends is in a side.
 fn sign(from_in: bool, to_in: bool) -> Option<i8>
     ensures { result ≡ sign_at from_in to_in }
 {

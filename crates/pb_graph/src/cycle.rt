@@ -13,7 +13,7 @@ use pb_limits::MOST_NODES;
 // A place for each node of a graph, and one for a step along no stream.
 const PLACES: usize = MOST_NODES as usize + 1;
 
-/// Where a step begins and where it ends, or None where there is no such stream.
+/// Where a step begins and where it ends, or None if there is no such stream.
 pub fn ends(streams: &[Stream], step: &Step) -> Option<(u32, u32)>
     ensures { result ≡ ends_of any_stream streams.now step.now }
 {
@@ -24,7 +24,7 @@ pub fn ends(streams: &[Stream], step: &Step) -> Option<(u32, u32)>
     }
 }
 
-// Where a step begins, or the number of nodes where there is no such stream.
+// Where a step begins, or the number of nodes if there is no such stream.
 fn begin(nodes: u32, streams: &[Stream], step: &Step) -> u32
     requires { All (IsStream nodes) streams.now }
     ensures value { result ≡ begin_of nodes streams.now step.now }
@@ -50,7 +50,7 @@ fn walks(streams: &[Stream], from: u32, steps: &[Step], to: u32) -> bool
     at == to
 }
 
-// Whether no node comes twice.
+// Whether no node appears twice.
 fn nodes_differ(nodes: u32, streams: &[Stream], steps: &[Step]) -> bool
     requires few { nodes ≤ most_nodes }
     requires ends { All (IsStream nodes) streams.now }
@@ -67,7 +67,7 @@ fn nodes_differ(nodes: u32, streams: &[Stream], steps: &[Step]) -> bool
     true
 }
 
-// Whether the steps are two along one stream.
+// Whether the steps are two steps along the same stream.
 fn is_there_and_back(steps: &[Step]) -> bool
     ensures { result ≡ is_there_and_back steps.now }
 {
@@ -77,7 +77,7 @@ fn is_there_and_back(steps: &[Step]) -> bool
     }
 }
 
-// Whether the steps are no more than the nodes, and lead from a node back to it.
+// Whether there are no more steps than nodes, and they lead from a node back to it.
 fn closes(nodes: u32, streams: &[Stream], node: u32, steps: &[Step]) -> bool
     ensures { IsTrue result
         ↔ ((length steps.now ≤ nodes)
@@ -86,7 +86,7 @@ fn closes(nodes: u32, streams: &[Stream], node: u32, steps: &[Step]) -> bool
     steps.len() <= nodes as usize && walks(streams, node, steps, node)
 }
 
-// Whether no node comes twice, and the steps aren't two along one stream.
+// Whether no node appears twice, and the steps aren't two steps along the same stream.
 fn is_simple(nodes: u32, streams: &[Stream], steps: &[Step]) -> bool
     requires few { nodes ≤ most_nodes }
     requires ends { All (IsStream nodes) streams.now }
@@ -97,10 +97,10 @@ fn is_simple(nodes: u32, streams: &[Stream], steps: &[Step]) -> bool
     nodes_differ(nodes, streams, steps) && !is_there_and_back(steps)
 }
 
-/// Whether the steps are a cycle of the graph: a closed walk of at least one step in which no stream and no node comes twice.
+/// Whether the steps are a cycle of the graph: a closed walk of at least one step on which no stream and no node appears twice.
 ///
-/// Where no node comes twice, a stream can but by a step there and one back. The work is in proportion to the steps, and more
-/// steps than nodes are refused at once.
+/// If no node appears twice, a stream can appear twice only as a step there and a step back. The work is proportional to the number
+/// of steps, and more steps than nodes are refused at once.
 pub fn is_cycle(nodes: u32, streams: &[Stream], steps: &[Step]) -> bool
     requires few { nodes ≤ most_nodes }
     requires ends { All (IsStream nodes) streams.now }

@@ -16,7 +16,7 @@ use std::marker::Model;
 
 /// The process graph of a plant: 1 to `MOST_NODES` nodes, of which node 0 is the environment, and at most `MOST_STREAMS` streams.
 ///
-/// The ends of a stream differ. A measured value is at most `MOST_VALUE` grams either way, and its variance is from 1 to
+/// The two ends of a stream differ. A measured value is at most `MOST_VALUE` grams either way, and its variance is from 1 to
 /// `MOST_VARIANCE` squared grams.
 #[derive(Debug, Drop)]
 pub struct Graph {
@@ -36,7 +36,7 @@ impl Model for Graph {
 }
 
 impl Graph {
-    /// A graph of this many nodes and no stream.
+    /// A graph with this many nodes and no streams.
     pub fn new(alloc: Global, nodes: u32) -> Graph
         requires env { 1 ≤ nodes }
         requires most { nodes ≤ most_nodes }
@@ -48,14 +48,14 @@ impl Graph {
         }
     }
 
-    /// Whether the graph with this stream appended keeps the limits.
+    /// Whether the graph with this stream appended is within the limits.
     pub fn fits(&self, stream: &Stream) -> bool
         ensures { IsTrue result ↔ Fits self.now stream.now }
     {
         self.streams.len() < MOST_STREAMS && joins(self.nodes, stream) && is_within_limits(stream)
     }
 
-    /// Appends a stream. Without memory the graph is as before.
+    /// Appends a stream. If memory runs out, the graph is unchanged.
     pub fn push(&mut self, stream: Stream) -> Result<(), AllocError>
         requires { Fits self.old stream }
         ensures ok { OnOk result
@@ -66,7 +66,7 @@ impl Graph {
         Ok(())
     }
 
-    /// The number of nodes, the environment among them.
+    /// The number of nodes, including the environment.
     pub fn nodes(&self) -> u32
         ensures value { result ≡ self.now.nodes }
         ensures limits { IsProcessGraph self.now }
@@ -108,7 +108,7 @@ impl Graph {
         balance::net(&self.streams, flows, node)
     }
 
-    /// Whether the flows balance at every node, the environment among them.
+    /// Whether the flows balance at every node, including the environment.
     pub fn is_balanced(&self, flows: &[i128]) -> bool
         requires each { length flows.now ≡ length self.now.streams }
         requires within { All (λ flow. unsigned_abs flow < 2 ^ 100) flows.now }
@@ -117,7 +117,7 @@ impl Graph {
         balance::is_balanced(self.nodes, &self.streams, flows)
     }
 
-    /// The same graph, with one stream without its measurement.
+    /// The same graph, with the measurement of one stream removed.
     pub fn unmeasure(&self, alloc: Global, stream_id: u32) -> Result<Graph, AllocError>
         requires { stream_id < length self.now.streams }
         ensures { IfOk result
@@ -129,7 +129,7 @@ impl Graph {
         })
     }
 
-    /// An equal graph.
+    /// A copy of the graph.
     pub fn copy(&self, alloc: Global) -> Result<Graph, AllocError>
         ensures { IfOk result (λ g. g ≡ self.now) }
     {
@@ -139,8 +139,8 @@ impl Graph {
         })
     }
 
-    /// Whether two graphs are alike: they have as many nodes, and streams with the same ends in the same order, of which the same
-    /// are measured. The classes of the streams of one are then those of the other.
+    /// Whether two graphs are alike: they have the same number of nodes and of streams, and the streams at each place have the same ends
+    /// and are both measured or both unmeasured. The classes of the streams of one graph are then those of the other.
     pub fn alike(&self, other: &Graph) -> bool
         ensures { IsTrue result ↔ AreAlike self.now other.now }
     {
@@ -154,7 +154,7 @@ impl Graph {
         side.len() == self.nodes as usize && cut::is_boundary(&self.streams, side, members)
     }
 
-    /// Whether the steps are a cycle: a closed walk of at least one step in which no stream and no node comes twice.
+    /// Whether the steps are a cycle: a closed walk of at least one step on which no stream and no node appears twice.
     pub fn is_cycle(&self, steps: &[Step]) -> bool
         ensures { IsTrue result ↔ IsCycle self.now steps.now }
     {
@@ -162,7 +162,7 @@ impl Graph {
     }
 }
 
-// The streams, with one without its measurement.
+// The streams, with the measurement of one of them removed.
 fn unmeasured(alloc: Global, streams: &[Stream], stream_id: u32) -> Result<Vec<Stream>, AllocError>
     requires { stream_id < length streams.now }
     ensures { IfOk result (λ v. v.items ≡ unmeasured_at stream_id streams.now) }
@@ -182,7 +182,7 @@ fn are_of_one_shape(one: &Stream, other: &Stream) -> bool
     one.from == other.from && one.to == other.to && one.meas.is_some() == other.meas.is_some()
 }
 
-// Whether two lists have as many streams, of the same shapes in order.
+// Whether two lists have the same number of streams, with the same shapes in order.
 fn are_of_same_shapes(ones: &[Stream], others: &[Stream]) -> bool
     ensures { IsTrue result ↔ (shapes_of ones.now ≡ shapes_of others.now) }
 {
@@ -204,7 +204,7 @@ fn joins(nodes: u32, stream: &Stream) -> bool
     stream.from < nodes && stream.to < nodes && stream.from != stream.to
 }
 
-// Whether what is measured of a stream is within the limits.
+// Whether the measurement of a stream, if it has one, is within the limits.
 fn is_within_limits(stream: &Stream) -> bool
     ensures { IsTrue result ↔ IsWithinLimits stream.now }
 {

@@ -7,7 +7,7 @@ pub fn walks_law()
     ensures { IsEquivalence }
 {}
 
-/// A walk along fewer streams is one along more.
+/// A walk along fewer streams is also a walk along more.
 pub fn more_streams_law()
     ensures { MoreStreamsLaw }
 {}
@@ -17,18 +17,18 @@ pub fn closed_set_law()
     ensures { ClosedSetLaw }
 {}
 
-/// Whatever streams may be taken, the set of nodes that a node reaches exists, and there is one.
+/// Whatever streams may be taken, the set of nodes that a node reaches exists and is unique.
 pub fn reach_law()
     ensures some { SomeReachLaw }
     ensures one { OneReachLaw }
 {}
 
-/// Two nodes have one label exactly where one reaches the other.
+/// Two nodes have the same label exactly when one reaches the other.
 pub fn labels_law()
     ensures { LabelsLaw }
 {}
 
-/// A certificate that shows a stream's class speaks of nodes and streams of the graph alone.
+/// A certificate that shows a stream's class refers only to nodes and streams of the graph.
 pub fn certificate_form_law()
     ensures { CertificateFormLaw }
 {}

@@ -1,4 +1,4 @@
-// A growing list whose contracts speak of its items alone.
+// A growing list whose contracts refer only to its items.
 
 ghost use Rattle.std.specs.Prelude.{◌≡◌, ◌<◌, [], ◌∷◌, ◌++◌, ◌↔◌, Some, length, slice_get, IsTrue, IfOk, OnOk, OnErr};
 ghost use Rattle.std.specs.Slice.Iter.{iter_rest};
@@ -53,7 +53,7 @@ impl<T> List<T> {
         self.items.len()
     }
 
-    /// Whether there is no item.
+    /// Whether the list is empty.
     pub fn is_empty(&self) -> bool
         ensures { IsTrue result ↔ (self.now ≡ []) }
     {
@@ -102,7 +102,7 @@ impl<T: Eq> Eq for List<T> {
 }
 
 impl<T: Copy> List<T> {
-    /// An equal list.
+    /// A copy of the list.
     pub fn copy(&self, alloc: Global) -> Result<List<T>, AllocError>
         ensures value { IfOk result (λ copy. copy ≡ self.now) }
     {
@@ -113,7 +113,7 @@ impl<T: Copy> List<T> {
 }
 
 impl<T: Drop> List<T> {
-    /// Appends an item. Without memory the list is as before.
+    /// Appends an item. If memory runs out, the list is unchanged.
     pub fn push(&mut self, item: T) -> Result<(), AllocError>
         ensures ok { OnOk result (self.new ≡ self.old ++ item ∷ []) }
         ensures err { OnErr result (self.new ≡ self.old) }

@@ -11,7 +11,7 @@ use crate::records::Stream;
 use std::alloc::{AllocError, Global};
 use std::marker::Model;
 
-/// For each node of a graph the streams with an end there, in order: the incidence lists.
+/// For each node of a graph, the streams with an end there, in order: the incidence lists.
 #[derive(Debug, Drop)]
 pub struct Neighbours {
     lists: Vec<List<u32>>,
@@ -44,7 +44,7 @@ impl Neighbours {
     }
 }
 
-// As many empty lists as nodes.
+// As many empty lists as there are nodes.
 fn empty_lists(alloc: Global, nodes: u32) -> Result<Vec<List<u32>>, AllocError>
     ensures { IfOk result (λ lists. lists.items ≡ replicate nodes []) }
 {
@@ -55,7 +55,7 @@ fn empty_lists(alloc: Global, nodes: u32) -> Result<Vec<List<u32>>, AllocError>
     Ok(lists)
 }
 
-// Notes a stream in the list of one node.
+// Adds a stream to the list of one node.
 fn note(lists: &mut [List<u32>], node: u32, stream_id: u32) -> Result<(), AllocError>
     requires { node < length lists.old }
     ensures { OnOk result
@@ -64,7 +64,7 @@ fn note(lists: &mut [List<u32>], node: u32, stream_id: u32) -> Result<(), AllocE
     lists[node as usize].push(stream_id)
 }
 
-// Notes each stream in the lists of its two ends.
+// Adds each stream to the lists of its two ends.
 fn note_all(streams: &[Stream], lists: &mut [List<u32>]) -> Result<(), AllocError>
     requires few { length streams.now ≤ most_streams }
     requires ends { All (IsStream (length lists.old)) streams.now }

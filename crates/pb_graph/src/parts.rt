@@ -26,7 +26,7 @@ impl Model for Parts {
 }
 
 impl Parts {
-    /// Each node in a part of its own.
+    /// Each node in a separate part.
     pub fn new(alloc: Global, nodes: u32) -> Result<Parts, AllocError>
         ensures apart { IfOk result (λ parts. (streams : Seq Stream) (may : ℕ → Stream → Bool)
             → TakesNone streams may → IsLabelling streams nodes may parts) }
@@ -36,7 +36,7 @@ impl Parts {
         })
     }
 
-    /// Joins the parts at the ends of a stream, and says whether they were two.
+    /// Joins the parts at the ends of a stream, and returns whether they were two different parts.
     pub fn join(&mut self, stream: &Stream) -> bool
         requires { IsStream (length self.old) stream.now }
         ensures apart { result
@@ -66,7 +66,7 @@ impl Parts {
     }
 }
 
-// For each node itself.
+// For each node, the node itself.
 fn own_labels(alloc: Global, nodes: u32) -> Result<Vec<u32>, AllocError>
     ensures each { IfOk result (λ labels. vec_len labels ≡ nodes) }
     ensures own { IfOk result (λ labels. (n : ℕ) → n < nodes → label_at labels.items n ≡ n) }
@@ -78,14 +78,14 @@ fn own_labels(alloc: Global, nodes: u32) -> Result<Vec<u32>, AllocError>
     Ok(labels)
 }
 
-// A label, where `high` gives way to `low`.
+// A label, with `high` replaced by `low`.
 fn lower(label: u32, high: u32, low: u32) -> u32
     ensures { result ≡ lowered high low label }
 {
     if label == high { low } else { label }
 }
 
-// Each label `high` gives way to `low`.
+// Replaces each label `high` by `low`.
 fn lower_all(labels: &mut [u32], high: u32, low: u32)
     ensures { labels.new ≡ map (lowered high low) labels.old }
 {
@@ -94,7 +94,7 @@ fn lower_all(labels: &mut [u32], high: u32, low: u32)
     }
 }
 
-// Gives the parts of two nodes the lower of their labels, and says whether these were two.
+// Gives the parts of two nodes the lower of their labels, and returns whether the labels were different.
 fn join(labels: &mut [u32], a: u32, b: u32) -> bool
     requires a { a < length labels.old }
     requires b { b < length labels.old }

@@ -13,7 +13,7 @@ pub struct Meas {
     pub variance: i128,
 }
 
-/// An arc of the process graph, from one node to another; measured or not.
+/// An arc of the process graph, from one node to another, measured or not.
 #[derive(Clone, Copy, Debug, PartialEq, Eq)]
 pub struct Stream {
     pub from: u32,
@@ -30,7 +30,7 @@ impl Stream {
     }
 }
 
-/// A stream of a cut. The sign is 1 where the stream enters the side, and -1 where it leaves it.
+/// A stream of a cut. The sign is 1 if the stream enters the side, and -1 if it leaves it.
 #[derive(Clone, Copy, Debug, PartialEq, Eq)]
 pub struct Member {
     pub stream: u32,
@@ -44,10 +44,10 @@ pub struct Step {
     pub forward: bool,
 }
 
-/// What the measurements say of a stream (Narasimhan and Jordache, chapter 3).
+/// What the measurements say about a stream (Narasimhan and Jordache, chapter 3).
 ///
-/// An unmeasured stream is observable where the measured flows determine it.
-/// A measured one is redundant where the other measured flows determine it.
+/// An unmeasured stream is observable if the measured flows determine it.
+/// A measured one is redundant if the other measured flows determine it.
 #[derive(Clone, Copy, Debug, PartialEq, Eq)]
 pub enum Class {
     /// Unmeasured, and determined by the measured flows.
@@ -60,7 +60,7 @@ pub enum Class {
     Nonredundant,
 }
 
-/// Why a stream has its class: a cut with its members in order of streams, or a cycle.
+/// Why a stream has its class: a cut with its members in the order of the streams, or a cycle.
 #[derive(Debug, Drop, PartialEq, Eq)]
 pub enum Witness {
     /// A side, which has one item for each node, and the streams with exactly one end in it.
@@ -75,7 +75,7 @@ pub enum Witness {
 }
 
 impl Witness {
-    /// An equal certificate.
+    /// A copy of the certificate.
     pub fn copy(&self, alloc: Global) -> Result<Witness, AllocError>
         ensures value { IfOk result (λ copy. copy ≡ self.now) }
     {
@@ -99,7 +99,7 @@ pub struct Classified {
 }
 
 impl Classified {
-    /// An equal class with an equal certificate.
+    /// A copy of the class with its certificate.
     pub fn copy(&self, alloc: Global) -> Result<Classified, AllocError>
         ensures value { IfOk result (λ copy. copy ≡ self.now) }
     {

@@ -1,4 +1,4 @@
-// The results of a study: streams, tests, stages, and what is asked.
+// The results of a study: streams, tests and stages, and what is asked of a study.
 
 use crate::graph::Graph;
 use crate::list::List;
@@ -14,9 +14,9 @@ pub struct Bounds {
 /// What a test says.
 #[derive(Clone, Copy, Debug, PartialEq, Eq)]
 pub enum Verdict {
-    /// The limit is passed.
+    /// The limit is exceeded.
     Reject,
-    /// The limit isn't passed.
+    /// The limit isn't exceeded.
     Accept,
     /// The bounds of the statistic leave it open.
     Undecided,
@@ -29,15 +29,15 @@ pub enum Verdict {
 /// How many sweeps were done, and whether the gap was met.
 #[derive(Clone, Copy, Debug, PartialEq, Eq)]
 pub enum Solved {
-    /// The gap was met after so many sweeps.
+    /// The gap was met after this many sweeps.
     Converged(u32),
-    /// The gap wasn't met in so many sweeps, which were all that were allowed.
+    /// The gap wasn't met in this many sweeps, which were all that were allowed.
     Unconverged(u32),
 }
 
-/// A stream of a stage: its class with certificate, its reconciled flow in grams, the bounds of it in each balanced vector no worse
-/// than the flows (none where the stream is unobservable), and the narrower bounds of it in each least vector (none where it is
-/// unobservable, or where the stage has no least bounds).
+/// A stream of a stage: its class with its certificate, its reconciled flow in grams, and two pairs of bounds of that flow. The first
+/// holds in each balanced vector that is no worse than the flows (none if the stream is unobservable). The second is narrower and
+/// holds in each least vector (none if the stream is unobservable, or if the stage has no least bounds).
 #[derive(Debug, Drop, PartialEq, Eq)]
 pub struct StreamResult {
     pub classified: Classified,
@@ -63,7 +63,7 @@ pub struct NodalTest {
     pub verdict: Verdict,
 }
 
-/// The test of one measurement: by how much the least weighted squares fall without it, in thousandths.
+/// The test of one measurement: how far the least weighted squares fall without it, in thousandths.
 #[derive(Clone, Copy, Debug, PartialEq, Eq)]
 pub struct MeasureTest {
     pub stream: u32,
@@ -121,7 +121,7 @@ pub enum Stop {
     Spent,
 }
 
-/// A study: its stages, the suspects taken between them, and why the elimination stopped (none where none was asked).
+/// A study: its stages, the suspects taken between them, and why the elimination stopped (none if no elimination was asked for).
 #[derive(Debug, Drop)]
 pub struct Study {
     pub stages: List<Stage>,

@@ -20,7 +20,7 @@ use std::marker::Model;
 #[derive(Drop)]
 struct Tree {
     root: u32,
-    // One more than a node's place in `order`, and 0 where it isn't found.
+    // One more than a node's place in `order`, or 0 if it isn't found.
     place: Vec<u32>,
     way: Vec<Step>,
     order: Vec<u32>,
@@ -51,7 +51,7 @@ fn step_back(node: u32, stream_id: u32, stream: &Stream) -> Step
     }
 }
 
-// Where a step ends, or node 0 where there is no such stream.
+// Where a step ends, or node 0 if there is no such stream.
 fn end(streams: &[Stream], step: &Step) -> u32
     ensures { result ≡ end_of streams.now step.now }
 {
@@ -120,7 +120,7 @@ impl Tree {
         Ok(steps)
     }
 
-    // Hangs a node that isn't found yet below the node that a step leads to.
+    // Hangs a node that hasn't been found yet below the node that a step leads to.
     fn hang(&mut self, at: u32, step: Step)
         requires place { at < length self.old.place }
         requires way { at < length self.old.way }
@@ -188,7 +188,7 @@ impl Tree {
     }
 }
 
-// A search that has found its root alone.
+// A search that has found only its root.
 fn begin(alloc: Global, nodes: u32, root: u32) -> Result<Tree, AllocError>
     requires few { nodes ≤ most_nodes }
     requires root { root < nodes }
@@ -209,7 +209,7 @@ fn begin(alloc: Global, nodes: u32, root: u32) -> Result<Tree, AllocError>
     Ok(tree)
 }
 
-// As many copies of a step as nodes.
+// As many copies of a step as there are nodes.
 fn steps(alloc: Global, nodes: u32, step: Step) -> Result<Vec<Step>, AllocError>
     ensures { IfOk result (λ v. v.items ≡ replicate nodes step) }
 {
@@ -242,7 +242,7 @@ fn search(
 
 /// The set of nodes that a node reaches over marked streams, in either direction: one item for each node.
 ///
-/// The work is in proportion to nodes and streams.
+/// The work is proportional to the number of nodes and streams.
 pub fn reach(
     alloc: Global,
     graph: &Graph,
@@ -258,9 +258,9 @@ pub fn reach(
     search(alloc, graph, near, marks, start)?.side(alloc)
 }
 
-/// A path over marked streams from one node to another; None exactly where there is none.
+/// A path over marked streams from one node to another, or None exactly when there is none.
 ///
-/// The work is in proportion to nodes and streams.
+/// The work is proportional to the number of nodes and streams.
 pub fn path(
     alloc: Global,
     graph: &Graph,

@@ -14,7 +14,7 @@ use crate::results::{
 use pb_limits::{MOST_CRITICAL, MOST_FREEDOM, MOST_SWEEPS};
 
 impl Witness {
-    /// Whether the certificate speaks of nodes and streams of the graph alone, and a side has one item for each node.
+    /// Whether the certificate refers only to nodes and streams of the graph, and a side has one item for each node.
     pub fn is_within(&self, graph: &Graph) -> bool
         ensures { IsTrue result ↔ IsWitnessWithin graph.now self.now }
     {
@@ -28,8 +28,8 @@ impl Witness {
 }
 
 impl Stage {
-    /// Whether the stage has one price for each node and one result for each stream, its certificates and tests speak of nodes
-    /// and streams of its graph alone, and each number is in its range.
+    /// Whether the stage has one price for each node and one result for each stream, its certificates and tests refer only to nodes
+    /// and streams of its graph, and each number is in its range.
     pub fn is_well_formed(&self) -> bool
         ensures { IsTrue result ↔ IsWellFormed self.now }
     {
@@ -62,7 +62,7 @@ fn is_member(graph: &Graph, member: &Member) -> bool
     member.stream < graph.len() && (member.sign == 1 || member.sign == -1)
 }
 
-// Whether each member is one of the graph.
+// Whether each member is a stream of the graph, with a sign.
 fn are_members(graph: &Graph, members: &[Member]) -> bool
     ensures { IsTrue result ↔ All (IsMember graph.now) members.now }
 {
@@ -110,7 +110,7 @@ fn are_bounds(bounds: &Option<Bounds>) -> bool
     }
 }
 
-// Whether a stream's result keeps the ranges.
+// Whether a stream's result is within the ranges.
 fn is_result(graph: &Graph, stream: &StreamResult) -> bool
     ensures { IsTrue result ↔ IsResultWithin graph.now stream.now }
 {
@@ -120,7 +120,7 @@ fn is_result(graph: &Graph, stream: &StreamResult) -> bool
         && are_bounds(&stream.least)
 }
 
-// Whether each result keeps the ranges.
+// Whether each result is within the ranges.
 fn are_results(graph: &Graph, streams: &[StreamResult]) -> bool
     ensures { IsTrue result ↔ All (IsResultWithin graph.now) streams.now }
 {
@@ -137,7 +137,7 @@ fn is_critical(critical: Option<i64>) -> bool
     }
 }
 
-// Whether the test of a balance is of a node, with its numbers in their ranges.
+// Whether the test of a balance belongs to a node, with its numbers in their ranges.
 fn is_nodal(graph: &Graph, test: &NodalTest) -> bool
     ensures { IsTrue result ↔ IsNodalWithin graph.now test.now }
 {
@@ -147,7 +147,7 @@ fn is_nodal(graph: &Graph, test: &NodalTest) -> bool
         && is_critical(test.critical)
 }
 
-// Whether the test of a measurement is of a stream, with its numbers in their ranges.
+// Whether the test of a measurement belongs to a stream, with its numbers in their ranges.
 fn is_measure(graph: &Graph, test: &MeasureTest) -> bool
     ensures { IsTrue result ↔ IsMeasureWithin graph.now test.now }
 {
@@ -171,7 +171,7 @@ fn are_measures(graph: &Graph, tests: &[MeasureTest]) -> bool
     tests.iter().all(|test| is_measure(graph, test))
 }
 
-// Whether the tests are of nodes and streams of the graph.
+// Whether the tests belong to nodes and streams of the graph.
 fn are_tests(graph: &Graph, tests: &Tests) -> bool
     ensures { IsTrue result ↔ AreTestsWithin graph.now tests.now }
 {
@@ -180,7 +180,7 @@ fn are_tests(graph: &Graph, tests: &Tests) -> bool
         && are_measures(graph, tests.measure.as_slice())
 }
 
-// Whether the tests are of nodes and streams of the graph, if any were made.
+// Whether the tests, if any were made, belong to nodes and streams of the graph.
 fn are_tests_if_any(graph: &Graph, tests: &Option<Tests>) -> bool
     ensures { IsTrue result ↔ IfSome tests.now (AreTestsWithin graph.now) }
 {
@@ -255,7 +255,7 @@ fn have_shape(graph: &Graph, stages: &[Stage]) -> bool
     })
 }
 
-// Whether one number is that after the other.
+// Whether the first number is one more than the second.
 fn is_one_more(more: usize, less: usize) -> bool
     ensures { IsTrue result ↔ (more ≡ less + 1) }
 {

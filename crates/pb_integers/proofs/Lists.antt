@@ -13,23 +13,23 @@ All-from_recursion P [] h j d lt = absurd (omega (arith, lt))
 All-from_recursion P (x ∷ xs) h zero d lt = h.0
 All-from_recursion P (x ∷ xs) h (suc j) d lt = All-from_recursion P xs h.1 j d (omega (arith, lt))
 
--- what each item has, where it follows from what it had
+-- what each item has, if it follows from what it had
 pub AllByRecursion-map : {X : Type 0} (P Q : X → Type 0) (xs : List X) → ((x : X) → P x → Q x) → AllByRecursion P xs → AllByRecursion Q xs
 AllByRecursion-map P Q [] f h = tt
 AllByRecursion-map P Q (x ∷ xs) f h = (f x h.0, AllByRecursion-map P Q xs f h.1)
 
--- what each item has, where every value has it
+-- what each item has, if every value has it
 pub AllByRecursion-every : {X : Type 0} (P : X → Type 0) (xs : List X) → ((x : X) → P x) → AllByRecursion P xs
 AllByRecursion-every P [] f = tt
 AllByRecursion-every P (x ∷ xs) f = (f x, AllByRecursion-every P xs f)
 
--- what each item has by recursion, the one at a place has
+-- what each item has by recursion, the item at a place has
 pub all_at : {A : Type 0} (P : A → Type 0) (xs : List A) (i : ℕ) (d : A) → AllByRecursion P xs → i < length xs → P (get_or xs i d)
 all_at P [] i d all lt = absurd (omega (arith, lt))
 all_at P (x ∷ xs) zero d all lt = all.0
 all_at P (x ∷ xs) (suc i) d all lt = all_at P xs i d all.1 (omega (arith, lt))
 
--- what each item has, the one that is found at a place has
+-- what each item has, the item that is found at a place has
 pub all_each : {A : Type 0} (P : A → Type 0) (xs : List A) → All P xs → (k : ℕ) (x : A) → slice_get xs k ≡ Some x → P x
 all_each P xs all k x at = subst P (get_or_from_slice_get xs k x x at) (all k x (slice_get_within xs k x at))
 

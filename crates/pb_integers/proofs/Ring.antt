@@ -1,4 +1,4 @@
--- Equations of polynomials by computing: two expressions have the same value where their difference has no term left.
+-- Equations of polynomials by computing: two expressions have the same value if their difference has no term left.
 use Rattle.std.specs.Prelude.{◌&&◌, ◌==◌, Bool, nat_lt}
 use Rattle.std.proofs.Common.{◌≡◌, ◌∙◌, ℕ, zero, suc, ℤ, pos, negsuc, neg_ℤ, ◌+ℤ◌, ◌*ℤ◌, ◌≤ℤ◌, ◌<ℤ◌, List, [], ◌∷◌, true, false, cond, ap, ap₂, sym, refl, inl, inr, arith, get_or}
 use Rattle.std.proofs.lemmas.Bool.{cases_Bool, and_parts, eqb-true}
@@ -73,7 +73,7 @@ same_list [] (y ∷ n) h = cc h
 same_list (x ∷ m) [] h = cc h
 same_list (x ∷ m) (y ∷ n) h = let p = and_parts _ _ h in ap₂ (λ (z : ℕ) (l : List ℕ). z ∷ l) (eqb-true x y p.0) (same_list m n p.1)
 
--- one more term, joined to that of the same product where there is one
+-- one more term, joined to the term of the same product if there is one
 abbrev add_term : Term → List Term → List Term
 add_term t [] = t ∷ []
 add_term t (u ∷ us) = cond (same t.0 u.0) ((u.0, t.1 +ℤ u.1) ∷ us) (u ∷ add_term t us)
@@ -126,7 +126,7 @@ multiplied_is vs (t ∷ ts) us =
     add_terms_is vs (scaled t us) (multiplied ts us) ∙ ap₂ (λ (x y : ℤ). x +ℤ y) (scaled_is vs t us) (multiplied_is vs ts us)
     ∙ sym (add_mul (t.1 *ℤ product vs t.0) (sum_of vs ts) (sum_of vs us))
 
--- the terms of an expression, no product twice
+-- the terms of an expression, each product once
 abbrev pub terms : Expr → List Term
 terms (var x) = (x ∷ [], pos 1) ∷ []
 terms (lit z) = ([], z) ∷ []

@@ -1,4 +1,4 @@
--- Statement. What is proved of signed whole numbers and their sums, law by law.
+-- Statement. What is proved about signed whole numbers and their sums, law by law.
 use Rattle.std.specs.Prelude.{◌≡◌, ℕ, ◌+◌, ◌*◌, ◌≤◌, ℤ, pos, neg_ℤ, ◌+ℤ◌, ◌*ℤ◌, ◌≤ℤ◌, ◌<ℤ◌, List, length, unsigned_abs}
 use Rattle.std.specs.List.{AllByRecursion}
 use Rattle.pb_integers.specs.Sums.{sum_over, total, item, AreDistinctBy}
@@ -14,15 +14,15 @@ pub record IsRing : Type 0 where
   pub one_mul : (a : ℤ) → pos 1 *ℤ a ≡ a
   pub mul_add : (a b c : ℤ) → a *ℤ (b +ℤ c) ≡ (a *ℤ b) +ℤ (a *ℤ c)
 
--- The order goes with the ring: a factor that isn't negative keeps it, a positive one cancels, squares aren't negative, and of
--- numbers that aren't negative the lesser has the lesser square.
+-- The order is compatible with the ring: a factor that isn't negative keeps it, a positive factor cancels, squares aren't negative,
+-- and a number whose square is at most the square of a number that isn't negative is at most this number.
 pub record IsOrderedRing : Type 0 where
   pub mul_mono : (a b c : ℤ) → a ≤ℤ b → pos 0 ≤ℤ c → (a *ℤ c) ≤ℤ (b *ℤ c)
   pub mul_cancel : (a b c : ℤ) → (a *ℤ c) ≤ℤ (b *ℤ c) → pos 0 <ℤ c → a ≤ℤ b
   pub square_nonneg : (a : ℤ) → pos 0 ≤ℤ (a *ℤ a)
   pub root_mono : (a b : ℤ) → pos 0 ≤ℤ b → (a *ℤ a) ≤ℤ (b *ℤ b) → a ≤ℤ b
 
--- the triangle inequality, of two numbers and of a sum over a list
+-- the triangle inequality, for two numbers and for a sum over a list
 pub record HasTriangle (A : Type 0) : Type 0 where
   pub of_two : (a b : ℤ) → unsigned_abs (a +ℤ b) ≤ unsigned_abs a + unsigned_abs b
   pub of_sum : (f : A → ℤ) (xs : List A) → pos (unsigned_abs (sum_over f xs)) ≤ℤ sum_over (λ x. pos (unsigned_abs (f x))) xs
@@ -38,7 +38,7 @@ abbrev pub SchwarzLaw : Type 0 → Type 0
 SchwarzLaw A = (f variance weight : A → ℤ) (l : ℤ) (xs : List A) → pos 0 ≤ℤ l → AllByRecursion (IsWeighed variance weight l) xs
     → (l *ℤ (sum_over f xs *ℤ sum_over f xs)) ≤ℤ (sum_over variance xs *ℤ sum_over (λ x. weight x *ℤ (f x *ℤ f x)) xs)
 
--- a sum over some places of a list of numbers that aren't negative, no place twice, is at most the sum of the list
+-- a sum over some places of a list of numbers that aren't negative, each place at most once, is at most the sum of the list
 abbrev pub PartialSumLaw : Type 0 → Type 0
 PartialSumLaw A = (key : A → ℕ) (xs : List ℤ) (some : List A) → AllByRecursion (λ x. pos 0 ≤ℤ x) xs → AreDistinctBy key some
     → sum_over (λ m. item xs (key m)) some ≤ℤ total xs

@@ -16,7 +16,7 @@ abbrev pub sum_below : (ℕ → ℤ) → ℕ → ℤ
 sum_below f zero = pos 0
 sum_below f (suc n) = sum_below f n +ℤ f n
 
--- the number at a place of a list, and 0 past its end
+-- the number at a place of a list, or 0 past its end
 abbrev pub item : List ℤ → ℕ → ℤ
 item xs j = get_or xs j (pos 0)
 

@@ -1,4 +1,4 @@
-//! Laws of signed whole numbers that the kit lacks: their ring, their order, sums over lists of them.
+//! Laws about signed whole numbers that the kit lacks: their ring, their order, and sums over lists of them.
 //!
 //! The functions are empty: the contract of each is a law, and the lemmas behind it stand in `proofs/` for other crates to cite.
 #![tactic(auto)]
@@ -10,7 +10,7 @@ pub fn ring_laws()
     ensures { IsRing }
 {}
 
-/// A factor that isn't negative keeps the order, a positive one cancels, and squares aren't negative.
+/// A factor that isn't negative keeps the order, a positive factor cancels, and squares aren't negative.
 pub fn order_laws()
     ensures { IsOrderedRing }
 {}

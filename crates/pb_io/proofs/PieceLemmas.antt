@@ -8,7 +8,7 @@ use Rattle.pb_io.specs.Sink.{SinkSeen, Puts}
 pub puts_none : (a : SinkSeen) → Puts a a []
 puts_none a = record { behind = Appends-nil a.contents; count = omega arith }
 
--- and then one piece more
+-- and then one more piece
 pub puts_more : (a b c : SinkSeen) (xs ys : List ℕ) → Puts a b xs → Puts b c ys → Puts a c (xs ++ ys)
 puts_more a b c xs ys first second = record {
   behind = Appends-trans a.contents b.contents c.contents xs ys first.behind second.behind;

@@ -5,10 +5,10 @@ use Rattle.std.specs.Prelude.{◌≡◌, ℕ, ◌+◌, ◌-◌, ◌^◌, ◌<◌
 abbrev pub greatest : ℕ
 greatest = 2 ^ 64 - 1
 
--- a count after n more, or after as many of them as it takes to reach the greatest
+-- a count after n more, or the greatest if the count would pass it
 abbrev pub counted : ℕ → ℕ → ℕ
 counted count n = count + min n (greatest - count)
 
--- a count rose in a call: it is greater after the call than before, or stands at the greatest
+-- a count rose in a call: it is greater after the call than before, or is at the greatest
 abbrev pub Rose : ℕ → ℕ → Type 0
 Rose before after = (before < after) ⊎ (after ≡ greatest)

@@ -15,7 +15,7 @@ pub record SinkInMemory : Type 0 where
   pub idle : ℕ
   pub faults : ℕ
 
--- what the sink has been seen to do: it tells its bytes
+-- what the sink has been seen to do: it shows its bytes
 abbrev pub seen_in_memory : SinkInMemory → SinkSeen
 seen_in_memory sink =
     record { contents = Some sink.contents; written = sink.written; calls = sink.calls; idle = sink.idle; faults = sink.faults }

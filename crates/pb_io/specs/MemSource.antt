@@ -14,7 +14,7 @@ pub record SourceInMemory : Type 0 where
   pub idle : ℕ
   pub faults : ℕ
 
--- what the source has been seen to do: it tells its bytes
+-- what the source has been seen to do: it shows its bytes
 abbrev pub seen_in_memory : SourceInMemory → SourceSeen
 seen_in_memory source =
     record { remaining = Some source.remaining; taken = source.taken; calls = source.calls; idle = source.idle; faults = source.faults }

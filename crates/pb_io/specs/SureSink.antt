@@ -9,7 +9,7 @@ pub record SinkWithoutFault : Type 0 where
   pub calls : ℕ
   pub idle : ℕ
 
--- what the sink has been seen to do: it tells no bytes, and no call failed
+-- what the sink has been seen to do: it shows no bytes, and no call failed
 abbrev pub counted_without_fault : SinkWithoutFault → SinkSeen
 counted_without_fault sink = record { contents = None; written = sink.written; calls = sink.calls; idle = sink.idle; faults = 0 }
 

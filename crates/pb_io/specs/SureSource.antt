@@ -10,7 +10,7 @@ pub record SourceWithoutFault : Type 0 where
   pub calls : ℕ
   pub idle : ℕ
 
--- what the source has been seen to do: it tells its bytes, and no call failed
+-- what the source has been seen to do: it shows its bytes, and no call failed
 abbrev pub seen_without_fault : SourceWithoutFault → SourceSeen
 seen_without_fault source =
     record { remaining = Some source.remaining; taken = source.taken; calls = source.calls; idle = source.idle; faults = 0 }

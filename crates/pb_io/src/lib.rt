@@ -2,10 +2,10 @@
 //!
 //! A [`Source`] gives bytes and a [`Sink`] takes them, a few in each call, and each call may fail.
 //! [`read_all`] reads a source to its end, and [`write_all`] writes a slice whole. [`MemSource`]
-//! and [`MemSink`] work in memory, by contracts that say each byte and each failure. [`SureSource`]
-//! and [`SureSink`] never fail. [`StdSource`] and [`StdSink`] are the edge of the program: they
-//! tell of their bytes what std tells of the reader and the writer, which is nothing for standard
-//! input and output.
+//! and [`MemSink`] work in memory, with contracts that state each byte and each failure.
+//! [`SureSource`] and [`SureSink`] never fail. [`StdSource`] and [`StdSink`] are the edge of the
+//! program: they show as much of their bytes as std shows of the reader and the writer, which is
+//! nothing for standard input and output.
 #![tactic(auto)]
 
 mod copying;

@@ -45,8 +45,8 @@ impl Model for MemSink {
 }
 
 impl MemSink {
-    /// A sink that has room for `room` bytes, whose memory is taken here, appends at most `most` in
-    /// a call, and fails at the calls whose numbers are in `fails`.
+    /// A sink that has room for `room` bytes, whose memory is allocated here. It appends at most
+    /// `most` bytes in a call, and fails at the calls whose numbers are in `fails`.
     pub fn new(
         alloc: Global,
         room: usize,
@@ -88,13 +88,13 @@ impl Sink for MemSink {
     ghost seen = { λ s. seen_in_memory s };
 
     fn put(&mut self, piece: &[u8]) -> Result<usize, SinkFailed>
-        // It fails exactly at a piece that isn't empty, where the list names the call or no room is
-        // left, and then its counts alone move on.
+        // It fails exactly when the piece isn't empty, and the list names the call or no room is left.
+        // Then only its counts go up.
         ensures fails { IsErr result ↔ ((0 < length piece.now) × RefusesNext self.old) }
         ensures err { OnErr result (self.new ≡ after_fault self.old) }
         ensures cause { OnErr result (Rose self.old.faults self.new.faults) }
 
-        // Else it appends as many bytes as the piece, `most` and the room left allow.
+        // Otherwise it appends as many bytes as the piece, `most` and the room left allow.
         ensures number { IfOk result (λ n. n ≡ min self.old.most
             (min (length piece.now) (self.old.room - length self.old.contents))) }
         ensures some { IfOk result (λ n. 0 < length piece.now → 0 < n) }
@@ -111,7 +111,7 @@ impl Sink for MemSink {
             return Err(SinkFailed);
         }
         let count = self.most.min(piece.len()).min(left);
-        // The room was taken in `new`.
+        // The room was allocated in `new`.
         self.bytes.extend_from_slice(&piece[..count]).unwrap();
         Ok(count)
     }

@@ -73,12 +73,12 @@ impl Source for MemSource {
     ghost seen = { λ s. seen_in_memory s };
 
     fn take(&mut self, buf: &mut [u8]) -> Result<usize, SourceFailed>
-        // It fails exactly at the calls that the list names, and then its counts alone move on.
+        // It fails exactly at the calls that the list names, and then only its counts go up.
         ensures fails { IsErr result ↔ FailsNext self.old }
         ensures err { OnErr result (self.new ≡ after_fault self.old) }
         ensures cause { OnErr result (Rose self.old.faults self.new.faults) }
 
-        // Else it gives as many bytes as `most`, the bytes left and the buffer allow.
+        // Otherwise it gives as many bytes as `most`, the bytes left and the buffer allow.
         ensures number { IfOk result (λ n.
             n ≡ min self.old.most (min (length self.old.remaining) (length buf.new))) }
         ensures bytes { IfOk result

@@ -43,18 +43,18 @@ impl From<AllocError> for ReadEnd {
     }
 }
 
-/// What bytes are taken from.
+/// Something that bytes are taken from.
 ///
-/// A contract sees the bytes that remain, where a source tells them, and four counts, each of which
-/// stays once it is the greatest u64: of the bytes taken, of the calls, of the calls that gave no
-/// byte, and of the faults.
+/// A contract sees the bytes that remain, if a source shows them, and four counts: of the bytes
+/// taken, of the calls, of the calls that gave no byte, and of the faults. Each count stays once it
+/// is the greatest u64.
 pub trait Source {
     // What the source has been seen to do.
     ghost seen: { Self → SourceSeen };
 
-    /// Takes the next bytes into the front of `buf`, and gives their number; 0 on a buffer that
-    /// isn't empty is the end of the input. What `buf` holds behind these bytes, or after a
-    /// failure, isn't said.
+    /// Takes the next bytes into the front of `buf`, and returns their number; 0 for a buffer that
+    /// isn't empty is the end of the input. What `buf` holds after these bytes, or after a failure,
+    /// is unspecified.
     fn take(&mut self, buf: &mut [u8]) -> Result<usize, SourceFailed>
         ensures within { IfOk result (λ n. n ≤ length buf.new) }
         ensures bytes { IfOk result (λ n. Takes (seen self.old) (seen self.new) (take n buf.new)) }
@@ -66,7 +66,7 @@ pub trait Source {
         ensures idle { IfOk result (λ n.
             (seen self.new).idle ≡ counted (seen self.old).idle (1 - n)) }
 
-        // It fails exactly where a fault was counted, and then no byte was taken.
+        // It fails exactly when a fault was counted, and then no byte was taken.
         ensures cause { OnErr result (Rose (seen self.old).faults (seen self.new).faults) }
         ensures no_fault { OnOk result ((seen self.new).faults ≡ (seen self.old).faults) }
         ensures none { OnErr result (Takes (seen self.old) (seen self.new) []) }
@@ -79,9 +79,9 @@ pub trait Source {
 // The most bytes that one turn asks for.
 const CHUNK: usize = 8192;
 
-/// Reads a source to its end, and gives its bytes, of which there may be `limit`.
+/// Reads a source to its end, and returns its bytes, of which there may be at most `limit`.
 ///
-/// It stops once it has taken one byte more than the limit. After a refusal the bytes that were
+/// It stops once it has taken one byte more than the limit. After an error the bytes that were
 /// taken are gone from the source.
 #[tactic(auto, using(crate::proofs::TakingLemmas::takes_none, crate::proofs::TakingLemmas::takes_more))]
 pub fn read_all<S: Source>(alloc: Global, source: &mut S, limit: usize) -> Result<Vec<u8>, ReadEnd>
@@ -95,27 +95,27 @@ pub fn read_all<S: Source>(alloc: Global, source: &mut S, limit: usize) -> Resul
     ensures end { OnOk result (IsAtEnd (S.seen source.new).remaining) }
     ensures within { IfOk result (λ all. vec_len all ≤ limit) }
 
-    // The last turn of a whole reading gives no byte, and each other turn at least one.
+    // The last turn of a whole reading gives no byte, and each other turn gives at least one.
     ensures idle { OnOk result
         ((S.seen source.new).idle ≡ counted (S.seen source.old).idle 1) }
     ensures never_idle { OnErr result
         ((S.seen source.new).idle ≡ (S.seen source.old).idle) }
 
-    // Too large is the answer exactly where one byte more than the limit was taken.
+    // `TooLarge` is the answer exactly when one more byte than the limit was taken.
     ensures too_large { IsErrOf result ReadEnd.TooLarge →
         TakesExactly (S.seen source.old) (S.seen source.new) (limit + 1) }
     ensures not_too_large { result ≢ Err ReadEnd.TooLarge →
         TakesAtMost (S.seen source.old) (S.seen source.new) limit }
 
-    // A fault is the answer exactly where the source counted one.
+    // `Fault` is the answer exactly when the source counted a fault.
     ensures cause { IsErrOf result ReadEnd.Fault →
         Rose (S.seen source.old).faults (S.seen source.new).faults }
     ensures no_fault { result ≢ Err ReadEnd.Fault →
         (S.seen source.new).faults ≡ (S.seen source.old).faults }
     ensures faults_stay { (S.seen source.old).faults ≤ (S.seen source.new).faults }
 
-    // Where the bytes are told and no fault was counted, their number decides. Want of memory alone
-    // is free.
+    // If the bytes are shown and no fault was counted, their number decides. Only `NoMemory` is
+    // always possible.
     ensures small { IfSome (S.seen source.old).remaining (λ bytes. length bytes ≤ limit →
         ¬ Rose (S.seen source.old).faults (S.seen source.new).faults →
         IsOkUnless result ReadEnd.NoMemory) }

@@ -1,5 +1,5 @@
-// The readers and writers of std as sources and sinks: the edge of the program. Of the bytes they tell what std tells of
-// the reader and the writer, and std tells nothing of those of standard input and output.
+// The readers and writers of std as sources and sinks: the edge of the program. They show as much of their bytes as std
+// shows of the reader and the writer, and std shows nothing of the bytes of standard input and output.
 
 use crate::counts::{idle_calls, saturating_count};
 use crate::reading::{Source, SourceFailed};
@@ -69,10 +69,10 @@ impl<R: Read> Source for StdSource<R> {
     }
 }
 
-/// A writer as a sink. Each error of the writer is a fault, and so is a write of no byte of a piece
-/// that isn't empty.
+/// A writer as a sink. Each error of the writer is a fault, and so is a write that takes no byte of
+/// a piece that isn't empty.
 ///
-/// Nothing flushes the writer: one that keeps bytes back could lose them.
+/// Nothing flushes the writer: a writer that buffers bytes could lose them.
 #[derive(Drop)]
 pub struct StdSink<W: Write> {
     writer: W,

@@ -6,7 +6,7 @@ use crate::counts::{idle_calls, saturating_count};
 use crate::writing::{Sink, SinkFailed};
 use std::marker::Model;
 
-/// A sink that takes each piece whole, keeps its number of bytes alone, and never fails.
+/// A sink that takes each piece whole, keeps only the number of bytes, and never fails.
 #[derive(Drop)]
 pub struct SureSink {
     taken: u64,
@@ -27,7 +27,7 @@ impl Model for SureSink {
 }
 
 impl SureSink {
-    /// A sink that was given no byte yet.
+    /// A sink that hasn't been given a byte yet.
     pub fn new() -> SureSink
         ensures { result ≡ record {
           written = 0;

@@ -10,16 +10,16 @@ use thiserror::Error;
 #[error("the sink failed")]
 pub struct SinkFailed;
 
-/// What bytes are put into.
+/// Something that bytes are put into.
 ///
-/// A contract sees the bytes that are held, where a sink tells them, and four counts, each of which
-/// stays once it is the greatest u64: of the bytes put, of the calls, of the calls that took no
-/// byte, and of the faults.
+/// A contract sees the bytes that are held, if a sink shows them, and four counts: of the bytes
+/// put, of the calls, of the calls that took no byte, and of the faults. Each count stays once it is
+/// the greatest u64.
 pub trait Sink {
     // What the sink has been seen to do.
     ghost seen: { Self → SinkSeen };
 
-    /// Appends bytes from the front of `piece`, at least one where there is one, and gives their
+    /// Appends bytes from the front of `piece`, at least one if there is one, and returns their
     /// number.
     fn put(&mut self, piece: &[u8]) -> Result<usize, SinkFailed>
         ensures within { IfOk result (λ n. n ≤ length piece.now) }
@@ -31,7 +31,7 @@ pub trait Sink {
         ensures idle { IfOk result (λ n.
             (seen self.new).idle ≡ counted (seen self.old).idle (1 - n)) }
 
-        // It fails exactly where a fault was counted, and then no byte was put.
+        // It fails exactly when a fault was counted, and then no byte was put.
         ensures cause { OnErr result (Rose (seen self.old).faults (seen self.new).faults) }
         ensures no_fault { OnOk result ((seen self.new).faults ≡ (seen self.old).faults) }
         ensures none { OnErr result (Puts (seen self.old) (seen self.new) []) }
@@ -41,13 +41,13 @@ pub trait Sink {
         ensures called { (seen self.new).calls ≡ counted (seen self.old).calls 1 };
 }
 
-/// Puts all the bytes into a sink, and no empty piece. After a failure a prefix of them was put.
+/// Puts all the bytes into a sink, without an empty piece. After a failure a prefix of them was put.
 #[tactic(auto, using(crate::proofs::PieceLemmas::puts_none))]
 pub fn write_all<W: Sink>(sink: &mut W, bytes: &[u8]) -> Result<(), SinkFailed>
     ensures whole { OnOk result (Puts (W.seen sink.old) (W.seen sink.new) bytes.now) }
     ensures prefix { OnErr result (PutsPrefix (W.seen sink.old) (W.seen sink.new) bytes.now) }
 
-    // It fails exactly where the sink counted a fault.
+    // It fails exactly when the sink counted a fault.
     ensures cause { OnErr result (Rose (W.seen sink.old).faults (W.seen sink.new).faults) }
     ensures complete { ¬ Rose (W.seen sink.old).faults (W.seen sink.new).faults → IsOk result }
     ensures no_fault { OnOk result ((W.seen sink.new).faults ≡ (W.seen sink.old).faults) }

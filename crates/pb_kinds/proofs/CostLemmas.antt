@@ -1,4 +1,4 @@
--- The pairs of a record that asks for an advice.
+-- The pairs of a record that asks for advice.
 use Rattle.std.specs.Prelude.{All, map, unwrap_or, slice_get, slice_index_or, None, Some, Result, Ok, Err, if◌then◌else◌}
 use Rattle.std.proofs.Common.{◌≡◌, ◌∙◌, ◌<◌, ◌≤◌, ◌+◌, ◌*◌, ◌/◌, ◌-◌, ℕ, zero, suc, Bool, true, false, List, [], ◌∷◌, length, drop, length-drop, refl, sym, ap, ap₂, subst, ℤ, pos, Option, FitsSigned, of_z, to_z, arith}
 use mir.Syntax.{w64}
@@ -32,7 +32,7 @@ use Rattle.pb_kinds.specs.Requests.{asked_by, asked_in, declares, kinds_of, name
 use Rattle.pb_kinds.specs.There.{ArePairs, IsNameThere, IsNumberThere, pairs_read}
 use Rattle.pb_kinds.proofs.ThereLemmas.{name_is, number_is}
 
--- ---- a record that asks for an advice
+-- ---- a record that asks for advice
 
 is_advise : (it : SessionKind) (values : List Value) → request_of it values ≡ Advise → it ≡ kind.Advise
 is_advise kind.Version values is = cc is
@@ -69,7 +69,7 @@ is_advise kind.Advise values is = refl
 is_advise kind.Window values is = cc is
 is_advise kind.Component values is = cc is
 
--- the fields of a tail say something where those of the row do
+-- the fields of a tail say something if the fields of the row do
 tail_says : (schema : Schema) (values : List Value) (fields : List (List ℕ)) → row_read schema fields ≡ Ok values → (others : List Value) × (tail_read schema fields ≡ Ok others)
 tail_says schema values fields reads = by (has_count schema (length fields)) reads
   where
@@ -118,7 +118,7 @@ advise_read version fields asks = at version asks
     at None asks = first (is_of (without_trailing_empty fields) (session_schema kind.Version)) (without_trailing_empty fields) asks
     at (Some version) asks = by (kinds_of version) (without_trailing_empty fields) asks
 
--- the fields after the word are those of the tail
+-- the fields after the word are the fields of the tail
 pub after_word : (filled : List (List ℕ)) → pairs_read (drop 1 filled) ≡ tail_read (session_schema kind.Advise) filled
 after_word filled =
     let count : length (drop 1 filled) ≡ length filled - 1 = length-drop 1 filled in
@@ -241,7 +241,7 @@ pub record IsCostRead (costs : List NamedCost) (place : ℕ) (read : Result (Lis
   pub reads : read ≡ Ok pair
   pub there : slice_get costs place ≡ Some (let it : NamedCost = record { stream = name_there pair 0; cost = number_there pair 1 } in it)
 
--- the columns of a tail, as the code has them, are those of a pair
+-- the columns of a tail, as the code has them, are the columns of a pair
 pub seen_pair : (schema : coded_schema.Schema) → schema_seen schema ≡ session_schema kind.Advise → map column_seen schema.tail.now ≡ cost_columns
 seen_pair schema is = ap (λ (s : Schema). s.tail) is
 

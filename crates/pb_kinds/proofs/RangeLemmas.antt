@@ -1,4 +1,4 @@
--- What values that fit the columns of a kind ask lies in its ranges, and has names of the form.
+-- What values that fit the columns of a kind ask for lies in its ranges, and has names of the form.
 use Rattle.std.specs.Prelude.{◌≤ℤ◌, neg_ℤ, slice_get, Some, unsigned_abs}
 use Rattle.std.specs.List.{list_all}
 use Rattle.std.proofs.Common.{◌≡◌, ◌≤◌, ◌+◌, ℕ, ℤ, pos, true, List, [], ◌∷◌, drop, refl, arith}
@@ -89,7 +89,7 @@ dip_in_range values at fit = (
   between dip_columns values at 5 (at + 5) _ _ _ fit refl refl,
 )
 
--- ---- what a row of a kind asks
+-- ---- what a row of a kind asks for
 
 pub asked_in_range : (it : SessionKind) (values : List Value) → FitEach (session_columns it) values → IsRequestInRange (request_of it values)
 asked_in_range kind.Version values fit = tt
@@ -159,7 +159,7 @@ asked_in_range kind.Component values fit = tt
 
 -- ---- names
 
--- the names in what is asked to be stored
+-- the names in what a record asks to store
 abbrev pub stored_names : Request → List (List ℕ)
 stored_names (Store effect) = effect_names effect
 stored_names request = []

@@ -1,4 +1,4 @@
--- A row of a reading whose fields have no fault, and the kind that a record is told to be of.
+-- A row of a reading whose fields have no fault, and the kind that a record is identified as.
 use Rattle.std.specs.Prelude.{◌&&◌, ◌-◌, ◌==◌, ◌≤ℤ◌, bytes_eq, codes, int_le, map, nat_le, neg_ℤ, position, slice_get, Option, Some, None, Result, Ok, Err, IfOk, if◌then◌else◌}
 use Rattle.std.specs.Option.{option_map}
 use Rattle.std.proofs.Common.{◌≡◌, ◌∙◌, ℕ, ℤ, pos, Bool, true, false, List, [], ◌∷◌, length, get_or, refl, subst, sym, ap, arith}
@@ -58,7 +58,7 @@ six_read word id stream date grams variance day g v worded named of dated range 
   is = rw (named, of) refl;
 }
 
--- a row of a reading has six of them
+-- a row of a reading has six fields
 six_fields : (n : ℕ) → has_count (session_schema kind.Reading) n ≡ true → n ≡ 6
 six_fields n counts =
     let parts = and_parts (nat_le 6 n) (are_turns [] (n - 6)) counts in
@@ -66,7 +66,7 @@ six_fields n counts =
     let rest : (n - 6 == 0) ≡ true = parts.1 in
     grind (arith, nat_tests)
 
--- so many fields has a record of this kind
+-- a record of this kind has that many fields
 pub reading_length : (fields : List (List ℕ)) → is_of fields (session_schema kind.Reading) ≡ true → length fields ≡ 6
 reading_length fields is =
     six_fields (length fields) (and_parts (has_count (session_schema kind.Reading) (length fields)) (agrees (session_columns kind.Reading) fields) is).0
@@ -97,7 +97,7 @@ reading_read fields id stream day grams variance is named id_is of stream_is dat
     worded named of dated range carried spread in
     rw (id_is, stream_is) (subst (λ (all : List (List ℕ)). IsReadingIn all (Reading (get_or fields 1 []) (get_or fields 2 []) day grams variance)) (sym all) read)
 
--- what it asks
+-- what it asks for
 pub reading_asks : (fields : List (List ℕ)) (fact : Fact) → IsReadingIn fields fact
     → Ok (books false fact) ≡ request_by kind.Reading (row_read (session_schema kind.Reading) fields)
 reading_asks fields fact reads =
@@ -108,7 +108,7 @@ pub reading_in_range : (fields : List (List ℕ)) (fact : Fact) → IsReadingIn 
 reading_in_range fields fact reads =
     subst (λ (fact : Fact). IsRequestInRange (books false fact)) (sym reads.is) (asked_in_range kind.Reading reads.values reads.fit)
 
--- ---- a record that is told to be of a kind
+-- ---- a record that is identified as of a kind
 
 -- it has the words and the number of fields of the kind
 pub told_is_of : (kinds : List SessionKind) (fields : List (List ℕ)) (it : SessionKind) → session_told kinds fields ≡ Ok it → is_of fields (session_schema it) ≡ true
@@ -131,7 +131,7 @@ told_is_of kinds fields it told = by (position (is_of fields) (map session_schem
     by (Some place) first is = here place (slice_get kinds place) first refl is
     by None none is = cc is
 
--- what it asks, a session of the version may be asked
+-- what it asks for may be asked for in a session of the version
 pub asked_may : (version : Version) (fields : List (List ℕ)) (it : SessionKind) (read : Result (List Value) FormFault) → session_told (kinds_of version) fields ≡ Ok it
     → IfOk (request_by it read) (λ request. may_ask (Some version) request ≡ true)
 asked_may version fields it (Ok values) told = told_may version fields it values told

@@ -1,4 +1,4 @@
--- What a record asks, by what its kind and its fields are read as.
+-- What a record asks for, by what its kind and its fields are read as.
 use Rattle.std.specs.Prelude.{◌-◌, Option, Some, None, Result, Ok, Err, if◌then◌else◌, nat_le, slice_get}
 use Rattle.std.specs.List.{list_all}
 use Rattle.std.proofs.Common.{◌≡◌, ◌∙◌, ◌≤◌, ℕ, Bool, true, false, List, [], ◌∷◌, length, refl, subst, sym, ap, arith, inl, inr}
@@ -28,7 +28,7 @@ use Rattle.pb_kinds.specs.Versions.{has_kind, may_ask, may_begin}
 use Rattle.pb_kinds.proofs.RangeLemmas.{asked_in_range, asked_named, stored_names}
 use Rattle.pb_kinds.proofs.VersionLemmas.{asks_what_it_may, begins, kept_passes, may_begin_so, told_among}
 
--- fields of which there is none
+-- no fields
 pub blank_asks : (kinds : List SessionKind) (fields : List (List ℕ)) → length fields ≡ 0 → asked_by kinds fields ≡ Ok Blank
 blank_asks kinds [] none = refl
 blank_asks kinds (field ∷ fields) none = absurd (omega (arith, none))
@@ -39,7 +39,7 @@ pub told_asks : (kinds : List SessionKind) (fields : List (List ℕ)) (told : Re
 told_asks kinds [] told some is = absurd (omega (arith, some))
 told_asks kinds (field ∷ fields) told some is = ap (λ (t : Result SessionKind FormFault). request_if t (field ∷ fields)) is
 
--- fields of a kind ask what their values ask
+-- fields of a kind ask for what their values ask for
 kind_asks : (kinds : List SessionKind) (it : SessionKind) (values : List Value) (fields : List (List ℕ)) → session_told kinds fields ≡ Ok it → row_read (session_schema it) fields ≡ Ok values
     → 1 ≤ length fields → asked_by kinds fields ≡ Ok (request_of it values)
 kind_asks kinds it values fields told writes some = told_asks kinds fields (Ok it) some told ∙ ap (request_by it) writes
@@ -56,7 +56,7 @@ some_column : (it : SessionKind) → nat_le 1 (length (session_schema it).column
 some_column kind.Version = refl
 some_column it = refl
 
--- a record of a kind asks what its values ask, in a session that has rows of the kind
+-- a record of a kind asks for what its values ask for, in a session that has rows of the kind
 pub asks_of : (version : Option Version) (it : SessionKind) (values : List Value) (fields : List (List ℕ)) → has_kind version it ≡ true → IsOfKind it fields
     → Writes (session_schema it) values fields → request_in version fields ≡ Ok (request_of it values)
 unfolding request_in
@@ -85,12 +85,12 @@ asks_of version it values fields has is writes = ap (asked_in version) is.filled
 pub asking : OneKindLaw → AskingLaw
 asking law version it values fields has writes = asks_of version it values fields has (law it values fields writes) writes
 
--- ---- what holds of what is asked
+-- ---- what holds of what is asked for
 
 same_request : (a b : Request) → (let one : Result Request FormFault = Ok a in one) ≡ Ok b → a ≡ b
 same_request a b is = cc is
 
--- what holds of a blank record, and of what values that fit ask, holds of what is asked
+-- what holds of a blank record, and of what values that fit ask for, holds of what is asked for
 read_holds : (P : Request → Type 0) (it : SessionKind) → ((values : List Value) → FitEach (session_columns it) values → P (request_of it values)) → FittingLaw
     → (fields : List (List ℕ)) (request : Request) (read : Result (List Value) FormFault) → row_read (session_schema it) fields ≡ read
     → request_by it read ≡ Ok request → P request

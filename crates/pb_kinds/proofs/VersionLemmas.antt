@@ -18,7 +18,7 @@ use Rattle.pb_kinds.specs.declared.rows.Request.TheVariants.{Store}
 use Rattle.pb_kinds.specs.Requests.{kinds_of, request_of}
 use Rattle.pb_kinds.specs.Versions.{has_kind, may_ask, may_begin, may_declare, may_do}
 
--- ---- the kind that a record is told to be is one of the session's
+-- ---- the kind that a record is identified as is one of the session's
 
 pub kept_passes : {X : Type 0} (p : X → Bool) (xs : List X) (i : ℕ) (x : X) → slice_get (filter p xs) i ≡ Some x → p x ≡ true
 kept_passes p [] i x at = cc at
@@ -56,7 +56,7 @@ pub may_begin_so : (it : SessionKind) → is_of_version_1 it ≡ true → may_be
 may_begin_so kind.Version is = cc is
 may_begin_so it is = is
 
--- ---- what a row of a kind asks may be done exactly if the session has rows of the kind
+-- ---- what a row of a kind asks for may be done exactly when the session has rows of the kind
 
 pub asks_what_it_may : (version : Option Version) (it : SessionKind) (values : List Value) → has_kind version it ≡ may_ask version (request_of it values)
 asks_what_it_may None kind.Version values = refl
@@ -66,7 +66,7 @@ asks_what_it_may (Some One) it values = refl
 asks_what_it_may (Some Two) kind.Version values = refl
 asks_what_it_may (Some Two) it values = refl
 
--- what a record of a kind that it is told to be asks, a session of the version may be asked
+-- what a record asks for by the kind that it is identified as may be asked for in a session of the version
 pub told_may : (version : Version) (fields : List (List ℕ)) (it : SessionKind) (values : List Value) → session_told (kinds_of version) fields ≡ Ok it
     → may_ask (Some version) (request_of it values) ≡ true
 told_may One fields it values told =
@@ -76,7 +76,7 @@ told_may Two fields it values told =
     let at = told_among (kinds_of Two) fields it told in
     sym (asks_what_it_may (Some Two) it values) ∙ kept_passes is_of_version_2 session_kinds at.0 it at.1
 
--- so may one of which no row is stored, if one of version 1 may
+-- what may be declared in version 1 may be declared before a row is stored
 declares_first : (declared : Declared) → may_declare (Some One) declared ≡ true → may_declare None declared ≡ true
 declares_first Version2 may = refl
 declares_first declared may = may

@@ -1,4 +1,4 @@
--- A record that writes values of a kind writes the effect that they ask to be stored.
+-- A record that writes values of a kind writes the effect that they ask to store.
 use Rattle.std.specs.Prelude.{IfOk, None, Some, Result, Ok, Err}
 use Rattle.std.proofs.Common.{◌≡◌, ◌∙◌, ◌≤◌, ℕ, ℤ, pos, true, List, [], ◌∷◌, length, FitsSigned, refl, ap, arith}
 use Rattle.std.proofs.lemmas.Int.{ints, to_z-of_z}
@@ -54,11 +54,11 @@ handed_dof n y most same =
     let wide : FitsSigned w128 (pos n) = omega (arith, ints, most) in
     rw same (to_z-of_z w128 (pos n) wide)
 
--- the values of a stream, of which the names are given as these
+-- the values of a stream whose names are given as these
 abbrev pub stream_given : coded.Value → coded.Value → coded.Value → ℤ → List coded.Value
 stream_given a b c base = given.Word 0 ∷ (a ∷ (b ∷ (c ∷ (given.Word 0 ∷ (given.Number base ∷ [])))))
 
--- they are as many as the columns of a stream of a kind, they fit these, and they ask that the stream be stored
+-- there are as many values as a stream of this kind has columns, they fit the columns, and they ask to store the stream
 pub record StreamIsGiven (sort : Kind) (a b c : coded.Value) (name from to : List ℕ) (base : ℤ) : Type 0 where
   pub each : length (stream_given a b c base) ≡ length (session_columns (stream_kind sort))
   pub fit : FitEach (session_columns (stream_kind sort)) (values_as (session_columns (stream_kind sort)) (stream_given a b c base))

@@ -1,4 +1,4 @@
--- Statement. The costs of meters that a record names, as those of `advise`.
+-- Statement. The costs of meters that a record names, as an `advise` record does.
 use Rattle.std.specs.Prelude.{ℕ, pos, ℤ, ◌≤ℤ◌, List, [], ◌∷◌, Result, Ok, Err, unwrap_or}
 use Rattle.pb_rows.specs.Records.{without_trailing_empty}
 use Rattle.pb_form.specs.Reading.{tail_read}
@@ -9,17 +9,17 @@ use Rattle.pb_form.specs.declared.fault.FormFault.{FormFault}
 use Rattle.pb_form.specs.declared.session.SessionKind.TheVariants.{Advise}
 use Rattle.pb_kinds.specs.declared.costs.NamedCost.{NamedCost}
 
--- what a meter costs, in whatever unit
+-- what a meter costs, in any unit
 abbrev pub IsMeterCost : ℤ → Type 0
 IsMeterCost cost = (pos 0 ≤ℤ cost) × (cost ≤ℤ pos most_meter_cost)
 
--- the costs that values name, two each: a stream, and what a meter on it costs
+-- the costs that values name, two values for each: a stream, and what a meter on it costs
 abbrev pub costs_in : List Value → List NamedCost
 costs_in (stream ∷ (cost ∷ values)) =
     record { stream = unwrap_or (name_in stream) []; cost = unwrap_or (number_in cost) (pos 0) } ∷ costs_in values
 costs_in values = []
 
--- the same, of values that were read
+-- the same for values that were read
 abbrev pub costs_by : Result (List Value) FormFault → List NamedCost
 costs_by (Ok values) = costs_in values
 costs_by (Err fault) = []

@@ -1,4 +1,4 @@
--- Statement. Laws of what records ask.
+-- Statement. Laws about what records ask for.
 use Rattle.std.specs.Prelude.{◌≡◌, ℕ, List, All, Option, Ok, true}
 use Rattle.std.specs.List.{list_all}
 use Rattle.pb_rows.specs.Name.{is_name}
@@ -16,8 +16,8 @@ use Rattle.pb_kinds.specs.Ranges.{IsEffectInRange}
 use Rattle.pb_kinds.specs.Requests.{request_in, request_of}
 use Rattle.pb_kinds.specs.Versions.{has_kind, may_do}
 
--- The numbers and days of what a record asks to be stored lie in their ranges, its names are of the form, and a row of a session of
--- the version may do it.
+-- The numbers and days of what a record asks to store lie in their ranges, its names have the form of names, and a row of a session
+-- of the version may do it.
 pub record StoredLaw : Type 0 where
   pub in_range : (version : Option Version) (fields : List (List ℕ)) (effect : Effect)
       → request_in version fields ≡ Ok (Store effect) → IsEffectInRange effect
@@ -26,13 +26,14 @@ pub record StoredLaw : Type 0 where
   pub of_version : (version : Option Version) (fields : List (List ℕ)) (effect : Effect)
       → request_in version fields ≡ Ok (Store effect) → may_do version effect ≡ true
 
--- Each cost that a record names that asks for an advice is what a meter may cost.
+-- If a record asks for advice, each cost that it names is a cost that a meter may have.
 abbrev pub NamedCostsLaw : Type 0
 NamedCostsLaw =
     (version : Option Version) (fields : List (List ℕ)) → request_in version fields ≡ Ok Advise
     → All (λ (named : NamedCost). IsMeterCost named.cost) (named_costs fields)
 
--- A record that writes values by the schema of a kind asks what they ask in a row of this kind, in each session that has rows of it.
+-- A record that writes values by the schema of a kind asks for what the values ask for in a row of this kind, in each session that
+-- has rows of the kind.
 abbrev pub AskingLaw : Type 0
 AskingLaw =
     (version : Option Version) (kind : SessionKind) (values : List Value) (fields : List (List ℕ)) → has_kind version kind ≡ true

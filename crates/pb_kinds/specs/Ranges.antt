@@ -1,4 +1,4 @@
--- Statement. The ranges of the numbers and days of what a record asks to be stored.
+-- Statement. The ranges of the numbers and days of what a record asks to store.
 use Rattle.std.specs.Prelude.{ℕ}
 use Rattle.pb_rows.specs.Date.{IsDay}
 use Rattle.pb_site.specs.Row.{IsInRange as IsDeclaredInRange}
@@ -12,7 +12,7 @@ use Rattle.pb_kinds.specs.declared.rows.Effect.TheVariants.{Declares, Opens, Boo
 use Rattle.pb_kinds.specs.declared.rows.Request.{Request}
 use Rattle.pb_kinds.specs.declared.rows.Request.TheVariants.{Store}
 
--- how many assays a book has at the most
+-- the most assays that a book can have
 abbrev pub most_assays : ℕ
 most_assays = 20000
 
@@ -30,7 +30,7 @@ IsEffectInRange (Edits id edit reason) = IsEditInRange edit
 IsEffectInRange (Closes name) = Unit {0}
 IsEffectInRange (Assays assay) = IsGrade assay.grade
 
--- so do those of an effect that is asked to be stored
+-- so do those of an effect that a record asks to store
 abbrev pub IsRequestInRange : Request → Type 0
 IsRequestInRange (Store effect) = IsEffectInRange effect
 IsRequestInRange request = Unit {0}

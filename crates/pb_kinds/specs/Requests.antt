@@ -1,4 +1,4 @@
--- Statement. What a record asks, or the first fault of its fields.
+-- Statement. What a record asks for, or the first fault of its fields.
 use Rattle.std.specs.Prelude.{◌≡◌, ℕ, ◌+◌, ℤ, pos, Bool, true, false, List, [], Option, Some, None, Result, Ok, Err, if◌then◌else◌, unsigned_abs, unwrap_or}
 use Rattle.pb_rows.specs.Records.{without_trailing_empty}
 use Rattle.pb_form.specs.Reading.{row_read}
@@ -26,7 +26,7 @@ use Rattle.pb_kinds.specs.declared.rows.Effect.TheVariants.{Declares, Opens, Boo
 use Rattle.pb_kinds.specs.declared.rows.Request.{Request}
 use Rattle.pb_kinds.specs.declared.rows.Request.TheVariants.{Blank, Store, Design, Report, History, Advise, Window, Component}
 
--- the name, the reason, the number or the day that stands at a place of a row's values; each column holds what its place is asked for
+-- the name, the reason, the number or the day at a place of a row's values; a place is only asked for what its column holds
 abbrev pub name_there : List Value → ℕ → List ℕ
 name_there values place = unwrap_or (value_at name_in values place) []
 
@@ -39,7 +39,7 @@ number_there values place = unwrap_or (value_at number_in values place) (pos 0)
 abbrev pub day_there : List Value → ℕ → ℤ
 day_there values place = unwrap_or (value_at day_in values place) (pos 0)
 
--- a service of which the first day stands at a place and the last one at the next
+-- a service whose first day stands at a place, and its last day at the next
 abbrev pub service_from : List Value → ℕ → Service
 service_from values at = record { since = day_there values at; until = day_there values (at + 1) }
 
@@ -48,7 +48,7 @@ abbrev pub stream_of : Kind → Option Service → List Value → Declared
 stream_of sort service values =
     Stream (name_there values 1) (name_there values 2) (name_there values 3) sort (number_there values 5) service
 
--- a fact whose columns begin at a place: behind the word of its kind, or behind `late` and that word
+-- a fact whose columns begin at a place: after the word of its kind, or after `late` and that word
 abbrev pub reading_from : List Value → ℕ → Fact
 reading_from values at =
     Reading (name_there values at) (name_there values (at + 1)) (day_there values (at + 2)) (number_there values (at + 3))
@@ -73,7 +73,7 @@ assay_in values = record {
   grade = record { ppm = number_there values 4; variance = number_there values 5 };
 }
 
--- the fact of the id in the first column behind the word is edited, for the reason in the column at a place
+-- the fact of the id in the first column after the word is edited, for the reason in the column at a place
 abbrev pub edits : Edit → List Value → ℕ → Request
 edits edit values place = Store (Edits (name_there values 1) edit (reason_there values place))
 
@@ -81,11 +81,11 @@ edits edit values place = Store (Edits (name_there values 1) edit (reason_there 
 abbrev pub declares : Declared → Request
 declares declared = Store (Declares declared)
 
--- a fact is stored, as it comes or late
+-- a fact is stored, on time or late
 abbrev pub books : Bool → Fact → Request
 books late fact = Store (Books fact late)
 
--- What a record of a kind asks, by its values, of which the first is the kind's word.
+-- What a record of a kind asks for, by its values, the first of which is the kind's word.
 abbrev pub request_of : SessionKind → List Value → Request
 request_of kind.Version values = declares Version2
 request_of kind.Boundary values = declares (Boundary (name_there values 1))
@@ -128,7 +128,7 @@ abbrev pub request_by : SessionKind → Result (List Value) FormFault → Result
 request_by kind (Ok values) = Ok (request_of kind values)
 request_by kind (Err fault) = Err fault
 
--- what fields of a kind that was told ask, or the fault
+-- what the fields of a record ask for by the kind that was identified, or the fault
 abbrev pub request_if : Result SessionKind FormFault → List (List ℕ) → Result Request FormFault
 request_if (Ok kind) fields = request_by kind (row_read (session_schema kind) fields)
 request_if (Err fault) fields = Err fault
@@ -138,23 +138,23 @@ abbrev pub kinds_of : Version → List SessionKind
 kinds_of One = kinds_of_version_1
 kinds_of Two = kinds_of_version_2
 
--- what the fields of a record up to the last one that isn't empty ask, in a session that has rows of these kinds
+-- what a record asks for by its fields up to the last one that isn't empty, in a session that has rows of these kinds
 abbrev pub asked_by : List SessionKind → List (List ℕ) → Result Request FormFault
 asked_by kinds [] = Ok Blank
 asked_by kinds fields = request_if (session_told kinds fields) fields
 
--- the same in a session of a version, and in one of which no row is stored yet: then the version may be said, and else it is 1
+-- the same in a session of a version, and in a session without stored rows: then the version may be stated, and it is 1 otherwise
 abbrev pub asked_in : Option Version → List (List ℕ) → Result Request FormFault
 asked_in None fields =
     if is_of fields (session_schema kind.Version) then Ok (declares Version2) else asked_by kinds_of_version_1 fields
 asked_in (Some version) fields = asked_by (kinds_of version) fields
 
--- What a record asks in a session of a version, or its first fault: that of its kind, or that of its fields. The session has no
--- version before its first row is stored. Empty fields at the record's end don't count.
+-- What a record asks for in a session of a version, or its first fault: the fault of its kind, or the fault of its fields. The
+-- session has no version before its first row is stored. Empty fields at the record's end don't count.
 unfoldable pub request_in : Option Version → List (List ℕ) → Result Request FormFault
 request_in version fields = asked_in version (without_trailing_empty fields)
 
--- a record asks for an advice, in a session of some version
+-- a record asks for advice, in a session of some version
 pub record AsksAdvice (fields : List (List ℕ)) : Type 0 where
   pub version : Option Version
   pub asks : request_in version fields ≡ Ok Advise

@@ -48,12 +48,12 @@ pub record IsNumberThere (lo hi : ℤ) (values : List Value) (place : ℕ) : Typ
 abbrev pub IsLongThere : List Value → ℕ → Type 0
 IsLongThere values place = IsNumberThere (neg_ℤ (pos (2 ^ 63))) (pos (2 ^ 63 - 1)) values place
 
--- a record asks that this effect be stored, in each session whose rows may do it, and no empty field stands at its end
+-- a record asks to store this effect, in each session whose rows may do it, and it doesn't end with an empty field
 pub record WritesEffect (effect : Effect) (fields : List (List ℕ)) : Type 0 where
   pub asks : (version : Option Version) → may_do version effect ≡ true → request_in version fields ≡ Ok (Store effect)
   pub filled : without_trailing_empty fields ≡ fields
 
--- what fields say that are pairs of a stream and a cost
+-- what fields that are pairs of a stream and a cost say
 abbrev pub pairs_read : List (List ℕ) → Result (List Value) FormFault
 pairs_read pairs = fields_read (repeated cost_columns [] (length pairs)) pairs
 

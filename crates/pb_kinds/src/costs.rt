@@ -9,14 +9,14 @@ use pb_form::{Fields, SessionKind, read_columns, session_schema};
 use pb_rows::{Name, Row};
 use std::marker::Model;
 
-/// What a meter on a stream costs, in whatever unit.
+/// What a meter on a stream costs, in any unit.
 #[derive(Clone, Copy)]
 pub struct NamedCost {
     pub stream: Name,
     pub cost: i64,
 }
 
-/// The costs that an `advise` row names, in order, lent by the row.
+/// The costs that an `advise` row names, in order, borrowed from the row.
 #[derive(Drop)]
 pub struct NamedCosts<'a> {
     pairs: Fields<'a>,
@@ -37,7 +37,7 @@ impl<'a> Model for NamedCosts<'a> {
 }
 
 impl<'a> NamedCosts<'a> {
-    /// The costs that a record names. It asks for an advice.
+    /// The costs that a record names. The record asks for advice.
     pub fn of(row: &'a Row) -> NamedCosts<'a>
         requires { AsksAdvice row.now }
         ensures { result ≡ named_costs row.now }

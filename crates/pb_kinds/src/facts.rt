@@ -42,7 +42,7 @@ fn read_day(field: &[u8]) -> Option<i32>
     }
 }
 
-// The grams that a field writes, either way.
+// The grams that a field writes, in either direction.
 fn read_grams(field: &[u8]) -> Option<i64>
     ensures { result ≡ within (neg_ℤ (pos most_grams)) (pos most_grams) (number field.now) }
 {

@@ -1,7 +1,7 @@
-//! What a record of a session asks, and what a stored row does: records are read by the table of kinds, and effects written as
-//! records by it.
+//! What a record of a session asks for, and what a stored row does: records are read by the table of kinds, and effects are written
+//! as records by it.
 //!
-//! A new kind of rows is a line of the table in `pb_form`, a line of `request_of` (in `specs/Requests.antt` and `reading.rt`), and one
+//! A new kind of rows is a line of the table in `pb_form`, a line of `request_of` (in `specs/Requests.antt` and `reading.rt`), and an
 //! arm of `write_effect`, if it is stored.
 #![tactic(auto)]
 

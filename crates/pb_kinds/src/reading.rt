@@ -1,4 +1,4 @@
-// What a record asks, by the table of kinds.
+// What a record asks for, by the table of kinds.
 
 ghost use Rattle.std.specs.Prelude.{◌≡◌, ◌≤◌, IfOk, None, Some, true};
 ghost use Rattle.pb_form.specs.Reading.{row_read};
@@ -23,8 +23,8 @@ use pb_form::{
 use pb_rows::Row;
 use pb_site::{Declared, Kind, Service, Version};
 
-/// What a record asks in a session of a version, or the first fault of its fields. Without a version no row is stored yet: the record
-/// may say the version, and else it is read as one of version 1. Empty fields at its end don't count.
+/// What a record asks for in a session of a version, or the first fault of its fields. Without a version no row is stored yet: the
+/// record may state the version, and is read as a record of version 1 otherwise. Empty fields at its end don't count.
 pub fn read_request(version: Option<Version>, row: &Row) -> Result<Request, FormFault>
     ensures value { result ≡ request_in version row.now }
     ensures in_range { IfOk result IsRequestInRange }
@@ -37,7 +37,7 @@ pub fn read_request(version: Option<Version>, row: &Row) -> Result<Request, Form
     }
 }
 
-// What fields ask before a row is stored.
+// What fields ask for before a row is stored.
 fn read_first(fields: &Fields) -> Result<Request, FormFault>
     ensures value { result ≡ asked_in None fields.now }
     ensures in_range { IfOk result IsRequestInRange }
@@ -50,7 +50,7 @@ fn read_first(fields: &Fields) -> Result<Request, FormFault>
     }
 }
 
-// What fields ask in a session of a version.
+// What fields ask for in a session of a version.
 #[inline(always)]
 fn read_fields(version: Version, fields: &Fields) -> Result<Request, FormFault>
     ensures value { result ≡ asked_by (kinds_of version) fields.now }
@@ -64,7 +64,7 @@ fn read_fields(version: Version, fields: &Fields) -> Result<Request, FormFault>
     asked_of(kind, fields)
 }
 
-// What the fields of a row of a kind ask. Most rows are readings, and most of these have no fault: their fields are read once.
+// What the fields of a row of a kind ask for. Most rows are readings, and most readings have no fault: their fields are read once.
 fn asked_of(kind: SessionKind, fields: &Fields) -> Result<Request, FormFault>
     requires { is_of fields.now (session_schema kind) ≡ true }
     ensures value { result ≡ request_by kind (row_read (session_schema kind) fields.now) }
@@ -79,7 +79,7 @@ fn asked_of(kind: SessionKind, fields: &Fields) -> Result<Request, FormFault>
     }
 }
 
-// What the fields of a row of a kind ask, by their values.
+// What the fields of a row of a kind ask for, by their values.
 fn asked_by_values(kind: SessionKind, fields: &Fields) -> Result<Request, FormFault>
     ensures value { result ≡ request_by kind (row_read (session_schema kind) fields.now) }
     ensures in_range { IfOk result IsRequestInRange }
@@ -100,7 +100,7 @@ fn kind_of(version: Version, fields: &Fields) -> Result<SessionKind, FormFault>
     }
 }
 
-// What a record of a kind asks, by its values.
+// What a record of a kind asks for, by its values.
 #[inline(always)]
 fn request_of(kind: SessionKind, values: &Values) -> Request
     requires { FitEach (session_columns kind) values.now }
@@ -154,7 +154,7 @@ fn declares(declared: Declared) -> Request
     Request::Store(Effect::Declares(declared))
 }
 
-// A fact is stored, as it comes or late.
+// A fact is stored, on time or late.
 fn books(late: bool, fact: Fact) -> Request
     ensures { result ≡ books late fact }
 {
@@ -228,7 +228,7 @@ fn strap(values: &Values) -> Request
     })
 }
 
-// `stream,NAME,FROM,TO,KIND,BASEVAR`, of a kind that its word says, and perhaps `SINCE,UNTIL` after that
+// `stream,NAME,FROM,TO,KIND,BASEVAR`, of the kind that its word gives, and perhaps `SINCE,UNTIL` after that
 fn stream(kind: Kind, service: Option<Service>, values: &Values) -> Request
     requires name { IsNameThere values.now 1 }
     requires from { IsNameThere values.now 2 }

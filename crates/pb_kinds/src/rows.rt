@@ -1,19 +1,19 @@
-// What a record asks, and what a stored row does.
+// What a record asks for, and what a stored row does.
 
 use pb_assay::Grade;
 use pb_facts::{Change, Fact};
 use pb_rows::{Name, Reason};
 use pb_site::Declared;
 
-/// The most assays of a book.
+/// The most assays that a book can have.
 pub const MOST_ASSAYS: usize = 20_000;
 
 /// What a stored row does.
 #[derive(Clone, Copy)]
 pub enum Effect {
-    /// A unit, a boundary, a tank, a point of its table, a stream or a critical value is declared, or that the session is of version 2.
+    /// A unit, a boundary, a tank, a point of a tank's table, a stream, a critical value or version 2 of the session is declared.
     Declares(Declared),
-    /// A period begins to exist, from its first day to its last one, both included, as days since 1970-01-01.
+    /// A period begins to exist, from its first day to its last, both included, as days since 1970-01-01.
     Opens {
         name: Name,
         first: i32,
@@ -24,7 +24,7 @@ pub enum Effect {
         fact: Fact,
         late: bool,
     },
-    /// The live fact of this id gets new values or counts no more, and why.
+    /// The live fact of this id gets new values or no longer counts, for this reason.
     Edits {
         id: Name,
         edit: Edit,
@@ -45,17 +45,17 @@ pub struct Assay {
     pub grade: Grade,
 }
 
-/// What becomes of a fact: it gets new values, or it counts no more.
+/// What becomes of a fact: it gets new values, or it no longer counts.
 #[derive(Clone, Copy)]
 pub enum Edit {
     Change(Change),
     Strike,
 }
 
-/// What a record asks.
+/// What a record asks for.
 #[derive(Clone, Copy)]
 pub enum Request {
-    /// Nothing: it has no field that isn't empty.
+    /// Nothing: all its fields are empty.
     Blank,
     Store(Effect),
     /// The classes of the declared plant.
@@ -66,7 +66,7 @@ pub enum Request {
     History(Name),
     /// The cheapest metering of the declared plant, at the costs that the record names.
     Advise,
-    /// The report of consecutive periods at once, from the one of the first name to the one of the second.
+    /// The report of consecutive periods at once, from the period of the first name to the period of the second.
     Window(Name, Name),
     /// The balance of the component of the first name over the period of the second.
     Component(Name, Name),

@@ -29,8 +29,8 @@ use pb_rows::{Name, Reason, Row};
 use pb_site::{Declared, Kind, Service};
 use std::alloc::{AllocError, Global};
 
-/// The record of an effect: in each session whose rows may do it, what it asks is to store this effect, and no empty field stands at
-/// its end.
+/// The record of an effect: in each session whose rows may do the effect, the record asks to store it, and it doesn't end with an
+/// empty field.
 pub fn write_effect(alloc: Global, effect: &Effect) -> Result<Row, AllocError>
     requires { IsEffectInRange effect.now }
     ensures asks { IfOk result (λ row. (version : Option Version) → may_do version effect.now ≡ true
@@ -82,7 +82,7 @@ fn declaration(alloc: Global, declared: &Declared) -> Result<Row, AllocError>
     }
 }
 
-// The record of a fact, as it comes or late.
+// The record of a fact, on time or late.
 fn booking(alloc: Global, fact: &Fact, late: bool) -> Result<Row, AllocError>
     requires { IsFactInRange fact.now }
     ensures { IfOk result (WritesEffect (Books fact.now late)) }

@@ -1,4 +1,4 @@
--- Each printed flow is within its own bounds, and so within its own least bounds.
+-- Each printed flow is within its bounds, and so within its least bounds.
 use Rattle.std.proofs.Common.{◌≡◌, ◌∙◌, ℕ, zero, suc, ℤ, pos, ◌+ℤ◌, ◌-ℤ◌, ◌≤ℤ◌, Bool, true, false, List, [], ◌∷◌, Option, Some, None, slice_get, refl, sym, ap, subst, arith}
 use Rattle.std.specs.Prelude.{is_some, ◌||◌, IfSome, MatchOption}
 use Rattle.std.specs.Option.{option_map}
@@ -52,7 +52,7 @@ own_bounds stage certified j r at =
     (certified.enclosed (whole_flows (printed_flows stage)) (as_good stage certified) j r at)
 
 -- ---- least bounds
--- A number within some bounds is within the middle of itself and them.
+-- A number within some bounds is within the midpoints between itself and these bounds.
 middle_from : (flow sum low width : ℤ) → sum ≡ flow → (low -ℤ width) ≤ℤ flow → (floor_div (sum +ℤ low) (pos 2) -ℤ ceil_div width (pos 2)) ≤ℤ flow
 middle_from flow sum low width same from =
     let below = (floor_is (sum +ℤ low) (pos 2) (omega (arith, ints))).below in

@@ -25,7 +25,7 @@ use Rattle.pb_book.specs.Refusals.{is_closed_named, refusal_of}
 use Rattle.pb_book.specs.Rows.{closed_if_named, open_period, periods_after, periods_of}
 use Rattle.pb_laws.specs.Closing.{ClosedLaw, OpenedLaw, SomeRowCloses, opened_by}
 
--- ---- rows that were accepted one after the other
+-- ---- rows that were accepted one after another
 grown : (P : List StoredRow → Type 0) → ((rows : List StoredRow) (stored : StoredRow) → P rows → IsAcceptable rows stored.effect → P (rows ++ stored ∷ []))
     → (before rest : List StoredRow) → P before → AreAccepted (before ++ rest) → P (before ++ rest)
 grown P step before [] right accepted = subst P (sym (append-nil before)) right
@@ -94,7 +94,7 @@ has_closed_after (Edits id edit reason) name periods is = is
 has_closed_after (Closes other) name periods is = any_image (is_closed_named name) (is_closed_named name) (closed_if_named other) (stays_closed name other) periods is
 has_closed_after (Assays assay) name periods is = is
 
--- a closing that there is no cause to refuse is of a period that there is
+-- a closing without a cause to refuse it is of a period that exists
 there : (rows : List StoredRow) (name : List ℕ) → refusal_of rows (Closes name) ≡ None → list_any (is_named name) (periods_of rows) ≡ true
 there rows name none = by (list_any (is_named name) (periods_of rows)) _ none
   where

@@ -49,7 +49,7 @@ use Rattle.pb_book.specs.Rows.{facts_after, facts_of}
 use Rattle.pb_book.specs.Written.{WriteRows, WritesRow}
 use Rattle.pb_laws.specs.PlainText.{SomePlainTextLaw}
 
--- what the proof stands on
+-- what the proof relies on
 pub record ReadBack : Type 0 where
   pub plain : PlainLaw
   pub text : TextLaw

@@ -1,4 +1,4 @@
--- Statement. A period is closed exactly if an accepted row closes it, and nothing but a row that opens one makes a period.
+-- Statement. A period is closed exactly when an accepted row closes it, and only a row that opens a period makes one.
 use Rattle.std.specs.Prelude.{◌≡◌, ◌↔◌, ℕ, true, List, All, Option, Some, None, filter_map, map}
 use Rattle.std.specs.List.{Any}
 use Rattle.pb_kinds.specs.declared.rows.Effect.{Effect}
@@ -13,7 +13,7 @@ use Rattle.pb_book.specs.Rows.{open_period, periods_of}
 abbrev pub SomeRowCloses : List StoredRow → List ℕ → Type 0
 SomeRowCloses rows name = Any (λ (stored : StoredRow). stored.effect ≡ Closes name) rows
 
--- Each period is closed exactly if some row closes it.
+-- Each period is closed exactly when some row closes it.
 abbrev pub ClosedLaw : Type 0
 ClosedLaw =
     (rows : List StoredRow) → AreAccepted rows
@@ -24,6 +24,6 @@ abbrev pub opened_by : Effect → Option Period
 opened_by (Opens name first last) = Some (open_period name first last)
 opened_by effect = None
 
--- But for their being closed the periods are those that rows open, in order.
+-- Apart from whether they are closed, the periods are those that rows open, in order.
 abbrev pub OpenedLaw : Type 0
 OpenedLaw = (rows : List StoredRow) → map opened (periods_of rows) ≡ filter_map (λ (stored : StoredRow). opened_by stored.effect) rows

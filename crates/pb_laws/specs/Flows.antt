@@ -1,4 +1,4 @@
--- Statement. Each printed flow is within its own bounds, and within its own least bounds.
+-- Statement. Each printed flow is within its bounds, and within its least bounds.
 use Rattle.std.specs.Prelude.{ℤ, ◌≤ℤ◌, IfSome}
 use Rattle.pb_graph.specs.declared.results.Bounds.{Bounds}
 use Rattle.pb_graph.specs.declared.results.Stage.{Stage}

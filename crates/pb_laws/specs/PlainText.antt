@@ -7,8 +7,8 @@ use Rattle.pb_book.specs.Named.{HaveNames}
 use Rattle.pb_book.specs.Plain.{plain_rows}
 use Rattle.pb_book.specs.Written.{WriteRows}
 
--- The plain rows of accepted rows whose names are names have a text: as the rows of a session are, whatever its records, each session
--- has an edited file.
+-- The plain rows of accepted rows whose names are names have a text. The rows of a session are like that, whatever its records, so each
+-- session has an edited file.
 abbrev pub SomePlainTextLaw : Type 0
 SomePlainTextLaw =
     (rows : List StoredRow) → AreAccepted rows → HaveNames rows → (text : List ℕ) × WriteRows (records_of text) (plain_rows rows)

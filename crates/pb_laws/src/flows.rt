@@ -4,12 +4,12 @@ ghost use Rattle.pb_laws.specs.Flows.{OwnBoundsLaw, OwnLeastBoundsLaw};
 
 use pb_gap::stream_law;
 
-/// The law that each printed flow of a certified stage is within its own bounds.
+/// The law that each printed flow of a certified stage is within its bounds.
 pub fn own_bounds_law()
     ensures { OwnBoundsLaw }
 {}
 
-/// The law that it is within its own least bounds, too: these hold the middle of it and of each number within its bounds.
+/// The law that it is within its least bounds, too: these contain the midpoint between it and each number within its bounds.
 pub fn own_least_bounds_law()
     ensures { OwnLeastBoundsLaw }
 {

@@ -1,4 +1,4 @@
-//! What follows of the definitions of other crates, for whoever reads them.
+//! What follows from the definitions of other crates, for whoever reads them.
 //!
 //! The functions are empty: the contract of each is a law.
 #![tactic(auto)]

@@ -4,7 +4,7 @@ ghost use Rattle.pb_laws.specs.Closing.{ClosedLaw, OpenedLaw};
 
 use pb_book::accepted_law;
 
-/// The law that a period is closed exactly if an accepted row closes it, and that only rows that open a period make one.
+/// The law that a period is closed exactly when an accepted row closes it, and that only rows that open a period make one.
 pub fn closed_law()
     ensures closed { ClosedLaw }
     ensures opened { OpenedLaw }

@@ -1,4 +1,4 @@
--- The inner product of lists of errors: linear on both sides, and 0 with a list whose own squares are 0.
+-- The inner product of lists of errors: linear on both sides, and 0 with a list whose inner product with itself is 0.
 use Rattle.std.proofs.Common.{◌≡◌, ◌∙◌, ℕ, zero, suc, ℤ, pos, neg_ℤ, ◌+ℤ◌, ◌*ℤ◌, ◌≤ℤ◌, List, [], ◌∷◌, length, Option, Some, None, slice_get, IsSome, refl, ap, ap₂, arith}
 use Rattle.std.specs.Prelude.{IfSome}
 use Rattle.std.specs.Int.{int_div_euclid}

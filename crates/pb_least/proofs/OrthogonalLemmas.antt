@@ -134,7 +134,7 @@ extended t n ds es lt d flat across ys h =
     } in
     first_none c a (inner t.graph es ys) (inner t.graph es ds) d.there (sym (right t c a es ys ds h.balanced.each d.before.balanced.each) ∙ flat zs before) across
 
--- ---- one chord more: the part along the direction is taken away, unless the direction has no squares
+-- ---- one more chord: the part along the direction is taken away, unless the direction has no squares
 record IsStep (t : Setting) (n : ℕ) (ds es : List ℤ) : Type 0 where
   lt : n < length t.held
   direction : IsDirection t n ds

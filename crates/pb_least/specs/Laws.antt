@@ -22,7 +22,7 @@ OneLeastLaw = (graph : ProcessGraph) (x y : Fractional) (stream_id : ℕ) (class
     → IsProcessGraph graph → IsLeast graph x → IsLeast graph y → IsClassOf graph stream_id class → class ≢ Unobservable
     → HaveSameFlow x y stream_id
 
--- Of an unobservable stream another least vector has another flow: some amount may circulate unseen.
+-- For an unobservable stream another least vector has another flow: some amount may circulate unseen.
 abbrev pub OtherLeastLaw : Type 0
 OtherLeastLaw = (graph : ProcessGraph) (x : Fractional) (stream_id : ℕ)
     → IsProcessGraph graph → IsLeast graph x → IsClassOf graph stream_id Unobservable

@@ -11,8 +11,8 @@ pub fn some_least_law()
     weight_law();
 }
 
-/// The law that least squares solutions have the same flow of each stream that is measured or that the measured ones determine, and of
-/// no other.
+/// The law that least squares solutions have the same flow for each stream that is measured or that the measured ones determine, and for no
+/// other.
 pub fn one_least_law()
     ensures same { OneLeastLaw }
     ensures other { OtherLeastLaw }

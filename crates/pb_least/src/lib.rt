@@ -1,4 +1,4 @@
-//! Least vectors: each process graph has one, and they differ only where the measurements say nothing.
+//! Least vectors: each process graph has one, and they differ only on streams about which the measurements say nothing.
 //!
 //! The functions are empty: the contract of each is a law.
 #![tactic(auto)]

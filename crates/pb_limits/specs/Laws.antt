@@ -1,9 +1,9 @@
--- Statement. A constant of the code is the number of its definition.
+-- Statement. Each constant of the code equals the number in its definition.
 use Rattle.std.specs.Prelude.{◌≡◌, pos}
 use Rattle.pb_limits.specs.Limits.{most_units_and_tanks, most_nodes, most_streams, most_streams_of_version_1, most_made_streams, most_boundaries, most_points, most_periods, most_periods_of_window, most_facts, most_days_of_period, most_days_of_transfer, most_bytes, most_level, most_volume, most_density, most_grams, most_row_variance, most_grade, most_grade_variance, most_critical, most_freedom, most_value, most_variance, most_gap, most_sweeps, most_rounds}
 use Rattle.pb_limits.specs.declared.TheConstants.{MOST_UNITS_AND_TANKS, MOST_NODES, MOST_STREAMS, MOST_STREAMS_OF_VERSION_1, MOST_MADE_STREAMS, MOST_BOUNDARIES, MOST_POINTS, MOST_PERIODS, MOST_PERIODS_OF_WINDOW, MOST_FACTS, MOST_DAYS_OF_PERIOD, MOST_DAYS_OF_TRANSFER, MOST_BYTES, MOST_LEVEL, MOST_VOLUME, MOST_DENSITY, MOST_GRAMS, MOST_ROW_VARIANCE, MOST_GRADE, MOST_GRADE_VARIANCE, MOST_CRITICAL, MOST_FREEDOM, MOST_VALUE, MOST_VARIANCE, MOST_GAP, MOST_SWEEPS, MOST_ROUNDS}
 
--- how much there may be of each thing
+-- how many there may be of each thing
 pub record AreCounts : Type 0 where
   pub units_and_tanks : MOST_UNITS_AND_TANKS ≡ most_units_and_tanks
   pub nodes : MOST_NODES ≡ most_nodes
@@ -19,7 +19,7 @@ pub record AreCounts : Type 0 where
   pub days_of_transfer : MOST_DAYS_OF_TRANSFER ≡ pos most_days_of_transfer
   pub bytes : MOST_BYTES ≡ most_bytes
 
--- how great the numbers of rows may be
+-- how large the numbers of rows may be
 pub record AreRanges : Type 0 where
   pub level : MOST_LEVEL ≡ pos most_level
   pub volume : MOST_VOLUME ≡ pos most_volume
@@ -31,7 +31,7 @@ pub record AreRanges : Type 0 where
   pub critical : MOST_CRITICAL ≡ pos most_critical
   pub freedom : MOST_FREEDOM ≡ most_freedom
 
--- how great the numbers of a graph may be, and what may be asked of its study
+-- how large the numbers of a graph may be, and what may be asked of its study
 pub record AreGraphRanges : Type 0 where
   pub value : MOST_VALUE ≡ most_value
   pub variance : MOST_VARIANCE ≡ pos most_variance

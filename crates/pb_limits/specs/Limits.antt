@@ -1,55 +1,55 @@
--- Statement. The limits of a plant, of its book and of a run, each one number.
+-- Statement. The limits of a plant, of its book and of a run, each a single number.
 use Rattle.std.specs.Prelude.{ℕ, ◌^◌}
 
--- how many units and tanks a plant has at the most
+-- the most units and tanks that a plant may have
 abbrev pub most_units_and_tanks : ℕ
 most_units_and_tanks = 1000
 
--- how many nodes a process graph has at the most: units, tanks and the environment
+-- the most nodes that a process graph may have: units, tanks and the environment
 abbrev pub most_nodes : ℕ
 most_nodes = 1001
 
--- how many streams a process graph has at the most: declared streams and inventories of tanks
+-- the most streams that a process graph may have: declared streams and inventories of tanks
 abbrev pub most_streams : ℕ
 most_streams = 4000
 
--- how many streams a process graph of a session of version 1 has at the most
+-- the most streams that a process graph of a session of version 1 may have
 abbrev pub most_streams_of_version_1 : ℕ
 most_streams_of_version_1 = 2000
 
--- how many streams a made session has at the most
+-- the most streams that a made session may have
 abbrev pub most_made_streams : ℕ
 most_made_streams = 2000
 
--- how many boundaries a plant has at the most, beside the environment
+-- the most boundaries that a plant may have, not counting the environment
 abbrev pub most_boundaries : ℕ
 most_boundaries = 100
 
--- how many points the strapping table of a tank has at the most
+-- the most points that the strapping table of a tank may have
 abbrev pub most_points : ℕ
 most_points = 2000
 
--- how many periods a book has at the most
+-- the most periods that a book may have
 abbrev pub most_periods : ℕ
 most_periods = 1000
 
--- how many periods a window has at the most
+-- the most periods that a window may have
 abbrev pub most_periods_of_window : ℕ
 most_periods_of_window = 31
 
--- how many facts (readings, transfers and dips) a book has at the most
+-- the most facts (readings, transfers and dips) that a book may have
 abbrev pub most_facts : ℕ
 most_facts = 200000
 
--- how many days a period has at the most
+-- the most days that a period may have
 abbrev pub most_days_of_period : ℕ
 most_days_of_period = 100
 
--- how many days a transfer lasts at the most
+-- the most days that a transfer may last
 abbrev pub most_days_of_transfer : ℕ
 most_days_of_transfer = 366
 
--- how many bytes the input of a run has at the most
+-- the most bytes that the input of a run may have
 abbrev pub most_bytes : ℕ
 most_bytes = 67108864
 
@@ -85,7 +85,7 @@ most_grade_variance = 10 ^ 8
 abbrev pub most_critical : ℕ
 most_critical = 10 ^ 12
 
--- the most degrees of freedom that a critical value can be of
+-- the most degrees of freedom that a critical value can have
 abbrev pub most_freedom : ℕ
 most_freedom = 2000
 

@@ -22,7 +22,7 @@ IsDensity density = (pos 1 ≤ℤ density) × (density ≤ℤ pos most_density)
 abbrev pub IsVariance : ℤ → Type 0
 IsVariance variance = (pos 0 ≤ℤ variance) × (variance ≤ℤ pos most_row_variance)
 
--- the variance that a measured stream has beside those of its facts, in squared grams
+-- the variance that a measured stream has in addition to those of its facts, in squared grams
 abbrev pub IsBaseVariance : ℤ → Type 0
 IsBaseVariance variance = (pos 1 ≤ℤ variance) × (variance ≤ℤ pos most_row_variance)
 

@@ -1,5 +1,5 @@
-//! The limits of a plant, of its book and of a run: each is one number in a definition, which clauses cite,
-//! and a constant of the code that is that number.
+//! The limits of a plant, of its book and of a run. Each is one number in a definition, which clauses cite,
+//! and a constant of the code that equals it.
 #![tactic(auto)]
 
 ghost use Rattle.pb_limits.specs.Laws.{AreCounts, AreGraphRanges, AreRanges};
@@ -19,7 +19,7 @@ pub const MOST_STREAMS_OF_VERSION_1: usize = 2_000;
 /// The most streams of a made session.
 pub const MOST_MADE_STREAMS: u32 = 2_000;
 
-/// The most boundaries of a plant, beside the environment.
+/// The most boundaries of a plant, not counting the environment.
 pub const MOST_BOUNDARIES: usize = 100;
 
 /// The most points of the strapping table of a tank.
@@ -67,7 +67,7 @@ pub const MOST_GRADE_VARIANCE: i64 = 100_000_000;
 /// The greatest critical value, in thousandths.
 pub const MOST_CRITICAL: i64 = 1_000_000_000_000;
 
-/// The most degrees of freedom that a critical value can be of.
+/// The most degrees of freedom that a critical value can have.
 pub const MOST_FREEDOM: u32 = 2_000;
 
 /// The greatest measured value of a process graph, in grams, either way.
@@ -85,7 +85,7 @@ pub const MOST_SWEEPS: u32 = 100_000;
 /// The most rounds of elimination that may be asked of a study.
 pub const MOST_ROUNDS: u32 = 20;
 
-/// Each constant is the number of its definition.
+/// Each constant equals the number in its definition.
 pub fn limits_law()
     ensures counts { AreCounts }
     ensures ranges { AreRanges }

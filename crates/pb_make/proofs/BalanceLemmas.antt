@@ -46,7 +46,7 @@ compared a b = elim (cases_Bool (nat_lt a b)) [
 
 -- ---- one side stream
 
--- what it takes from the stream into a unit, less what it takes from the one out of it, and what it brings there
+-- what it takes from the stream into a unit, less what it takes from the stream out of it, and what it brings there
 abbrev by_tests : (passes back passes_next back_next ends begins : Bool) → ℤ → ℤ
 by_tests passes back passes_next back_next ends begins f =
     ((if passes then neg_ℤ f else if back then f else pos 0) -ℤ (if passes_next then neg_ℤ f else if back_next then f else pos 0))
@@ -106,7 +106,7 @@ sides_even units u (side ∷ sides) fit some =
 
 -- ---- the line
 
--- what is behind both ends brings nothing
+-- the streams after both ends bring nothing
 line_behind : (units u from count : ℕ) (sides : List MadeStream) → u + 2 ≤ from → 1 ≤ u → from + count ≤ units + 2 → sum_over (brought_to u) (map (line_stream units sides) (range_with_len from count)) ≡ pos 0
 line_behind units u from zero sides behind some fits = refl
 line_behind units u from (suc count) sides behind some fits =
@@ -120,7 +120,7 @@ line_behind units u from (suc count) sides behind some fits =
     by true = rw (apart 0 u (λ e. absurd (omega (arith, e, some))), apart (from - 1) u (λ e. absurd (omega (arith, e, behind)))) refl
     by false = rw (apart from u (λ e. absurd (omega (arith, e, behind))), apart (from - 1) u (λ e. absurd (omega (arith, e, behind)))) refl
 
--- the stream into a unit brings its flow, and the one out of it takes its own
+-- the stream into a unit brings its flow, and the stream out of it takes its flow
 into_unit : (units u : ℕ) (sides : List MadeStream) → 1 ≤ u → u ≤ units → brought_to u (line_stream units sides u) ≡ line_truth sides u
 into_unit units u sides some within =
     rw (apart u (units + 1) (λ e. absurd (omega (arith, e, within))), same u u refl, apart (u - 1) u (λ e. absurd (omega (arith, e, some)))) (omega (arith, ints))

@@ -36,7 +36,7 @@ abbrev pub streams_from : ℕ → List MadeStream → List Declared
 streams_from i [] = []
 streams_from i (stream ∷ streams) = declared_stream i stream ∷ streams_from (i + 1) streams
 
--- so many units, these streams, and what is declared behind them
+-- this many units, these streams, and what is declared after them
 abbrev pub plant_of : ℕ → List MadeStream → List Declared → List Declared
 plant_of n streams more = units 1 n ++ (streams_from 1 streams ++ more)
 
@@ -87,7 +87,7 @@ pub unit_arcs : (boundaries nodes : List (List ℕ)) (from count : ℕ) → filt
 unit_arcs boundaries nodes from zero = refl
 unit_arcs boundaries nodes from (suc count) = unit_arcs boundaries nodes (from + 1) count
 
--- declarations behind the plant that are of no node, no boundary and no arc
+-- declarations after the plant that are of no node, no boundary and no arc
 pub record AreOther (more : List Declared) : Type 0 where
   pub first : version_of more ≡ One
   pub no_node : filter_map declared_node more ≡ []

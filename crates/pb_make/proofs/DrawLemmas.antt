@@ -35,7 +35,7 @@ three_draws number place s t u v a b c so_far t_is u_is v_is a_is b_is c_is =
       state_is = next_draw number (3 * place + 2) (3 * (place + 1)) u v two v_is (omega arith);
     }
 
--- one more draw behind so many
+-- one more draw after this many
 pub one_draw : (number draws more s t : ℕ) → s ≡ state_after number draws → t ≡ next_state s → more ≡ draws + 1 → t ≡ state_after number more
 one_draw number draws more s t so_far is next = next_draw number draws more s t so_far is (omega (arith, next))
 

@@ -1,4 +1,4 @@
--- Each row of a made session is taken behind those before it.
+-- Each row of a made session is taken after those before it.
 use Rattle.std.proofs.Common.{◌≡◌, ◌≤◌, ◌<◌, ◌∙◌, ℕ, zero, suc, ◌+◌, ◌^◌, ◌++◌, ◌∷◌, [], List, Bool, true, false, ℤ, pos, length, ap, ap₂, refl, sym, subst, arith, append-nil, append_assoc, length-append}
 use Rattle.std.specs.Prelude.{◌&&◌, ◌||◌, not, map, filter_map, codes, is_some, slice_get}
 use Rattle.std.specs.List.{AllByRecursion, range_with_len}
@@ -55,11 +55,11 @@ unit_fine k few =
     nodes_of from zero = refl
     nodes_of from (suc count) = ap (λ (l : List (List ℕ)). node_name from ∷ l) (nodes_of (from + 1) count)
 
--- what is to be shown of the rows that are left
+-- what is to be shown of the remaining rows
 abbrev pub Rest : (List StoredRow → Type 0) → List Declared → List KeptFact → List Period → List (List (List ℕ)) → Type 0
 Rest Holds declared kept periods records = (rows : List StoredRow) (at : ℕ) → IsAt rows declared kept periods → AreTaken Holds rows at records
 
--- the units that are left, behind k of them
+-- the remaining units, after k of them
 pub units_taken : Asks → (Holds : List StoredRow → Type 0) (k left : ℕ) (records : List (List (List ℕ))) → k + left ≤ 1000 → Rest Holds (units 1 (k + left)) [] [] records
     → Rest Holds (units 1 k) [] [] (map unit_row (range_with_len (k + 1) left) ++ records)
 units_taken law Holds k zero records few rest rows at is =
@@ -108,7 +108,7 @@ stream_fine n i streams stream few less is made =
       room = fewer most_made_streams (length (arcs_of declared)) (omega (arith, many, less));
     }
 
--- the streams that are left, behind those before them
+-- the remaining streams, after those before them
 pub streams_taken : Asks → (Holds : List StoredRow → Type 0) (n i : ℕ) (before streams : List MadeStream) (records : List (List (List ℕ))) → n ≤ 1000 → length before + length streams ≤ most_made_streams → i ≡ length before + 1
     → AllByRecursion (IsMade n) streams → Rest Holds (plant_of n (before ++ streams) []) [] [] records → Rest Holds (plant_of n before []) [] [] (stream_rows i streams ++ records)
 streams_taken law Holds n i before [] records few less is made rest rows at here =
@@ -167,7 +167,7 @@ measure_fine n streams periods = record {
   room = refl;
 }
 
--- one more declaration behind the plant
+-- one more declaration after the plant
 plant_more : (n : ℕ) (streams : List MadeStream) (more : List Declared) (row : Declared) → plant_of n streams more ++ row ∷ [] ≡ plant_of n streams (more ++ row ∷ [])
 plant_more n streams more row =
     append_assoc (units 1 n) (streams_from 1 streams ++ more) (row ∷ []) ∙ ap (λ (l : List Declared). units 1 n ++ l) (append_assoc (streams_from 1 streams) more (row ∷ []))

@@ -15,11 +15,11 @@ use Rattle.pb_make.specs.Plant.{change_of, end_from, leads_back, least_streams, 
 
 -- ---- side streams
 
--- a remainder is below what is divided by
+-- a remainder is below the divisor
 below : (a b : ℕ) → 1 ≤ b → a % b < b
 below a b some = omega (arith, some)
 
--- where a side stream leads to
+-- the node that a side stream leads to
 end_is : (units from to : ℕ) → 1 ≤ from → to ≤ units → (end_from from to ≤ units) × (from ≢ end_from from to)
 end_is units from to some few = elim (cases_Bool (to == from)) [
   | inl same ↦ rw same (omega (arith, some, few), λ e. absurd (omega (arith, e, some)))

@@ -1,4 +1,4 @@
--- Each reading of a made session is taken behind those before it, and its report is one of the period.
+-- Each reading of a made session is taken after those before it, and its report is one of the period.
 use Rattle.std.proofs.Common.{◌≡◌, ◌≢◌, ◌≤◌, ◌<◌, ◌∙◌, ℕ, zero, suc, ◌+◌, ◌/◌, ◌%◌, ◌++◌, ◌∷◌, [], List, Bool, true, false, ℤ, pos, negsuc, ◌*ℤ◌, Some, All, length, ap, ap₂, refl, sym, subst, arith, inl, inr}
 use Rattle.std.specs.Prelude.{◌-◌, ◌==◌, ◌&&◌, ◌||◌, ◌≤ℤ◌, map, neg_ℤ, find, position, if◌then◌else◌}
 use Rattle.std.specs.Int.{int_div_euclid}
@@ -117,7 +117,7 @@ kept_at number sides streams place = record { fact = fact_at number sides stream
 abbrev pub kept_to : ℕ → ℕ → List MadeStream → ℕ → List KeptFact
 kept_to number sides streams count = map (kept_at number sides streams) (range_with_len 0 count)
 
--- no reading is told twice
+-- no reading repeats another
 no_repeat : (number sides : ℕ) (streams : List MadeStream) (p q : ℕ) → p ≢ q
     → is_repeat (fact_at number sides streams p) (kept_at number sides streams q) ≡ false
 no_repeat number sides streams p q other =
@@ -189,7 +189,7 @@ error_fits draw =
     let small : draw % 2001 < 2001 = omega arith in
     (omega (arith, ints, small), omega (arith, ints, small))
 
--- the readings that are left, behind those before them
+-- the remaining readings, after those before them
 pub readings_taken : Asks → (Holds : List StoredRow → Type 0) → (number sides n place left : ℕ) (streams : List MadeStream) (records : List (List (List ℕ))) → length streams ≤ most_made_streams
     → All (IsMade n) streams → place + left ≤ readings_of (length streams)
     → Rest Holds (plant_of n streams (nodal ∷ measure ∷ [])) (kept_to number sides streams (place + left)) (the_period ∷ []) records

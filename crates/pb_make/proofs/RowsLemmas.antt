@@ -1,4 +1,4 @@
--- Texts of rows, one row more at a time.
+-- Texts of rows, one more row at a time.
 use Rattle.std.proofs.Common.{◌≡◌, ◌∙◌, ℕ, ◌+◌, ◌<◌, List, [], ◌∷◌, ◌++◌, ℤ, length, get_or, drop, sym, ap, append_assoc, append-nil}
 use Rattle.std.specs.Prelude.{map}
 use Rattle.std.specs.List.{range_with_len}
@@ -23,7 +23,7 @@ made_more f first n j front old new at adds so_far =
     adds ∙ row_more front old (map f (range_with_len first n)) (f j) so_far
     ∙ ap (λ (rows : List (List (List ℕ))). front ++ text_of_rows rows) (sym (map-range_with_len_more f first n j at))
 
--- one row less that is left
+-- one remaining row fewer
 pub stream_next : (front old new : List ℕ) (streams : List MadeStream) (k : ℕ) (d : MadeStream) → k < length streams → AddsLine old new (stream_row (k + 1) (get_or streams k d))
     → old ++ text_of_rows (stream_rows (k + 1) (drop k streams)) ≡ front
     → new ++ text_of_rows (stream_rows (k + 1 + 1) (drop (k + 1) streams)) ≡ front
@@ -46,7 +46,7 @@ reading_is number sides place truth draw plant old new truth_is draw_is adds =
     adds ∙ ap (λ (t : ℤ). old ++ line_of (reading_row place t draw)) truth_is
     ∙ ap (λ (d : ℕ). old ++ line_of (reading_row place (truth_at plant (stream_read place)) d)) draw_is
 
--- the parts of a session one after the other
+-- the parts of a session, one after another
 pub joined : (units streams middle readings : List (List (List ℕ))) (last : List (List ℕ)) (a b c d e f : List ℕ) → a ≡ [] → b ≡ a ++ text_of_rows units → c ≡ b ++ text_of_rows streams
     → d ≡ c ++ text_of_rows middle → e ≡ d ++ text_of_rows readings → AddsLine e f last → f ≡ text_of_rows ((units ++ (streams ++ (middle ++ readings))) ++ last ∷ [])
 joined units streams middle readings last a b c d e f a_is b_is c_is d_is e_is adds =

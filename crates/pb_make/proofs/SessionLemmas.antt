@@ -100,7 +100,7 @@ stored_taken law number streams least most =
     sum : (n : ℕ) → n ≡ 0 + n
     sum n = omega arith
 
--- more records behind those that are taken
+-- more records after those that are taken
 taken_then : (Before After : List StoredRow → Type 0) (rows : List StoredRow) (at : ℕ) (first rest : List (List (List ℕ))) → AreTaken Before rows at first
     → ((stored : List StoredRow) (next : ℕ) → Before stored → AreTaken After stored next rest) → AreTaken After rows at (first ++ rest)
 taken_then Before After rows at [] rest taken more = more rows at taken
@@ -120,7 +120,7 @@ period_stored law number streams least most =
     subst (λ (records : List (List (List ℕ))). AreTaken HasMadePeriod [] 1 records) (append-nil (stored_rows number streams))
     (taken_then (IsMadeOf number streams) HasMadePeriod [] 1 (stored_rows number streams) [] (stored_taken law number streams least most) (λ rows next is. is.periods_is))
 
--- ---- how many rows there are
+-- ---- the number of rows
 
 stream_count : (i : ℕ) (streams : List MadeStream) → length (stream_rows i streams) ≡ length streams
 stream_count i [] = refl

@@ -1,4 +1,4 @@
--- Rows that are taken one behind the other: what is stored after each.
+-- Rows that are taken one after another: what is stored after each.
 use Rattle.std.proofs.Common.{◌≡◌, ◌<◌, ◌∙◌, ℕ, ◌++◌, ◌∷◌, [], List, false, ℤ, None, Ok, ap, ap₂, refl, sym, subst, arith, inl, inr, append-nil}
 use Rattle.std.specs.Prelude.{nat_le}
 use Rattle.std.proofs.lemmas.Bool.{cases_Bool, leb-true}
@@ -49,7 +49,7 @@ pub record HasNoCause (declared : List Declared) (kept : List KeptFact) (periods
 no_refusal : (declared : List Declared) (kept : List KeptFact) (periods : List Period) (effect : Effect) → HasNoCause declared kept periods effect → refusal_behind One declared kept periods [] effect ≡ None
 no_refusal declared kept periods effect none = rw (none.known, none.new, none.ordered, none.matching, none.unsealed, none.still_open, none.in_range, none.room) refl
 
--- no cause to refuse it behind the stored rows
+-- no cause to refuse it after the stored rows
 none_behind : (rows : List StoredRow) (declared : List Declared) (kept : List KeptFact) (periods : List Period) (effect : Effect) → IsAt rows declared kept periods
     → HasNoCause declared kept periods effect → refusal_of rows effect ≡ None
 none_behind rows declared kept periods effect is none =

@@ -1,12 +1,12 @@
--- Inside. The bounds that the streams of a made plant keep.
+-- Inside. The bounds within which the streams of a made plant stay.
 use Rattle.std.specs.Prelude.{◌≢◌, ℕ, ◌≤◌, ◌≤ℤ◌, pos}
 use Rattle.pb_make.specs.declared.plant.MadeStream.{MadeStream}
 
--- the greatest flow of a side stream, in grams a day
+-- the greatest flow of a side stream, in grams per day
 abbrev pub most_side_grams : ℕ
 most_side_grams = 10000000
 
--- a stream from a unit to another one of so many, or out of the plant, with a flow from 10^6 up to 10^7 grams a day
+-- a stream from one of this many units to another, or out of the plant, with a flow from 10^6 to 10^7 grams per day
 pub record IsSide (units : ℕ) (side : MadeStream) : Type 0 where
   pub begins : 1 ≤ side.from
   pub within : side.from ≤ units
@@ -15,7 +15,7 @@ pub record IsSide (units : ℕ) (side : MadeStream) : Type 0 where
   pub least : pos 1000000 ≤ℤ side.truth
   pub most : side.truth ≤ℤ pos most_side_grams
 
--- a stream from a node to another one of so many units, with a flow from 1 up to 10^11 grams a day
+-- a stream between two different nodes of a plant of this many units, with a flow from 1 to 10^11 grams per day
 pub record IsMade (units : ℕ) (stream : MadeStream) : Type 0 where
   pub within : stream.from ≤ units
   pub ends : stream.to ≤ units

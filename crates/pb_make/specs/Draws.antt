@@ -1,11 +1,11 @@
--- Statement. Numbers that look as if they were drawn by lot, the same at each run: a linear congruential generator.
+-- Statement. Numbers that look as if they were drawn by lot, the same in each run: a linear congruential generator.
 use Rattle.std.specs.Prelude.{ℕ, zero, suc, ◌+◌, ◌*◌, ◌^◌, ◌/◌, ◌%◌}
 
 -- the state after the next draw: the linear congruential generator modulo 2^64 with the constants of MMIX (Knuth)
 abbrev pub next_state : ℕ → ℕ
 next_state state = (state * 6364136223846793005 + 1442695040888963407) % 2 ^ 64
 
--- the state after so many draws; it begins at a number
+-- the state after this many draws; it begins at a number
 abbrev pub state_after : ℕ → ℕ → ℕ
 state_after number zero = number
 state_after number (suc draws) = next_state (state_after number draws)

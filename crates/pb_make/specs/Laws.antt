@@ -11,19 +11,19 @@ use Rattle.pb_make.specs.Plant.{least_streams, made_streams, units_of}
 use Rattle.pb_make.specs.Readings.{is_plain, metered_at, metered_of, readings_of}
 use Rattle.pb_make.specs.Rows.{january, made_period, session_rows, session_text, stored_rows}
 
--- none of these records, which are numbered from `at`, is refused behind these stored rows and the ones before it, and this holds
--- of what is stored in the end
+-- none of these records, which are numbered from `at`, is refused after these stored rows and the records before it, and `Holds` is true of
+-- what is stored in the end
 abbrev pub AreTaken : (List StoredRow → Type 0) → List StoredRow → ℕ → List (List (List ℕ)) → Type 0
 AreTaken Holds rows at [] = Holds rows
 AreTaken Holds rows at (fields ∷ records) =
     (is_refused (answer_of rows fields) ≡ false)
     × AreTaken Holds (after rows at fields) (at + 1) records
 
--- nothing is asked of it
+-- any stored rows will do
 abbrev pub Anything : List StoredRow → Type 0
 Anything rows = Unit {0}
 
--- the one period is that of the session, which nothing closed
+-- the only period is that of the session, and nothing closed it
 abbrev pub HasMadePeriod : List StoredRow → Type 0
 HasMadePeriod rows =
     periods_of rows
@@ -46,19 +46,19 @@ AcceptedLaw =
     (number streams : ℕ) → least_streams ≤ streams → streams ≤ most_made_streams
     → AreTaken Anything [] 1 (records_of (session_text number streams))
 
--- before its last record, which asks for the report, it has stored its one period
+-- before its last record, which asks for the report, it has stored its only period
 abbrev pub PeriodLaw : Type 0
 PeriodLaw =
     (number streams : ℕ) → least_streams ≤ streams → streams ≤ most_made_streams
     → AreTaken HasMadePeriod [] 1 (stored_rows number streams)
 
--- how many rows the session has: one for each unit, stream and reading, and those of the period, its critical values and the report
+-- the number of rows of the session: one for each unit, stream and reading, and those of the period, its critical values and the report
 abbrev pub CountLaw : Type 0
 CountLaw =
     (number streams : ℕ) → least_streams ≤ streams → streams ≤ most_made_streams
     → length (session_rows number streams) ≡ units_of streams + streams + readings_of streams + 4
 
--- what a stream brings to a node: its true flow where it ends there, less its true flow where it begins there
+-- what a stream brings to a node: its true flow if it ends there, less its true flow if it begins there
 abbrev pub brought_to : ℕ → MadeStream → ℤ
 brought_to node stream =
     (if stream.to == node then stream.truth else pos 0)
@@ -70,7 +70,7 @@ BalanceLaw =
     (number streams unit : ℕ) → least_streams ≤ streams → streams ≤ most_made_streams → 1 ≤ unit
     → unit ≤ units_of streams → sum_over (brought_to unit) (made_streams number streams) ≡ pos 0
 
--- the metered streams in order: each of the first ones is metered, they rise, and each metered one is there
+-- the metered streams in order: each place has a metered stream, they rise, and each metered stream has a place
 pub record AreMetered : Type 0 where
   pub metered : (place : ℕ) → is_plain (metered_at place) ≡ false
   pub rise : (place : ℕ) → metered_at place < metered_at (place + 1)

@@ -6,27 +6,27 @@ use Rattle.pb_integers.specs.Sums.{sum_over}
 use Rattle.pb_make.specs.declared.plant.MadeStream.{MadeStream}
 use Rattle.pb_make.specs.Draws.{draw_at}
 
--- how many streams a made session has at the least
+-- the least number of streams of a made session
 abbrev pub least_streams : ℕ
 least_streams = 3
 
--- how many units there are, of so many streams; they are numbered from 1, and 0 stands for the environment
+-- the number of units of a plant of this many streams; they are numbered from 1, and 0 stands for the environment
 abbrev pub units_of : ℕ → ℕ
 units_of streams = streams / 3 + 1
 
--- how many side streams there are: the line has a stream before each unit and one behind the last
+-- the number of side streams: the line has a stream before each unit and one after the last
 abbrev pub sides_of : ℕ → ℕ
 sides_of streams = streams - (units_of streams + 1)
 
--- what the line carries before a side stream leaves or joins it, in grams a day
+-- what the line carries before a side stream leaves or joins it, in grams per day
 abbrev pub line_grams : ℤ
 line_grams = pos 50000000000
 
--- a side stream that would lead to where it begins leads out of the plant
+-- a side stream that would lead back to the node where it begins leads out of the plant instead
 abbrev pub end_from : ℕ → ℕ → ℕ
 end_from from to = if to == from then 0 else to
 
--- the side stream of three draws: where it begins, where it leads to, and its true flow in grams a day
+-- the side stream of three draws: the node where it begins, the node that it leads to, and its true flow in grams per day
 abbrev pub side_by : ℕ → ℕ → ℕ → ℕ → MadeStream
 side_by units first second third = record {
   from = first % units + 1;
@@ -45,11 +45,11 @@ abbrev pub side_streams : ℕ → ℕ → List MadeStream
 side_streams number streams =
     map (side_at number (units_of streams)) (range_with_len 0 (sides_of streams))
 
--- a side stream passes by a stream of the line, which carries so much less: it leads forward, or out of the plant
+-- a side stream passes by a stream of the line, which carries that much less: it leads forward, or out of the plant
 abbrev pub passes_by : MadeStream → ℕ → Bool
 passes_by side i = nat_lt side.from i && ((side.to == 0) || nat_le i side.to)
 
--- a side stream leads back over a stream of the line, which carries so much more
+-- a side stream leads back over a stream of the line, which carries that much more
 abbrev pub leads_back : MadeStream → ℕ → Bool
 leads_back side i = not (side.to == 0) && nat_lt side.to i && nat_le i side.from
 
@@ -60,11 +60,11 @@ change_of i side =
     else if leads_back side i then side.truth
     else pos 0
 
--- the true flow of the stream of the line with this number, in grams a day
+-- the true flow of the stream of the line with this number, in grams per day
 abbrev pub line_truth : List MadeStream → ℕ → ℤ
 line_truth sides i = line_grams +ℤ sum_over (change_of i) sides
 
--- the stream of the line with this number: from the unit before to that of its number; the last one leads out of the plant
+-- the stream of the line with this number: from the unit before to the unit of its number; the last one leads out of the plant
 abbrev pub line_stream : ℕ → List MadeStream → ℕ → MadeStream
 line_stream units sides i = record {
   from = i - 1;
@@ -76,7 +76,7 @@ line_stream units sides i = record {
 abbrev pub line_streams : ℕ → List MadeStream → List MadeStream
 line_streams units sides = map (line_stream units sides) (range_with_len 1 (units + 1))
 
--- The streams: those of the line come first, the side streams behind them.
+-- The streams: those of the line come first, followed by the side streams.
 abbrev pub made_streams : ℕ → ℕ → List MadeStream
 made_streams number streams =
     line_streams (units_of streams) (side_streams number streams) ++ side_streams number streams

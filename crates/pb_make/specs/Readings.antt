@@ -1,11 +1,10 @@
--- Statement. The readings of a made session: each metered stream has one a day, which is its true flow with an error drawn
--- by lot.
+-- Statement. The readings of a made session: each metered stream has one a day, its true flow with an error drawn by lot.
 use Rattle.std.specs.Prelude.{ℕ, ◌+◌, ◌*◌, ◌-◌, ◌/◌, ◌%◌, ◌==◌, Bool, ℤ, pos, ◌+ℤ◌, ◌-ℤ◌, ◌*ℤ◌, List, slice_index_or}
 use Rattle.std.specs.Int.{int_div_euclid}
 use Rattle.pb_make.specs.declared.plant.MadeStream.{MadeStream}
 use Rattle.pb_make.specs.Draws.{draw_at}
 
--- each seventh stream is plain, and the others are metered
+-- every seventh stream is plain, and the others are metered
 abbrev pub is_plain : ℕ → Bool
 is_plain i = i % 7 == 0
 
@@ -13,23 +12,23 @@ is_plain i = i % 7 == 0
 abbrev pub metered_at : ℕ → ℕ
 metered_at place = place + place / 6 + 1
 
--- how many of so many streams are metered
+-- the number of metered streams among this many
 abbrev pub metered_of : ℕ → ℕ
 metered_of streams = streams - streams / 7
 
--- how many days there are
+-- the number of days
 abbrev pub made_days : ℕ
 made_days = 30
 
--- how many readings there are: those of the first metered stream come first, day by day
+-- the number of readings: those of the first metered stream come first, day by day
 abbrev pub readings_of : ℕ → ℕ
 readings_of streams = made_days * metered_of streams
 
--- the number of the stream that the reading at a place is of
+-- the number of the stream whose reading is at a place
 abbrev pub stream_read : ℕ → ℕ
 stream_read place = metered_at (place / made_days)
 
--- its day of the month
+-- the day of the month of that reading
 abbrev pub day_read : ℕ → ℕ
 day_read place = place % made_days + 1
 
@@ -42,7 +41,7 @@ truth_at streams i =
 abbrev pub error_of : ℕ → ℤ
 error_of draw = pos (draw % 2001) -ℤ pos 1000
 
--- what a meter with such an error shows: the true flow and its error, rounded down, in grams
+-- what a meter with this error shows: the true flow and its error, rounded down, in grams
 abbrev pub shown_grams : ℤ → ℤ → ℤ
 shown_grams truth error = truth +ℤ int_div_euclid (truth *ℤ error) (pos 100000)
 
@@ -54,6 +53,6 @@ deviation_of truth = int_div_euclid truth (pos 200)
 abbrev pub variance_of : ℤ → ℤ
 variance_of truth = deviation_of truth *ℤ deviation_of truth
 
--- the draw of the reading at a place: the side streams took three each before
+-- the draw of the reading at a place: the side streams have taken three each before
 abbrev pub reading_draw : ℕ → ℕ → ℕ → ℕ
 reading_draw number sides place = draw_at number (3 * sides + place)

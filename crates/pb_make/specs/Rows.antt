@@ -33,7 +33,7 @@ made_period = codes "m1"
 abbrev pub january : ℕ → ℤ
 january day = days_from_civil (pos 2024) 1 day
 
--- the row of a kind, by the values of its columns behind the kind's word
+-- the row of a kind, by the values of its columns after the kind's word
 abbrev pub made_row : SessionKind → List Value → List (List ℕ)
 made_row kind values = texts_of (session_columns kind) (Word 0 ∷ values)
 
@@ -83,7 +83,7 @@ stream_rows i (stream ∷ streams) = stream_row i stream ∷ stream_rows (i + 1)
 abbrev pub middle_rows : List (List (List ℕ))
 middle_rows = period_row ∷ critical_row kind.CriticalNodal ∷ critical_row kind.CriticalMeasure ∷ []
 
--- the row of the reading at a place, of a plant of these streams, so many of which are side streams
+-- the row of the reading at a place, in a plant of these streams, this many of which are side streams
 abbrev pub reading_row_at : ℕ → ℕ → List MadeStream → ℕ → List (List ℕ)
 reading_row_at number sides streams place =
     reading_row place (truth_at streams (stream_read place)) (reading_draw number sides place)
@@ -100,7 +100,7 @@ stored_rows number streams =
     unit_rows (units_of streams) ++ (stream_rows 1 (made_streams number streams)
     ++ (middle_rows ++ reading_rows number streams))
 
--- The rows of the session made from a number, with so many streams: those that are stored, and the one that asks for the report.
+-- The rows of the session made from a number, with this many streams: those that are stored, and the row that asks for the report.
 abbrev pub session_rows : ℕ → ℕ → List (List (List ℕ))
 session_rows number streams = stored_rows number streams ++ report_row ∷ []
 

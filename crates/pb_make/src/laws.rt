@@ -13,12 +13,12 @@ pub fn reads_back_law()
     written_rows_law();
 }
 
-/// The law that the metered streams, by place, are those that aren't each seventh one, in order.
+/// The law that the metered streams, by place, are all but every seventh stream, in order.
 pub fn metered_law()
     ensures { AreMetered }
 {}
 
-/// The law that the book accepts each record of a made session, behind those before it.
+/// The law that the book accepts each record of a made session after those before it.
 pub fn accepted_law()
     ensures { AcceptedLaw }
 {
@@ -35,7 +35,7 @@ pub fn period_law()
     text_law();
 }
 
-/// The law on how many rows a made session has.
+/// The law on the number of rows of a made session.
 pub fn count_law()
     ensures { CountLaw }
 {}

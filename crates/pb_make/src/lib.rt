@@ -1,7 +1,7 @@
 //! Large valid sessions, made from a number.
 //!
-//! A line of units with side streams drawn by lot, whose true flows balance, and 30 daily readings of each meter with small
-//! errors. The same number and count of streams give the same bytes at each run, and the book accepts each row.
+//! A line of units with side streams drawn by lot, whose true flows balance, and 30 daily readings of each meter with small errors. The
+//! same number and count of streams give the same bytes in each run, and the book accepts each row.
 #![tactic(auto)]
 
 mod draws;

@@ -10,8 +10,8 @@ ghost use Rattle.pb_make.specs.Bounds.{IsMade, IsSide, most_side_grams};
 use crate::draws::Draws;
 use std::alloc::{AllocError, Global};
 
-/// A stream of a made plant: from a node to another one, where 0 is the environment and the units are numbered from 1, with the
-/// grams that it carries a day.
+/// A stream of a made plant: from one node to another, where 0 is the environment and the units are numbered from 1, with the grams that it
+/// carries a day.
 #[derive(Clone, Copy, Debug)]
 pub struct MadeStream {
     pub from: u32,
@@ -19,10 +19,10 @@ pub struct MadeStream {
     pub truth: i128,
 }
 
-// What the line carries before a side stream leaves or joins it, in grams a day.
+// What the line carries before a side stream leaves or joins it, in grams per day.
 const LINE_GRAMS: i128 = 50_000_000_000;
 
-/// How many units there are, of so many streams: one for three, and one more.
+/// The number of units of a plant of this many streams: one for every three, and one more.
 pub fn units_of(streams: u32) -> u32
     requires { streams ≤ most_made_streams }
     ensures value { result ≡ units_of streams }
@@ -60,7 +60,7 @@ fn next_side(draws: &mut Draws, units: u32) -> MadeStream
     side_by(units, first, second, third)
 }
 
-// The side streams of a plant of so many units.
+// The side streams of a plant of this many units.
 fn side_streams(
     alloc: Global,
     draws: &mut Draws,
@@ -137,7 +137,7 @@ fn line_stream(units: u32, sides: &[MadeStream], i: u32) -> MadeStream
     }
 }
 
-// The streams of a plant: those of the line, and the side streams behind them.
+// The streams of a plant: those of the line, followed by the side streams.
 fn made_streams(
     alloc: Global,
     units: u32,
@@ -156,7 +156,7 @@ fn made_streams(
     Ok(streams)
 }
 
-/// The plant of a session of so many streams. The side streams take the first draws.
+/// The plant of a session of this many streams. The side streams take the first draws.
 pub fn made_plant(
     alloc: Global,
     draws: &mut Draws,

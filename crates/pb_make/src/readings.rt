@@ -4,17 +4,17 @@ ghost use Rattle.std.specs.Prelude.{◌≡◌, ◌<◌, ◌≤◌, ◌≤ℤ◌,
 ghost use Rattle.pb_limits.specs.Limits.{most_made_streams};
 ghost use Rattle.pb_make.specs.Readings.{day_read, error_of, is_plain, made_days, metered_at, readings_of, shown_grams, stream_read, variance_of};
 
-/// How many days there are.
+/// The number of days.
 pub const MADE_DAYS: u32 = 30;
 
-/// Whether the stream of this number is plain: each seventh is.
+/// Whether the stream of this number is plain: every seventh is.
 pub fn is_plain(i: u32) -> bool
     ensures { result ≡ is_plain i }
 {
     i % 7 == 0
 }
 
-/// How many readings there are, of so many streams.
+/// The number of readings in a session of this many streams.
 pub fn readings_of(streams: u32) -> u32
     requires { streams ≤ most_made_streams }
     ensures value { result ≡ readings_of streams }
@@ -22,7 +22,7 @@ pub fn readings_of(streams: u32) -> u32
     MADE_DAYS * (streams - streams / 7)
 }
 
-/// The number of the stream that the reading at a place is of.
+/// The number of the stream whose reading is at a place.
 pub fn stream_read(place: u32) -> u32
     requires { place ≤ made_days * most_made_streams }
     ensures value { result ≡ stream_read place }

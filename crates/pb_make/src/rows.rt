@@ -25,7 +25,7 @@ const BEFORE_JANUARY: i32 = 19_722;
 // 3.841, the 95 percent point of the chi-square distribution with one degree of freedom, in thousandths.
 const CRITICAL: i128 = 3_841;
 
-// The name of a letter and a number behind it.
+// The name made of a letter and a number.
 fn numbered(alloc: Global, letter: u8, number: u32) -> Result<Name, AllocError>
     requires { is_name_byte letter ≡ true }
     ensures { IfOk result (λ name. name ≡ letter ∷ decimal_text number) }

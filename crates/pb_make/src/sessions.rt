@@ -18,8 +18,8 @@ use crate::rows::{
 };
 use std::alloc::{AllocError, Global};
 
-/// The text of the session made from a number, with so many streams: a plant, a period of 30 days with its readings, and a
-/// `report` row. The same at each run. Refused alone for want of memory.
+/// The text of the session made from a number, with this many streams: a plant, a period of 30 days with its readings, and a `report` row.
+/// It is the same in each run. Fails only if memory runs out.
 pub fn make(alloc: Global, number: u32, streams: u32) -> Result<Vec<u8>, AllocError>
     requires least { least_streams ≤ streams }
     requires most { streams ≤ most_made_streams }
@@ -70,7 +70,7 @@ fn write_middle(text: &mut Vec<u8>) -> Result<(), AllocError>
     write_measure(text)
 }
 
-// Appends the rows of so many readings; the next draw is that of the first one.
+// Appends the rows of this many readings; the next draw is that of the first one.
 fn write_readings(
     text: &mut Vec<u8>,
     plant: &[MadeStream],

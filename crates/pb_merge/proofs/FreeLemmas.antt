@@ -1,4 +1,4 @@
--- A group is free where it isn't the first one and has some variance.
+-- A group is free if it isn't the first one and has some variance.
 use Rattle.std.proofs.Common.{◌≡◌, ◌≢◌, ◌∙◌, ◌==◌, ℕ, ◌<◌, ◌≤◌, ℤ, pos, ◌+ℤ◌, ◌≤ℤ◌, ◌<ℤ◌, Bool, true, false, not, List, [], ◌∷◌, get_or, Option, Some, None, slice_get, ap, ap₂, sym, refl, subst, inl, inr, arith}
 use Rattle.std.specs.Prelude.{◌&&◌, ◌⊎◌, int_lt, IfSome}
 use Rattle.std.specs.List.{All, AllByRecursion, list_any}
@@ -77,7 +77,7 @@ variance_nonneg group k (s ∷ ss) h =
       | inr none ↦ rw none (omega (arith, ints, rest))
     ]
 
--- some stream has exactly one end in a group where the group has some variance
+-- some stream has exactly one end in a group if the group has some variance
 pub crossed_is : (group : List ℕ) (k : ℕ) (ss : List Stream) → AllByRecursion (AddsVariance group k) ss → list_any (has_one_end group k) ss ≡ int_lt (pos 0) (group_variance group k ss)
 crossed_is group k [] h = refl
 crossed_is group k (s ∷ ss) h =
@@ -98,7 +98,7 @@ pub free_is : (g : ProcessGraph) (group : List ℕ) (k : ℕ) → AreGroups g gr
 free_is g group k h some ends limits =
     ap₂ (λ (x : ℕ) (b : Bool). not (x == k) && b) (first_number g group h some) (crossed_is group k g.streams (crossings_add g group k h ends limits))
 
--- the test by numbers is the relation by walks
+-- the test by numbers agrees with the relation by walks
 pub free_means : (g : ProcessGraph) (group : List ℕ) (n : ℕ) → AreGroups g group → 1 ≤ g.nodes → All (IsStream g.nodes) g.streams → n < g.nodes
     → (is_free_group group g.streams (group_at group n) ≡ true → IsFreeGroup g n) × (IsFreeGroup g n → is_free_group group g.streams (group_at group n) ≡ true)
 free_means g group n h some ends lt = (

@@ -1,4 +1,4 @@
--- What crates above may cite of groups: the laws, and in smaller pieces what they say.
+-- What crates above may cite about groups: the laws, and in smaller pieces what they say.
 pub use Rattle.pb_merge.proofs.SameGroupLemmas.{all_at, stream_joins}
 pub use Rattle.pb_merge.proofs.GroupLemmas.{number_below}
 pub use Rattle.pb_merge.proofs.FreeLemmas.{first_number, one_end_cases, crossing_measured, crossings_add, crossed_is, free_means}

@@ -1,4 +1,4 @@
--- A graph has one list of group numbers, in order of least nodes.
+-- A graph has only one list of group numbers, in the order of least nodes.
 use Rattle.std.proofs.Common.{◌≡◌, ◌∙◌, ℕ, zero, suc, ◌+◌, ◌-◌, ◌<◌, ◌≤◌, List, [], ◌∷◌, length, true, ℤ, pos, ◌<ℤ◌, sym, inl, inr, arith}
 use Rattle.std.specs.Prelude.{int_lt}
 use Rattle.std.specs.List.{All}
@@ -40,7 +40,7 @@ numbers_below group j d lt = let is = get_or_default group j d 0 lt in let below
 pub count_few : (g : ProcessGraph) (group : List ℕ) → AreGroups g group → group_count group ≤ g.nodes
 count_few g group h = count_le group g.nodes (λ n lt. numbers_few g group h n 0 lt)
 
--- the greatest number is that of a node, and so is each number below the count
+-- the greatest number is the number of a node, and so is each number below the count
 last_node : (group : List ℕ) → 0 < group_count group → (n : ℕ) × (n < length group) × (group_at group n + 1 ≡ group_count group)
 last_node [] some = absurd (omega (arith, some))
 last_node (k ∷ ks) some = elim (cases_lt (k + 1) (group_count ks)) [
@@ -57,7 +57,7 @@ number_node g group k h lt =
       | inr ne ↦ let (m, before, m_is) = h.numbered n k n_lt (omega (arith, lt, is, ne)) in (m, omega (arith, before, n_lt), m_is)
     ]
 
--- where two lists number the nodes before n alike, n doesn't have a lesser number in the one
+-- if two lists number the nodes before n alike, n doesn't have a lesser number in the first
 not_less : (g : ProcessGraph) (group other : List ℕ) → AreGroups g group → AreGroups g other → (n : ℕ) → n < g.nodes
     → ((m : ℕ) → m < n → group_at group m ≡ group_at other m) → group_at group n < group_at other n → ⊥
 not_less g group other h o n lt before less =

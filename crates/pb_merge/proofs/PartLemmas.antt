@@ -29,7 +29,7 @@ before_earlier j k t ne ok =
     let lt = ltb-true k (j + 1) parts.1 in
     and_from (unmeasured k t) (nat_lt k j) parts.0 (lt-ltb k j (omega (arith, lt, ne)))
 
--- one unmeasured stream more
+-- one more unmeasured stream
 pub one_more : (ss : List Stream) (j : ℕ) (s : Stream) → slice_get ss j ≡ Some s → is_measured s ≡ false → IsOneMore ss (unmeasured_before j) (unmeasured_before (j + 1)) j s
 one_more ss j s at plain = record {
   there = at;

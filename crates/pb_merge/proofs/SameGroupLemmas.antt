@@ -19,6 +19,6 @@ same_trans ss a b c = reach_both (ends_of unmeasured ss) a b c
 pub same_sym : (ss : List Stream) (a b : ℕ) → SameGroup ss a b → SameGroup ss b a
 same_sym ss a b = reach_back unmeasured ss a b
 
--- what holds of each stream holds of the one at a place
+-- what holds of each stream holds of the stream at a place
 pub all_at : {X : Type 0} (P : X → Type 0) (xs : List X) (i : ℕ) (x : X) → All P xs → slice_get xs i ≡ Some x → P x
 all_at P xs i x h at = subst P (get_or_from_slice_get xs i x x at) (h i x (slice_get_within xs i x at))

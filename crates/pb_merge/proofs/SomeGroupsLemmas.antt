@@ -1,4 +1,4 @@
--- Each process graph has groups: each node has a least one that unmeasured streams join it to, and so, node by node, its number.
+-- Each process graph has groups: unmeasured streams join each node to a least one, and so each node, one by one, has its number.
 use Rattle.std.proofs.Common.{◌≡◌, ℕ, zero, suc, ◌+◌, ◌<◌, ◌≤◌, ◌⊎◌, List, [], ◌∷◌, ◌++◌, length, refl, sym, subst, inl, inr, arith}
 use Rattle.std.proofs.lemmas.Bool.{cases_eq, cases_lt}
 use Rattle.pb_graph.specs.declared.records.Stream.{Stream}

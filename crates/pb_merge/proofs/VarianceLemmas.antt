@@ -57,7 +57,7 @@ variance_room group k j ss h few =
     let size = length-take j ss in
     omega (arith, bound, size, few)
 
--- one stream more
+-- one more stream
 pub variance_more : (group : List ℕ) (k j : ℕ) (ss : List Stream) (d : Stream) (old new : ℤ) → j < length ss → new ≡ old +ℤ crossing_variance group k (get_or ss j d)
     → old ≡ group_variance group k (take j ss) → new ≡ group_variance group k (take (j + 1) ss)
 variance_more group k j ss d old new lt step so_far =

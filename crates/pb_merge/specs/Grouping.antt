@@ -1,4 +1,4 @@
--- Statement. The groups of the nodes of a graph, and what is kept of each.
+-- Statement. The groups of the nodes of a graph, and what is kept for each group.
 use Rattle.std.specs.Prelude.{◌≡◌, ◌≢◌, ◌↔◌, ℕ, ◌<◌, ◌≤◌, Bool, false, ℤ, pos, ◌≤ℤ◌, List, length, get_or, IsTrue}
 use Rattle.std.specs.List.{All}
 use Rattle.pb_limits.specs.Limits.{most_nodes}
@@ -6,14 +6,14 @@ use Rattle.pb_graph.specs.ProcessGraph.{ProcessGraph}
 use Rattle.pb_graph.specs.Groups.{AreGroups, IsFreeGroup, group_at, group_count}
 use Rattle.pb_merge.specs.Variance.{group_variance, most_group_variance}
 
--- the groups of the nodes: the number of each node's group, and for each group its least node, whether it is free, and its variance
+-- the groups of the nodes: the number of each node's group; and for each group, its least node, whether it is free, and its variance
 pub record Grouping : Type 0 where
   pub group : List ℕ
   pub least : List ℕ
   pub free : List Bool
   pub variance : List ℤ
 
--- the least node of a group, in the list that has it for each group
+-- the least node of a group, in the list that has the least node for each group
 abbrev pub least_at : List ℕ → ℕ → ℕ
 least_at least k = get_or least k 0
 

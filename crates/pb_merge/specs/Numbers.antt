@@ -1,4 +1,4 @@
--- Inside. Numbers in order of the least nodes, node by node, and the unmeasured streams, stream by stream.
+-- Inside. Numbers in the order of the least nodes, node by node, and the unmeasured streams, stream by stream.
 use Rattle.std.specs.Prelude.{◌≡◌, ℕ, ◌<◌, ◌≤◌, Bool, ◌&&◌, ◌==◌, nat_lt, List, length, if◌then◌else◌}
 use Rattle.pb_graph.specs.declared.records.Stream.{Stream}
 use Rattle.pb_graph.specs.Walk.{unmeasured}
@@ -6,16 +6,16 @@ use Rattle.pb_graph.specs.Groups.{group_at}
 use Rattle.pb_graph.specs.Parts.{label_at}
 use Rattle.pb_merge.specs.Grouping.{least_at}
 
--- a test of streams that may be taken: unmeasured ones before a place
+-- the test that unmeasured streams before a place may be taken
 abbrev pub unmeasured_before : ℕ → ℕ → Stream → Bool
 unmeasured_before j k stream = unmeasured k stream && nat_lt k j
 
--- the number of node n's group, where the nodes before it have theirs, of so many groups: that of its label, and a new one where it
--- is its own label
+-- the number of node n's group, if the nodes before it have theirs and have this many groups: the number of its label, or a new number
+-- if the node is its own label
 abbrev pub number_of : List ℕ → ℕ → ℕ → ℕ → ℕ
 number_of group groups n label = if label == n then groups else group_at group label
 
--- the first n nodes have the numbers of their groups, which are numbered in order of their least nodes
+-- the first n nodes have the numbers of their groups, which are numbered in the order of their least nodes
 pub record AreNumbered (labels : List ℕ) (n : ℕ) (group least : List ℕ) : Type 0 where
   pub each : length group ≡ n
   pub few : length least ≤ n

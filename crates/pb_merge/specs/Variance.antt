@@ -6,7 +6,7 @@ use Rattle.pb_graph.specs.declared.records.Meas.{Meas}
 use Rattle.pb_graph.specs.declared.records.Stream.{Stream}
 use Rattle.pb_graph.specs.Groups.{has_one_end}
 
--- the variance of a stream, 0 where it is unmeasured
+-- the variance of a stream, or 0 if it is unmeasured
 abbrev pub variance_of : Option Meas → ℤ
 variance_of None = pos 0
 variance_of (Some m) = m.variance
@@ -20,6 +20,6 @@ crossing_variance group k stream = if has_one_end group k stream then variance_o
 abbrev pub group_variance : List ℕ → ℕ → List Stream → ℤ
 group_variance group k streams = sum_over (crossing_variance group k) streams
 
--- the greatest variance of a group: that of as many streams as a graph has at the most
+-- the greatest variance of a group: that of as many streams as a graph may have
 abbrev pub most_group_variance : ℕ
 most_group_variance = most_streams * most_variance

@@ -12,8 +12,8 @@ use pb_graph::Graph;
 use std::alloc::{AllocError, Global};
 use std::marker::Model;
 
-/// The groups of the nodes of a graph: two nodes are in one group where unmeasured streams join them, directly or by way of
-/// other nodes. Groups are numbered from 0 in order of their least node, so group 0 is that of the environment.
+/// The groups of the nodes of a graph: two nodes are in the same group if unmeasured streams join them, directly or by way of
+/// other nodes. Groups are numbered from 0 in the order of their least nodes, so group 0 is the group of the environment.
 #[derive(Debug, Drop)]
 pub struct Groups {
     group: Vec<u32>,
@@ -90,7 +90,7 @@ impl Groups {
         self.least[group as usize]
     }
 
-    /// Whether a group is free: it isn't that of the environment, and some stream has exactly one end in it.
+    /// Whether a group is free: it isn't the group of the environment, and some stream has exactly one end in it.
     pub fn free(&self, group: u32) -> bool
         requires { group < group_count self.now.group }
         ensures { result ≡ get_or self.now.free group false }

@@ -7,17 +7,17 @@ pub fn some_groups_law()
     ensures { SomeGroupsLaw }
 {}
 
-/// A graph has one list of group numbers; the numbers are in order of the least nodes of the groups, and none is left out.
+/// A graph has only one list of group numbers; the numbers are in the order of the least nodes of the groups, and none is left out.
 pub fn numbering_law()
     ensures { NumberingLaw }
 {}
 
-/// The test of freedom by numbers is the definition by walks.
+/// The test of freedom by numbers agrees with the definition by walks.
 pub fn free_law()
     ensures { FreeLaw }
 {}
 
-/// A stream with exactly one end in a group is measured, and a group has such a stream exactly where it has some variance.
+/// A stream with exactly one end in a group is measured, and a group has such a stream exactly when it has some variance.
 pub fn crossing_law()
     ensures { CrossingLaw }
 {}

@@ -1,6 +1,6 @@
 //! Groups of nodes that unmeasured streams join.
 //!
-//! No measurement tells how much flows within such a group, so a study of the measurements sees it as one node
+//! No measurement shows how much flows within such a group, so a study of the measurements sees it as one node
 //! (Mah, Stanley and Downing 1976; Narasimhan and Jordache, "Data Reconciliation and Gross Error Detection").
 #![tactic(auto)]
 

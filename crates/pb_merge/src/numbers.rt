@@ -1,4 +1,4 @@
-// The numbers of the groups, in order of their least nodes.
+// The numbers of the groups, in the order of their least nodes.
 
 ghost use Rattle.std.specs.Prelude.{◌≡◌, ◌≢◌, ℕ, ◌<◌, ◌≤◌, ◌^◌, length, IfOk};
 ghost use Rattle.pb_graph.specs.Parts.{label_at};
@@ -13,7 +13,7 @@ pub struct Numbers {
     pub least: Vec<u32>,
 }
 
-// The number of the group of a node, where those of the nodes before it are known.
+// The number of the group of a node, if the numbers of the nodes before it are known.
 fn number(group: &[u32], groups: u32, node: u32, label: u32) -> u32
     requires { label ≢ node → label < length group.now }
     ensures { result ≡ number_of group.now groups node label }
@@ -25,7 +25,7 @@ fn number(group: &[u32], groups: u32, node: u32, label: u32) -> u32
     }
 }
 
-/// Numbers the groups in order of their least node, where the label of each node is the least node of its group.
+/// Numbers the groups in the order of their least nodes, if the label of each node is the least node of its group.
 pub fn number_all(alloc: Global, labels: &[u32]) -> Result<Numbers, AllocError>
     requires few { length labels.now < 2 ^ 32 }
     requires low { (n : ℕ) → n < length labels.now → label_at labels.now n ≤ n }

@@ -9,7 +9,7 @@ ghost use Rattle.pb_merge.specs.Variance.{crossing_variance, group_variance, mos
 use pb_graph::Stream;
 use std::alloc::{AllocError, Global};
 
-// Adds a variance to the two groups that a stream joins, where they differ.
+// Adds a variance to the two groups that a stream joins, if they differ.
 fn add_crossing(totals: &mut [i128], from: u32, to: u32, variance: i128)
     requires from { from < length totals.old }
     requires to { to < length totals.old }
@@ -25,7 +25,7 @@ fn add_crossing(totals: &mut [i128], from: u32, to: u32, variance: i128)
     }
 }
 
-// Adds the variance of a measured stream to the two groups that it joins, where they differ.
+// Adds the variance of a measured stream to the two groups that it joins, if they differ.
 fn add_stream(totals: &mut [i128], group: &[u32], stream: &Stream)
     requires ends { IsStream (length group.now) stream.now }
     requires limits { IsWithinLimits stream.now }
@@ -80,15 +80,15 @@ pub fn variances(
     Ok(totals)
 }
 
-// Whether a group is free, by its number and its variance. Some stream has exactly one end in it exactly where it has some
-// variance: only measured streams lead from one group to another, and each has a variance of at least 1.
+// Whether a group is free, from its number and its variance. The group has a stream with exactly one end in it exactly when it has
+// some variance: only measured streams lead from one group to another, and each has a variance of at least 1.
 fn is_free(group: usize, variance: i128) -> bool
     ensures { result ≡ (not (0 == group) && int_lt (pos 0) variance) }
 {
     group != 0 && variance > 0
 }
 
-/// Whether each group is free: it isn't that of node 0, and has some variance.
+/// Whether each group is free: it isn't the group of node 0, and has some variance.
 pub fn free_groups(alloc: Global, variance: &[i128]) -> Result<Vec<bool>, AllocError>
     ensures each { IfOk result (λ v. vec_len v ≡ length variance.now) }
     ensures value { IfOk result (λ v. (k : ℕ) → k < length variance.now

@@ -1,4 +1,4 @@
--- In version 2 a declaration leaves the graph of a closed period as it was.
+-- In version 2 a declaration doesn't change the graph of a closed period.
 use Rattle.std.specs.Prelude.{filter_map, find, is_none, not, option_map, unwrap_or, if◌then◌else◌, All, IfSome}
 use Rattle.std.specs.Cmp.Lexicographic.{bytes_decides}
 use Rattle.std.specs.List.{list_any}
@@ -58,7 +58,7 @@ up : (b : Bool) → not b ≡ false → b ≡ true
 up true e = refl
 up false e = cc e
 
--- a volume by the table before is one by the table with one more declaration
+-- a volume by the old table is a volume by the table with one more declaration
 volume_more : TableGrowsLaw → (declared : List Declared) (row : Declared) (tank : List ℕ) (level volume : ℤ) → is_out_of_order_declared declared row ≡ false
     → volume_of (points_of declared tank) level ≡ Some volume → volume_of (points_of declared tank ++ filter_map (point_of tank) (row ∷ [])) level ≡ Some volume
 volume_more grows declared (Strap name mm ml) tank level volume order at = elim (cases_Bool (same_name name tank)) [
@@ -103,7 +103,7 @@ same_content grows declared row tank day order (Dip id own d mm density variance
     let here : is_outside_table declared (Dip id tank d mm density variance) ≡ false = subst (λ (t : List ℕ). is_outside_table declared (Dip id t d mm density variance) ≡ false) named inside in
     rw (same_volume grows declared row tank id d mm density variance order here) refl
 
--- what is found has what follows of the test and of what all have
+-- what is found has what follows from the test and from what all have
 found_has : {A : Type 0} (P Q : A → Type 0) (test : A → Bool) (xs : List A) → ((x : A) → test x ≡ true → P x → Q x) → All P xs → IfSome (find test xs) Q
 found_has P Q test [] each all = tt
 found_has P Q test (x ∷ xs) each all = elim (cases_Bool (test x)) [
@@ -121,7 +121,7 @@ same_change content other (Some opening) (Some closing) before after =
 abbrev IsInTable : List Declared → Fact → Type 0
 IsInTable declared fact = is_outside_table declared fact ≡ false
 
--- what facts say of an arc, where their dips lie in their tables, they say with one more declaration
+-- what facts say about an arc, if their dips lie in their tables, they still say after one more declaration
 same_amount : TableGrowsLaw → (declared : List Declared) (row : Declared) (facts : List Fact) (days : Days) (service : Option Service) (kind : ArcKind) (name : List ℕ)
     → is_out_of_order_declared declared row ≡ false → All (IsInTable declared) facts
     → amount_of (declared ++ row ∷ []) facts days service kind name ≡ amount_of declared facts days service kind name

@@ -13,7 +13,7 @@ use Rattle.pb_period.specs.Facts.{no_amount, total_of}
 use Rattle.pb_period.specs.Measurement.{read_total}
 use Rattle.pb_period.proofs.AmountLemmas.{more_none, none_more, of_more_facts, sum_assoc, sum_is_amount}
 
--- how far a day is behind another one
+-- how far a day is after another one
 pub gap_is : (a b : ℤ) → a ≤ℤ b → pos (int_gap a b) ≡ b -ℤ a
 gap_is (pos a) (pos b) le = omega (arith, ints, le)
 gap_is (pos a) (negsuc b) le = absurd (omega (arith, ints, le))
@@ -42,7 +42,7 @@ days_next day end lt = ap (days_from day) (gap_next day end lt)
 days_past : (day end : ℤ) → end ≤ℤ day → days_until day end ≡ []
 days_past day end le = ap (days_from day) (gap_past day end le)
 
--- a total with what a meter read on some more days, where it read each of them
+-- a total, with what a meter read on some more days, if it was read on each of them
 abbrev pub read_more : Amount → (ℤ → Option Amount) → List ℤ → Option Amount
 read_more total read days = if list_all (λ day. is_some (read day)) days then Some (sum_of_two total (total_of (filter_map read days))) else None
 
@@ -93,7 +93,7 @@ served_within (Some service) first last =
 
 -- ---- the days of a transfer
 
--- some of the days from a first one to a last one
+-- some of the days from `first` to `last`
 pub span : (first last from to : ℤ) → first ≤ℤ from → from ≤ℤ to → to ≤ℤ last → (last -ℤ first) <ℤ pos 366
     → IsSpan (day_count first last) (int_gap first from) (day_count first to)
 span first last from to begins order ends short =

@@ -1,4 +1,4 @@
--- Streams of a graph, arc by arc, and the first of them that is over the limits.
+-- Streams of a graph, arc by arc, and the first stream that is over the limits.
 use Rattle.std.specs.Prelude.{filter, nat_lt, int_lt, option_map, unwrap_or, map, position, IfSome, All}
 use Rattle.std.proofs.Common.{◌≡◌, ◌∙◌, ◌+◌, ◌≤◌, ◌≤ℤ◌, ℕ, zero, suc, pos, unsigned_abs, List, [], ◌∷◌, ◌++◌, length, drop, slice_get, true, false, Option, Some, None, Ok, Err, inl, inr, refl, sym, ap, ap₂, subst, cond, append_assoc, arith, length-append, ◌<◌, Bool, get_or}
 use Rattle.std.proofs.lemmas.Bool.{cases_Bool, or_parts, ltb-false, ltb-true}
@@ -29,7 +29,7 @@ all_head P x xs all = all 0 x (omega arith)
 all_tail : {A : Type 0} (P : A → Type 0) (x : A) (xs : List A) → All P (x ∷ xs) → All P xs
 all_tail P x xs all = λ k d lt. all (suc k) d (omega (arith, lt))
 
--- what is made of what is left from a place on, with the item at the place first
+-- what is made of the rest from a place on, with the item at the place first
 pub next : {A B : Type 0} (f : A → B) (xs : List A) (j : ℕ) (s : B) → Some s ≡ option_map f (slice_get xs j) → map f (drop j xs) ≡ s ∷ map f (drop (j + 1) xs)
 next f [] j s is = cc is
 next f (x ∷ xs) zero s is = ap (λ b. b ∷ map f xs) (sym (some_is s (f x) is))
@@ -37,11 +37,11 @@ next f (x ∷ xs) (suc j) s is =
     let later : suc (j + 1) ≡ suc j + 1 = omega arith in
     next f xs j s is ∙ ap (λ (n : ℕ). s ∷ map f (drop n (x ∷ xs))) later
 
--- nothing is left behind the last place
+-- nothing is left after the last place
 pub nothing_left : {A B : Type 0} (f : A → B) (whole made : List B) (xs : List A) (j : ℕ) → length xs ≤ j → whole ≡ made ++ map f (drop j xs) → whole ≡ made
 nothing_left f whole made xs j past so_far = so_far ∙ ap (λ rest. made ++ map f rest) (drop_of_length-le xs past) ∙ append-nil made
 
--- what is made joined to what is left is the whole: one more item
+-- what is made, joined to the rest, is the whole: one more item
 pub one_more : {A B : Type 0} (f : A → B) (whole made : List B) (xs : List A) (j : ℕ) (s : B) → Some s ≡ option_map f (slice_get xs j) → whole ≡ made ++ map f (drop j xs)
     → whole ≡ (made ++ s ∷ []) ++ map f (drop (j + 1) xs)
 one_more f whole made xs j s is so_far = so_far ∙ ap (λ rest. made ++ rest) (next f xs j s is) ∙ sym (append_assoc made (s ∷ []) (map f (drop (j + 1) xs)))
@@ -112,7 +112,7 @@ first_over made rest s fits over =
 abbrev pub streams_of : List StoredRow → Days → List Stream
 streams_of rows days = map (stream_with (measured (declared_of rows) (live_facts (facts_of rows)) days None)) (arcs_of (declared_of rows))
 
--- a stream that is over the limits, behind those that aren't
+-- a stream that is over the limits, after those that aren't
 pub over_at : (graph : ProcessGraph) (made rest : List Stream) (s : Stream) (j : ℕ) → graph.streams ≡ made ++ s ∷ rest → AllWithin made → is_over s ≡ true → length made ≡ j
     → Err (Over j) ≡ within_limits graph
 over_at graph made rest s j split fits over is_j = sym (ap (unless_over graph) (ap (position is_over) split ∙ first_over made rest s fits over ∙ ap (λ (n : ℕ). Some n) is_j))
@@ -126,7 +126,7 @@ finished whole graph nodes all fits =
 
 -- ---- those that pass a test
 
--- what is left from a place on, with the item at the place first
+-- the rest from a place on, with the item at the place first
 pub left_at : {A : Type 0} (xs : List A) (j : ℕ) (x : A) → slice_get xs j ≡ Some x → drop j xs ≡ x ∷ drop (j + 1) xs
 left_at [] j x at = cc at
 left_at (y ∷ xs) zero x at = ap (λ (z : _). z ∷ xs) (some_is y x at)
@@ -142,7 +142,7 @@ kept_next p xs j x at passes = ap (filter p) (left_at xs j x at) ∙ ap (λ (b :
 pub left_next : {A : Type 0} (p : A → Bool) (xs : List A) (j : ℕ) (x : A) → slice_get xs j ≡ Some x → p x ≡ false → filter p (drop j xs) ≡ filter p (drop (j + 1) xs)
 left_next p xs j x at fails = ap (filter p) (left_at xs j x at) ∙ ap (λ (b : Bool). cond b (x ∷ filter p (drop (j + 1) xs)) (filter p (drop (j + 1) xs))) fails
 
--- what all that pass have, the item at a place has that passes
+-- what all items that pass have, a passing item at a place has
 pub kept_has : {A : Type 0} (P : A → Type 0) (p : A → Bool) (xs : List A) (j : ℕ) (x : A) → slice_get xs j ≡ Some x → p x ≡ true → All P (filter p xs) → P x
 kept_has P p [] j x at passes all = cc at
 kept_has P p (y ∷ xs) zero x at passes all =

@@ -20,7 +20,7 @@ use Rattle.pb_period.proofs.AmountLemmas.{more_none, none_more, sum_assoc}
 
 -- ---- a transfer without a day in common moves nothing
 
--- days that have none in common
+-- days that have no day in common
 apart : (first last from to : ℤ) → (int_le first to && int_le from last) ≡ false → int_le (int_max from first) (int_min to last) ≡ false
 apart first last from to none = elim (cases_Bool (int_le (int_max from first) (int_min to last))) [
   | inl some ↦
@@ -48,7 +48,7 @@ moves_nothing days stream (Transfer id own first last grams variance) other = el
 
 -- ---- what is left out moves nothing
 
--- items for which nothing comes may be left out
+-- items that give nothing may be left out
 without : {X Y : Type 0} (f : X → Option Y) (p : X → Bool) (xs : List X) → ((x : X) → p x ≡ false → f x ≡ None) → filter_map f xs ≡ filter_map f (filter p xs)
 without f p [] nothing = refl
 without f p (x ∷ xs) nothing = elim (cases_Bool (p x)) [
@@ -71,12 +71,12 @@ all_transferred days stream kept places holds =
 abbrev pub moved_from : Days → List ℕ → List KeptFact → List ℕ → ℕ → Amount
 moved_from days stream kept places i = total_of (filter_map (transferred days stream) (filter_map (live_at kept) (drop i places)))
 
--- a total, and the amounts that are left, the first one of which may join the total
+-- a total, and the remaining amounts, the first of which may join the total
 join : (total : Amount) (o : Option Amount) (rest : List Amount) → sum_of_two total (total_of (cons_option o rest)) ≡ sum_of_two (with_more total o) (total_of rest)
 join total None rest = refl
 join total (Some more) rest = sym (sum_assoc total more (total_of rest))
 
--- what may come of what may be there
+-- an optional result of an optional value
 chained : {X Y : Type 0} (f : X → Option Y) (o : Option X) (xs : List X) → filter_map f (cons_option o xs) ≡ cons_option (option_and_then f o) (filter_map f xs)
 chained f None xs = refl
 chained f (Some x) xs = refl

@@ -1,4 +1,4 @@
--- Facts that don't touch a period say nothing of it.
+-- Facts that don't touch a period say nothing about it.
 use Rattle.std.specs.Prelude.{◌&&◌, filter, filter_map, find, int_le, is_some, option_and_then, option_map, if◌then◌else◌, slice_index_or, AllPairs}
 use Rattle.std.specs.Cmp.Lexicographic.{bytes_decides}
 use Rattle.std.specs.Int.{int_gap, int_max, int_min}
@@ -113,12 +113,12 @@ same_total read other days same =
 pairs_tail : {A : Type 0} (R : A → A → Type 0) (x : A) (xs : List A) → AllPairs R (x ∷ xs) → AllPairs R xs
 pairs_tail R x xs pairs i j d lt within = pairs (suc i) (suc j) d (omega (arith, lt)) (omega (arith, within))
 
--- what holds of each item that stands behind the first one
+-- what holds for each item after the first one
 heads : {A : Type 0} (R : A → A → Type 0) (P : A → Type 0) (x : A) (xs : List A) → ((y : A) → R x y → P y) → ((k : ℕ) (d : A) → k < length xs → R x (slice_index_or xs k d)) → AllByRecursion P xs
 heads R P x [] so each = tt
 heads R P x (y ∷ xs) so each = (so y (each 0 y (omega arith)), heads R P x xs so (λ k d lt. each (suc k) d (omega (arith, lt))))
 
--- ---- what the facts that touch a period say of its days is what all of them say
+-- ---- what the facts that touch a period say about its days is what all facts say
 
 yes_le : (a b : ℤ) → a ≤ℤ b → int_le a b ≡ true
 yes_le a b le = elim (cases_Bool (int_le a b)) [ inl is ↦ is | inr not ↦ absurd (omega (arith, ints, not, le)) ]
@@ -186,7 +186,7 @@ opens_before service period = elim (cases_Bool (int_eq (day_of_opening service p
   | inr other ↦ rw (other, same_int (day_of_opening service period.first)) refl
 ]
 
--- those of the facts that touch a period
+-- the facts that touch a period
 abbrev touching : (Fact → Period → Bool) → Period → List Fact → List Fact
 touching touch period facts = filter (λ (fact : Fact). touch fact period) facts
 
@@ -196,7 +196,7 @@ read_among version declared period facts stream day from to =
     ap (option_and_then read_amount)
     (find_among (is_reading_on stream day) (λ (fact : Fact). touches_in version declared fact period) facts (reading_touches version declared period stream day from to))
 
--- what all facts say of something that is in service in a period, those say that touch it
+-- what all facts say about something that is in service in a period, the facts that touch the period say too
 amount_among : (version : Version) (declared : List Declared) (period : Period) (facts : List Fact) (service : Option Service) (kind : ArcKind) (name : List ℕ)
     → service_in version declared name ≡ service → is_in_service_within service period.first period.last ≡ true
     → amount_of declared (touching (touches_in version declared) period facts) (days_of period) service kind name ≡ amount_of declared facts (days_of period) service kind name
@@ -258,7 +258,7 @@ own_services (a ∷ arcs) distinct =
     (λ k d lt. distinct 0 (suc k) d (omega arith) (omega (arith, lt))) in
     (rw same refl, put_before a arcs arcs apart (own_services arcs (pairs_tail (λ (one other : List ℕ). same_name one other ≡ false) a.name names distinct)))
 
--- what is the same of each item that passes
+-- what is the same for each item that passes
 map_kept : {A B : Type 0} (p : A → Bool) (f g : A → B) (xs : List A) → AllByRecursion (λ x. p x ≡ true → f x ≡ g x) xs → map f (filter p xs) ≡ map g (filter p xs)
 map_kept p f g [] same = refl
 map_kept p f g (x ∷ xs) (here, rest) = elim (cases_Bool (p x)) [
@@ -300,7 +300,7 @@ same_graph Two declared period facts other distinct same =
 abbrev IsAway : (Fact → Period → Bool) → Period → List ℕ → KeptFact → Type 0
 IsAway touch period id kept = has_id id kept ≡ true → touch kept.fact period ≡ false
 
--- where the fact of an id doesn't touch the period, none of that id does: it is one fact
+-- if the fact of an id doesn't touch the period, no fact of that id does, as there is only one
 all_away : (touch : Fact → Period → Bool) (period : Period) (id : List ℕ) (kept : List KeptFact) → NoRepeats kept → touches_by_id touch kept id period ≡ false
     → AllByRecursion (IsAway touch period id) kept
 all_away touch period id [] apart none = tt
@@ -324,7 +324,7 @@ all_away touch period id (k ∷ kept) apart none = elim (cases_Bool (has_id id k
 
 -- ---- one more row
 
--- the facts that pass behind a fact that there may be
+-- the facts that pass, after an optional fact
 abbrev put : (Fact → Period → Bool) → Period → Option Fact → List Fact → List Fact
 put touch period None facts = facts
 put touch period (Some fact) facts = cond (touch fact period) (fact ∷ facts) facts
@@ -337,7 +337,7 @@ touching_front : (touch : Fact → Period → Bool) (period : Period) (k : KeptF
     → touching touch period (live_facts (k ∷ kept)) ≡ put touch period (live_fact k) (touching touch period (live_facts kept))
 touching_front touch period k kept = put_is touch period (live_fact k) (live_facts kept)
 
--- a fact that doesn't touch the period is as good as none
+-- a fact that doesn't touch the period might as well be missing
 put_away : (touch : Fact → Period → Bool) (period : Period) (k : KeptFact) (facts : List Fact) → touch k.fact period ≡ false → put touch period (live_fact k) facts ≡ facts
 put_away touch period k facts away = elim (cases_Bool k.struck) [ inl gone ↦ rw gone refl | inr stands ↦ rw (stands, away) refl ]
 
@@ -434,7 +434,7 @@ declared_same touch period kept (Edits id how reason) spared = refl
 declared_same touch period kept (Closes name) spared = refl
 declared_same touch period kept (Assays assay) spared = refl
 
--- a row that doesn't touch a period leaves what is declared and its graph
+-- a row that doesn't touch a period changes neither what is declared nor its graph
 pub leaves : (rows : List StoredRow) (stored : StoredRow) (period : Period) → AreDistinct (arc_names (declared_of (rows ++ stored ∷ []))) → NoRepeats (facts_of (rows ++ stored ∷ []))
     → takes_out (touching_of (rows ++ stored ∷ [])) (facts_of (rows ++ stored ∷ [])) stored.effect period ≡ false
     → LeavesDays rows (rows ++ stored ∷ []) (days_of period)

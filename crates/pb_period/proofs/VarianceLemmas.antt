@@ -1,4 +1,4 @@
--- No variance is negative, so that graphs are within their limits.
+-- No variance is negative, so graphs are within their limits.
 use Rattle.std.specs.Prelude.{int_le, IfSome, IfOk, ◌==◌, filter, find, filter_map, map, option_and_then, is_some, position, if◌then◌else◌}
 use Rattle.std.specs.Int.{int_gap, int_max, int_min}
 use Rattle.std.specs.List.{cons_option, list_all, list_any, position_or_len}
@@ -225,7 +225,7 @@ any_place test (x ∷ xs) some = elim (cases_Bool (test x)) [
   | inr later ↦ let rest = any_place test xs (rw later at some) in rw later (omega (arith, rest))
 ]
 
--- where no item has the first place, none passes
+-- if no item has the first place, no item passes
 none_passes : {A : Type 0} (test : A → Bool) (xs : List A) → position test xs ≡ None → All (λ (x : A). test x ≡ false) xs
 none_passes test xs none k d lt = elim (cases_Bool (test (get_or xs k d))) [
   | inl passing ↦
@@ -237,7 +237,7 @@ none_passes test xs none k d lt = elim (cases_Bool (test (get_or xs k d))) [
 both_all : {A : Type 0} (P Q R : A → Type 0) (xs : List A) → ((x : A) → P x → Q x → R x) → All P xs → All Q xs → All R xs
 both_all P Q R xs join ps qs k d lt = join (get_or xs k d) (ps k d lt) (qs k d lt)
 
--- what all items have, those have that pass
+-- what all items have, those that pass have
 all_filter : {A : Type 0} (P : A → Type 0) (p : A → Bool) (xs : List A) → All P xs → All P (filter p xs)
 all_filter P p [] all = All-nil P
 all_filter P p (x ∷ xs) all =

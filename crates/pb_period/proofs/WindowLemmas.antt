@@ -56,7 +56,7 @@ missing [] i lt none = omega (arith, lt)
 missing (x ∷ xs) zero lt none = cc none
 missing (x ∷ xs) (suc i) lt none = missing xs i (omega (arith, lt)) none
 
--- there are as many as places
+-- there are as many items as places
 one_more_found : {A : Type 0} (xs : List A) (i : ℕ) (places : List ℕ) (o : Option A) → slice_get xs i ≡ o → i < length xs
     → length (filter_map (slice_get xs) places) ≡ length places → length (cons_option o (filter_map (slice_get xs) places)) ≡ length (i ∷ places)
 one_more_found xs i places None none lt rest = absurd (missing xs i lt none)

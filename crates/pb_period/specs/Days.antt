@@ -6,15 +6,15 @@ use Rattle.pb_facts.specs.Fact.{IsDay}
 use Rattle.pb_book.specs.declared.rows.Period.{Period}
 use Rattle.pb_period.specs.declared.days.Days.{Days}
 
--- the days of a period: neither its name nor whether it is closed
+-- the days of a period, without its name and whether it is closed
 abbrev pub days_of : Period → Days
 days_of period = record { first = period.first; last = period.last }
 
--- how many days there are from one day to another, both included; none where the second comes first
+-- the number of days from `first` to `last`, both included; 0 if `last` comes first
 abbrev pub day_count : ℤ → ℤ → ℕ
 day_count first last = int_gap first (last +ℤ pos 1)
 
--- so many days in a row, from a first one on
+-- this many days in a row, beginning with a given one
 abbrev pub days_from : ℤ → ℕ → List ℤ
 days_from day zero = []
 days_from day (suc n) = day ∷ days_from (day +ℤ pos 1) n
@@ -23,7 +23,7 @@ days_from day (suc n) = day ∷ days_from (day +ℤ pos 1) n
 abbrev pub each_of : Days → List ℤ
 each_of days = days_from days.first (day_count days.first days.last)
 
--- days such as a period has
+-- the days are as those of a period
 pub record AreDays (days : Days) : Type 0 where
   pub begins : IsDay days.first
   pub ends : IsDay days.last

@@ -1,4 +1,4 @@
--- Statement. What facts say of a day, of the end of a day, and of some days: amounts of mass with their variances.
+-- Statement. What facts say about a day, the end of a day, and a range of days: amounts of mass with their variances.
 use Rattle.std.specs.Prelude.{ℕ, ℤ, pos, List, find, Option, Some, None, if◌then◌else◌, int_le, option_and_then, unwrap_or}
 use Rattle.std.specs.Int.{int_gap, int_max, int_min}
 use Rattle.pb_integers.specs.Sums.{sum_over}
@@ -17,14 +17,14 @@ use Rattle.pb_period.specs.Days.{day_count}
 abbrev pub no_amount : Amount
 no_amount = record { grams = pos 0; variance = pos 0 }
 
--- amounts together: the sum of their grams, and that of their variances
+-- the total of amounts: the sum of their grams, and the sum of their variances
 abbrev pub total_of : List Amount → Amount
 total_of amounts = record {
   grams = sum_over (λ (amount : Amount). amount.grams) amounts;
   variance = sum_over (λ (amount : Amount). amount.variance) amounts;
 }
 
--- what a reading read
+-- the amount of a reading
 abbrev pub read_amount : Fact → Option Amount
 read_amount (Reading id stream day grams variance) = Some (record { grams = grams; variance = variance })
 read_amount fact = None
@@ -33,23 +33,22 @@ read_amount fact = None
 abbrev pub read_on : List Fact → List ℕ → ℤ → Option Amount
 read_on facts stream day = option_and_then read_amount (find (is_reading_on stream day) facts)
 
--- What a tank holds by a dip, given its strapping table: the grams of the level. The level of an accepted dip lies in
--- the table, so that the 0 for one outside never comes.
+-- What a tank holds according to a dip, given its strapping table: the grams at its level. The level of an accepted dip lies in the
+-- table, so the 0 for a level outside never occurs.
 abbrev pub content_of : List Point → Fact → Amount
 content_of points (Dip id tank day mm density variance) =
     record { grams = unwrap_or (grams_of points mm density) (pos 0); variance = variance }
 content_of points fact = no_amount
 
--- the share of an amount, spread evenly over so many days, that falls on those behind the first ones of them up to
--- some later ones
+-- the share of an amount, spread evenly over `days` days, that falls on those after the first `before` up to the first `until`
 abbrev pub shared : Amount → ℕ → ℕ → ℕ → Amount
 shared amount days before until = record {
   grams = share_of amount.grams days before until;
   variance = share_of amount.variance days before until;
 }
 
--- the share of an amount, moved evenly from a first day to a last one, that falls on the days from one to another;
--- none where there are no such days
+-- the share of an amount, moved evenly from day `first` to day `last`, that falls on the days from `from` to `to`; `None` if there
+-- are no such days
 abbrev pub share_on : ℤ → ℤ → Amount → ℤ → ℤ → Option Amount
 share_on first last amount from to =
     if int_le from to

@@ -1,4 +1,4 @@
--- Statement. What holds of the graphs of accepted rows.
+-- Statement. What holds for the graphs of accepted rows.
 use Rattle.std.specs.Prelude.{◌≡◌, ℕ, true, false, List, [], ◌∷◌, ◌++◌, length, slice_get, All, IfOk, Some, codes}
 use Rattle.pb_rows.specs.declared.name.Names.{Names}
 use Rattle.pb_graph.specs.ProcessGraph.{IsProcessGraph, ProcessGraph}
@@ -20,7 +20,8 @@ use Rattle.pb_period.specs.declared.days.Days.{Days}
 use Rattle.pb_period.specs.PeriodGraph.{assembly_of, design_graph, period_graph, period_names}
 use Rattle.pb_period.specs.WindowGraph.{window_assembly}
 
--- names of a graph: one for each node, the environment's first, and one for each stream; no two nodes share one, and no two streams
+-- names of a graph: one for each node, the environment's first, and one for each stream; no two nodes share a name, and no two
+-- streams
 pub record AreGraphNames (names : Names) (graph : ProcessGraph) : Type 0 where
   pub each_node : length names.nodes ≡ graph.nodes
   pub each_stream : length names.streams ≡ length graph.streams
@@ -28,15 +29,15 @@ pub record AreGraphNames (names : Names) (graph : ProcessGraph) : Type 0 where
   pub nodes : AreDistinct names.nodes
   pub streams : AreDistinct names.streams
 
--- the names of the plant are distinct, the names of any days are those of their graph, and the graphs of the design and of each period
--- that has one are within the limits
+-- the names of the plant are distinct, the names on any days are those of the graph of these days, and the graph of the design and
+-- that of each period that has one are within the limits
 pub record HaveGraphs (rows : List StoredRow) : Type 0 where
   pub names : HasDistinctNames (declared_of rows)
   pub named : (days : Days) → AreGraphNames (period_names rows days) (period_graph rows days)
   pub design : IsProcessGraph (design_graph rows)
   pub periods : All (λ (period : Period). IfOk (assembly_of rows (days_of period)) IsProcessGraph) (periods_of rows)
 
--- so it is of accepted rows
+-- this holds for accepted rows
 abbrev pub GraphsLaw : Type 0
 GraphsLaw = (rows : List StoredRow) → AreAccepted rows → HaveGraphs rows
 
@@ -46,34 +47,34 @@ WindowGraphsLaw =
     (rows : List StoredRow) (periods : List Period) (window : Window) → AreAccepted rows → IsWindow window
     → IfOk (window_assembly rows periods window) IsProcessGraph
 
--- rows with the same graphs, of the design and of all days, and with the same names
+-- rows with the same graphs, that of the design and those of any days, and with the same names
 pub record HaveSameGraphs (rows other : List StoredRow) : Type 0 where
   pub design : design_graph other ≡ design_graph rows
   pub days : (days : Days) → assembly_of other days ≡ assembly_of rows days
   pub names : (days : Days) → period_names other days ≡ period_names rows days
 
--- the plain rows of accepted rows have the graphs of these
+-- the plain rows of accepted rows have the same graphs as the accepted rows
 abbrev pub PlainGraphsLaw : Type 0
 PlainGraphsLaw = (rows : List StoredRow) → AreAccepted rows → HaveSameGraphs rows (plain_stored rows)
 
--- rows that declare the same, and of which some days have the same graph
+-- rows that declare the same, and give some days the same graph
 pub record LeavesDays (rows other : List StoredRow) (days : Days) : Type 0 where
   pub declared : declared_of other ≡ declared_of rows
   pub graph : assembly_of other days ≡ assembly_of rows days
 
--- a stored row that doesn't take out a period leaves its graph as it was
+-- a stored row that doesn't take out a period doesn't change its graph
 abbrev pub UntouchedLaw : Type 0
 UntouchedLaw =
     (rows : List StoredRow) (stored : StoredRow) (period : Period) → AreAccepted (rows ++ stored ∷ []) → NoRepeats (facts_of (rows ++ stored ∷ []))
     → takes_out (touching_of (rows ++ stored ∷ [])) (facts_of (rows ++ stored ∷ [])) stored.effect period ≡ false
     → LeavesDays rows (rows ++ stored ∷ []) (days_of period)
 
--- rows of which some days have the same graph, with the same names
+-- rows that give some days the same graph, with the same names
 pub record LeavesGraph (rows other : List StoredRow) (days : Days) : Type 0 where
   pub graph : assembly_of other days ≡ assembly_of rows days
   pub names : period_names other days ≡ period_names rows days
 
--- in version 2 a stored declaration leaves the graph of each closed period as it was
+-- in version 2 a stored declaration doesn't change the graph of a closed period
 abbrev pub ClosedGraphsLaw : Type 0
 ClosedGraphsLaw =
     (rows : List StoredRow) (at : ℕ) (declared : Declared) (i : ℕ) (period : Period) → AreAccepted (with_row rows at (Declares declared))

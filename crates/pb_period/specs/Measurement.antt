@@ -1,4 +1,4 @@
--- Statement. What the facts say of each arc of the plant on some days.
+-- Statement. What the facts say about each arc of the plant on some days.
 use Rattle.std.specs.Prelude.{ℕ, ℤ, ◌+ℤ◌, ◌-ℤ◌, List, filter_map, find, is_some, option_map, Option, Some, None, if◌then◌else◌}
 use Rattle.std.specs.List.{list_all}
 use Rattle.pb_graph.specs.declared.records.Meas.{Meas}
@@ -16,29 +16,29 @@ use Rattle.pb_period.specs.declared.days.Days.{Days}
 use Rattle.pb_period.specs.Days.{each_of}
 use Rattle.pb_period.specs.Facts.{content_of, read_on, total_of, transferred}
 
--- the total of what a meter read on some days, where it read each day
+-- the total of what a meter read on some days, if it was read on each of them
 abbrev pub read_total : (ℤ → Option Amount) → List ℤ → Option Amount
 read_total read days =
     if list_all (λ day. is_some (read day)) days then Some (total_of (filter_map read days)) else None
 
--- a closing content less an opening one
+-- the closing content less the opening content
 abbrev pub difference_of : Amount → Amount → Amount
 difference_of opening closing =
     record { grams = closing.grams -ℤ opening.grams; variance = opening.variance +ℤ closing.variance }
 
--- the change of a tank's content, where there are both dips: the closing one less the opening one
+-- the change of a tank's content, if there are both dips: the closing content less the opening content
 abbrev pub change_of : (Fact → Amount) → Option Fact → Option Fact → Option Amount
 change_of content (Some opening) (Some closing) = Some (difference_of (content opening) (content closing))
 change_of content opening closing = None
 
--- the days on which something is in service, of some days; without days of service all of them
+-- those of some days on which something is in service; if it has no days of service, all of them
 abbrev pub served_days : Option Service → Days → Days
 served_days service days = record { first = first_served service days.first; last = last_served service days.last }
 
--- What live facts say of an arc on some days: of a metered stream the total of its readings, where each day on which it is in service
--- has one; of a batch stream what its transfers moved; of a plain one nothing; of a tank its content at the end of its closing day less
--- that at the end of its opening day, where both days have a dip. These are the last of the days on which it is in service, and the day
--- before the first of them.
+-- What live facts say about an arc on some days. For a metered stream: the total of its readings, if each day on which it is in
+-- service has one. For a batch stream: what its transfers moved. For a plain stream: nothing. For a tank: its content at the end of
+-- its closing day less that at the end of its opening day, if both days have a dip; these are the last day on which it is in
+-- service, and the day before the first.
 abbrev pub amount_of : List Declared → List Fact → Days → Option Service → ArcKind → List ℕ → Option Amount
 amount_of declared facts days service Metered stream = read_total (read_on facts stream) (each_of (served_days service days))
 amount_of declared facts days service Batch stream = Some (total_of (filter_map (transferred days stream) facts))
@@ -48,11 +48,11 @@ amount_of declared facts days service Tank tank =
     (find (is_dip_on tank (day_of_opening service days.first)) facts)
     (find (is_dip_on tank (day_of_closing service days.last)) facts)
 
--- a measured amount: its grams, and the base variance with its own variance
+-- the measurement of an amount: its grams, and the sum of the base variance and its own
 abbrev pub measurement : ℤ → Amount → Meas
 measurement base amount = record { value = amount.grams; variance = base +ℤ amount.variance }
 
--- what is measured of an arc on some days, where it has these days of service
+-- what is measured of an arc on some days, given its days of service
 abbrev pub measured : List Declared → List Fact → Days → Option Service → Arc → Option Meas
 measured declared facts days service arc =
     option_map (measurement arc.base) (amount_of declared facts days service arc.kind arc.name)

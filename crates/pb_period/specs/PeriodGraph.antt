@@ -1,4 +1,4 @@
--- Statement. The graph of the declared plant before a single reading, and that of the part in service as a period measured it.
+-- Statement. The graph of the declared plant before any reading, and that of the part in service as a period measured it.
 use Rattle.std.specs.Prelude.{ℕ, ◌<◌, ℤ, pos, Bool, false, ◌||◌, nat_lt, int_lt, unsigned_abs, List, length, map, position, Option, Some, None, Result, Ok, Err}
 use Rattle.std.specs.Option.{option_map_or}
 use Rattle.pb_limits.specs.Limits.{most_value, most_variance}
@@ -27,15 +27,15 @@ use Rattle.pb_period.specs.Measurement.{measured}
 abbrev pub stream_with : (Arc → Option Meas) → Arc → Stream
 stream_with measure arc = record { from = arc.from; to = arc.to; meas = measure arc }
 
--- the declared plant: its nodes are the environment, the units and the tanks, its streams the declared ones and the
--- inventories of the tanks, all in order of declaration
+-- the declared plant: its nodes are the environment, the units and the tanks; its streams are the declared streams and the
+-- inventories of the tanks; all are in order of declaration
 abbrev pub graph_with : (Arc → Option Meas) → List StoredRow → ProcessGraph
 graph_with measure rows = record {
   nodes = length (node_names (declared_of rows));
   streams = map (stream_with measure) (arcs_of (declared_of rows));
 }
 
--- before a reading: the value 0 with the base variance, of all but plain streams
+-- before any reading: the value 0 with the base variance, for all streams except plain ones
 abbrev pub base_of_kind : ArcKind → ℤ → Option Meas
 base_of_kind Plain base = None
 base_of_kind kind base = Some (record { value = pos 0; variance = base })
@@ -55,12 +55,12 @@ stream_among nodes measure arc = record {
   meas = measure arc;
 }
 
--- what is measured on some days of an arc, on those of them on which it is in service
+-- what is measured of an arc on those of some days on which it is in service
 abbrev pub measured_served : List Declared → List Fact → Days → Arc → Option Meas
 measured_served declared facts days arc = measured declared facts days arc.service arc
 
--- the part of the plant that is in service on some of these days: its streams are the declared ones and the inventories of the tanks
--- that are, its nodes are the environment and the ends of these streams, all in order of declaration
+-- the part of the plant that is in service on any of these days: its streams are the declared streams and the inventories of the
+-- tanks that are in service; its nodes are the environment and the ends of these streams; all are in order of declaration
 abbrev pub served_graph : List Declared → List Fact → Days → ProcessGraph
 served_graph declared facts days =
     let nodes = nodes_on Two declared days.first days.last in
@@ -69,7 +69,8 @@ served_graph declared facts days =
       streams = map (stream_among nodes (measured_served declared facts days)) (arcs_on Two declared days.first days.last);
     }
 
--- The graph of the days of a period in a session of a version: in version 1 of the whole plant, in version 2 of the part in service.
+-- The graph of the days of a period in a session of this version: in version 1 that of the whole plant, in version 2 that of the
+-- part in service.
 abbrev pub graph_in : Version → List StoredRow → Days → ProcessGraph
 graph_in One rows days = graph_with (measured (declared_of rows) (live_facts (facts_of rows)) days None) rows
 graph_in Two rows days = served_graph (declared_of rows) (live_facts (facts_of rows)) days
@@ -93,22 +94,22 @@ abbrev pub unless_over : ProcessGraph → Option ℕ → Result ProcessGraph Ass
 unless_over graph (Some stream) = Err (Over stream)
 unless_over graph None = Ok graph
 
--- a graph, or its first stream that is over the limits
+-- the graph, or its first stream that is over the limits
 abbrev pub within_limits : ProcessGraph → Result ProcessGraph Assembly
 within_limits graph = unless_over graph (position is_over graph.streams)
 
--- The graph of the days of a period, or its first stream that is over the limits, in a session of a version.
+-- The graph of the days of a period, or its first stream that is over the limits, in a session of this version.
 abbrev pub assembly_in : Version → List StoredRow → Days → Result ProcessGraph Assembly
 assembly_in version rows days = within_limits (graph_in version rows days)
 
 abbrev pub assembly_of : List StoredRow → Days → Result ProcessGraph Assembly
 assembly_of rows days = assembly_in (version_of (declared_of rows)) rows days
 
--- a stream that is over the limits is one of a graph's
+-- the stream that is over the limits is a stream of this graph
 abbrev pub IsStreamOfGraph : ProcessGraph → Assembly → Type 0
 IsStreamOfGraph graph (Over stream) = stream < length graph.streams
 IsStreamOfGraph graph NoMemory = Unit {0}
 
--- it is one of the graph's of some days
+-- the stream that is over the limits is a stream of the graph of some days
 abbrev pub NamesAStream : List StoredRow → Days → Assembly → Type 0
 NamesAStream rows days why = IsStreamOfGraph (period_graph rows days) why

@@ -1,4 +1,4 @@
--- Statement. What the facts say of the streams of a window, and its graph.
+-- Statement. What the facts say about the streams of a window, and its graph.
 use Rattle.std.specs.Prelude.{ℕ, ◌<◌, ℤ, ◌-◌, List, length, filter_map, find, map, slice_get, option_and_then, option_map, Option, None, Result}
 use Rattle.pb_strap.specs.declared.strap.Point.{Point}
 use Rattle.pb_graph.specs.declared.records.Meas.{Meas}
@@ -36,7 +36,7 @@ periods_at rows places = filter_map (slice_get (periods_of rows)) places
 
 -- ---- what is measured of a stream
 
--- what some days measured of an arc, in a session of a version
+-- what some days measured of an arc, in a session of this version
 abbrev pub measured_in : Version → List Declared → List Fact → Days → Arc → Option Meas
 measured_in One declared facts days arc = measured declared facts days None arc
 measured_in Two declared facts days arc = measured_served declared facts days arc
@@ -45,18 +45,18 @@ measured_in Two declared facts days arc = measured_served declared facts days ar
 abbrev pub flow_measured : List StoredRow → Arc → Period → Option Meas
 flow_measured rows arc period = measured_in (version_of (declared_of rows)) (declared_of rows) (live_facts (facts_of rows)) (days_of period) arc
 
--- what a tank with this table holds at the end of a day, if there is a dip of the day
+-- what a tank with this table holds at the end of a day, if there is a dip on this day
 abbrev pub held_at : List Fact → List ℕ → ℤ → List Point → Option Amount
 held_at facts tank day points = option_map (content_of points) (find (is_dip_on tank day) facts)
 
--- the measurement of what a tank holds at the end of a day: the grams of the live dip of that day, and the base variance with that of the
--- dip; a stream has no table, and holds nothing
+-- the measurement of what a tank holds at the end of a day: the grams of the live dip of that day, and the sum of the base variance
+-- and the dip's; a stream has no table, and no content
 abbrev pub content_measured : List StoredRow → Arc → ℤ → Option Meas
 content_measured rows arc day =
     option_map (measurement arc.base) (option_and_then (held_at (live_facts (facts_of rows)) arc.name day) (table_of_arc (declared_of rows) arc))
 
--- what is measured of an arc in the period with this number, counted from 1: of a flow what the period measured, of a content what the
--- tank holds at the end of its day
+-- what is measured of an arc in the period with this number, counted from 1: for a flow, what the period measured; for a content,
+-- what the tank holds at the end of its day
 abbrev pub source_measured : List StoredRow → List Period → ℕ → Source → Arc → Option Meas
 source_measured rows periods number Flow arc = option_and_then (flow_measured rows arc) (slice_get periods (number - 1))
 source_measured rows periods number (Content day) arc = content_measured rows arc day
@@ -79,7 +79,7 @@ measured_window rows periods window = window_graph window (window_measured rows 
 abbrev pub window_assembly : List StoredRow → List Period → Window → Result ProcessGraph Assembly
 window_assembly rows periods window = within_limits (measured_window rows periods window)
 
--- a stream that is over the limits is one of the window's
+-- the stream that is over the limits is a stream of this window
 abbrev pub IsStreamOfWindow : Window → Assembly → Type 0
 IsStreamOfWindow window (Over stream) = stream < length window.streams
 IsStreamOfWindow window NoMemory = Unit {0}

@@ -26,7 +26,7 @@ impl Amount {
         }
     }
 
-    /// Two amounts together.
+    /// The sum of two amounts.
     pub fn plus(self, other: Amount) -> Amount
         requires small { IsSmall self }
         requires other { IsSmall other }
@@ -38,7 +38,7 @@ impl Amount {
         }
     }
 
-    /// The measurement of this amount: its grams, and the base variance with its own variance.
+    /// The measurement of this amount: its grams, and the sum of the base variance and its own.
     pub fn measured(self, base: i128) -> Meas
         requires small { IsSmall self }
         requires base { IsBaseVariance base }

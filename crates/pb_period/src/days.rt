@@ -7,7 +7,7 @@ ghost use Rattle.pb_period.specs.Days.{day_count, days_of};
 
 use pb_book::Period;
 
-/// The days from a first to a last one, both included, counted from 1970-01-01.
+/// The days from `first` to `last`, both included, as days since 1970-01-01.
 #[derive(Clone, Copy, Debug, PartialEq, Eq)]
 pub struct Days {
     pub first: i32,
@@ -26,7 +26,7 @@ impl Days {
     }
 }
 
-/// How many days there are from one day up to another, which isn't counted and doesn't come first.
+/// The number of days from `first` up to `end`, which isn't counted and doesn't come before `first`.
 pub fn days_until(first: i32, end: i32) -> u32
     requires order { first ≤ℤ end }
     ensures { result ≡ int_gap first end }
@@ -34,7 +34,7 @@ pub fn days_until(first: i32, end: i32) -> u32
     end.abs_diff(first)
 }
 
-/// How many days there are from one day to another, both included, of which the second doesn't come first.
+/// The number of days from `first` to `last`, both included; `last` doesn't come before `first`.
 pub fn days_through(first: i32, last: i32) -> u32
     requires first { IsDay first }
     requires last { IsDay last }

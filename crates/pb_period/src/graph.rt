@@ -42,8 +42,8 @@ impl From<AllocError> for Assembly {
     }
 }
 
-/// The graph of the declared plant before a single reading: each metered and batch stream and each tank's inventory stream is
-/// measured, with the value 0 and its base variance.
+/// The graph of the declared plant before any reading: each metered and batch stream and each tank's inventory stream is measured,
+/// with the value 0 and its base variance.
 pub fn design(alloc: Global, book: &Book) -> Result<Graph, AllocError>
     ensures { IfOk result (λ graph. graph ≡ design_graph book.now) }
 {
@@ -72,7 +72,7 @@ pub fn assemble(alloc: Global, book: &Book, period: u32) -> Result<Graph, Assemb
     }
 }
 
-/// The names of the nodes and streams of the graph of a period. No two nodes have one name, and no two streams.
+/// The names of the nodes and streams of the graph of a period. No two nodes have the same name, and no two streams.
 pub fn names(alloc: Global, book: &Book, period: u32) -> Result<Names, AllocError>
     requires { period < length (periods_of book.now) }
     ensures ok { IfOk result (λ names. IfSome (slice_get (periods_of book.now) period)
@@ -96,7 +96,7 @@ fn stream_of(arc: &Arc, meas: Option<Meas>) -> Stream
     }
 }
 
-// The stream of an arc before a reading.
+// The stream of an arc before any reading.
 fn declared_stream(arc: &Arc) -> Stream
     requires { IsArcBase arc.now.kind arc.now.base }
     ensures value { result ≡ stream_with base_of arc.now }
@@ -105,7 +105,7 @@ fn declared_stream(arc: &Arc) -> Stream
     stream_of(arc, base_of(arc.kind, arc.base))
 }
 
-// The value 0 with the base variance, of all but plain streams.
+// The value 0 with the base variance, for all streams except plain ones.
 fn base_of(kind: ArcKind, base: i128) -> Option<Meas>
     requires { IsArcBase kind base }
     ensures value { result ≡ base_of_kind kind base }
@@ -120,7 +120,7 @@ fn base_of(kind: ArcKind, base: i128) -> Option<Meas>
     }
 }
 
-// The graph of the whole plant with what some days measured.
+// The graph of the whole plant, with what some days measured.
 fn measured_graph(alloc: Global, book: &Book, days: Days) -> Result<Graph, Assembly>
     requires { AreDays days }
     ensures answer { result ≢ Err Assembly.NoMemory → result ≡ assembly_in One book.now days }
@@ -138,7 +138,7 @@ fn measured_graph(alloc: Global, book: &Book, days: Days) -> Result<Graph, Assem
     Ok(graph)
 }
 
-// The graph of the part of the plant that is in service on some days, with what these measured.
+// The graph of the part of the plant that is in service on some days, with what these days measured.
 fn served_graph(alloc: Global, book: &Book, days: Days) -> Result<Graph, Assembly>
     requires days { AreDays days }
     requires version { version_of (declared_of book.now) ≡ Two }
@@ -161,7 +161,7 @@ fn served_graph(alloc: Global, book: &Book, days: Days) -> Result<Graph, Assembl
     Ok(graph)
 }
 
-// Whether a stream is above the limits of the graph that it is to join.
+// Whether a stream is above the limits of the graph that it will join.
 fn is_over(graph: &Graph, stream: &Stream) -> bool
     requires room { length graph.now.streams < most_streams }
     requires joins { IsStream graph.now.nodes stream.now }
@@ -172,7 +172,7 @@ fn is_over(graph: &Graph, stream: &Stream) -> bool
     !graph.fits(stream)
 }
 
-// The stream of an arc, with what some days measured of it, on each of which it is in service.
+// The stream of an arc, with what some days measured of it; it counts as in service on each of them.
 fn measured_stream(book: &Book, days: Days, j: u32) -> Stream
     requires days { AreDays days }
     requires place { j < length (arcs_of (declared_of book.now)) }
@@ -186,7 +186,8 @@ fn measured_stream(book: &Book, days: Days, j: u32) -> Stream
     stream_of(&arc, measured(book, days, None, j, &arc))
 }
 
-// The stream of an arc among the nodes of the part of the plant that is in service on some days, with what these measured of it.
+// The stream of an arc among the nodes of the part of the plant that is in service on some days, with what these days measured of
+// it.
 fn served_stream(book: &Book, part: &OnDays, days: Days, j: u32, arc: &Arc) -> Stream
     requires days { AreDays days }
     requires place { slice_get (arcs_of (declared_of book.now)) j ≡ Some arc.now }
@@ -204,7 +205,7 @@ fn served_stream(book: &Book, part: &OnDays, days: Days, j: u32, arc: &Arc) -> S
     }
 }
 
-/// What some days measured of an arc with these days of service.
+/// What some days measured of an arc, given its days of service.
 pub fn measured(
     book: &Book,
     days: Days,
@@ -223,7 +224,7 @@ pub fn measured(
     Some(amount.measured(arc.base))
 }
 
-// What the facts say of an arc on some days, where it has these days of service.
+// What the facts say about an arc on some days, given its days of service.
 fn amount_of(book: &Book, days: Days, service: Option<Service>, j: u32, arc: &Arc) -> Option<Amount>
     requires days { AreDays days }
     requires place { slice_get (arcs_of (declared_of book.now)) j ≡ Some arc.now }

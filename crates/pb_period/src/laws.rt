@@ -6,8 +6,8 @@ use pb_book::{accepted_law, plain_law};
 use pb_site::{days_law, plant_law, same_part_law};
 use pb_strap::tables_law;
 
-/// The law that the names of accepted rows are distinct, that those of any days are the names of their graph, and that the graphs of the
-/// design and of each of their periods that has one are within the limits.
+/// The law that the names of accepted rows are distinct, that the names on any days are those of the graph of these days, and that
+/// the graph of the design and that of each period that has one are within the limits.
 pub fn graphs_law()
     ensures { GraphsLaw }
 {
@@ -24,22 +24,22 @@ pub fn window_graphs_law()
     accepted_law();
 }
 
-/// The law that the plain rows of accepted rows have the graphs of these, of the design and of all days, and the same names: what
-/// was late, amended or struck is measured as if the file had been edited.
+/// The law that the plain rows of accepted rows have the same graphs as the accepted rows, that of the design and those of any
+/// days, and the same names: what was late, amended or struck is measured as if the file had been edited.
 pub fn plain_graphs_law()
     ensures { PlainGraphsLaw }
 {
     plain_law();
 }
 
-/// The law that a stored row which doesn't take out a period leaves what is declared and the graph of the period as they were.
+/// The law that a stored row which doesn't take out a period changes neither what is declared nor the graph of the period.
 pub fn untouched_law()
     ensures { UntouchedLaw }
 {
     plant_law();
 }
 
-/// The law that in a session of version 2 a stored declaration leaves the graph of each closed period as it was, and its names.
+/// The law that in a session of version 2 a stored declaration changes neither the graph of a closed period nor its names.
 pub fn closed_graphs_law()
     ensures { ClosedGraphsLaw }
 {

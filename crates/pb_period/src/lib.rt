@@ -1,4 +1,4 @@
-//! The graph of the declared plant before a single reading, that of a period, and that of a window of several periods: what meters,
+//! The graph of the declared plant before any reading, that of a period, and that of a window of several periods: what meters,
 //! transfers and dips measured.
 //!
 //! Amounts are grams and variances are squared grams.

@@ -34,7 +34,7 @@ fn dip_on(facts: &Facts, tank: &Name, day: i32) -> Option<Fact>
     facts.live(facts.dip_on(tank, day)?)
 }
 
-// What a reading read.
+// The amount of a reading.
 fn read_amount(fact: &Fact) -> Option<Amount>
     requires { IsInRange fact.now }
     ensures value { result ≡ read_amount fact.now }
@@ -61,8 +61,8 @@ fn read_on(facts: &Facts, stream: &Name, day: i32) -> Option<Amount>
     read_amount(&reading_on(facts, stream, day)?)
 }
 
-/// The total of what a stream's meter read on those of some days on which the stream is in service; `None` iff one of these has no
-/// reading.
+/// The total of what a stream's meter read on those of some days on which the stream is in service; `None` iff one of these days
+/// has no reading.
 pub fn read_total(
     facts: &Facts,
     stream: &Name,
@@ -83,7 +83,7 @@ pub fn read_total(
     Some(total)
 }
 
-// What a tank holds by a dip.
+// What a tank holds according to a dip.
 fn content_of(strap: &Strap, dip: &Fact) -> Amount
     requires { IsInRange dip.now }
     ensures value { result ≡ content_of strap.now dip.now }
@@ -103,7 +103,7 @@ fn content_of(strap: &Strap, dip: &Fact) -> Amount
     }
 }
 
-/// What a tank holds at the end of a day; `None` iff it has no dip of the day.
+/// What a tank holds at the end of a day; `None` iff it has no dip on this day.
 pub fn held_at(facts: &Facts, strap: &Strap, tank: &Name, day: i32) -> Option<Amount>
     ensures value { result ≡ held_at (live_facts facts.now) tank.now day strap.now }
     ensures within { IfSome result (IsAmount 1) }
@@ -112,8 +112,8 @@ pub fn held_at(facts: &Facts, strap: &Strap, tank: &Name, day: i32) -> Option<Am
     Some(content_of(strap, &dip))
 }
 
-/// The change of a tank's content over those of some days on which it is in service; `None` iff it has no dip of the last of these
-/// or of the day before the first.
+/// The change of a tank's content over those of some days on which it is in service; `None` iff it has no dip on the last of these
+/// days or on the day before the first.
 pub fn change(
     facts: &Facts,
     strap: &Strap,
@@ -132,7 +132,7 @@ pub fn change(
     Some(difference(content_of(strap, &opening), content_of(strap, &closing)))
 }
 
-// A closing content less an opening one.
+// The closing content less the opening content.
 fn difference(opening: Amount, closing: Amount) -> Amount
     requires opening { IsAmount 1 opening }
     requires closing { IsAmount 1 closing }

@@ -28,7 +28,7 @@ pub fn transferred(facts: &Facts, stream: &Name, days: Days) -> Amount
     total
 }
 
-// A total with what the fact at a place moved, if there is one that wasn't struck.
+// A total, with what the fact at a place moved added, unless the fact was struck.
 fn with_live(total: Amount, facts: &Facts, place: u32, stream: &Name, days: Days) -> Amount
     requires days { AreDays days }
     requires small { IsSmall total }
@@ -76,7 +76,7 @@ fn transferred_by(fact: &Fact, stream: &Name, days: Days) -> Option<Amount>
     }
 }
 
-// The share of an amount, moved from a first day to a last one, that falls on some days.
+// The share of an amount, moved from day `first` to day `last`, that falls on some days.
 fn common_share(days: Days, first: i32, last: i32, amount: Amount) -> Option<Amount>
     requires days { AreDays days }
     requires first { IsDay first }
@@ -95,7 +95,7 @@ fn common_share(days: Days, first: i32, last: i32, amount: Amount) -> Option<Amo
     )
 }
 
-// The share of an amount, moved from a first day to a last one, that falls on the days from one to another.
+// The share of an amount, moved from day `first` to day `last`, that falls on the days from `from` to `to`.
 fn share_on(first: i32, last: i32, amount: Amount, from: i32, to: i32) -> Option<Amount>
     requires first { IsDay first }
     requires last { IsDay last }
@@ -115,7 +115,7 @@ fn share_on(first: i32, last: i32, amount: Amount, from: i32, to: i32) -> Option
     Some(share_amount(amount, days, before, until))
 }
 
-// The share of an amount, spread evenly over `days` days, that falls on those behind the first `before` up to the first `until`.
+// The share of an amount, spread evenly over `days` days, that falls on those after the first `before` up to the first `until`.
 fn share_amount(amount: Amount, days: u32, before: u32, until: u32) -> Amount
     requires amount { IsAmount 1 amount }
     requires span { IsSpan days before until }

@@ -1,4 +1,4 @@
-// What the facts say of the streams of a window, and its graph.
+// What the facts say about the streams of a window, and its graph.
 
 ghost use Rattle.std.specs.Prelude.{◌≡◌, ◌≢◌, ◌<◌, ◌≤ℤ◌, pos, length, slice_get, option_and_then, All, Err, IfErr, IfOk, IfSome, Some};
 ghost use Rattle.pb_site.specs.Row.{IsArcBase};
@@ -21,8 +21,8 @@ use pb_window::{Source, Window, WindowAssembly, WindowStream, window_graph};
 use std::alloc::{AllocError, Global};
 
 /// The graph of a window of the periods at these places, from the facts that are live; or the first stream whose value or variance
-/// is above the limits. Of a flow its period measured what it measured of its arc; a content is measured iff there is a dip of its
-/// day, with the grams of the dip, and the tank's base variance with that of the dip.
+/// is above the limits. A flow has the measurement of its arc in its period. A content is measured iff there is a dip on its day:
+/// the grams of the dip, and the sum of the tank's base variance and the dip's.
 pub fn assemble_window(
     alloc: Global,
     book: &Book,

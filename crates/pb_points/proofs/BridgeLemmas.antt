@@ -1,4 +1,4 @@
--- A held unmeasured stream is a bridge of the unmeasured streams exactly where the points of its lower end are below that end.
+-- A held unmeasured stream is a bridge of the unmeasured streams exactly when the points of its lower end are below that end.
 use Rattle.std.proofs.Common.{◌≡◌, ◌≢◌, ◌∙◌, ℕ, ◌<◌, ◌≤◌, Bool, true, false, not, ◌==◌, List, Option, Some, slice_get, get_or, [], ap, ap₂, sym, refl, subst, inl, inr, arith}
 use Rattle.std.proofs.lemmas.Bool.{cases_Bool, and_parts, and_from, not_from_false, not-true, ne_eqb}
 use Rattle.pb_integers.proofs.Lists.{all_each}
@@ -32,7 +32,7 @@ branches_open held j ss k t at ok =
 pub but_bare : (j : ℕ) (ss : List Stream) → IsWithin ss (unmeasured_but j) unmeasured
 but_bare j ss k t at ok = (and_parts (unmeasured k t) (not (k == j)) ok).0
 
--- an unmeasured stream that isn't held is another than a held one
+-- an unmeasured stream that isn't held differs from a held one
 pub leap_but : (held : List Bool) (k j : ℕ) (s : Stream) → get_or held j false ≡ true → unheld_unmeasured held k s ≡ true → unmeasured_but j k s ≡ true
 leap_but held k j s branch leap =
     let parts = and_parts (not (is_open held k s)) (unmeasured k s) leap in
@@ -45,7 +45,7 @@ pub joins_of : (s : Stream) (forward : Bool) (a b : ℕ) → along forward s ≡
 joins_of s true a b e = inl (ap (λ (p : ℕ × ℕ). p.0) e, ap (λ (p : ℕ × ℕ). p.1) e)
 joins_of s false a b e = inr (ap (λ (p : ℕ × ℕ). p.0) e, ap (λ (p : ℕ × ℕ). p.1) e)
 
--- who is joined by a stream that may be taken is reached
+-- a node that is joined by a stream that may be taken is reached
 pub joins_reach : (may : ℕ → Stream → Bool) (ss : List Stream) (k : ℕ) (s : Stream) (a b : ℕ) → slice_get ss k ≡ Some s → may k s ≡ true → Joins s a b
     → Reaches (ends_of may ss) a b
 joins_reach may ss k s a b at ok joins = elim joins [
@@ -62,7 +62,7 @@ reach_within may nodes ss a b each lt (steps, w) =
     walk_keeps (ends_of may ss) (λ (n : ℕ). n < nodes) a b steps
     (λ t x y e h. let (s, at, ok, goes) = stream_of may ss t (x, y) e in (along_within nodes s t.forward x y (each t.stream s at) goes).1) w lt
 
--- a node below, over held unmeasured streams but the one to the parent
+-- a node below, over held unmeasured streams other than the one to the parent
 pub below_but : (g : ProcessGraph) (held : List Bool) (points : NodePoints) (n j m : ℕ) → points.up n ≡ Some j → IsBelow g held points n m
     → Reaches (ends_of (except j (held_unmeasured held)) g.streams) n m
 below_but g held points n j m up below = subst (λ (o : Option ℕ). Reaches (ends_of (branch_but held o) g.streams) n m) up below
@@ -145,7 +145,7 @@ points_apart g held points n j graph forest numbering lt up has low high s at r 
 all_but : (ss : List Stream) (j : ℕ) (may : ℕ → Stream → Bool) (k : ℕ) (t : Stream) → slice_get ss k ≡ Some t → k ≢ j → may k t ≡ true → except j may k t ≡ true
 all_but ss j may k t at ne ok = and_from (may k t) (not (k == j)) ok (not_from_false (k == j) (ne_eqb k j ne))
 
--- what stands at the other side of the stream: a walk over held unmeasured streams from a node that isn't below to one below takes it
+-- what lies at the other side of the stream: a walk over held unmeasured streams from a node that isn't below to one below takes it
 pub past : (g : ProcessGraph) (held : List Bool) (points : NodePoints) (n j a m : ℕ) (s : Stream) → points.up n ≡ Some j → slice_get g.streams j ≡ Some s
     → IsBelow g held points n a → (IsBelow g held points n m → ⊥) → Reaches (ends_of (held_unmeasured held) g.streams) m a
     → ((s.from ≡ n) → Reaches (ends_of (except j (held_unmeasured held)) g.streams) m s.to)
@@ -192,7 +192,7 @@ leap_joined g held points n j m forest numbering lt up leap out s at =
           reach_back may ss s.to s.from (subst (λ (a : ℕ). Reaches ends a s.from) (sym here) (reach_both ends n m s.from there on))
     ]
 
--- a number that counts and isn't that of a node below
+-- a number that counts and isn't the number of a node below
 pub counted_joined : (g : ProcessGraph) (held : List Bool) (points : NodePoints) (n j number : ℕ) → IsForest g.streams held → IsNumbering g held points → n < g.nodes
     → points.up n ≡ Some j → IsCounted g held points n number → (IsNumberBelow g held points n number → ⊥) → IsJoined g j
 counted_joined g held points n j number forest numbering lt up (m, there, counts, is) out = elim counts [

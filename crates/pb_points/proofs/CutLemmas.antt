@@ -1,4 +1,4 @@
--- The boundaries of trees, with one stream more.
+-- The boundaries of trees, with one more stream.
 use Rattle.std.proofs.Common.{◌≡◌, ◌≢◌, ◌∙◌, ℕ, ◌+◌, ◌<◌, ◌≤◌, pos, negsuc, Bool, true, false, ◌==◌, List, [], ◌∷◌, ◌++◌, length, Some, None, get_or, drop, replicate, refl, sym, ap, ap₂, subst, inl, inr, arith}
 use Rattle.std.proofs.lemmas.Bool.{cases_Bool, cases_eq, eq-eqb, ne_eqb}
 use Rattle.std.proofs.lemmas.List.{get_or-set_same, get_or-set_other, get_or-replicate, length-set, drop_all, append-nil}
@@ -13,7 +13,7 @@ use Rattle.pb_points.specs.Points.{NodePoints, ArePoints}
 use Rattle.pb_points.specs.Cuts.{IsTreeOf, AreCuts}
 use Rattle.pb_points.specs.CutLists.{with_member, with_crossing, with_stream, HasFewLabels, HasLabel, AreCutsBefore}
 
--- ---- one member more
+-- ---- one more member
 list_more : (lists : List (List Member)) (label : ℕ) (m : Member) → label < length lists → get_or (with_member lists label m) label [] ≡ get_or lists label [] ++ m ∷ []
 list_more lists label m lt = get_or-set_same lists label (get_or lists label [] ++ m ∷ []) [] lt
 
@@ -29,8 +29,8 @@ leaving j = record { stream = j; sign = negsuc 0 }
 abbrev entering : ℕ → Member
 entering j = record { stream = j; sign = pos 1 }
 
--- ---- one stream more
--- what a list and the streams left make
+-- ---- one more stream
+-- what a list and the streams left make together
 abbrev IsSoFar : List Bool → List Stream → ℕ → List Member → Type 0
 IsSoFar side ss j list = boundary_of side ss ≡ list ++ members_from side j (drop j ss)
 
@@ -56,7 +56,7 @@ enters : (side : List Bool) (ss : List Stream) (j : ℕ) (list new : List Member
 enters side ss j list new lt from to is so_far =
     subst (IsSoFar side ss (j + 1)) (sym is) (member_more side ss list j some_stream (entering j) lt (ap (member_by j) (ap₂ sign_at from to)) so_far)
 
--- the lists where the labels of a stream's ends are from and to
+-- the lists if the labels of a stream's ends are from and to
 crossing_more : (side : List Bool) (ss : List Stream) (lists : List (List Member)) (j from to label : ℕ) → j < length ss → from < length lists → to < length lists → from ≢ to
     → is_in side (get_or ss j some_stream).from ≡ (from == label) → is_in side (get_or ss j some_stream).to ≡ (to == label)
     → IsSoFar side ss j (get_or lists label []) → IsSoFar side ss (j + 1) (get_or (with_crossing lists j from to) label [])
@@ -103,7 +103,7 @@ stream_more points ss lists j lt each is labels before = λ label side within ha
           (crossing_more side ss lists j (points.label s.from) (points.label s.to) label lt (omega (arith, from_within, each)) (omega (arith, to_within, each)) differ from to so_far)
     ]
 
--- ---- before the first stream, and behind the last
+-- ---- before the first stream, and after the last
 pub cuts_begin : (points : NodePoints) (ss : List Stream) (lists : List (List Member)) (nodes : ℕ) → lists ≡ replicate nodes [] → points.nodes ≡ nodes → AreCutsBefore points ss 0 lists
 cuts_begin points ss lists nodes empty same = λ label side within has.
     let none : get_or lists label [] ≡ [] = ap (λ (l : List (List Member)). get_or l label []) empty ∙ get_or-replicate nodes label [] [] (omega (arith, within, same)) in

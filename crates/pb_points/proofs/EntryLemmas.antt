@@ -1,4 +1,4 @@
--- One node more is entered: what was known of the entries stays.
+-- One more node is entered: what was known about the entries stays.
 use Rattle.std.proofs.Common.{◌≡◌, ◌≢◌, ◌∙◌, ◌⊎◌, ℕ, zero, suc, ◌+◌, ◌<◌, ◌≤◌, Bool, true, false, List, [], ◌∷◌, ◌++◌, length, Option, Some, None, get_or, set, refl, sym, ap, subst, inl, inr, arith}
 use Rattle.std.proofs.lemmas.Bool.{cases_eq}
 use Rattle.std.proofs.lemmas.List.{get_or-set_same, get_or-set_other, get_or_append_left, length-append, length-set}
@@ -14,7 +14,7 @@ pub option_cases : (o : Option ℕ) → (o ≡ None) ⊎ ((k : ℕ) × (o ≡ So
 option_cases None = inl refl
 option_cases (Some k) = inr (k, refl)
 
--- ---- the list and the numbers with one node more
+-- ---- the list and the numbers with one more node
 pub size_more : (w : Entries) (e : Entry) → length (with_entry w e).list ≡ length w.list + 1
 size_more w e = length-append w.list (e ∷ [])
 
@@ -53,7 +53,7 @@ unentered_set (true ∷ marks) zero lt none = cc none
 unentered_set (false ∷ marks) (suc n) lt none = let e = unentered_set marks n (omega (arith, lt)) none in omega (arith, e)
 unentered_set (true ∷ marks) (suc n) lt none = unentered_set marks n (omega (arith, lt)) none
 
--- ---- what hangs goes on to hang
+-- ---- what hangs still hangs
 pub hangs_more : (ss : List Stream) (held : List Bool) (w : Entries) (e x : Entry) (i k : ℕ) → i ≤ length w.list → Hangs ss held w i x k → Hangs ss held (with_entry w e) i x k
 hangs_more ss held w e x i k le h =
     let u = with_entry w e in
@@ -99,7 +99,7 @@ hangs_behind ss held w e x k deep h =
       tree = more.tree;
     }
 
--- ---- the entries with one node more
+-- ---- the entries with one more node
 pub entries_more : (nodes : ℕ) (ss : List Stream) (held : List Bool) (e : Entry) (stack : List Entry) (w : Entries) → IsNext nodes ss held e stack w
     → AreEntries nodes ss held (with_entry w e)
 entries_more nodes ss held e stack w next =
@@ -193,7 +193,7 @@ entries_more nodes ss held e stack w next =
       ];
     }
 
--- ---- what waits with one node more
+-- ---- what waits with one more node
 waits_more : (nodes : ℕ) (ss : List Stream) (held : List Bool) (e x : Entry) (stack : List Entry) (w : Entries) → IsNext nodes ss held e stack w → x.depth ≤ e.depth
     → Waits nodes ss held w e.tree x → Waits nodes ss held (with_entry w e) e.tree x
 waits_more nodes ss held e x stack w next deep waits =
@@ -222,7 +222,7 @@ waiting_more nodes ss held e stack w next = record {
   sorted = next.waiting.sorted;
 }
 
--- ---- what was followed with one node more
+-- ---- what was followed with one more node
 pub followed_more : (nodes : ℕ) (ss : List Stream) (held : List Bool) (e : Entry) (stack : List Entry) (w : Entries) (i k : ℕ) → IsNext nodes ss held e stack w
     → i < length w.list → IsFollowed ss w e.tree (stack ++ e ∷ []) i k → IsFollowed ss (with_entry w e) e.tree stack i k
 followed_more nodes ss held e stack w i k next lt followed =

@@ -1,4 +1,4 @@
--- What the depths of a walk tell: the nodes below a node are those of the entries behind it that are deeper.
+-- What the depths of a walk show: the nodes below a node are those of the entries after it that are deeper.
 use Rattle.std.proofs.Common.{◌≡◌, ◌≢◌, ◌∙◌, ◌⊎◌, ◌↔◌, ℕ, zero, suc, ◌+◌, ◌<◌, ◌≤◌, Bool, true, not, ◌==◌, List, length, Option, Some, None, slice_get, get_or, refl, sym, ap, ap₂, subst, inl, inr, arith}
 use Rattle.std.proofs.lemmas.Bool.{cases_Bool, cases_eq, cases_lt, and_parts, and_from, not-true, not_from_false, eq-eqb, ne_eqb}
 use Rattle.std.proofs.lemmas.Option.{slice_get_within, get_or_from_slice_get, slice_get-get_or}
@@ -18,7 +18,7 @@ use Rattle.pb_points.specs.Walk.{is_branch, end_from, Hangs, AreEntries, IsWalke
 use Rattle.pb_points.proofs.EntryLemmas.{option_cases}
 use Rattle.pb_points.proofs.BridgeLemmas.{branches_bare, joins_of, joins_reach, not_below}
 
--- entry i is k's or behind it, and all between, itself too, are deeper than k's
+-- entry i is entry k or comes after it, and all entries after k up to i are deeper than k
 pub record IsOver (w : Entries) (k i : ℕ) : Type 0 where
   pub from : k ≤ i
   pub over : (m : ℕ) → k < m → m ≤ i → depth_at w k < depth_at w m
@@ -50,7 +50,7 @@ parent_over ss held w i e h = record {
   ];
 }
 
--- what an entry but k's is over, its parent is
+-- if an entry other than k is over k, so is its parent
 pub over_parent : (ss : List Stream) (held : List Bool) (w : Entries) (k i e : ℕ) (h : Hangs ss held w i (entry_at w i) e) → IsOver w k i → k ≢ i → IsOver w k h.parent
 over_parent ss held w k i e h o ne =
     let deep = o.over i (omega (arith, o.from, ne)) (omega arith) in
@@ -61,7 +61,7 @@ over_parent ss held w k i e h o ne =
     record { from = from; over = λ m lt le. o.over m lt (omega (arith, le, h.before)) }
 
 -- ---- the two ends of a stream by which an entry hangs
--- of the ends of a stream, one is this node and the other the other
+-- of the ends of a stream, one is this node and the other is the other end
 pub which_end : (nodes n a b : ℕ) (s : Stream) → IsStream nodes s → touches n s ≡ true → Joins s a b
     → ((n ≡ a) × (other_end n s ≡ b)) ⊎ ((n ≡ b) × (other_end n s ≡ a))
 which_end nodes n a b s is touch joins = elim (end_cases n s touch) [
@@ -86,12 +86,12 @@ touch_joins n s touch = elim (end_cases n s touch) [
 pub stream_there : (ss : List Stream) (k : ℕ) → k < length ss → slice_get ss k ≡ Some (get_or ss k some_stream)
 stream_there ss k lt = slice_get-get_or ss k some_stream lt
 
--- an entry has its node alone
+-- an entry is the only one with its node
 pub one_number : (nodes : ℕ) (ss : List Stream) (held : List Bool) (w : Entries) (i k : ℕ) → AreEntries nodes ss held w → i < length w.list → k < length w.list
     → node_at w i ≡ node_at w k → i ≡ k
 one_number nodes ss held w i k entries li lk same = sym (entries.placed i li) ∙ ap (number_of w) same ∙ entries.placed k lk
 
--- no two entries hang by one stream
+-- no two entries hang by the same stream
 pub one_stream : (nodes : ℕ) (ss : List Stream) (held : List Bool) (w : Entries) (i k e : ℕ) → AreEntries nodes ss held w → k < i → i < length w.list
     → up_at w i ≡ Some e → up_at w k ≡ Some e → ⊥
 one_stream nodes ss held w i k e entries less lt up_i up_k =
@@ -113,7 +113,7 @@ parent_reach nodes ss held w may i e h ok =
     subst (λ (a : ℕ). Reaches (ends_of may ss) a (node_at w i)) (sym h.end)
     (joins_reach may ss e s (other_end (node_at w i) s) (node_at w i) (stream_there ss e h.there) ok (touch_joins (node_at w i) s h.touch))
 
--- the stream by which an entry behind k's hangs isn't the one by which k's does
+-- the stream by which an entry after k hangs isn't the one by which entry k does
 but_up : (nodes : ℕ) (ss : List Stream) (held : List Bool) (w : Entries) (k i e : ℕ) (o : Option ℕ) → AreEntries nodes ss held w → k < i → i < length w.list
     → up_at w i ≡ Some e → is_branch ss held e ≡ true → up_at w k ≡ o → branch_but held o e (get_or ss e some_stream) ≡ true
 but_up nodes ss held w k i e None entries less lt up_i branch up_k = branch
@@ -143,7 +143,7 @@ descend nodes ss held w k (suc bound) i entries less lt o = elim (cases_eq k i) 
       ]
 ]
 
--- the entries over which k's is are reached from it over branches but the one to its parent
+-- the entries that are over entry k are reached from it over branches other than the one to its parent
 pub over_reach : (nodes : ℕ) (ss : List Stream) (held : List Bool) (w : Entries) (k i : ℕ) → AreEntries nodes ss held w → i < length w.list → IsOver w k i
     → Reaches (ends_of (branch_but held (up_at w k)) ss) (node_at w k) (node_at w i)
 over_reach nodes ss held w k i entries lt o = descend nodes ss held w k (i + 1) i entries (omega arith) lt o
@@ -178,7 +178,7 @@ label_least nodes ss held w (suc bound) i entries less lt = elim (option_cases (
       omega (arith, rest, h.tree, h.before)
 ]
 
--- entries with one label are joined by the streams by which entries hang
+-- entries with the same label are joined by the streams by which entries hang
 pub label_reach : (nodes : ℕ) (ss : List Stream) (held : List Bool) (w : Entries) (may : ℕ → Stream → Bool) (i k : ℕ) → AreEntries nodes ss held w → TakesUps ss w may
     → i < length w.list → k < length w.list → tree_at w i ≡ tree_at w k → Reaches (ends_of may ss) (node_at w i) (node_at w k)
 label_reach nodes ss held w may i k entries ups li lk same =
@@ -216,7 +216,7 @@ touch_to s = elim (cases_Bool (s.from == s.to)) [
   | inr other ↦ rw (other, eq-eqb s.to s.to refl) refl
 ]
 
--- the ends of a branch have one label
+-- the ends of a branch have the same label
 pub level_ends : (nodes : ℕ) (ss : List Stream) (held : List Bool) (w : Entries) (j : ℕ) (s : Stream) → IsWalked nodes ss held w → IsStream nodes s
     → slice_get ss j ≡ Some s → held_unmeasured held j s ≡ true → tree_at w (number_of w s.from) ≡ tree_at w (number_of w s.to)
 level_ends nodes ss held w j s walked is at branch =
@@ -269,7 +269,7 @@ each_hangs g held w j s graph forest walked at branch =
       ]
     ]
 
--- ---- what a node reaches over branches but the one to its parent is below it
+-- ---- what a node reaches over branches other than the one to its parent is below it
 -- no such branch leads out of the entries that are deeper
 over_step : (g : ProcessGraph) (held : List Bool) (w : Entries) (k : ℕ) → IsProcessGraph g → IsForest g.streams held → IsWalked g.nodes g.streams held w
     → (e a b : ℕ) (s : Stream) → slice_get g.streams e ≡ Some s → held_unmeasured held e s ≡ true → (up_at w k ≢ Some e) → Joins s a b
@@ -294,7 +294,7 @@ over_step g held w k graph forest walked e a b s at branch but joins o =
           subst (IsOver w k) (sym number_i ∙ ap (number_of w) here) (over_both w k h.parent i o_p (parent_over ss held w i e h))
     ]
 
--- a test that lets a branch pass that isn't the one to the parent
+-- a test that passes a branch other than the one to the parent
 passes_branch : (held : List Bool) (o : Option ℕ) (e : ℕ) (s : Stream) → branch_but held o e s ≡ true → (held_unmeasured held e s ≡ true) × (o ≢ Some e)
 passes_branch held None e s ok = (ok, λ is. cc is)
 passes_branch held (Some j) e s ok =
@@ -323,7 +323,7 @@ branch_level g held w graph walked t a b e =
       | inr (to, from) ↦ ap (λ (n : ℕ). tree_at w (number_of w n)) (sym to) ∙ sym level ∙ ap (λ (n : ℕ). tree_at w (number_of w n)) from
     ]
 
--- nodes have one label exactly where unmeasured streams join them
+-- nodes have the same label exactly when unmeasured streams join them
 pub labels_tell : (g : ProcessGraph) (held : List Bool) (w : Entries) (m n : ℕ) → IsProcessGraph g → IsForest g.streams held → IsWalked g.nodes g.streams held w
     → m < g.nodes → n < g.nodes → (tree_at w (number_of w m) ≡ tree_at w (number_of w n)) ↔ Reaches (ends_of unmeasured g.streams) m n
 labels_tell g held w m n graph forest walked lm ln =

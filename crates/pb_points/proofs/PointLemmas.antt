@@ -1,4 +1,4 @@
--- What a walk and its spans tell are the entry numbers and the points of a graph.
+-- What a walk and its spans show are the entry numbers and the points of a graph.
 use Rattle.std.proofs.Common.{◌≡◌, ◌∙◌, ◌↔◌, ℕ, suc, ◌+◌, ◌<◌, ◌≤◌, Bool, true, false, List, [], ◌∷◌, length, Some, slice_get, get_or, map, refl, sym, ap, subst, inl, inr, arith}
 use Rattle.std.proofs.lemmas.Bool.{cases_lt}
 use Rattle.std.proofs.lemmas.List.{get_or_default}
@@ -43,7 +43,7 @@ kept nodes ss held w labels spans walked is whole =
           omega (arith, least, less, many, walked.entries.numbers);
     }
 
--- each node's number is that of an entry
+-- each node's number is the number of an entry
 pub numbers_there : (nodes : ℕ) (ss : List Stream) (held : List Bool) (w : Entries) (n d : ℕ) → IsWalked nodes ss held w → n < length w.numbers
     → get_or w.numbers n d < length w.list
 numbers_there nodes ss held w n d walked lt =
@@ -146,7 +146,7 @@ to_counts g held w spans n m graph forest walked whole ln lm counts = elim count
       }
 ]
 
--- a number that counts is that of a node that does
+-- a number that counts is the number of a node that counts
 from_counts : (g : ProcessGraph) (held : List Bool) (w : Entries) (spans : List Span) (n x : ℕ) → IsProcessGraph g → IsForest g.streams held → IsWalked g.nodes g.streams held w
     → AreWholeFrom g.streams held w 0 spans → n < g.nodes → CountsAmong g.streams held w (length g.streams) (number_of w n) (span_at spans (number_of w n)).last x
     → IsCounted g held (points_of (record { walk = w; spans = spans })) n x

@@ -1,4 +1,4 @@
--- What numbers, labels and points tell of a stream: whether its ends are apart, and the side of its cut.
+-- What numbers, labels and points say about a stream: whether its ends are apart, and the side of its cut.
 use Rattle.std.proofs.Common.{◌≡◌, ◌≢◌, ◌∙◌, ◌⊎◌, ◌↔◌, ℕ, ◌<◌, ◌≤◌, Bool, true, false, not, ◌==◌, List, [], length, Some, Result, Ok, Err, IfOk, slice_get, refl, sym, ap, ap₂, subst, inl, inr, arith}
 use Rattle.std.proofs.lemmas.Bool.{cases_Bool, cases_lt, and_parts, and_from, not_from_false, ne_eqb}
 use Rattle.std.proofs.lemmas.List.{get_or_past}
@@ -32,7 +32,7 @@ no_branch g held points j s numbering at from to = elim (cases_Bool (held_unmeas
       ]
 ]
 
--- the held unmeasured streams are then others
+-- the held unmeasured streams are then other streams
 branches_others : (held : List Bool) (j : ℕ) (ss : List Stream) (s : Stream) → slice_get ss j ≡ Some s → held_unmeasured held j s ≡ false
     → IsWithin ss (held_unmeasured held) (unmeasured_but j)
 branches_others held j ss s at out k t there ok =
@@ -41,7 +41,7 @@ branches_others held j ss s at out k t there ok =
     cc (sym ok ∙ ap₂ (λ (i : ℕ) (u : Stream). held_unmeasured held i u) same is ∙ out) in
     and_from (unmeasured k t) (not (k == j)) (and_parts (is_open held k t) (unmeasured k t) ok).1 (not_from_false (k == j) (ne_eqb k j other))
 
--- so what unmeasured streams join, the others do
+-- so what unmeasured streams join, the other ones join
 pub others_reach : (g : ProcessGraph) (held : List Bool) (j a b : ℕ) (s : Stream) → IsForest g.streams held → slice_get g.streams j ≡ Some s
     → held_unmeasured held j s ≡ false → Reaches (ends_of unmeasured g.streams) a b → Reaches (ends_of (unmeasured_but j) g.streams) a b
 others_reach g held j a b s forest at out r =
@@ -114,7 +114,7 @@ pub points_tell : (g : ProcessGraph) (points : NodePoints) (j n : ℕ) → IsPro
 points_tell g points j n graph are lt up within =
     points_apart g are.held points n j graph are.forest are.numbering lt up (are.each n lt) within.0 within.1
 
--- where the ends are apart, both points are below
+-- if the ends are apart, both points are below
 within_if_apart : (g : ProcessGraph) (points : NodePoints) (j n : ℕ) (s : Stream) → IsProcessGraph g → ArePoints g points → n < g.nodes → points.up n ≡ Some j
     → slice_get g.streams j ≡ Some s → IsApart g j → (points.number n ≤ points.low n) × (points.high n ≤ points.last n)
 within_if_apart g points j n s graph are lt up at apart =
@@ -226,7 +226,7 @@ rest_side g points j s side graph are at up apart each rest =
           (rest m (omega (arith, lt, are.nodes))).1 (level, out);
     })
 
--- the same, where the lower end is told by another name
+-- the same, if the lower end goes by another name
 pub below_side_at : (g : ProcessGraph) (points : NodePoints) (j n : ℕ) (s : Stream) (side : List Bool) → IsProcessGraph g → ArePoints g points → slice_get g.streams j ≡ Some s
     → n ≡ s.from → points.up n ≡ Some j → IsApart g j → length side ≡ points.nodes
     → ((m : ℕ) → m < points.nodes → (is_in side m ≡ true) ↔ ((points.number n ≤ points.number m) × (points.number m ≤ points.last n))) → IsSideOf g j side

@@ -1,4 +1,4 @@
--- Spans: one number more counts, and a span is joined to the one behind it.
+-- Spans: one more number counts, and a span is joined to the one after it.
 use Rattle.std.proofs.Common.{◌≡◌, ◌≢◌, ◌∙◌, ◌⊎◌, ℕ, ◌+◌, ◌<◌, ◌≤◌, Bool, true, false, List, length, get_or, set, min, max, refl, sym, ap, subst, inl, inr, arith}
 use Rattle.std.proofs.lemmas.Bool.{cases_eq, cases_lt}
 use Rattle.std.proofs.lemmas.List.{get_or-set_same, get_or-set_other, length-set}
@@ -10,7 +10,7 @@ use Rattle.pb_points.specs.Tables.{Entries, depth_at, number_of, some_span, span
 use Rattle.pb_points.specs.Spans.{own_span, counted, both, noted, CountsAmong, IsSpan, AreOwn, IsDeeper, IsWholeSpan, AreWholeFrom}
 
 -- ---- the span of one entry
--- where no stream was gone through, an entry's own number alone counts
+-- before any stream is considered, only an entry's own number counts
 own_alone : (ss : List Stream) (held : List Bool) (w : Entries) (i x : ℕ) → CountsAmong ss held w 0 i i x → x ≡ i
 own_alone ss held w i x c = elim c.beside [
   | inl same ↦ omega (arith, same, c.from, c.to)
@@ -32,7 +32,7 @@ own_none ss held w spans each own =
       });
     }
 
--- ---- one stream more
+-- ---- one more stream
 counts_later : (ss : List Stream) (held : List Bool) (w : Entries) (j lo hi x : ℕ) → CountsAmong ss held w j lo hi x → CountsAmong ss held w (j + 1) lo hi x
 counts_later ss held w j lo hi x c = record {
   entry = c.entry;
@@ -51,7 +51,7 @@ from_of ss w j = number_of w (get_or ss j some_stream).from
 abbrev to_of : List Stream → Entries → ℕ → ℕ
 to_of ss w j = number_of w (get_or ss j some_stream).to
 
--- what counts for an entry with stream j too, and not without it
+-- what counts for an entry with stream j either counts without it too, or is joined to the entry by stream j
 counts_before : (ss : List Stream) (held : List Bool) (w : Entries) (j i x : ℕ) → CountsAmong ss held w (j + 1) i i x
     → CountsAmong ss held w j i i x
     ⊎ ((unheld_unmeasured held j (get_or ss j some_stream) ≡ true) × (((from_of ss w j ≡ i) × (to_of ss w j ≡ x)) ⊎ ((to_of ss w j ≡ i) × (from_of ss w j ≡ x))))
@@ -80,7 +80,7 @@ counts_before ss held w j i x c =
       ]
     ]
 
--- a stream that isn't an unheld unmeasured one changes nothing
+-- a stream that is measured or held changes nothing
 pub own_same : (ss : List Stream) (held : List Bool) (w : Entries) (j : ℕ) (spans : List Span) → unheld_unmeasured held j (get_or ss j some_stream) ≡ false
     → AreOwn ss held w j spans → AreOwn ss held w (j + 1) spans
 own_same ss held w j spans out own = record {
@@ -145,7 +145,7 @@ ends_both one other span next a b = record {
   ];
 }
 
--- one number more
+-- one more number
 ends_more : (has : ℕ → Type 0) (span : Span) (number : ℕ) → AreEnds has span → AreEnds (λ x. has x ⊎ (x ≡ number)) (counted span number)
 ends_more has span number a = record {
   low = elim (min_cases span.low number) [
@@ -262,7 +262,7 @@ whole_none ss held w spans own = record {
   whole = λ n le lt. absurd (omega (arith, le, lt));
 }
 
--- an entry's span alone
+-- the span of a single entry
 pub deeper_none : (ss : List Stream) (held : List Bool) (w : Entries) (i : ℕ) (spans : List Span) → i < length w.list → AreWholeFrom ss held w (i + 1) spans
     → IsDeeper ss held w i (span_at spans i)
 deeper_none ss held w i spans lt behind =
@@ -274,7 +274,7 @@ deeper_none ss held w i spans lt behind =
       ends = behind.own i (omega arith);
     }
 
--- the span behind is deeper, and joined
+-- the span after it is deeper, and is joined
 pub deeper_more : (ss : List Stream) (held : List Bool) (w : Entries) (i : ℕ) (span next : Span) → IsDeeper ss held w i span → depth_at w i < depth_at w (span.last + 1)
     → IsWholeSpan ss held w (span.last + 1) next → IsDeeper ss held w i (both span next)
 deeper_more ss held w i span next a deep whole =
@@ -308,7 +308,7 @@ deeper_more ss held w i span next a deep whole =
       ends = record { low = ends.low; least = ends.least; high = ends.high; greatest = ends.greatest };
     }
 
--- one whole span more
+-- one more whole span
 pub whole_more : (ss : List Stream) (held : List Bool) (w : Entries) (i : ℕ) (spans more : List Span) (span : Span) → i < length w.list → AreWholeFrom ss held w (i + 1) spans
     → IsWholeSpan ss held w i span → more ≡ set spans i span → AreWholeFrom ss held w i more
 whole_more ss held w i spans more span lt behind whole is =

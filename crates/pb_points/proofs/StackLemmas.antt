@@ -1,4 +1,4 @@
--- One stream more is followed from the last entry; an entry that waited is taken.
+-- One more stream is followed from the last entry; an entry that waited is taken.
 use Rattle.std.proofs.Common.{◌≡◌, ◌∙◌, ℕ, zero, suc, ◌+◌, ◌*◌, ◌<◌, ◌≤◌, Bool, true, false, List, [], ◌∷◌, ◌++◌, length, replicate, None, Result, Ok, Err, OnOk, get_or, refl, sym, ap, subst, inl, inr, arith}
 use Rattle.std.proofs.lemmas.Bool.{cases_Bool, cases_eq}
 use Rattle.std.proofs.lemmas.List.{get_or_append_left, length-append, length-replicate}
@@ -40,7 +40,7 @@ followed_longer ss w tree stack e i k followed = elim followed [
       inr (waits.0, (q, omega (arith, lt, length-append stack (e ∷ [])), ap (λ (y : Entry). y.node) (get_or_append_left stack (e ∷ []) some_entry q lt) ∙ is))
 ]
 
--- the new one on the stack
+-- the new entry on the stack
 waits_new : (nodes : ℕ) (ss : List Stream) (held : List Bool) (w : Entries) (i k : ℕ) → length w.list ≡ i + 1 → IsStream nodes (get_or ss k some_stream)
     → k < length ss → is_branch ss held k ≡ true → touches (node_at w i) (get_or ss k some_stream) ≡ true → is_entered w (end_from ss (node_at w i) k) ≡ false
     → Waits nodes ss held w (tree_at w i) (hung ss w i k)
@@ -201,7 +201,7 @@ following_all nodes ss held w i list start stack entries is f = record {
   ];
 }
 
--- a list of streams at a node isn't longer than that of all
+-- a list of streams at a node isn't longer than the list of all streams
 from_few : (n k : ℕ) (ss : List Stream) → length (touching_from n k ss) ≤ length ss
 from_few n k [] = omega arith
 from_few n k (s ∷ ss) = elim (cases_Bool (touches n s)) [
@@ -233,7 +233,7 @@ waiting_less nodes ss held e tree stack w waiting =
           omega (arith, s, x, y);
     }
 
--- its node was entered meanwhile
+-- its node was entered in the meantime
 pub takes_none : (nodes : ℕ) (ss : List Stream) (held : List Bool) (e : Entry) (done : ℕ) (stack : List Entry) (w : Entries)
     → IsWalking nodes ss held e.tree done (stack ++ e ∷ []) w → is_entered w e.node ≡ true → IsWalking nodes ss held e.tree done stack w
 takes_none nodes ss held e done stack w walking seen =

@@ -1,4 +1,4 @@
--- Statement. The boundaries of the trees of unmeasured streams: what cuts the side of each measured stream off.
+-- Statement. The boundaries of the trees of unmeasured streams, which cut off the sides of the measured streams.
 use Rattle.std.specs.Prelude.{◌≡◌, ℕ, ◌<◌, List, length, Bool, true, Some, slice_get}
 use Rattle.pb_graph.specs.declared.records.Stream.{Stream}
 use Rattle.pb_graph.specs.declared.records.Member.{Member}
@@ -11,7 +11,7 @@ use Rattle.pb_points.specs.Points.{NodePoints, IsSideOf}
 abbrev pub IsTreeOf : ProcessGraph → ℕ → List Bool → Type 0
 IsTreeOf graph n side = IsReach (ends_of unmeasured graph.streams) graph.nodes n side
 
--- There is a list for each entry number. The one at the label of a node is the boundary of the node's tree.
+-- There is a list for each entry number. The list at the label of a node is the boundary of the node's tree.
 pub record AreCuts (graph : ProcessGraph) (points : NodePoints) (cuts : List (List Member)) : Type 0 where
   pub each : length cuts ≡ graph.nodes
   pub boundary : (n : ℕ) (side : List Bool) → n < graph.nodes → IsTreeOf graph n side → slice_get cuts (points.label n) ≡ Some (boundary_of side graph.streams)

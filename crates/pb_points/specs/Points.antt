@@ -7,9 +7,9 @@ use Rattle.pb_graph.specs.Path.{is_open}
 use Rattle.pb_forest.specs.Forest.{IsForest}
 use Rattle.pb_forest.specs.Laws.{held_unmeasured, except}
 
--- What a walk of the trees of held unmeasured streams tells of each node: its entry number, the last of the entry numbers of the
--- nodes below it, the stream to its parent (none at the node that its tree is entered by), the label of its tree, and its low and
--- high point.
+-- What a walk of the trees of held unmeasured streams says about each node: its entry number, the last of the entry numbers of the
+-- nodes below it, the stream to its parent (none at the node by which its tree is entered), the label of its tree, and its low and
+-- high points.
 pub record NodePoints : Type 0 where
   pub nodes : ℕ
   pub number : ℕ → ℕ
@@ -19,7 +19,7 @@ pub record NodePoints : Type 0 where
   pub low : ℕ → ℕ
   pub high : ℕ → ℕ
 
--- tests of streams that may be taken: held unmeasured ones, but for one if there is one; unmeasured ones that aren't held
+-- tests of which streams may be taken: held unmeasured ones, except a given one if there is one; unmeasured ones that aren't held
 abbrev pub branch_but : List Bool → Option ℕ → ℕ → Stream → Bool
 branch_but held None = held_unmeasured held
 branch_but held (Some j) = except j (held_unmeasured held)
@@ -27,7 +27,7 @@ branch_but held (Some j) = except j (held_unmeasured held)
 abbrev pub unheld_unmeasured : List Bool → ℕ → Stream → Bool
 unheld_unmeasured held k stream = not (is_open held k stream) && unmeasured k stream
 
--- The nodes below node n, itself among them: those that it reaches over held unmeasured streams but the one to its parent.
+-- The nodes below node n, including itself: those that it reaches over held unmeasured streams other than the one to its parent.
 abbrev pub IsBelow : ProcessGraph → List Bool → NodePoints → ℕ → ℕ → Type 0
 IsBelow graph held points n m = Reaches (ends_of (branch_but held (points.up n)) graph.streams) n m
 
@@ -44,9 +44,9 @@ pub record HasLowerEnd (graph : ProcessGraph) (points : NodePoints) (j : ℕ) : 
   pub there : node < graph.nodes
   pub up : points.up node ≡ Some j
 
--- Each node has a number of its own, and the nodes below it have those from its own to its last, without a gap. Each held
--- unmeasured stream leads from one of its ends, the lower one, to the parent. Nodes have one label exactly where they are in one
--- tree, which is what unmeasured streams join.
+-- Each node has a different number, and the nodes below it have the numbers from its own to its last, without a gap. Each held
+-- unmeasured stream leads from one of its ends, the lower one, to the parent of that end. Two nodes have the same label exactly when
+-- they are in the same tree, which is what unmeasured streams join.
 pub record IsNumbering (graph : ProcessGraph) (held : List Bool) (points : NodePoints) : Type 0 where
   pub few : (n : ℕ) → n < graph.nodes → points.number n < graph.nodes
   pub own : (m n : ℕ) → m < graph.nodes → n < graph.nodes → points.number m ≡ points.number n → m ≡ n
@@ -74,11 +74,11 @@ pub record IsLeap (graph : ProcessGraph) (held : List Bool) (points : NodePoints
 abbrev pub Counts : ProcessGraph → List Bool → NodePoints → ℕ → ℕ → Type 0
 Counts graph held points n m = IsBelow graph held points n m ⊎ IsLeap graph held points n m
 
--- a number is that of a node that counts for the points of node n
+-- a number is the entry number of a node that counts for the points of node n
 abbrev pub IsCounted : ProcessGraph → List Bool → NodePoints → ℕ → ℕ → Type 0
 IsCounted graph held points n number = (m : ℕ) × (m < graph.nodes) × Counts graph held points n m × (points.number m ≡ number)
 
--- The low point of a node is the least entry number among the nodes that count for it, and the high point the greatest (Tarjan
+-- The low point of a node is the least entry number among the nodes that count for it, and the high point is the greatest (Tarjan
 -- 1974, "A note on finding the bridges of a graph").
 pub record HasPoints (graph : ProcessGraph) (held : List Bool) (points : NodePoints) (n : ℕ) : Type 0 where
   pub low : IsCounted graph held points n (points.low n)
@@ -86,7 +86,7 @@ pub record HasPoints (graph : ProcessGraph) (held : List Bool) (points : NodePoi
   pub high : IsCounted graph held points n (points.high n)
   pub greatest : (m : ℕ) → m < graph.nodes → Counts graph held points n m → points.number m ≤ points.high n
 
--- the entry numbers and points of a graph, by its spanning forest
+-- the entry numbers and points of a graph, given its spanning forest
 pub record ArePoints (graph : ProcessGraph) (points : NodePoints) : Type 0 where
   pub limits : IsProcessGraph graph
   pub nodes : points.nodes ≡ graph.nodes

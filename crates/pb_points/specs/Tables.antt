@@ -4,7 +4,7 @@ use Rattle.pb_points.specs.declared.walk.Entry.{Entry}
 use Rattle.pb_points.specs.declared.spans.Span.{Span}
 use Rattle.pb_points.specs.Points.{NodePoints}
 
--- for each node its entry number and whether it was entered; and the nodes in the order entered, each with its place in its tree
+-- for each node, its entry number and whether it was entered; and the nodes in the order entered, each with its place in its tree
 pub record Entries : Type 0 where
   pub numbers : List ℕ
   pub entered : List Bool
@@ -47,7 +47,7 @@ pub record PointTable : Type 0 where
   pub walk : Entries
   pub spans : List Span
 
--- what a table tells of each node
+-- what a table says about each node
 abbrev pub points_of : PointTable → NodePoints
 points_of t = record {
   nodes = length t.walk.numbers;

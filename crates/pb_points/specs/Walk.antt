@@ -1,4 +1,4 @@
--- Inside. A walk of the trees of held unmeasured streams with a stack of its own: what its code keeps.
+-- Inside. A walk of the trees of held unmeasured streams with an explicit stack: what its code keeps.
 use Rattle.std.specs.Prelude.{◌≡◌, ◌⊎◌, ℕ, ◌+◌, ◌<◌, ◌≤◌, Bool, true, false, not, ◌&&◌, List, [], ◌∷◌, ◌++◌, length, Some, None, get_or, set, if◌then◌else◌}
 use Rattle.pb_graph.specs.declared.records.Stream.{Stream}
 use Rattle.pb_graph.specs.ProcessGraph.{other_end, some_stream}
@@ -7,7 +7,7 @@ use Rattle.pb_forest.specs.Laws.{held_unmeasured}
 use Rattle.pb_points.specs.declared.walk.Entry.{Entry}
 use Rattle.pb_points.specs.Tables.{Entries, some_entry, entry_at, node_at, depth_at, tree_at, up_at, number_of, is_entered}
 
--- how many nodes aren't entered yet
+-- how many nodes haven't been entered yet
 abbrev pub unentered : List Bool → ℕ
 unentered [] = 0
 unentered (true ∷ marks) = unentered marks
@@ -17,12 +17,12 @@ unentered (false ∷ marks) = 1 + unentered marks
 abbrev pub is_branch : List Stream → List Bool → ℕ → Bool
 is_branch streams held k = held_unmeasured held k (get_or streams k some_stream)
 
--- the end other than node n of the stream at place k
+-- the end of the stream at place k other than node n
 abbrev pub end_from : List Stream → ℕ → ℕ → ℕ
 end_from streams n k = other_end n (get_or streams k some_stream)
 
--- A node hangs by stream k from an entry before number i, its parent, which is one less deep; the entries behind that one are
--- deeper than it.
+-- A node hangs by stream k from an entry before number i, its parent, which is one less deep. The entries after the parent are
+-- deeper than the parent.
 pub record Hangs (streams : List Stream) (held : List Bool) (w : Entries) (i : ℕ) (e : Entry) (k : ℕ) : Type 0 where
   pub there : k < length streams
   pub branch : is_branch streams held k ≡ true
@@ -34,7 +34,7 @@ pub record Hangs (streams : List Stream) (held : List Bool) (w : Entries) (i : �
   pub over : (m : ℕ) → parent < m → m < i → depth_at w parent < depth_at w m
   pub tree : tree_at w parent ≡ e.tree
 
--- Each node entered has one number. It hangs from an earlier one, or begins its tree, whose label is then its number.
+-- Each node entered has one number. It hangs from an earlier one, or it begins a tree, whose label is then its number.
 pub record AreEntries (nodes : ℕ) (streams : List Stream) (held : List Bool) (w : Entries) : Type 0 where
   pub numbers : length w.numbers ≡ nodes
   pub marks : length w.entered ≡ nodes
@@ -49,7 +49,7 @@ pub record AreEntries (nodes : ℕ) (streams : List Stream) (held : List Bool) (
   pub label : (i : ℕ) → i < length w.list → up_at w i ≡ None → tree_at w i ≡ i
   pub branch : (i k : ℕ) → i < length w.list → up_at w i ≡ Some k → Hangs streams held w i (entry_at w i) k
 
--- an entry that waits on the stack: it hangs from an entry of this tree, and where its node was entered, it was in this tree
+-- an entry that waits on the stack: it hangs from an entry of this tree, and if its node was entered, it was entered in this tree
 pub record Waits (nodes : ℕ) (streams : List Stream) (held : List Bool) (w : Entries) (tree : ℕ) (e : Entry) : Type 0 where
   pub node : e.node < nodes
   pub up : ℕ
@@ -64,7 +64,7 @@ IsFollowed streams w tree stack i k =
     ((is_entered w (end_from streams (node_at w i) k) ≡ true) × (tree_at w (number_of w (end_from streams (node_at w i) k)) ≡ tree_at w i))
     ⊎ ((tree_at w i ≡ tree) × ((q : ℕ) × (q < length stack) × ((get_or stack q some_entry).node ≡ end_from streams (node_at w i) k)))
 
--- what waits hangs rightly, the deepest last
+-- the entries that wait hang as they should, the deepest last
 pub record AreWaiting (nodes : ℕ) (streams : List Stream) (held : List Bool) (w : Entries) (tree : ℕ) (stack : List Entry) : Type 0 where
   pub each : (q : ℕ) → q < length stack → Waits nodes streams held w tree (get_or stack q some_entry)
   pub sorted : (q r : ℕ) → q ≤ r → r < length stack → (get_or stack q some_entry).depth ≤ (get_or stack r some_entry).depth
@@ -77,7 +77,7 @@ pub record IsWalking (nodes : ℕ) (streams : List Stream) (held : List Bool) (t
       (i k : ℕ) → i < done → k < length streams → is_branch streams held k ≡ true → touches (node_at w i) (get_or streams k some_stream) ≡ true
       → IsFollowed streams w tree stack i k
 
--- An entry is next: it hangs from an earlier one, or begins a tree, and is as deep as what waits behind it.
+-- An entry is next: it hangs from an earlier one, or begins a tree, and is at least as deep as those that wait.
 pub record IsNext (nodes : ℕ) (streams : List Stream) (held : List Bool) (e : Entry) (stack : List Entry) (w : Entries) : Type 0 where
   pub entries : AreEntries nodes streams held w
   pub waiting : AreWaiting nodes streams held w e.tree stack
@@ -91,7 +91,7 @@ pub record IsNext (nodes : ℕ) (streams : List Stream) (held : List Bool) (e : 
   pub label : e.up ≡ None → e.tree ≡ length w.list
   pub deepest : (q : ℕ) → q < length stack → (get_or stack q some_entry).depth ≤ e.depth
 
--- one node more
+-- one more node
 abbrev pub with_entry : Entries → Entry → Entries
 with_entry w e = record { numbers = set w.numbers e.node (length w.list); entered = set w.entered e.node true; list = w.list ++ e ∷ [] }
 
@@ -99,7 +99,7 @@ with_entry w e = record { numbers = set w.numbers e.node (length w.list); entere
 abbrev pub hung : List Stream → Entries → ℕ → ℕ → Entry
 hung streams w i k = record { node = end_from streams (node_at w i) k; up = Some k; depth = depth_at w i + 1; tree = tree_at w i }
 
--- the stack once stream k was followed from the i-th entry
+-- the stack after stream k was followed from the i-th entry
 abbrev pub followed : List Stream → List Bool → Entries → ℕ → ℕ → List Entry → List Entry
 followed streams held w i k stack =
     if is_branch streams held k && not (is_entered w (end_from streams (node_at w i) k)) then stack ++ hung streams w i k ∷ [] else stack
@@ -112,7 +112,7 @@ pub record IsWalked (nodes : ℕ) (streams : List Stream) (held : List Bool) (w 
       (i k : ℕ) → i < length w.list → k < length streams → is_branch streams held k ≡ true → touches (node_at w i) (get_or streams k some_stream) ≡ true
       → tree_at w (number_of w (end_from streams (node_at w i) k)) ≡ tree_at w i
 
--- the nodes that were entered, and this one, are entered
+-- the nodes that were entered before, and this one, are entered
 pub record IsNowEntered (node : ℕ) (old new : Entries) : Type 0 where
   pub kept : (n : ℕ) → is_entered old n ≡ true → is_entered new n ≡ true
   pub now : is_entered new node ≡ true

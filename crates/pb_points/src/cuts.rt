@@ -11,11 +11,11 @@ use pb_graph::{Graph, List, Member, Stream};
 use std::alloc::{AllocError, Global};
 use std::marker::Model;
 
-/// The boundaries of the trees of unmeasured streams: for each tree the streams with exactly one end in it, in order, with their
+/// The boundaries of the trees of unmeasured streams: for each tree, the streams with exactly one end in it, in order, with their
 /// signs.
 #[derive(Debug, Drop)]
 pub struct Cuts {
-    // For each label the boundary of its tree, and an empty list for an entry number that is no label.
+    // For each label, the boundary of its tree; for an entry number that isn't a label, an empty list.
     lists: Vec<List<Member>>,
 }
 
@@ -29,9 +29,9 @@ impl Model for Cuts {
 }
 
 impl Cuts {
-    /// The boundaries of the trees of a graph, by its points.
+    /// The boundaries of the trees of a graph, from its points.
     ///
-    /// The work is in proportion to nodes and streams, and no stream is a member of more than two boundaries.
+    /// The work is proportional to the number of nodes and streams, and no stream is a member of more than two boundaries.
     pub fn of(alloc: Global, graph: &Graph, points: &Points) -> Result<Cuts, AllocError>
         requires { ArePoints graph.now (points_of points.now) }
         ensures { IfOk result (λ cuts. AreCuts graph.now (points_of points.now) cuts) }
@@ -49,7 +49,7 @@ impl Cuts {
         &self.lists[label as usize]
     }
 
-    /// The boundary of the side of a measured stream: its members, in order of streams.
+    /// The boundary of the side of a measured stream: its members, in the order of the streams.
     pub fn members(&self, graph: &Graph, points: &Points, j: u32) -> &List<Member>
         requires points { ArePoints graph.now (points_of points.now) }
         requires cuts { AreCuts graph.now (points_of points.now) self.now }
@@ -61,7 +61,7 @@ impl Cuts {
     }
 }
 
-// So many empty lists.
+// This many empty lists.
 fn empty_lists(alloc: Global, count: usize) -> Result<Vec<List<Member>>, AllocError>
     ensures { IfOk result (λ lists. lists.items ≡ replicate count []) }
 {
@@ -80,7 +80,7 @@ fn add(lists: &mut [List<Member>], label: u32, member: Member) -> Result<(), All
     lists[label as usize].push(member)
 }
 
-// Adds a stream that leaves the tree with the one label and enters the tree with the other.
+// Adds a stream that leaves the tree with the first label and enters the tree with the second.
 fn add_crossing(
     lists: &mut [List<Member>],
     stream: u32,
@@ -95,7 +95,7 @@ fn add_crossing(
     add(lists, to, Member { stream, sign: 1 })
 }
 
-// Adds a stream to the lists of the trees of its ends, where these differ.
+// Adds a stream to the lists of the trees of its ends, if these trees differ.
 fn add_stream(
     lists: &mut [List<Member>],
     points: &Points,

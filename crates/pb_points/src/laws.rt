@@ -2,7 +2,7 @@
 
 ghost use Rattle.pb_points.specs.Laws.{PointsLaw};
 
-/// Other unmeasured streams don't join the ends of a held unmeasured stream exactly where both points of its lower end are entry
+/// The ends of a held unmeasured stream aren't joined by other unmeasured streams exactly when both points of its lower end are entry
 /// numbers of nodes below that end.
 pub fn points_law()
     ensures { PointsLaw }

@@ -1,5 +1,5 @@
 //! Which held unmeasured streams are bridges of the unmeasured ones: entry numbers of one walk of their trees, with the low and
-//! high point of each node (Tarjan 1974, "A note on finding the bridges of a graph").
+//! high points of each node (Tarjan 1974, "A note on finding the bridges of a graph").
 #![tactic(auto)]
 
 mod cuts;

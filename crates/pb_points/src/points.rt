@@ -1,4 +1,4 @@
-// Low and high points, and what they tell of each stream.
+// Low and high points, and what they say about each stream.
 
 ghost use Rattle.std.specs.Prelude.{◌≡◌, ◌≢◌, ℕ, ◌<◌, ◌≤◌, ◌↔◌, ◌⊎◌, Bool, true, false, List as Seq, Some, ◌==◌, length, slice_get, get_or, IsTrue, IfOk, MatchOption};
 ghost use Rattle.pb_graph.specs.Walk.{is_in};
@@ -16,13 +16,13 @@ use pb_graph::{Graph, List, Neighbours, Stream};
 use std::alloc::{AllocError, Global};
 use std::marker::Model;
 
-/// The entry numbers of one walk of the held unmeasured streams of a graph, with the low and high point of each node.
+/// The entry numbers of one walk of the held unmeasured streams of a graph, with the low and high points of each node.
 #[derive(Debug, Drop)]
 pub struct Points {
     walk: Walk,
-    // For each node the label of its tree.
+    // For each node, the label of its tree.
     labels: Vec<u32>,
-    // For each entry number the span of those below it.
+    // For each entry number, the span of the numbers below it.
     spans: Vec<Span>,
 }
 
@@ -37,7 +37,7 @@ impl Model for Points {
     ghost invariant = { λ a. AreKept a.walk a.labels.items a.spans.items };
 }
 
-// For each label whether it is this one.
+// For each of the labels, whether it is this one.
 fn equal_to(alloc: Global, labels: &[u32], label: u32) -> Result<List<bool>, AllocError>
     ensures each { IfOk result (λ side. length side ≡ length labels.now) }
     ensures equal { IfOk result (λ side. (m : ℕ) → m < length labels.now
@@ -51,9 +51,9 @@ fn equal_to(alloc: Global, labels: &[u32], label: u32) -> Result<List<bool>, All
 }
 
 impl Points {
-    /// The points of a graph, by its incidence lists and its spanning forest.
+    /// The points of a graph, from its incidence lists and its spanning forest.
     ///
-    /// The work is in proportion to nodes and streams.
+    /// The work is proportional to the number of nodes and streams.
     pub fn of(
         alloc: Global,
         graph: &Graph,
@@ -82,7 +82,7 @@ impl Points {
         self.walk.number(node)
     }
 
-    // What the walk tells of a node.
+    // What the walk says about a node.
     fn entry(&self, node: u32) -> Entry
         requires { node < (points_of self.now).nodes }
         ensures up { result.up ≡ (points_of self.now).up node }
@@ -91,7 +91,7 @@ impl Points {
         self.walk.entry(self.number(node) as usize)
     }
 
-    // The number of entries. Each label is less.
+    // The number of entries. Each label is less than this.
     pub(crate) fn len(&self) -> usize
         ensures value { result ≡ (points_of self.now).nodes }
         ensures labels { HasFewLabels (points_of self.now) }
@@ -118,7 +118,7 @@ impl Points {
         self.spans[self.number(node) as usize]
     }
 
-    // The lower end of a stream, where it is held and unmeasured.
+    // The lower end of a stream, if the stream is held and unmeasured.
     fn lower_end(&self, j: u32, stream: &Stream) -> Option<u32>
         requires from { stream.now.from < (points_of self.now).nodes }
         requires to { stream.now.to < (points_of self.now).nodes }
@@ -175,7 +175,7 @@ impl Points {
         self.number(node) <= number && number <= self.span(node).last
     }
 
-    // Whether two nodes are in one tree.
+    // Whether two nodes are in the same tree.
     fn are_in_one_tree(&self, node: u32, other: u32) -> bool
         requires node { node < (points_of self.now).nodes }
         requires other { other < (points_of self.now).nodes }
@@ -212,7 +212,7 @@ impl Points {
         Ok(side)
     }
 
-    // The nodes of a node's tree that aren't below it.
+    // The nodes of a node's tree that aren't below the node.
     fn rest_of(&self, alloc: Global, graph: &Graph, node: u32) -> Result<List<bool>, AllocError>
         requires nodes { (points_of self.now).nodes ≡ graph.now.nodes }
         requires node { node < (points_of self.now).nodes }
@@ -229,10 +229,10 @@ impl Points {
         Ok(side)
     }
 
-    /// The set of nodes that the `from` end of a stream reaches over the other unmeasured streams, where these don't join its ends:
+    /// The set of nodes that the `from` end of a stream reaches over the other unmeasured streams, if these don't join its ends:
     /// one item for each node.
     ///
-    /// The work is in proportion to the nodes.
+    /// The work is proportional to the number of nodes.
     pub fn side_of(&self, alloc: Global, graph: &Graph, j: u32) -> Result<List<bool>, AllocError>
         requires points { ArePoints graph.now (points_of self.now) }
         requires stream { j < length graph.now.streams }

@@ -13,7 +13,7 @@ use pb_forest::Forest;
 use pb_graph::{Graph, Stream};
 use std::alloc::{AllocError, Global};
 
-/// Entry numbers that follow one another: the last of them, and the least and the greatest number that count there.
+/// Consecutive entry numbers: the last of them, and the least and the greatest number that count there.
 #[derive(Clone, Copy, Debug)]
 pub struct Span {
     pub last: u32,
@@ -21,7 +21,7 @@ pub struct Span {
     pub high: u32,
 }
 
-// Whether a stream is unmeasured and not held.
+// Whether a stream is unmeasured and isn't held.
 fn is_leap(graph: &Graph, forest: &Forest, j: u32) -> bool
     requires forest { IsForestOf graph.now forest.now }
     requires stream { j < length graph.now.streams }
@@ -31,7 +31,7 @@ fn is_leap(graph: &Graph, forest: &Forest, j: u32) -> bool
     !forest.holds(j) && graph.stream(j).meas.is_none()
 }
 
-// One number more counts for a span.
+// A span, with one more number that counts for it.
 fn counted(span: Span, number: u32) -> Span
     ensures { result ≡ counted span number }
 {
@@ -42,7 +42,7 @@ fn counted(span: Span, number: u32) -> Span
     }
 }
 
-// A span and the one behind it.
+// A span joined to the one after it.
 fn both(span: Span, next: Span) -> Span
     ensures { result ≡ both span next }
 {
@@ -53,7 +53,7 @@ fn both(span: Span, next: Span) -> Span
     }
 }
 
-// One number more counts for the span at a place.
+// Lets one more number count for the span at a place.
 fn note(spans: &mut [Span], i: u32, number: u32)
     requires { i < length spans.old }
     ensures { spans.new ≡ noted spans.old i number }
@@ -61,7 +61,7 @@ fn note(spans: &mut [Span], i: u32, number: u32)
     spans[i as usize] = counted(spans[i as usize], number);
 }
 
-// The ends of a stream count for each other.
+// Lets the ends of a stream count for each other.
 fn note_ends(walk: &Walk, stream: &Stream, spans: &mut [Span])
     requires from { stream.now.from < length walk.now.numbers }
     requires to { stream.now.to < length walk.now.numbers }
@@ -92,7 +92,7 @@ fn note_leaps(graph: &Graph, forest: &Forest, walk: &Walk, spans: &mut [Span])
     }
 }
 
-// The span of each entry alone.
+// For each entry, the span of that single entry.
 fn own_spans(alloc: Global, count: u32) -> Result<Vec<Span>, AllocError>
     ensures each { IfOk result (λ spans. length spans.items ≡ count) }
     ensures own { IfOk result (λ spans.
@@ -109,7 +109,7 @@ fn own_spans(alloc: Global, count: u32) -> Result<Vec<Span>, AllocError>
     Ok(spans)
 }
 
-// The whole span of an entry, where the spans behind it are whole: theirs are joined to its own while they are deeper.
+// The whole span of an entry, if the spans after it are whole: these are joined to its own span while they are deeper.
 fn whole_span(graph: &Graph, forest: &Forest, walk: &Walk, spans: &[Span], i: usize) -> Span
     requires entry { i < length walk.now.list }
     requires behind { AreWholeFrom graph.now.streams forest.now.held walk.now (i + 1) spans.now }
@@ -134,7 +134,7 @@ fn join_spans(graph: &Graph, forest: &Forest, walk: &Walk, spans: &mut [Span])
     }
 }
 
-/// For each entry number the span of those below it.
+/// For each entry number, the span of the numbers below it.
 pub fn spans_of(
     alloc: Global,
     graph: &Graph,

@@ -13,11 +13,11 @@ use pb_graph::{Graph, Neighbours};
 use std::alloc::{AllocError, Global};
 use std::marker::Model;
 
-/// What is known of a node that is entered.
+/// What is known about a node that has been entered.
 #[derive(Clone, Copy, Debug)]
 pub struct Entry {
     pub node: u32,
-    /// The stream to its parent; None at the node that its tree is entered by.
+    /// The stream to its parent, or None at the node by which its tree is entered.
     pub up: Option<u32>,
     /// How many streams lead from it to that node.
     pub depth: u32,
@@ -28,7 +28,7 @@ pub struct Entry {
 /// A walk of the trees of held unmeasured streams.
 #[derive(Debug, Drop)]
 pub struct Walk {
-    // For each node its entry number, and whether it was entered.
+    // For each node, its entry number, and whether it was entered.
     numbers: Vec<u32>,
     entered: Vec<bool>,
     // The nodes in the order entered.
@@ -64,7 +64,7 @@ impl Walk {
         self.list.len()
     }
 
-    /// What is known of the node with an entry number.
+    /// What is known about the node with an entry number.
     pub fn entry(&self, i: usize) -> Entry
         requires { i < length self.now.list }
         ensures { result ≡ entry_at self.now i }
@@ -80,7 +80,7 @@ impl Walk {
         self.numbers[node as usize]
     }
 
-    /// For each node the label of its tree, where each was entered.
+    /// For each node, the label of its tree, if each node was entered.
     pub fn labels(&self, alloc: Global) -> Result<Vec<u32>, AllocError>
         requires { All (λ number. number < length self.now.list) self.now.numbers }
         ensures { IfOk result (λ labels. labels.items ≡ map (tree_at self.now) self.now.numbers) }
@@ -146,7 +146,7 @@ impl Walk {
         Ok(())
     }
 
-    // Follows each of these streams, those at the last entry.
+    // Follows each of these streams, which are those at the last entry.
     fn follow_all(
         &self,
         graph: &Graph,
@@ -199,7 +199,7 @@ impl Walk {
         self.follow_all(graph, forest, last, near.at(entry.node).as_slice(), stack)
     }
 
-    // Takes an entry that waited: its node is visited, unless it was entered meanwhile.
+    // Takes an entry that waited: its node is visited, unless it has been entered in the meantime.
     fn take(
         &mut self,
         graph: &Graph,
@@ -228,7 +228,7 @@ impl Walk {
         self.visit(graph, near, forest, entry, stack)
     }
 
-    // Walks the tree of a node that wasn't entered.
+    // Walks the tree of a node that hasn't been entered.
     fn walk_tree(
         &mut self,
         alloc: Global,
@@ -263,7 +263,7 @@ impl Walk {
         Ok(())
     }
 
-    // Walks the tree of a node, unless the node was entered.
+    // Walks the tree of a node, unless the node has been entered.
     fn walk_on(
         &mut self,
         alloc: Global,

@@ -117,7 +117,7 @@ is_read kind row none = by (row_read (output_schema kind) row) none
     by (Ok values) none = refl
     by (Err fault) none = cc none
 
--- what a row names is none of the block's, is there already, leads from a node to itself, or is the first node and not the environment
+-- what a row names isn't in the block, is there already, leads from a node to itself, or is the first node and not the environment
 abbrev pub is_unknown : OutputKind → Draft → List (List ℕ) → Bool
 is_unknown Stream draft row = has_unknown_node draft.nodes Stream row
 is_unknown StreamBefore draft row = has_unknown_node draft.nodes StreamBefore row
@@ -140,7 +140,7 @@ abbrev pub is_other_env : OutputKind → Draft → List (List ℕ) → Bool
 is_other_env Node draft row = (length draft.nodes == 0) && not (bytes_eq (name_field row) (codes "env"))
 is_other_env kind draft row = false
 
--- no fault beside the form
+-- no fault besides the form
 pub beside_fine : (kind : OutputKind) (draft : Draft) (row : List (List ℕ)) → fault_beside kind draft row ≡ None
     → (is_unknown kind draft row ≡ false) × (is_duplicate kind draft row ≡ false) × (is_loop kind row ≡ false) × (is_other_env kind draft row ≡ false)
 beside_fine Node draft row none =
@@ -157,7 +157,7 @@ beside_fine kind draft row none = (refl, refl, refl, refl)
 pub read_values : (kind : OutputKind) (row : List (List ℕ)) (values : List Value) → row_read (output_schema kind) row ≡ Ok values → values_in kind row ≡ values
 read_values kind row values read = ap (λ (r : Result (List Value) FormFault). result_unwrap_or r []) read
 
--- the row is read, and none of the faults beside its form holds
+-- the row is read, and none of the faults besides its form holds
 pub record IsFine (kind : OutputKind) (draft : Draft) (row : List (List ℕ)) : Type 0 where
   pub read : row_read (output_schema kind) row ≡ Ok (values_in kind row)
   pub known : is_unknown kind draft row ≡ false
@@ -303,7 +303,7 @@ before_within row read =
       least = rw (word_read StreamBefore row values 10 (codes "shape") shape_words read refl) tt;
     }
 
--- for a side as many items as nodes
+-- a side has as many items as there are nodes
 side_long : (nodes names : List (List ℕ)) → length (side_of nodes names) ≡ length nodes
 side_long nodes names = length-map nodes (is_among names)
 

@@ -1,4 +1,4 @@
--- What comes next: there is one thing, and no other; blocks put behind others.
+-- What comes next: exactly one thing; blocks put after others.
 use Rattle.std.specs.Prelude.{◌≢◌, ◌⊎◌, bytes_eq, codes, Result, Ok, Err, if◌then◌else◌}
 use Rattle.std.specs.Cmp.Lexicographic.{bytes_decides}
 use Rattle.std.specs.List.{list_all}
@@ -44,7 +44,7 @@ not_end kind h = elim (cases_Bool (is_end kind)) [
 the_fault : {f g : RowFault} → (let o : Option RowFault = Some f in o) ≡ Some g → f ≡ g
 the_fault h = cc h
 
--- ---- what reading on from a draft gives: the block and what is behind it, or the place in the block and the fault
+-- ---- what reading on from a draft gives: the block and what comes after it, or the place in the block and the fault
 
 abbrev Outcome : Type 0
 Outcome = (Block × List (List (List ℕ))) ⊎ (ℕ × (RowFault × List (List (List ℕ))))
@@ -241,7 +241,7 @@ is_walked at records (Refused number fault left) refused =
 
 -- ---- one thing comes next
 
--- the rows read so far behind a first one, as many as these
+-- the rows read so far after a first one; this is how many they are
 record IsSoundTo (start : Draft) (all : List (List (List ℕ))) (draft : Draft) (left : List (List (List ℕ))) (n : ℕ) : Type 0 where
   rows : List (List (List ℕ))
   split : all ≡ rows ++ left
@@ -249,7 +249,7 @@ record IsSoundTo (start : Draft) (all : List (List (List ℕ))) (draft : Draft) 
   told : draft ≡ with_rows start rows
   count : n ≡ length rows
 
--- what an outcome says of the records behind a first one
+-- what an outcome says about the records after a first one
 record Breaks (start : Draft) (all : List (List (List ℕ))) (within : ℕ) (fault : RowFault) (left : List (List (List ℕ))) : Type 0 where
   rows : List (List (List ℕ))
   rest : List (List (List ℕ))
@@ -332,7 +332,7 @@ gives start all (row ∷ left) draft n s = by (gives start all left (with_row dr
     by more (Some stream) unknown = broken_before start draft all (row ∷ left) n stream s unknown
     by more None known = by_last more (is_end draft.last) refl known
 
--- one row more that is passed over
+-- one more row that is passed over
 one_over : (at : ℕ) (row : List (List ℕ)) (rest : List (List (List ℕ))) (next : Next) → is_passed_over row ≡ true → IsNext (at + 1) rest next → IsNext at (row ∷ rest) next
 one_over at row rest NoBlock holds none = rw (holds) none
 one_over at row rest (Found block left) holds found = record {
@@ -359,7 +359,7 @@ one_over at row rest (Refused number fault left) holds refused = record {
   place = refused.place ∙ omega arith;
 }
 
--- a block, or a fault, behind a row that opens one
+-- a block, or a fault, after a row that opens one
 by_outcome : (at : ℕ) (row : List (List ℕ)) (rest : List (List (List ℕ))) (o : Outcome) → opening_fault row ≡ None → IsOutcome (opened row) rest o → IsNext at (row ∷ rest) (told_by at o)
 by_outcome at row rest (inl found) opens whole = record {
   passed = [];
@@ -417,7 +417,7 @@ next_holds = record {
   only = λ at records one other first second. is_walked at records one first ∙ sym (is_walked at records other second);
 }
 
--- ---- blocks put behind others
+-- ---- blocks put after others
 
 passed_more : (front back : List (List (List ℕ))) → ArePassedOver front → ArePassedOver back → ArePassedOver (front ++ back)
 passed_more [] back one other = other

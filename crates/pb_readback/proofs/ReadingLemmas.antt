@@ -1,4 +1,4 @@
--- Reading on: what one row more shows of the records.
+-- Reading on: what one more row shows of the records.
 use Rattle.std.specs.Prelude.{◌≢◌, nat_eq, nat_lt, find, Result, Ok, Err, if◌then◌else◌}
 use Rattle.std.specs.List.{list_all, list_any, AllByRecursion}
 use Rattle.std.specs.Option.{ok_or, option_map_or}
@@ -31,26 +31,26 @@ use Rattle.pb_readback.specs.Faults.{fault_behind, fault_of, first_unknown}
 use Rattle.pb_readback.specs.Next.{AreCounted, ArePassedOver, AreSound, IsFound, IsWithinGiven, Tells, opened}
 use Rattle.pb_readback.specs.Reading.{AwaitsNodes, AwaitsStreams, Breaks, BreaksFrom, Ends, HasAll, IsBroken, IsReadFrom, IsReadTo, IsReadWhole, IsUnderWay, MayCome, RefusesPart, RefusesRow, Skips, is_stream_kind}
 
--- ---- a row whose kind was asked
+-- ---- a row whose kind was looked up
 
 -- a row has a kind's word and its number of fields
 abbrev pub is_row_of : List (List ℕ) → OutputKind → Bool
 is_row_of row kind = is_of row (output_schema kind)
 
--- what it tells, and its fault
+-- what it says, and its fault
 abbrev pub told_if : Result OutputKind RowFault → Draft → List (List ℕ) → Draft
 told_if kind draft row = option_map_or (λ (k : OutputKind). told_with k draft row) (result_ok kind) draft
 
 abbrev pub fault_if : Result OutputKind RowFault → Draft → List (List ℕ) → Option RowFault
 fault_if kind draft row = fault_as (λ k. fault_of k draft row) kind
 
--- the fault of a row that opens a block, or is to
+-- the fault of a row that opens a block, or should open one
 abbrev pub opening_by : Result OutputKind RowFault → List (List ℕ) → Option RowFault
 opening_by kind row = fault_as (λ k. heading_fault (row_read (output_schema Report) row)) kind
 
 -- ---- what may come
 
--- a kind that a row is found to have is one of those that were asked
+-- a kind that a row is found to have is one of the kinds that were tried
 found_among : (P : OutputKind → Type 0) (row : List (List ℕ)) (kinds : List OutputKind) (kind : OutputKind) → AllByRecursion P kinds → find (is_row_of row) kinds ≡ Some kind → P kind
 found_among P row [] kind all found = cc found
 found_among P row (first ∷ kinds) kind all found = elim (cases_Bool (is_row_of row first)) [
@@ -73,7 +73,7 @@ told_among P row kinds kind all told = by (find (is_row_of row) kinds) refl (if 
 going : (draft : Draft) (last : OutputKind) → draft.last ≡ last → last ≢ End → draft.last ≢ End
 going draft last is apart = λ ends. apart (sym is ∙ ends)
 
--- behind the last stream
+-- after the last stream
 after_all : (draft : Draft) → HasAll draft → (last : OutputKind) → draft.last ≡ last → AllByRecursion (MayCome draft) (kinds_after last)
 after_all draft all Solved is = let on = going draft Solved is (λ e. cc e) in ((all, on), ((all, on), tt))
 after_all draft all Global is = let on = going draft Global is (λ e. cc e) in ((all, on), ((all, on), ((all, on), tt)))
@@ -113,7 +113,7 @@ stream_room draft may = below (length draft.streams) draft.heading.streams may.1
 pub not_below : (m n : ℕ) → nat_lt m n ≡ false → n ≤ m
 not_below m n is = grind (arith, is)
 
--- if a stream may come all nodes have
+-- if a stream may come, all nodes have come
 pub all_nodes : (draft : Draft) → IsUnderWay draft → AwaitsStreams draft → length draft.nodes ≡ draft.heading.nodes
 all_nodes draft way may =
     let most = not_below (length draft.nodes) draft.heading.nodes may.0 in
@@ -125,7 +125,7 @@ all_nodes draft way may =
 pub one_more : {A : Type 0} (xs : List A) (x : A) → length (xs ++ x ∷ []) ≡ length xs + 1
 one_more xs x = length-append xs (x ∷ [])
 
--- one stream more
+-- one more stream
 pub stream_under : (draft : Draft) (kind : OutputKind) (row : List (List ℕ)) → IsUnderWay draft → AwaitsStreams draft
     → IsUnderWay (record (with_stream kind row draft) { last = kind })
 stream_under draft kind row way may =
@@ -164,7 +164,7 @@ still_under draft kind row way may = record {
   each_row = way.each_row;
 }
 
--- a draft under way is so behind a row without a fault
+-- a draft in progress is still in progress after a row without a fault
 pub still_under_way : (draft : Draft) (row : List (List ℕ)) → IsUnderWay draft → fault_behind draft row ≡ None → IsUnderWay (with_row draft row)
 still_under_way draft row way none = by (kind_among (kinds_next draft) row) refl none
   where
@@ -190,7 +190,7 @@ begins_known heading = by (nat_eq 0 heading.streams)
     by true = refl
     by false = refl
 
--- once all parts are known, they stay so: parts are asked behind a stream alone
+-- once all parts are known, they stay so: parts are looked up only after a stream
 pub known_after : (draft : Draft) (row : List (List ℕ)) → first_unknown draft ≡ None → (is_stream_kind (with_row draft row).last ≡ true → first_unknown (with_row draft row) ≡ None)
     → first_unknown (with_row draft row) ≡ None
 known_after draft row known at = by (kind_among (kinds_next draft) row) at
@@ -217,7 +217,7 @@ sound_more draft (r ∷ rows) row sound known fine = (sound.0, sound.1, sound_mo
 pub read_none : (draft : Draft) (all : List (List (List ℕ))) → first_unknown draft ≡ None → IsReadTo draft all draft all
 read_none draft all known = record { rows = []; split = refl; sound = tt; told = refl; known = known }
 
--- one row more
+-- one more row
 pub read_more : (start draft : Draft) (all left : List (List (List ℕ))) (row : List (List ℕ)) → IsReadTo start all draft (row ∷ left) → fault_behind draft row ≡ None
     → first_unknown (with_row draft row) ≡ None → IsReadTo start all (with_row draft row) left
 read_more start draft all left row read fine known = record {
@@ -240,7 +240,7 @@ read_whole start draft all left block read ends value = record {
   value = value ∙ ap block_of read.told;
 }
 
--- how many rows were read behind the first
+-- how many rows were read after the first
 pub rows_read : (all rows left : List (List (List ℕ))) (opened taken : ℕ) → all ≡ rows ++ left → taken + length left ≡ opened + length all → taken ≡ opened + length rows
 rows_read all rows left opened taken split counted =
     let long = ap length split ∙ length-append rows left in omega (arith, long, counted)
@@ -297,7 +297,7 @@ breaks_before start draft all left row stream opened read fine unknown =
 
 -- ---- what a refusal says
 
--- the records taken so far were given, and so was the one after them
+-- the records taken so far were given, and so was the record after them
 rows_taken : (old now : RecordsLeft) (draft start : Draft) → IsReadTo start old.left draft now.left → AreCounted old now → old.taken ≤ now.taken
 rows_taken old now draft start read counted =
     let long = ap length read.split ∙ length-append read.rows now.left in omega (arith, long, counted)
@@ -339,7 +339,7 @@ broke_before start draft after old now new row (At number fault) read next fine 
     let unknown = ap first_unknown (sym told) ∙ breaks.1 in
     rw (breaks.2, breaks.3, told) (breaks_before start draft old.left new.left row breaks.0 old.taken here fine unknown, counted)
 
--- one row more is read
+-- one more row is read
 pub read_one : (start draft after : Draft) (all left rest : List (List (List ℕ))) (row : List (List ℕ)) → IsReadTo start all draft left → left ≡ row ∷ rest
     → fault_behind draft row ≡ None → after ≡ with_row draft row → (is_stream_kind after.last ≡ true → first_unknown after ≡ None) → IsReadTo start all after rest
 read_one start draft after all left rest row read next fine told at =
@@ -368,7 +368,7 @@ same_heading draft after row heading same told = ap (λ (d : Draft). d.heading) 
     by (Err fault) = refl
     by (Ok kind) = heading_kept draft kind row
 
--- one row more that is passed over
+-- one more row that is passed over
 pub over_more : (all left rest : List (List (List ℕ))) (row : List (List ℕ)) → ((passed : List (List (List ℕ))) × (all ≡ passed ++ left) × ArePassedOver passed)
     → left ≡ row ∷ rest → is_passed_over row ≡ true → (passed : List (List (List ℕ))) × (all ≡ passed ++ rest) × ArePassedOver passed
 over_more all left rest row over next passes = (
@@ -383,7 +383,7 @@ over_more all left rest row over next passes = (
         let parts = and_parts (is_passed_over r) (list_all is_passed_over passed) h in
         rw parts.0 (all_over passed parts.1)
 
--- ---- behind rows that are passed over
+-- ---- after rows that are passed over
 
 behind : (passed rest : List (List (List ℕ))) (row : List (List ℕ)) → length (passed ++ row ∷ rest) ≡ length passed + 1 + length rest
 behind passed rest row = let long = length-append passed (row ∷ rest) in omega (arith, long)

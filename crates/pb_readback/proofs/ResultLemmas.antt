@@ -1,4 +1,4 @@
--- Results that were looked up: a name that is none of the streams' has their number as its place.
+-- Results that were looked up: a name that no stream has gets their number as its place.
 use Rattle.std.specs.Prelude.{◌≢◌, ◌==◌, not, map, Result, Ok, Err}
 use Rattle.std.specs.List.{list_any, position, position_or_len}
 use Rattle.std.proofs.Common.{◌≡◌, ◌∙◌, ℕ, ◌≤◌, List, [], ◌∷◌, length, Bool, true, false, None, refl, sym, ap, arith, inl, inr}
@@ -30,7 +30,7 @@ use Rattle.pb_readback.proofs.ReadingLemmas.{not_below, told_if}
 same_number : (n : ℕ) → (n == n) ≡ true
 same_number n = grind arith
 
--- a name is none of these exactly where its place is their number
+-- a name isn't one of these exactly when its place is their number
 unplaced : (names : List (List ℕ)) (name : List ℕ) → (place_of names name == length names) ≡ not (is_among names name)
 unplaced names name = elim (cases_Bool (is_among names name)) [
   | inl there ↦
@@ -70,7 +70,7 @@ unknown_in Cut streams row =
 unknown_in Cycle streams row =
     any_of_made (step_of streams) (λ (t : Step). t.stream == length streams) (names_no_stream streams) (items row.parts) (λ part. unplaced streams (part_name part))
 
--- the first unknown part is told by the results
+-- the first unknown part follows from the results
 pub told_by_results : (draft : Draft) (results : List StreamResult) → length draft.streams ≡ draft.heading.streams → results ≡ map (result_of draft.streams) draft.rows
     → position (is_on_stream draft.heading.streams) results ≡ first_unknown draft
 told_by_results draft results all are =
@@ -101,7 +101,7 @@ still_kept draft after row results kept told other =
     by (Ok StreamBefore) other = cc other
     by (Ok kind) other = kept
 
--- at the end of a block they are those of all its streams
+-- at the end of a block they are the results of all its streams
 pub kept_whole : (heading : Heading) (draft : Draft) (all left : List (List (List ℕ))) (results : List StreamResult) → IsReadTo (draft_of heading) all draft left → IsUnderWay draft
     → draft.last ≡ End → KeepsResults draft results → results ≡ map (result_of draft.streams) draft.rows
 kept_whole heading draft all left results read way ends kept =

@@ -44,7 +44,7 @@ places_apart (name ∷ names) a b one other apart = elim (cases_Bool (same_name 
   ]
 ]
 
--- a list of names with a new one behind
+-- a list of names with a new one at the end
 pub names_more : (names : List (List ℕ)) (name : List ℕ) → AreNames names → is_name name ≡ true → is_among names name ≡ false → AreNames (names ++ name ∷ [])
 names_more names name are form new = record {
   forms = rw (all_more is_name names name, are.forms) form;
@@ -59,7 +59,7 @@ known_ends nodes kind row known =
     let both = or_parts (not (is_among nodes (from_field row))) (not (is_among nodes (to_field row))) parts.0 in
     (not_false (is_among nodes (from_field row)) both.0, not_false (is_among nodes (to_field row)) both.1)
 
--- a stream between two of these nodes is one of a graph of them
+-- a stream between two of these nodes is a stream of a graph with these nodes
 pub arc_joins : (nodes : List (List ℕ)) (kind : OutputKind) (row : List (List ℕ)) (values : List Value) (count : ℕ) → length nodes ≤ count → has_unknown_node nodes kind row ≡ false
     → leads_to_itself row ≡ false → IsStream count (said_arc nodes row values)
 arc_joins nodes kind row values count few known apart =

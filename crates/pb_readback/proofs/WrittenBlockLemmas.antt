@@ -1,4 +1,4 @@
--- The rows of a block, one after the other: what they tell.
+-- The rows of a block, one after the other: what they say.
 use Rattle.std.specs.Prelude.{◌&&◌, not, ◌==◌, codes, bytes_eq, if◌then◌else◌, slice_index_or}
 use Rattle.std.specs.List.{list_all, AllByRecursion}
 use Rattle.std.proofs.Common.{◌≡◌, ◌∙◌, ℕ, ℤ, ◌+◌, ◌<◌, ◌≤◌, List, [], ◌∷◌, ◌++◌, length, Bool, true, false, Option, None, refl, sym, ap, ap₂, subst, arith, append_assoc, length-append}
@@ -24,7 +24,7 @@ use Rattle.pb_readback.proofs.WrittenFieldLemmas.{AreNew, AreWritten, abs_betwee
 use Rattle.pb_readback.proofs.WrittenListLemmas.{AreNamed}
 use Rattle.pb_readback.proofs.WrittenRowLemmas.{IsSoundRow, node_beside, row_back, row_leaves, row_sound, told_node, values_back}
 
--- rows behind a draft have no fault, and leave this draft
+-- rows after a draft have no fault, and leave this draft
 pub record Tells (draft : Draft) (rows : List (List (List ℕ))) (after : Draft) : Type 0 where
   pub sound : AreSound draft rows
   pub told : with_rows draft rows ≡ after
@@ -50,12 +50,12 @@ tells_append draft next (row ∷ front) back after first second =
 pub tells_to : (draft one other : Draft) (rows : List (List (List ℕ))) → one ≡ other → Tells draft rows one → Tells draft rows other
 tells_to draft one other rows same tells = subst (λ (d : Draft). Tells draft rows d) same tells
 
--- the kind of the last row behind rows of a kind
+-- the kind of the last row after rows of a kind
 abbrev pub last_of : {A : Type 0} → OutputKind → OutputKind → List A → OutputKind
 last_of kind last [] = last
 last_of kind last (x ∷ xs) = last_of kind kind xs
 
--- no part is unknown where no stream was read
+-- no part is unknown if no stream was read
 pub unread : (draft : Draft) → draft.rows ≡ [] → first_unknown draft ≡ None
 unread draft none = rw none (by (length draft.streams == draft.heading.streams) None refl)
   where
@@ -65,14 +65,14 @@ unread draft none = rw none (by (length draft.streams == draft.heading.streams) 
 
 -- ---- nodes
 
--- names of nodes behind others: each is new, and the first of all is the environment
+-- names of nodes after others: each is new, and the first of all is the environment
 abbrev pub AreNodeNames : List (List ℕ) → List (List ℕ) → Type 0
 AreNodeNames done [] = Unit {0}
 AreNodeNames done (name ∷ names) =
     (is_name name ≡ true) × (is_among done name ≡ false) × (((length done == 0) && not (bytes_eq name (codes "env"))) ≡ false)
     × AreNodeNames (done ++ name ∷ []) names
 
--- the draft behind the rows of nodes
+-- the draft after the rows of nodes
 abbrev pub behind_nodes : Draft → List (List ℕ) → List ℤ → Draft
 behind_nodes draft names prices =
     record draft { last = last_of Node draft.last names; nodes = draft.nodes ++ names; prices = draft.prices ++ prices }
@@ -107,7 +107,7 @@ nodes_tell written i draft (name ∷ names) (price ∷ prices) long fine ranges 
     (behind_nodes draft (name ∷ names) (price ∷ prices)) (unread draft empty) (row_sound draft Node row values sound) leaves
     (tells_to next (behind_nodes next names prices) (behind_nodes draft (name ∷ names) (price ∷ prices)) _ same rest)
 
--- names that differ are those of nodes, where some stand before them
+-- different names are names of nodes, if some stand before them
 more_nodes : (done names : List (List ℕ)) → AreNamed names → AreNew done names → 0 < length done → AreNodeNames done names
 more_nodes done [] forms new some = tt
 more_nodes done (name ∷ names) forms new some =
@@ -115,7 +115,7 @@ more_nodes done (name ∷ names) forms new some =
     let empty : (length done == 0) ≡ false = ne_eqb (length done) 0 (λ e. omega (arith, e, some)) in
     (parts.0, new.0, rw empty refl, more_nodes (done ++ name ∷ []) names parts.1 new.1 (rw (length-append done (name ∷ [])) (omega arith)))
 
--- and where the first is the environment
+-- and if the first is the environment
 pub all_nodes : (names : List (List ℕ)) → AreNamed names → AreNew [] names → slice_index_or names 0 [] ≡ codes "env" → AreNodeNames [] names
 all_nodes [] forms new env = tt
 all_nodes (name ∷ names) forms new env =

@@ -1,4 +1,4 @@
--- What a single field reads as that was written: numbers, words of tables and names.
+-- What a single written field reads as: numbers, words of tables and names.
 use Rattle.std.specs.Prelude.{◌==◌, ◌-◌, neg_ℤ, unsigned_abs, int_le, ◌≤ℤ◌, AllPairs, IfSome, option_and_then}
 use Rattle.std.specs.Cmp.Lexicographic.{bytes_decides}
 use Rattle.std.specs.Option.{unwrap_or}

@@ -1,4 +1,4 @@
--- What the lists of a certificate read as that were written: the names of a side, and the parts.
+-- What the written lists of a certificate read as: the names of a side, and the parts.
 use Rattle.std.specs.Prelude.{nat_le, ◌&&◌, ◌||◌, ◌==◌, All, map, codes}
 use Rattle.std.specs.List.{list_any, list_all, slice_split, flat_map, AllByRecursion}
 use Rattle.std.proofs.Common.{◌≡◌, ◌∙◌, ℕ, zero, suc, ◌+◌, ◌<◌, ◌≤◌, List, [], ◌∷◌, ◌++◌, length, get_or, Bool, true, false, refl, sym, ap, subst, arith, rules, inl, inr, append_assoc, length-append}
@@ -14,7 +14,7 @@ use Rattle.pb_blocks.specs.Lists.{space, items, is_among, place_of, rise_from}
 use Rattle.pb_blocks.specs.Held.{is_unknown_item, side_of}
 use Rattle.pb_readback.proofs.WrittenFieldLemmas.{is_empty, AreApart, same_self, same_sym, place_at, some_byte}
 
--- ---- pieces with one space between
+-- ---- pieces separated by one space
 
 -- no byte is a space, and there is one
 pub record IsPiece (text : List ℕ) : Type 0 where
@@ -67,11 +67,11 @@ first_apart name names apart = λ k d lt. apart zero (suc k) d (omega arith) (om
 
 -- ---- sides
 
--- each of the names is of the form
+-- each of the names has the form of a name
 abbrev pub AreNamed : List (List ℕ) → Type 0
 AreNamed names = list_all is_name names ≡ true
 
--- the name at a place is of the form
+-- the name at a place has the form
 pub named_at : (names : List (List ℕ)) (i : ℕ) → AreNamed names → i < length names → is_name (name_at names i) ≡ true
 named_at names i forms lt = AllPass-from_list_all is_name names forms i [] lt
 
@@ -92,7 +92,7 @@ map_same (name ∷ names) = ap (λ (rest : List (List ℕ)). name ∷ rest) (map
 pub side_items : (side : List Bool) (names : List (List ℕ)) → AreNamed names → items (spaced (λ (name : List ℕ). name) (names_in side names)) ≡ names_in side names
 side_items side names forms = items_back (λ (name : List ℕ). name) (names_in side names) (in_pieces side names forms) ∙ map_same (names_in side names)
 
--- they are of the form
+-- they have the form
 pub in_named : (side : List Bool) (names : List (List ℕ)) → AreNamed names → AreNamed (names_in side names)
 in_named [] names forms = refl
 in_named (true ∷ side) [] forms = refl
@@ -102,7 +102,7 @@ in_named (true ∷ side) (name ∷ names) forms =
     and_from (is_name name) (list_all is_name (names_in side names)) parts.0 (in_named side names parts.1)
 in_named (false ∷ side) (name ∷ names) forms = in_named side names (and_parts (is_name name) (list_all is_name names) forms).1
 
--- a name that stands behind others is among them all
+-- a name that comes after others is among them all
 among_seam : (done : List (List ℕ)) (name : List ℕ) (names : List (List ℕ)) → is_among (done ++ name ∷ names) name ≡ true
 among_seam [] name names = rw (same_self name) refl
 among_seam (other ∷ done) name names = rw (among_seam done name names) (by (same_name name other))
@@ -153,7 +153,7 @@ in_order least done (false ∷ side) (name ∷ names) le apart =
     subst (λ (all : List (List ℕ)). rise_from least (map (place_of all) (names_in side names)) ≡ true) next
     (in_order least (done ++ name ∷ []) side names (omega (arith, more, le)) (subst AreApart (sym next) apart))
 
--- a name that none of these is isn't in a side of them
+-- a name that isn't one of these isn't in a side of them
 not_in : (name : List ℕ) (side : List Bool) (names : List (List ℕ)) → All (λ (other : List ℕ). same_name name other ≡ false) names → is_among (names_in side names) name ≡ false
 not_in name [] names apart = refl
 not_in name (true ∷ side) [] apart = refl
@@ -162,7 +162,7 @@ not_in name (true ∷ side) (other ∷ names) apart =
     or_from (same_name name other) (is_among (names_in side names) name) (apart zero [] (omega arith)) (not_in name side names (λ k d lt. apart (suc k) d (omega (arith, lt))))
 not_in name (false ∷ side) (other ∷ names) apart = not_in name side names (λ k d lt. apart (suc k) d (omega (arith, lt)))
 
--- a name more that none of them is changes nothing
+-- one more name that isn't one of them changes nothing
 skip : (name : List ℕ) (chosen names : List (List ℕ)) → All (λ (other : List ℕ). same_name name other ≡ false) names
     → map (is_among (name ∷ chosen)) names ≡ map (is_among chosen) names
 skip name chosen [] apart = refl

@@ -1,4 +1,4 @@
--- The rows of a session that are no rows of a report are passed over.
+-- The rows of a session that aren't rows of a report are passed over.
 use Rattle.std.specs.Prelude.{map}
 use Rattle.std.proofs.Common.{ℕ, ◌+◌, List, [], ◌∷◌, refl}
 use Rattle.pb_rows.specs.declared.name.Names.{Names}
@@ -32,7 +32,7 @@ places_passed : (places : List WindowPlace) → ArePassedOver (records_in (map p
 places_passed [] = refl
 places_passed (place ∷ places) = places_passed places
 
--- the rows of refusals, of reports that can't be made, of designs, of histories and of advices, and those before other reports
+-- the rows of refusals, of reports that can't be made, of designs, of histories and of advice, and the rows before other reports
 pub others_passed : PassedRowsLaw
 others_passed = record {
   refused = λ at code. refl;

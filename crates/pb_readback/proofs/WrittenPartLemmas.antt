@@ -1,4 +1,4 @@
--- What the parts of a certificate read as that were written: the members of a cut and the steps of a cycle.
+-- What the written parts of a certificate read as: the members of a cut and the steps of a cycle.
 use Rattle.std.specs.Prelude.{◌==◌, All, map}
 use Rattle.std.specs.List.{list_any, list_all, AllByRecursion}
 use Rattle.std.proofs.Common.{◌≡◌, ℕ, ℤ, zero, suc, ◌<◌, List, [], ◌∷◌, length, Bool, true, false, refl, ap, arith, inl, inr}

@@ -48,7 +48,7 @@ values_back kind fields values read = ap (λ (r : Result (List Value) FormFault)
 
 -- ---- a row without a fault
 
--- a row of a kind that may come, which reads as values and has no fault beside its form
+-- a row of a kind that may come, which reads as values and has no fault besides its form
 pub record IsSoundRow (draft : Draft) (kind : OutputKind) (row : List (List ℕ)) (values : List Value) : Type 0 where
   pub told : kind_among (kinds_next draft) row ≡ Ok kind
   pub read : row_read (output_schema kind) row ≡ Ok values
@@ -67,7 +67,7 @@ row_leaves draft kind row values sound = ap (λ (k : Result OutputKind RowFault)
 pub told_node : (draft : Draft) (row : List (List ℕ)) → AwaitsNodes draft → is_row_of row Node ≡ true → kind_among (kinds_next draft) row ≡ Ok Node
 told_node draft row may is = rw (may, is) refl
 
--- rows of streams with least bounds may stand in a block behind a row of this kind
+-- rows of streams with least bounds may stand in a block after a row of this kind
 abbrev pub takes_least : OutputKind → Bool
 takes_least StreamBefore = false
 takes_least kind = true
@@ -80,7 +80,7 @@ least_told last row takes is = rw is refl
 pub told_stream : (draft : Draft) (row : List (List ℕ)) → AwaitsStreams draft → takes_least draft.last ≡ true → is_row_of row Stream ≡ true → kind_among (kinds_next draft) row ≡ Ok Stream
 told_stream draft row may takes is = rw (may.0, may.1) (least_told draft.last row takes is)
 
--- a row of the second kind may follow one of the first behind the last stream
+-- a row of the second kind may follow a row of the first kind after the last stream
 abbrev pub may_follow : OutputKind → OutputKind → Bool
 may_follow Report Solved = true
 may_follow Node Solved = true
@@ -98,7 +98,7 @@ may_follow Measure Measure = true
 may_follow Measure End = true
 may_follow last kind = false
 
--- behind all nodes and streams
+-- after all nodes and streams
 pub told_behind : (draft : Draft) (kind : OutputKind) (row : List (List ℕ)) → HasAll draft → kind_among (kinds_after draft.last) row ≡ Ok kind → kind_among (kinds_next draft) row ≡ Ok kind
 told_behind draft kind row all told = rw (all.0, all.1) told
 
@@ -131,7 +131,7 @@ end_after Nodal period round follows = refl
 end_after Measure period round follows = refl
 end_after last period round follows = cc follows
 
--- ---- the faults beside the form
+-- ---- the faults besides the form
 
 -- the row that opens a block
 pub record IsHeadingRow (row : List (List ℕ)) (values : List Value) : Type 0 where

@@ -27,7 +27,7 @@ use Rattle.pb_readback.proofs.WrittenRowLemmas.{row_leaves, row_sound, takes_lea
 use Rattle.pb_readback.proofs.WrittenStreamLemmas.{AreKnownNames, result_told, stream_back, stream_fields, stream_fine, stream_values, told_of}
 use Rattle.pb_readback.proofs.WrittenBlockLemmas.{Tells, last_of, tells_more, tells_none, tells_to}
 
--- the draft behind the rows of streams
+-- the draft after the rows of streams
 abbrev pub behind_streams : Names → Draft → List (List ℕ) → List Stream → List StreamResult → Draft
 behind_streams names draft rest streams results =
     record draft {
@@ -37,7 +37,7 @@ behind_streams names draft rest streams results =
       rows = draft.rows ++ map (told_of names) results;
     }
 
--- where rows of streams stand: behind all nodes, and behind so many streams
+-- where rows of streams stand: after all nodes, and after this many streams
 pub record IsAmidStreams (names : Names) (draft : Draft) (rest : List (List ℕ)) : Type 0 where
   pub all_nodes : nat_lt (length draft.nodes) draft.heading.nodes ≡ false
   pub nodes : draft.nodes ≡ names.nodes

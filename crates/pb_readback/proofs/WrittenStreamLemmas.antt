@@ -94,7 +94,7 @@ least_within result h = by result.bounds
     by None = tt
     by (Some bounds) = h
 
--- and they are those of the stream, where it has none without bounds
+-- and they are the least bounds of the stream, if it has none without bounds
 least_back : (result : StreamResult) → HasBoundsForLeast result → written_least result ≡ result.least
 least_back result whole = by result.bounds whole
   where
@@ -119,7 +119,7 @@ stream_fields names i stream result = fields_of (result_row names i stream resul
 abbrev pub stream_values : Names → ℕ → Stream → StreamResult → List Value
 stream_values names i stream result = (result_row names i stream result).values
 
--- what the row tells of a stream
+-- what the row says about a stream
 pub stream_back : (names : Names) (graph : ProcessGraph) (i : ℕ) (stream : Stream) (result : StreamResult) → AreKnownNames names graph → IsStream graph.nodes stream
     → said_arc names.nodes (stream_fields names i stream result) (stream_values names i stream result) ≡ stream
 stream_back names graph i stream result known joins =
@@ -131,12 +131,12 @@ stream_back names graph i stream result known joins =
       meas_back stream.meas,
     ) refl
 
--- a certificate's side, as it is read: that of a cycle has no node
+-- a certificate's side, as it is read: the side of a cycle has no node
 abbrev pub side_in : List (List ℕ) → Witness → List Bool
 side_in nodes (CutWitness side members) = side
 side_in nodes (CycleWitness steps) = side_of nodes []
 
--- what the row tells of the result
+-- what the row says about the result
 abbrev pub told_of : Names → StreamResult → StreamRow
 told_of names result = record {
   class = result.classified.class;
@@ -291,7 +291,7 @@ pub parts_known : (names : Names) (graph : ProcessGraph) (result : StreamResult)
     → has_unknown_part names.streams (told_of names result) ≡ false
 parts_known names graph result known within = (good_parts names graph result.classified.witness known within.witness).known
 
--- and what was told of the result is the result
+-- and what was said about the result is the result
 pub result_back : (names : Names) (graph : ProcessGraph) (result : StreamResult) → AreKnownNames names graph → IsResultWithin graph result
     → HasBoundsForLeast result → result_of names.streams (told_of names result) ≡ result
 result_back names graph result known within whole =

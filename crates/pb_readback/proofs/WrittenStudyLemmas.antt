@@ -133,7 +133,7 @@ heading_fine written names period options round stage h =
 
 -- ---- a block
 
--- where none passes, no place is the first
+-- if none passes, no place is the first
 none_passes : {A : Type 0} (p : A → Bool) (xs : List A) → All (λ (x : A). p x ≡ false) xs → position p xs ≡ None
 none_passes p [] none = refl
 none_passes p (x ∷ xs) none =
@@ -162,7 +162,7 @@ stream_then_solved : {A : Type 0} (kind : OutputKind) (xs : List A) → may_foll
 stream_then_solved kind [] order = order
 stream_then_solved kind (x ∷ xs) order = stream_then_solved Stream xs refl
 
--- behind nodes no stream has come without least bounds
+-- after nodes no stream has come without least bounds
 node_then_least : {A : Type 0} (xs : List A) → takes_least (last_of Node Node xs) ≡ true
 node_then_least [] = refl
 node_then_least (x ∷ xs) = node_then_least xs
@@ -171,7 +171,7 @@ nodes_then_least : {A : Type 0} (xs : List A) → takes_least (last_of Node Repo
 nodes_then_least [] = refl
 nodes_then_least (x ∷ xs) = node_then_least xs
 
--- the draft behind the rows of nodes, behind those of streams, and behind the solution
+-- the draft after the rows of nodes, after the rows of streams, and after the solution
 abbrev first_draft : List ℕ → Options → ℕ → Stage → Draft
 first_draft period options round stage = draft_of (stage_heading period options round stage)
 
@@ -188,7 +188,7 @@ solved_draft names period options round stage = record (stream_draft names perio
 abbrev whole_draft : Names → List ℕ → Options → ℕ → Stage → Draft
 whole_draft names period options round stage = record (behind_tests (solved_draft names period options round stage) stage.tests) { last = End }
 
--- the rows behind the first
+-- the rows after the first
 abbrev body_rows : Names → List ℕ → ℕ → Stage → List OutputRow
 body_rows names period round stage =
     rows_with (λ n name price. node_row name price) 0 names.nodes stage.prices
@@ -278,7 +278,7 @@ block_back written names period options round stage h =
 
 -- ---- blocks among other rows
 
--- a block behind rows that are passed over, and whatever comes behind it
+-- a block after rows that are passed over, and whatever comes after it
 found_back : AreWritten → (names : Names) (period : List ℕ) (options : Options) (round : ℕ) (stage : Stage) → IsStageToWrite names period options round stage
     → (passed rest : List OutputRow) → ArePassedOver (records_in passed)
     → IsFound (records_in (passed ++ (block_rows names period options round stage ++ rest))) (block_with names period options round stage) (records_in rest)

@@ -1,4 +1,4 @@
--- The rows behind the streams: how the stage was solved, its tests and the end.
+-- The rows after the streams: how the stage was solved, its tests and the end.
 use Rattle.std.specs.Prelude.{◌^◌, neg_ℤ, nat_lt, map, IfSome, if◌then◌else◌}
 use Rattle.std.specs.Ordering.{int_eq}
 use Rattle.std.specs.List.{AllByRecursion}
@@ -50,7 +50,7 @@ use Rattle.pb_readback.proofs.WrittenListLemmas.{named_at}
 use Rattle.pb_readback.proofs.WrittenRowLemmas.{IsSoundRow, end_after, global_after, may_follow, measure_after, nodal_after, row_back, row_leaves, row_sound, solved_after, told_behind, values_back}
 use Rattle.pb_readback.proofs.WrittenStreamLemmas.{AreKnownNames}
 
--- behind all nodes and all streams, whose parts are known
+-- after all nodes and all streams, whose parts are known
 pub record IsBehindAll (names : Names) (draft : Draft) : Type 0 where
   pub all_nodes : nat_lt (length draft.nodes) draft.heading.nodes ≡ false
   pub all_streams : nat_lt (length draft.streams) draft.heading.streams ≡ false
@@ -132,7 +132,7 @@ verdict_fits written verdict = word_fits verdict_words verdict_place placed_verd
 critical_fits : (critical : Option ℤ) → IfSome critical IsCriticalValue → FitsIn critical_range true (value_or_none Number critical)
 critical_fits critical h = number_fits (pos 0) (pos most_critical) critical (critical_if critical h)
 
--- the draft with tests told, the last row of a kind
+-- the draft with these tests, and a last row of this kind
 abbrev pub with_tests : Draft → OutputKind → Tests → Draft
 with_tests draft kind tests = record draft { last = kind; tests = Some tests }
 
@@ -276,7 +276,7 @@ pub tells_both : (draft next after : Draft) (front back : List OutputRow) → Te
 tells_both draft next after front back first second =
     subst (λ (rows : List (List (List ℕ))). Tells draft rows after) (sym (map-append fields_of front back)) (tells_append draft next (records_in front) (records_in back) after first second)
 
--- the draft before the tests, and behind them
+-- the draft before the tests, and after them
 abbrev pub before_tests : Draft → Draft
 before_tests draft = record draft { last = Solved; tests = None }
 

@@ -10,7 +10,7 @@ use Rattle.pb_report.specs.Study.{study_rows}
 use Rattle.pb_readback.specs.Next.{AreBlocks}
 use Rattle.pb_readback.specs.Written.{RowTextLaw, RowWordsLaw, StudyRowsLaw, StudyTextLaw, blocks_from, records_in}
 
--- the text of rows in CSV is that of their values
+-- the text of rows in CSV is the text of their values
 csv_text : (rows : List OutputRow) → text_in Csv rows ≡ text_of_rows (records_in rows)
 csv_text [] = refl
 csv_text (row ∷ rows) = ap (λ (text : List ℕ). line_of (fields_of row) ++ text) (csv_text rows)

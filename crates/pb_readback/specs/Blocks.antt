@@ -4,7 +4,7 @@ use Rattle.pb_blocks.specs.Results.{result_of}
 use Rattle.pb_readback.specs.declared.block.Block.{Block}
 use Rattle.pb_readback.specs.declared.draft.Draft.{Draft}
 
--- the block that its rows give
+-- the block that the rows of a draft give
 abbrev pub block_of : Draft → Block
 block_of draft = record {
   period = draft.heading.period;

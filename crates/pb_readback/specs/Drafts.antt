@@ -1,4 +1,4 @@
--- Statement. What the rows of a block have told so far, row by row, and of which kinds the next one may be.
+-- Statement. What the rows of a block have said so far, row by row, and which kinds the next row may have.
 use Rattle.std.specs.Prelude.{ℕ, pos, nat_lt, List, [], ◌∷◌, ◌++◌, length, Some, None, if◌then◌else◌}
 use Rattle.std.specs.Option.{option_map, option_map_or}
 use Rattle.std.specs.Result.{result_ok}
@@ -14,7 +14,7 @@ use Rattle.pb_blocks.specs.Texts.{name_field}
 use Rattle.pb_blocks.specs.Values.{number_at, said_arc, said_global, said_measure, said_nodal, said_solution, said_stream, values_in}
 use Rattle.pb_readback.specs.declared.draft.Draft.{Draft}
 
--- what a heading tells: no node and no stream yet, and nothing of the solution
+-- what a heading says: no nodes and no streams yet, and nothing about the solution
 abbrev pub draft_of : Heading → Draft
 draft_of heading = record {
   last = Report;
@@ -28,8 +28,8 @@ draft_of heading = record {
   tests = None;
 }
 
--- after the last stream comes how the stage was solved; after that the end, or the tests and then the end: the global test, the
--- tests of balances, and those of measurements
+-- the last stream is followed by how the stage was solved; then comes the end, or the tests and then the end: the global test, the
+-- tests of balances, and the tests of measurements
 abbrev pub kinds_after : OutputKind → List OutputKind
 kinds_after Solved = Global ∷ End ∷ []
 kinds_after Global = Nodal ∷ Measure ∷ End ∷ []
@@ -38,7 +38,7 @@ kinds_after Measure = Measure ∷ End ∷ []
 kinds_after End = []
 kinds_after last = Solved ∷ []
 
--- all streams of a block have rows of one form, that of the first
+-- all streams of a block have rows of the same form as the first
 abbrev pub stream_kinds : OutputKind → List OutputKind
 stream_kinds Stream = Stream ∷ []
 stream_kinds StreamBefore = StreamBefore ∷ []
@@ -51,14 +51,14 @@ kinds_next draft =
     else if nat_lt (length draft.streams) draft.heading.streams then stream_kinds draft.last
     else kinds_after draft.last
 
--- tests with one of a balance more, or with one of a measurement
+-- tests with one more test of a balance, or of a measurement
 abbrev pub with_nodal : NodalTest → Tests → Tests
 with_nodal test tests = record tests { nodal = tests.nodal ++ test ∷ [] }
 
 abbrev pub with_measure : MeasureTest → Tests → Tests
 with_measure test tests = record tests { measure = tests.measure ++ test ∷ [] }
 
--- what is told of one stream more, by its row in one of the two forms
+-- the draft with one more stream, by its row in one of the two forms
 abbrev pub with_stream : OutputKind → List (List ℕ) → Draft → Draft
 with_stream kind row draft = record draft {
   streams = draft.streams ++ name_field row ∷ [];
@@ -66,7 +66,7 @@ with_stream kind row draft = record draft {
   rows = draft.rows ++ said_stream draft.nodes kind row (values_in kind row) ∷ [];
 }
 
--- what a row of a kind adds to what the rows before it have told
+-- what a row of a kind adds to what the rows before it have said
 abbrev pub added : OutputKind → Draft → List (List ℕ) → Draft
 added Node draft row = record draft {
   nodes = draft.nodes ++ name_field row ∷ [];
@@ -83,12 +83,12 @@ added Measure draft row =
     record draft { tests = option_map (with_measure (said_measure draft.streams row (values_in Measure row))) draft.tests }
 added kind draft row = draft
 
--- what one row more tells, if it is of a kind that may come, and of which kind the last row is then
+-- the draft after one more row, if the row is of a kind that may come; this kind is then the kind of the last row
 abbrev pub with_row : Draft → List (List ℕ) → Draft
 with_row draft row =
     option_map_or (λ kind. record (added kind draft row) { last = kind }) (result_ok (kind_among (kinds_next draft) row)) draft
 
--- what several rows more tell
+-- the draft after several more rows
 abbrev pub with_rows : Draft → List (List (List ℕ)) → Draft
 with_rows draft [] = draft
 with_rows draft (row ∷ rows) = with_rows (with_row draft row) rows

@@ -1,4 +1,4 @@
--- Statement. When a row of a block can't be read, after the rows before it. Of all its faults the lowest is told.
+-- Statement. When a row of a block can't be read, after the rows before it. Of all its faults the lowest is reported.
 use Rattle.std.specs.Prelude.{ℕ, ◌==◌, ◌&&◌, not, List, length, Option, Some, None, if◌then◌else◌, codes, bytes_eq, position}
 use Rattle.pb_rows.specs.Name.{same_name}
 use Rattle.pb_form.specs.OutputRows.{output_schema}
@@ -16,9 +16,9 @@ use Rattle.pb_blocks.specs.Texts.{from_field, name_field, to_field}
 use Rattle.pb_readback.specs.declared.draft.Draft.{Draft}
 use Rattle.pb_readback.specs.Drafts.{kinds_next}
 
--- the lowest fault of a stream's row beside those of its form: one of two columns that come together is left out; an end or a node of
--- the side is no node of the block; the name is that of a stream before; the side, or the parts, aren't of their form; or the stream
--- leads from a node to itself
+-- the lowest fault of a stream's row besides the faults of its form: just one of two columns that belong together is left out; an end
+-- or a node of the side isn't a node of the block; an earlier stream has the name; the side or the parts don't have their form; or
+-- the stream leads from a node to itself
 abbrev pub stream_fault : OutputKind → Draft → List (List ℕ) → Option RowFault
 stream_fault kind draft row =
     if is_half_told kind row then Some Number
@@ -28,8 +28,8 @@ stream_fault kind draft row =
     else if same_name (from_field row) (to_field row) then Some Count
     else None
 
--- The lowest fault of a row of a kind beside those of its form. A node's name is new, and the first one is the environment; a test is
--- one of a node or a stream of the block; the end has the block's period and round.
+-- The lowest fault of a row of a kind besides the faults of its form. A node's name must be new, and the first node must be the
+-- environment; a test must be of a node or a stream of the block; the end must have the block's period and round.
 abbrev pub fault_beside : OutputKind → Draft → List (List ℕ) → Option RowFault
 fault_beside Node draft row =
     if is_among draft.nodes (name_field row) then Some Duplicate
@@ -47,11 +47,11 @@ fault_beside kind draft row = None
 abbrev pub fault_of : OutputKind → Draft → List (List ℕ) → Option RowFault
 fault_of kind draft row = lowest (form_fault (row_read (output_schema kind) row)) (fault_beside kind draft row)
 
--- The lowest fault of a row after the heading and the rows after that.
+-- The lowest fault of a row after the heading and the rows of a draft.
 abbrev pub fault_behind : Draft → List (List ℕ) → Option RowFault
 fault_behind draft row = fault_as (λ kind. fault_of kind draft row) (kind_among (kinds_next draft) row)
 
--- the first of the streams of a block whose parts name an unknown stream, once all of them are read
+-- the first stream of a block whose parts name an unknown stream, once all streams are read
 abbrev pub first_unknown : Draft → Option ℕ
 first_unknown draft =
     if length draft.streams == draft.heading.streams then position (has_unknown_part draft.streams) draft.rows else None

@@ -27,25 +27,25 @@ pub data Next : Type 0 where
 abbrev pub ArePassedOver : List (List (List ℕ)) → Type 0
 ArePassedOver rows = list_all is_passed_over rows ≡ true
 
--- Each of these rows has no fault after those before it. No row is read after the last stream if a stream's parts name one that
--- the block hasn't.
+-- None of these rows has a fault after the rows before it. No row is read after the last stream if a stream's parts name a stream
+-- that the block doesn't have.
 abbrev pub AreSound : Draft → List (List (List ℕ)) → Type 0
 AreSound draft [] = Unit {0}
 AreSound draft (row ∷ rows) =
     (first_unknown draft ≡ None) × (fault_behind draft row ≡ None) × AreSound (with_row draft row) rows
 
--- what a row that opens a block tells
+-- what a row that opens a block says
 abbrev pub opened : List (List ℕ) → Draft
 opened row = draft_of (said_heading row (values_in Report row))
 
--- the fault after the rows of a block that isn't whole: that of the next row, or that there is none
+-- the fault after the rows of an incomplete block: the fault of the next row, or that there is no next row
 abbrev pub fault_next : Draft → List (List (List ℕ)) → Option RowFault
 fault_next draft [] = Some Ended
 fault_next draft (row ∷ rows) = fault_behind draft row
 
--- After the first row of a block and more, this is the number, counted in the block, of the first row that has a fault: that of
--- the first stream whose parts name an unknown one, once all streams are read; else that of the next row, before the end. These
--- records are left: a row that has the fault itself is taken, and no row after it.
+-- After the first row of a block and this many more rows, this is the number, counted within the block, of the first row that has a
+-- fault: the row of the first stream whose parts name an unknown stream, once all streams are read; otherwise the next row,
+-- before the end. These records are left: a row that has the fault itself is taken, and no row after it.
 abbrev pub IsFault : Draft → ℕ → List (List (List ℕ)) → ℕ → RowFault → List (List (List ℕ)) → Type 0
 IsFault draft rows rest number fault left =
     ((stream : ℕ) × (first_unknown draft ≡ Some stream) × (number ≡ draft.heading.nodes + stream + 2) × (fault ≡ Unknown)
@@ -53,8 +53,8 @@ IsFault draft rows rest number fault left =
     ⊎ ((first_unknown draft ≡ None) × (draft.last ≢ End) × (fault_next draft rest ≡ Some fault) × (number ≡ rows + 2)
     × (left ≡ drop 1 rest))
 
--- a block comes next, after rows that are passed over, and these records are after it: a row that opens it, and those after it up to
--- the end
+-- a block comes next, after rows that are passed over: a row that opens it, and the rows after it up to the end; these records come
+-- after the block
 pub record IsFound (records : List (List (List ℕ))) (block : Block) (rest : List (List (List ℕ))) : Type 0 where
   pub passed : List (List (List ℕ))
   pub first : List (List ℕ)
@@ -67,15 +67,15 @@ pub record IsFound (records : List (List (List ℕ))) (block : Block) (rest : Li
   pub ends : (with_rows (opened first) rows).last ≡ End
   pub value : block ≡ block_of (with_rows (opened first) rows)
 
--- A first row that isn't passed over, with the records after it, is no block: this is the number of the first row that has a fault,
--- counted from the first, and these records are left. The first row doesn't open a block, or a row after it can't be read.
+-- A first row that isn't passed over doesn't begin a block with the records after it: it doesn't open a block, or a row after it
+-- can't be read. This is the number of the first row that has a fault, counted from the first row, and these records are left.
 abbrev pub IsNoBlock : List (List ℕ) → List (List (List ℕ)) → ℕ → RowFault → List (List (List ℕ)) → Type 0
 IsNoBlock first behind number fault left =
     ((opening_fault first ≡ Some fault) × (number ≡ 1) × (left ≡ behind))
     ⊎ ((opening_fault first ≡ None) × (rows : List (List (List ℕ))) × (rest : List (List (List ℕ))) × (behind ≡ rows ++ rest)
     × AreSound (opened first) rows × IsFault (with_rows (opened first) rows) (length rows) rest number fault left)
 
--- after rows that are passed over comes another, and no block begins with it
+-- after rows that are passed over comes another row, and no block begins with it
 pub record IsRefused (at : ℕ) (records : List (List (List ℕ))) (number : ℕ) (fault : RowFault) (left : List (List (List ℕ))) : Type 0 where
   pub passed : List (List (List ℕ))
   pub first : List (List ℕ)
@@ -87,7 +87,7 @@ pub record IsRefused (at : ℕ) (records : List (List (List ℕ))) (number : ℕ
   pub cause : IsNoBlock first behind within fault left
   pub place : number ≡ at + length passed + within
 
--- What comes next in the records after as many as this.
+-- What comes next in the records, after this many records before them.
 abbrev pub IsNext : ℕ → List (List (List ℕ)) → Next → Type 0
 IsNext at records NoBlock = ArePassedOver records
 IsNext at records (Found block rest) = IsFound records block rest
@@ -98,20 +98,21 @@ abbrev pub AreBlocks : List (List (List ℕ)) → List Block → Type 0
 AreBlocks records [] = ArePassedOver records
 AreBlocks records (block ∷ blocks) = (rest : List (List (List ℕ))) × IsFound records block rest × AreBlocks rest blocks
 
--- what comes next, if a block was read or none
+-- what comes next, if a block or none was read
 abbrev pub next_by : Option Block → List (List (List ℕ)) → Next
 next_by None rest = NoBlock
 next_by (Some block) rest = Found block rest
 
--- records that were taken, and no others: each that isn't left counts
+-- the records that were taken are counted, and no others: each record that isn't left counts
 abbrev pub AreCounted : RecordsLeft → RecordsLeft → Type 0
 AreCounted old new = new.taken + length new.left ≡ old.taken + length old.left
 
--- no record counts as taken that wasn't given, and none is given again
+-- every record that counts as taken was given, and none is given again
 abbrev pub IsWithinGiven : RecordsLeft → RecordsLeft → Type 0
 IsWithinGiven old new = (old.taken ≤ new.taken) × (new.taken + length new.left ≤ old.taken + length old.left)
 
--- what comes next, if a row can't be read, and that no record after it was taken; out of memory, that none counts that wasn't given
+-- if a row can't be read: what comes next, and that no record after it was taken; out of memory: that every record that counts
+-- was given
 abbrev pub Tells : RecordsLeft → RecordsLeft → ReadRefused → Type 0
 Tells old new (At number fault) = IsNext old.taken old.left (Refused number fault new.left) × AreCounted old new
 Tells old new NoMemory = IsWithinGiven old new

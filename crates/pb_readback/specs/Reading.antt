@@ -1,4 +1,4 @@
--- Inside. A draft under way, and what reading on has shown of the records.
+-- Inside. A draft in progress, and what reading on has shown of the records.
 use Rattle.std.specs.Prelude.{◌≡◌, ◌≢◌, ◌⊎◌, ◌≤◌, ◌+◌, ◌==◌, ℕ, pos, Bool, true, false, nat_lt, List, [], ◌∷◌, ◌++◌, length, map, Option, Some, None}
 use Rattle.std.specs.List.{list_any}
 use Rattle.pb_form.specs.declared.output.OutputKind.{OutputKind}
@@ -39,15 +39,15 @@ no_solution = record { solved = Unconverged 0; g = 0; h = 0; dof = 0; low = pos 
 abbrev pub tests_begun : List Value → Tests
 tests_begun values = record { global = said_global values; nodal = []; measure = [] }
 
--- what is told of one node more
+-- the draft with one more node
 abbrev pub with_node : List (List ℕ) → Draft → Draft
 with_node row draft = added Node draft row
 
--- what is told after a row of a kind
+-- the draft after a row of a kind
 abbrev pub told_with : OutputKind → Draft → List (List ℕ) → Draft
 told_with kind draft row = record (added kind draft row) { last = kind }
 
--- not all nodes have come; all of them, and not all streams; or all of both
+-- not all nodes have come; all of them have, but not all streams; or all of both have
 abbrev pub AwaitsNodes : Draft → Type 0
 AwaitsNodes draft = nat_lt (length draft.nodes) draft.heading.nodes ≡ true
 
@@ -77,7 +77,7 @@ is_stream_kind StreamKind = true
 is_stream_kind StreamBefore = true
 is_stream_kind kind = false
 
--- a draft has as many nodes and streams as it says, or fewer
+-- a draft has as many nodes and streams as its heading says, or fewer
 pub record IsUnderWay (draft : Draft) : Type 0 where
   pub heading : IsHeading draft.heading
   pub graph : draft.graph.nodes ≡ draft.heading.nodes
@@ -105,7 +105,7 @@ abbrev pub KeepsResults : Draft → List StreamResult → Type 0
 KeepsResults draft results =
     length draft.streams ≡ draft.heading.streams → results ≡ map (result_of draft.streams) draft.rows
 
--- the rows of a whole block: the one that opens it, and those after it up to the end
+-- the rows of a whole block: the row that opens it, and the rows after it up to the end
 pub record IsBlock (first : List (List ℕ)) (rows : List (List (List ℕ))) (block : Block) : Type 0 where
   pub opens : opening_fault first ≡ None
   pub sound : AreSound (opened first) rows
@@ -113,13 +113,13 @@ pub record IsBlock (first : List (List ℕ)) (rows : List (List (List ℕ))) (bl
   pub ends : (with_rows (opened first) rows).last ≡ End
   pub value : block ≡ block_of (with_rows (opened first) rows)
 
--- behind rows that are passed over comes another, or none
+-- after rows that are passed over comes another row, or none
 abbrev pub Skips : List (List (List ℕ)) → List (List (List ℕ)) → Option (List (List ℕ)) → Type 0
 Skips all rest None = ArePassedOver all × (rest ≡ [])
 Skips all rest (Some row) =
     (passed : List (List (List ℕ))) × (all ≡ passed ++ row ∷ rest) × ArePassedOver passed × (is_passed_over row ≡ false)
 
--- the rows read so far behind a first one, which have told this draft, and those that are left
+-- the rows read so far after a first one, which have given this draft, and the rows that are left
 pub record IsReadTo (start : Draft) (all : List (List (List ℕ))) (draft : Draft) (left : List (List (List ℕ))) : Type 0 where
   pub rows : List (List (List ℕ))
   pub split : all ≡ rows ++ left
@@ -127,7 +127,7 @@ pub record IsReadTo (start : Draft) (all : List (List (List ℕ))) (draft : Draf
   pub told : draft ≡ with_rows start rows
   pub known : first_unknown draft ≡ None
 
--- a block's rows behind a first one, up to its end
+-- a block's rows after a first one, up to its end
 pub record IsReadWhole (start : Draft) (all rest : List (List (List ℕ))) (block : Block) : Type 0 where
   pub rows : List (List (List ℕ))
   pub split : all ≡ rows ++ rest
@@ -147,23 +147,23 @@ pub record IsBroken (start : Draft) (all : List (List (List ℕ))) (opened numbe
   pub cause : IsFault (with_rows start rows) (length rows) rest within fault left
   pub place : number + 1 ≡ opened + within
 
--- a refusal where no record is left
+-- a refusal if no record is left
 abbrev pub Ends : RecordsLeft → RecordsLeft → ReadRefused → Type 0
 Ends old new (At number fault) = (old.left ≡ []) × (new ≡ old) × (number ≡ old.taken + 1) × (fault ≡ Ended)
 Ends old new NoMemory = IsWithinGiven old new
 
--- a refusal of a row behind a draft, which has this number
+-- a refusal of a row after a draft; the row has this number
 abbrev pub RefusesRow : Draft → List (List ℕ) → ℕ → ReadRefused → Type 0
 RefusesRow draft row number (At at fault) = (fault_behind draft row ≡ Some fault) × (at ≡ number)
 RefusesRow draft row number NoMemory = Unit {0}
 
--- a refusal of a stream of a draft, whose first row has this number, for its parts
+-- a refusal of a stream of a draft for its parts; the block's first row has this number
 abbrev pub RefusesPart : Draft → ℕ → ReadRefused → Type 0
 RefusesPart draft opened (At number fault) =
     (stream : ℕ) × (first_unknown draft ≡ Some stream) × (number ≡ opened + draft.heading.nodes + stream + 1) × (fault ≡ Unknown)
 RefusesPart draft opened NoMemory = Unit {0}
 
--- what a refusal after a first row tells, the last one taken before
+-- what a refusal after a first row says; the first row is the last one taken before
 abbrev pub Breaks : Draft → RecordsLeft → RecordsLeft → ReadRefused → Type 0
 Breaks start old new (At number fault) = IsBroken start old.left old.taken number fault new.left × AreCounted old new
 Breaks start old new NoMemory = IsWithinGiven old new
@@ -172,7 +172,7 @@ Breaks start old new NoMemory = IsWithinGiven old new
 abbrev pub IsReadFrom : List (List ℕ) → List (List (List ℕ)) → List (List (List ℕ)) → Block → Type 0
 IsReadFrom first all rest block = (opening_fault first ≡ None) × IsReadWhole (opened first) all rest block
 
--- what a refusal tells of a first row, the last one taken before, and those after it
+-- what a refusal says about a first row, the last one taken before, and about the rows after it
 abbrev pub BreaksFrom : List (List ℕ) → RecordsLeft → RecordsLeft → ReadRefused → Type 0
 BreaksFrom first old new (At number fault) =
     ((opening_fault first ≡ Some fault) × (number ≡ old.taken) × (new ≡ old))

@@ -9,7 +9,7 @@ use Rattle.pb_report.specs.Names.{IsNamed}
 use Rattle.pb_readback.specs.declared.block.Block.{Block}
 use Rattle.pb_blocks.specs.Lists.{differ}
 
--- names, none of them twice
+-- names, none of which occurs twice
 pub record AreNames (names : List (List ℕ)) : Type 0 where
   pub forms : list_all is_name names ≡ true
   pub different : differ names ≡ true

@@ -1,4 +1,4 @@
--- Statement. That the rows of a study read back as its stages, and that the other rows of a session are passed over.
+-- Statement. The rows of a study read back as its stages, and the other rows of a session are passed over.
 use Rattle.std.specs.Prelude.{◌≡◌, ℕ, ◌+◌, ◌≤◌, List, [], ◌∷◌, map, length, All, AllPairs, None, slice_index_or, true, false, codes}
 use Rattle.std.specs.List.{list_all}
 use Rattle.pb_limits.specs.Limits.{most_gap, most_rounds, most_sweeps}
@@ -39,7 +39,7 @@ records_in rows = map fields_of rows
 abbrev pub AreDistinct : List (List ℕ) → Type 0
 AreDistinct names = AllPairs (λ one other. same_name one other ≡ false) names
 
--- names of nodes and of streams, none of them twice, and the first node is the environment
+-- names of nodes and of streams, none of which occurs twice; the first node is the environment
 pub record AreBlockNames (names : Names) : Type 0 where
   pub node_forms : list_all is_name names.nodes ≡ true
   pub stream_forms : list_all is_name names.streams ≡ true
@@ -47,7 +47,7 @@ pub record AreBlockNames (names : Names) : Type 0 where
   pub streams_differ : AreDistinct names.streams
   pub env : slice_index_or names.nodes 0 [] ≡ codes "env"
 
--- what was asked of a study is within the limits
+-- the options of a study are within the limits
 pub record AreOptionsWithin (options : Options) : Type 0 where
   pub some_gap : 1 ≤ options.gap
   pub greatest_gap : options.gap ≤ most_gap
@@ -78,7 +78,7 @@ block_with names period options round stage = record {
   stage = stage;
 }
 
--- stages as blocks, of this round and those behind it
+-- stages as blocks, of this round and the rounds after it
 abbrev pub blocks_from : Names → List ℕ → Options → ℕ → List Stage → List Block
 blocks_from names period options round [] = []
 blocks_from names period options round (stage ∷ stages) =
@@ -90,7 +90,7 @@ StudyRowsLaw =
     (names : Names) (period : List ℕ) (options : Options) (study : Study) → IsReportable names period options study
     → AreBlocks (records_in (study_rows names period options study)) (blocks_from names period options 0 study.stages)
 
--- The rows of refusals, of reports that can't be made, of designs, of histories and of advices are passed over, and so are those
+-- The rows of refusals, of reports that can't be made, of designs, of histories and of advice are passed over, and so are the rows
 -- before the report of a window and before the balance of a component.
 pub record PassedRowsLaw : Type 0 where
   pub refused : (at code : ℕ) → AreBlocks (records_in (refused_row at code ∷ [])) []

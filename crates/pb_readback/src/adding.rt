@@ -1,4 +1,4 @@
-// What one row more adds to a draft.
+// What one more row adds to a draft.
 
 ghost use Rattle.std.specs.Prelude.{◌≡◌, ◌<◌, [], true, false, length, None, Ok, IfOk, OnOk};
 ghost use Rattle.std.specs.Option.{option_map};
@@ -31,7 +31,7 @@ use pb_rows::Row;
 use std::alloc::{AllocError, Global};
 
 impl Draft {
-    // What a heading tells: no node and no stream yet.
+    // What a heading says: no nodes and no streams yet.
     pub(crate) fn new(alloc: Global, heading: Heading) -> Draft
         requires { IsHeading heading }
         ensures { result ≡ draft_of heading }
@@ -49,7 +49,7 @@ impl Draft {
         }
     }
 
-    // Reads one row more: its lowest fault, or none, and then the draft has what the row tells.
+    // Reads one more row: returns its lowest fault, or none, and then the draft has what the row says.
     pub(crate) fn read(&mut self, alloc: Global, row: &Row) -> Result<Option<RowFault>, AllocError>
         requires { IsUnderWay self.old }
         ensures fault { IfOk result (λ fault. fault ≡ fault_behind self.old row.now) }
@@ -88,7 +88,7 @@ impl Draft {
         }
     }
 
-    // Adds what a row of a kind tells that has no fault.
+    // Adds what a row of a kind without a fault says.
     fn add(
         &mut self,
         alloc: Global,
@@ -136,7 +136,7 @@ impl Draft {
         self.prices.push(number(values, 2))
     }
 
-    // Adds a stream with its ends, and what its row tells beside them.
+    // Adds a stream with its ends, and what else its row says.
     fn add_stream(
         &mut self,
         alloc: Global,
@@ -189,7 +189,7 @@ fn no_tests(alloc: Global, values: &Values) -> Tests
     }
 }
 
-// Adds a test of a balance to tests that are there.
+// Adds a test of a balance to the tests, if there are any.
 fn push_nodal(tests: &mut Option<Tests>, test: NodalTest) -> Result<(), AllocError>
     ensures { OnOk result (tests.new ≡ option_map (with_nodal test) tests.old) }
 {
@@ -199,7 +199,7 @@ fn push_nodal(tests: &mut Option<Tests>, test: NodalTest) -> Result<(), AllocErr
     }
 }
 
-// Adds a test of a measurement to tests that are there.
+// Adds a test of a measurement to the tests, if there are any.
 fn push_measure(tests: &mut Option<Tests>, test: MeasureTest) -> Result<(), AllocError>
     ensures { OnOk result (tests.new ≡ option_map (with_measure test) tests.old) }
 {

@@ -1,4 +1,4 @@
-// A block that was read, and how it is made of what its rows told.
+// A block that was read, and how it is made from what its rows have said.
 
 ghost use Rattle.std.specs.Prelude.{◌≡◌, ◌≢◌, ◌==◌, ◌<◌, true, false, length, map, position, IfOk, IfSome};
 ghost use Rattle.std.specs.List.{list_any};
@@ -16,8 +16,8 @@ use pb_graph::{List, Member, Stage, Step, StreamResult, Witness};
 use pb_rows::{Name, Names};
 use std::alloc::{AllocError, Global};
 
-/// A stage of a report, with the names of its period, its nodes and its streams, the round that it is of, the gap in thousandths
-/// and the greatest number of sweeps that it was reported with.
+/// A stage of a report, with the names of its period, its nodes and its streams, its round, and the gap in thousandths and the
+/// greatest number of sweeps that it was reported with.
 #[derive(Drop)]
 pub struct Block {
     pub period: Name,
@@ -37,7 +37,7 @@ impl Draft {
         matches!(self.last, OutputKind::End)
     }
 
-    // Whether the last row is that of the last stream.
+    // Whether the last row is the row of the last stream.
     pub(crate) fn is_at_last_stream(&self) -> bool
         ensures all { result ≡ true → length self.now.streams ≡ self.now.heading.streams }
         ensures other { result ≡ false → is_stream_kind self.now.last ≡ true

@@ -1,4 +1,4 @@
-// What the rows of a block have told so far, and of which kinds the next one may be.
+// What the rows of a block have said so far, and which kinds the next row may have.
 
 ghost use Rattle.std.specs.Prelude.{◌≡◌};
 ghost use Rattle.pb_readback.specs.Drafts.{kinds_after, kinds_next, stream_kinds};
@@ -7,7 +7,7 @@ use pb_blocks::{Heading, Known, Solution, StreamRow};
 use pb_form::OutputKind;
 use pb_graph::{Graph, List, Tests};
 
-/// What the rows of a block have told so far, and the kind of the last one. The solution is that of the `solved` row, once it has
+/// What the rows of a block have said so far, and the kind of the last row. The solution is what the `solved` row says, once it has
 /// come.
 #[derive(Drop)]
 pub struct Draft {
@@ -37,7 +37,7 @@ impl Draft {
     }
 }
 
-// The kinds of a stream's row: all streams of a block have that of the first.
+// The kinds of a stream's row: all streams of a block have the kind of the first.
 fn stream_kinds(last: OutputKind) -> &'static [OutputKind]
     ensures { result.now ≡ stream_kinds last }
 {

@@ -1,4 +1,4 @@
-// The faults of a row of a block beside those of its form.
+// The faults of a row of a block besides the faults of its form.
 
 ghost use Rattle.std.specs.Prelude.{◌≡◌, ◌&&◌, None, Some, if◌then◌else◌};
 ghost use Rattle.pb_form.specs.declared.output.OutputKind.TheVariants.{Node};
@@ -16,7 +16,7 @@ use pb_blocks::{
 use pb_form::{Fields, OutputKind};
 
 impl Draft {
-    // The lowest fault of a row of a kind beside those of its form.
+    // The lowest fault of a row of a kind besides the faults of its form.
     pub(crate) fn fault_beside(&self, kind: OutputKind, fields: &Fields) -> Option<RowFault>
         ensures { result ≡ fault_beside kind self.now fields.now }
     {
@@ -30,7 +30,7 @@ impl Draft {
         }
     }
 
-    // That of a node: its name came before, or the first one isn't the environment.
+    // The lowest fault of a node: its name came before, or the first node isn't the environment.
     fn node_fault(&self, fields: &Fields) -> Option<RowFault>
         ensures { result ≡ fault_beside Node self.now fields.now }
     {
@@ -43,7 +43,7 @@ impl Draft {
         }
     }
 
-    // That of a stream.
+    // The lowest fault of a stream.
     fn stream_fault(&self, kind: OutputKind, fields: &Fields) -> Option<RowFault>
         ensures { result ≡ stream_fault kind self.now fields.now }
     {
@@ -72,7 +72,7 @@ impl Draft {
     }
 }
 
-// What a test names, or an end ends, is unknown unless it is known.
+// `Unknown`, unless what a test names, or an end ends, is known.
 fn unknown_unless(known: bool) -> Option<RowFault>
     ensures { result ≡ if known then None else Some Unknown }
 {

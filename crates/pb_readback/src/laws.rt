@@ -1,18 +1,18 @@
-// Laws of records that are read.
+// Laws about records that are read.
 
 ghost use Rattle.pb_readback.specs.Laws.{FormedLaw, JoinLaw, NextLaw};
 
-/// One thing comes next in records, and no other.
+/// The law that exactly one thing comes next in records.
 pub fn next_law()
     ensures law { NextLaw }
 {}
 
-/// The blocks of records put behind others are their blocks, one after the other.
+/// The law that the blocks of two lists of records put together are the blocks of the first list and then the blocks of the second.
 pub fn join_law()
     ensures law { JoinLaw }
 {}
 
-/// A block that is read is well formed.
+/// The law that a block that is read is well formed.
 pub fn formed_law()
     ensures law { FormedLaw }
 {}

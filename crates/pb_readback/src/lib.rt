@@ -1,7 +1,7 @@
-//! Reports read back: the rows of a block as a stage, or the first row that isn't of the form and its fault.
+//! Reports read back: the rows of a block as a stage, or the first row that doesn't have the form and its fault.
 //!
-//! A block is read row by row, each by the columns of its kind (`pb_blocks`) and after the rows before it. Nothing but the block in
-//! hand is kept.
+//! A block is read row by row, each row by the columns of its kind (`pb_blocks`) and after the rows before it. Only the block that is
+//! being read is kept.
 #![tactic(auto)]
 
 mod adding;

@@ -1,4 +1,4 @@
-// Block after block out of records.
+// Reads one block after another from records.
 
 ghost use Rattle.std.specs.Prelude.{◌≡◌, ◌≢◌, ◌+◌, ◌^◌, ◌<◌, true, false, length, map, Some, None, IfOk, IfErr, OnErr, OnOk, IfSome};
 ghost use Rattle.pb_rows.specs.RecordsLeft.{TakesNext};
@@ -26,10 +26,10 @@ pub enum ReadRefused {
     NoMemory,
 }
 
-/// Reads the next block. `Ok(None)` exactly if none follows and each record left is one that is passed over; `At` exactly at the
+/// Reads the next block. `Ok(None)` exactly when none follows and each record left is one that is passed over; `At` exactly at the
 /// first record that can't be read, with the lowest of its faults. After `At` that record was taken and none after it; but if the
-/// fault is that of a name in a stream's parts, the records of all streams of the block were taken, and none after them. Out of memory
-/// the count of taken records is that of some of those that were given.
+/// fault is a name in a stream's parts, the records of all streams of the block were taken, and none after them. After `NoMemory`
+/// every record that counts as taken was given.
 pub fn read(alloc: Global, records: &mut Records) -> Result<Option<Block>, ReadRefused>
     requires few { records.old.taken + length records.old.left < 2 ^ 31 }
     ensures next { IfOk result
@@ -48,7 +48,7 @@ pub fn read(alloc: Global, records: &mut Records) -> Result<Option<Block>, ReadR
     }
 }
 
-// Takes the rows that are passed over, and the first other.
+// Takes the rows that are passed over, and the first row that isn't.
 fn first_row(records: &mut Records) -> Result<Option<Row>, AllocError>
     ensures skips { IfOk result (Skips records.old.left records.new.left) }
     ensures counted { OnOk result (AreCounted records.old records.new) }
@@ -62,7 +62,7 @@ fn first_row(records: &mut Records) -> Result<Option<Row>, AllocError>
     Ok(None)
 }
 
-// The block that a row opens, which is the last one taken.
+// The block that a row opens; the row is the last one taken.
 fn block_from(alloc: Global, first: &Row, records: &mut Records) -> Result<Block, ReadRefused>
     requires few { records.old.taken + length records.old.left < 2 ^ 31 }
     ensures ok { IfOk result (IsReadFrom first.now records.old.left records.new.left) }
@@ -78,7 +78,7 @@ fn block_from(alloc: Global, first: &Row, records: &mut Records) -> Result<Block
     }
 }
 
-// The block behind a heading, whose row is the last one taken.
+// The block after a heading, whose row is the last one taken.
 fn block_of(alloc: Global, heading: Heading, records: &mut Records) -> Result<Block, ReadRefused>
     requires heading { IsHeading heading }
     requires few { records.old.taken + length records.old.left < 2 ^ 31 }
@@ -127,7 +127,8 @@ fn add_row(alloc: Global, draft: &mut Draft, row: &Row, number: u32) -> Result<(
     }
 }
 
-// Looks up the names in the parts of a block, whose first row has this number, once its last stream is read, and keeps the results.
+// Once the last stream of a block is read, looks up the names in its parts, and keeps the results. The block's first row has
+// this number.
 fn look_up(
     alloc: Global,
     draft: &Draft,
@@ -158,7 +159,7 @@ fn look_up(
     }
 }
 
-// The first stream with an unknown part, by the results of all streams: a name that is none of theirs has their number as its place.
+// The first stream with an unknown part, by the results of all streams: a name that no stream has gets their number as its place.
 fn unknown_in(draft: &Draft, results: &[StreamResult]) -> Option<u32>
     requires way { IsUnderWay draft.now }
     requires all { length draft.now.streams ≡ draft.now.heading.streams }

@@ -1,4 +1,4 @@
-// Laws of rows that are written: that reports read back, and that other rows are passed over.
+// Laws about rows that are written: that reports read back, and that other rows are passed over.
 
 ghost use Rattle.pb_readback.specs.Written.{PassedRowsLaw, RowTextLaw, RowWordsLaw, StudyRowsLaw, StudyTextLaw};
 
@@ -16,8 +16,8 @@ pub fn study_rows_law()
     number_text_law();
 }
 
-/// The law that the rows of refusals, of reports that can't be made, of designs, of histories and of advices are passed over, and so
-/// are those before the report of a window and before the balance of a component.
+/// The law that the rows of refusals, of reports that can't be made, of designs, of histories and of advice are passed over, and so
+/// are the rows before the report of a window and before the balance of a component.
 pub fn passed_rows_law()
     ensures { PassedRowsLaw }
 {}

@@ -13,7 +13,7 @@ use Rattle.pb_report.specs.Rows.{rows_with}
 use Rattle.pb_report.specs.Tests.{tests_rows}
 use Rattle.pb_report.proofs.OutputLemmas.{adds_row, two_rows}
 
--- what holds of each item holds of the one at a place
+-- what holds of each item holds of the item at a place
 pub holds_at : {A : Type 0} (P : A → Type 0) (xs : List A) (i : ℕ) (x : A) → All P xs → slice_get xs i ≡ Some x → P x
 holds_at P xs i x all at = subst P (get_or_from_slice_get xs i x x at) (All-get_or P xs i x (slice_get_within xs i x at) all)
 

@@ -24,7 +24,7 @@ all_rows start now rows way =
     let text : now.text ≡ start.text ++ text_in start.form rows = sym (way.text ∙ append-nil now.text) in
     λ i. record { form = way.form i; text = text i }
 
--- rows behind rows
+-- rows after rows
 pub two_rows : (start middle end : OutputText) (first second : List OutputRow) → AddsRows start middle first → AddsRows middle end second → AddsRows start end (first ++ second)
 two_rows start middle end first second adds more =
     all_rows start end (first ++ second)

@@ -6,7 +6,7 @@ use Rattle.pb_integers.proofs.Lists.{drop_next}
 use Rattle.pb_report.specs.Certificate.{spaced, names_in}
 use Rattle.pb_report.specs.Pieces.{gap_before}
 
--- the text of pieces that are left, of which the first has a space before it unless it is the first of all
+-- the text of pieces that are left, the first of which has a space before it unless it is the first of all
 abbrev pub rest_of : {A : Type 0} → (A → List ℕ) → Bool → List A → List ℕ
 rest_of text true items = spaced text items
 rest_of text false items = flat_map (λ item. codes " " ++ text item) items
@@ -44,7 +44,7 @@ pieces_done {A = A} text whole done xs i le so_far =
     none true = refl
     none false = refl
 
--- the names in a side from place n on, where node n is in the side, and where it isn't
+-- the names in a side from place n on, if node n is in the side, and if it isn't
 names_inside : (side : List Bool) (nodes : List (List ℕ)) (n : ℕ) → n < length side → n < length nodes → get_or side n false ≡ true
     → names_in (drop n side) (drop n nodes) ≡ get_or nodes n [] ∷ names_in (drop (n + 1) side) (drop (n + 1) nodes)
 names_inside side nodes n ls ln in_side = rw (drop_next side n false ls, drop_next nodes n [] ln, in_side) refl

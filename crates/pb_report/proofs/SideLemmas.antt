@@ -1,4 +1,4 @@
--- Sides of cuts that `==` takes for the same.
+-- Sides of cuts that `==` finds to be the same.
 use Rattle.std.specs.Bool.{Decides, beq}
 use Rattle.std.specs.Cmp.{booleans_Decides}
 use Rattle.std.specs.Cmp.Lexicographic.{pointwise}

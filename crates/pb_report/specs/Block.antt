@@ -19,7 +19,7 @@ use Rattle.pb_report.specs.Row.{OutputRow, row_of, value_or_none}
 use Rattle.pb_report.specs.Rows.{rows_with}
 use Rattle.pb_report.specs.Tests.{tests_rows}
 
--- the row that opens a block: the period and the round, how many nodes (the environment among them) and streams, the gap in
+-- the row that opens a block: the period and the round, how many nodes (including the environment) and streams, the gap in
 -- thousandths and the greatest number of sweeps
 abbrev pub report_row : List ℕ → ℕ → ProcessGraph → Options → OutputRow
 report_row period round graph options =
@@ -42,12 +42,12 @@ low_end bounds = value_or_none (λ (bounds : Bounds). Number bounds.lo) bounds
 abbrev pub high_end : Option Bounds → Value
 high_end bounds = value_or_none (λ (bounds : Bounds). Number bounds.hi) bounds
 
--- the least bounds that are written of a stream: of one without bounds none are
+-- the least bounds that are written for a stream: none for a stream without bounds
 abbrev pub written_least : StreamResult → Option Bounds
 written_least result = option_and result.bounds result.least
 
--- The row of the stream at a place with its result: its name and those of its ends, what was measured with its variance, its class,
--- its reconciled flow, the bounds of the flow, those in every least vector, and the certificate of its class.
+-- The row of the stream at a place with its result: its name and the names of its ends, the measured value and its variance, its
+-- class, its reconciled flow, the bounds of the flow, its bounds in every least vector, and the certificate of its class.
 abbrev pub result_row : Names → ℕ → Stream → StreamResult → OutputRow
 result_row names id stream result =
     row_of kind.Stream

@@ -16,7 +16,7 @@ names_in (true ∷ side) (name ∷ names) = name ∷ names_in side names
 names_in (false ∷ side) (name ∷ names) = names_in side names
 names_in side names = []
 
--- texts with one space between
+-- texts separated by one space
 abbrev pub spaced : {A : Type 0} → (A → List ℕ) → List A → List ℕ
 spaced piece items = join_by piece (codes " ") items
 

@@ -1,4 +1,4 @@
--- Statement. The row before the balance of a component: the component's name and the period's.
+-- Statement. The row before the balance of a component: the names of the component and of the period.
 use Rattle.std.specs.Prelude.{ℕ, List, [], ◌∷◌}
 use Rattle.pb_form.specs.Value.{Name}
 use Rattle.pb_form.specs.declared.output.OutputKind.TheVariants as kind

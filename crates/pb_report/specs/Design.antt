@@ -12,8 +12,8 @@ use Rattle.pb_choices.specs.Places.{class_place, truth_place}
 use Rattle.pb_report.specs.Row.{OutputRow, row_of}
 use Rattle.pb_report.specs.Rows.{rows_with}
 
--- the row of the stream at a place: its name and those of the nodes that it leads from and to, whether it is measured, its class and
--- its certificate
+-- the row of the stream at a place: its name and the names of the nodes that it leads from and to, whether it is measured, its class
+-- and its certificate
 abbrev pub class_row : Names → ℕ → Stream → Classified → OutputRow
 class_row names id stream classified =
     row_of kind.Class
@@ -21,7 +21,7 @@ class_row names id stream classified =
     ∷ Word (truth_place (is_measured stream)) ∷ Word (class_place classified.class)
     ∷ certificate_values names classified.witness)
 
--- the row of the graph: how many nodes, the environment among them, and how many streams
+-- the row of the graph: how many nodes, including the environment, and how many streams
 abbrev pub graph_row : ProcessGraph → OutputRow
 graph_row graph = row_of kind.Design (Number (pos graph.nodes) ∷ Number (pos (length graph.streams)) ∷ [])
 

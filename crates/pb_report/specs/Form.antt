@@ -8,7 +8,7 @@ use Rattle.pb_report.specs.declared.form.Form.{Form}
 use Rattle.pb_report.specs.declared.form.Form.TheVariants.{Csv, Json}
 use Rattle.pb_report.specs.Row.{OutputRow, fields_of}
 
--- the text of a row in a form: its fields as `csv` writes them, or an object of them by the keys of their columns as `serde_json`
+-- the text of a row in a form: its fields as `csv` writes them, or an object of them under the keys of their columns as `serde_json`
 -- writes it
 abbrev pub row_text : Form → OutputRow → List ℕ
 row_text Csv row = line_of (fields_of row)

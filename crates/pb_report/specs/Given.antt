@@ -22,7 +22,7 @@ abbrev pub given_certificate : Certificate → List value.Value
 given_certificate certificate =
     Word (shape_place certificate.shape) ∷ Items (string_bytes certificate.side) ∷ Items (string_bytes certificate.parts) ∷ []
 
--- a meter speaks of streams that have names
+-- a meter refers only to streams that have names
 pub record IsNamedMeter (names : Names) (meter : Meter) : Type 0 where
   pub stream : meter.stream < length names.streams
   pub steps : All (λ (step : Step). step.stream < length names.streams) meter.steps

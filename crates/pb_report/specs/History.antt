@@ -19,7 +19,7 @@ edit_place Strike = 3
 abbrev pub placed_edit : ℕ → Option HistoryWord
 placed_edit place = slice_get (Close ∷ Late ∷ Amend ∷ Strike ∷ []) place
 
--- the fact that an edit is about; a closing is about none
+-- the fact that an edit is about; a closing is about no fact
 abbrev pub edit_id : HistoryWord → Option (List ℕ) → Value
 edit_id Close id = Missing
 edit_id word id = value_or_none Name id

@@ -9,11 +9,11 @@ pub record OutputText : Type 0 where
   pub form : Form
   pub text : List ℕ
 
--- the text gains rows, and the form stays
+-- the text gains rows, and the form stays the same
 abbrev pub AddsRows : OutputText → OutputText → List OutputRow → Type 0
 AddsRows old new rows = new ≡ record { form = old.form; text = old.text ++ text_in old.form rows }
 
--- what was written joined to the rows that are left is all of them
+-- what was written, joined to the rows that are left, makes up all rows
 pub record IsUnderWay (start now : OutputText) (rows left : List OutputRow) : Type 0 where
   pub form : now.form ≡ start.form
   pub text : start.text ++ text_in start.form rows ≡ now.text ++ text_in start.form left

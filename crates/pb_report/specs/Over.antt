@@ -4,6 +4,6 @@ use Rattle.pb_form.specs.Value.{Name}
 use Rattle.pb_form.specs.declared.output.OutputKind.TheVariants as kind
 use Rattle.pb_report.specs.Row.{OutputRow, row_of}
 
--- the period's name, and the first such stream's
+-- the name of the period, and the name of the first such stream
 abbrev pub over_row : List ℕ → List ℕ → OutputRow
 over_row period stream = row_of kind.Over (Name period ∷ Name stream ∷ [])

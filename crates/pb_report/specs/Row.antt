@@ -6,7 +6,7 @@ use Rattle.pb_form.specs.Texts.{texts_of}
 use Rattle.pb_form.specs.Value.{Value, Missing, Word}
 use Rattle.pb_form.specs.declared.output.OutputKind.{OutputKind}
 
--- a kind, and the values of its columns, of which the first is the kind's word
+-- a kind, and the values of its columns, the first of which is the kind's word
 pub record OutputRow : Type 0 where
   pub kind : OutputKind
   pub values : List Value

@@ -1,5 +1,5 @@
--- Statement. The rows of a study: for each stage a block, between two blocks the row of the suspect that was taken, and after
--- the last one the row that says why no more were taken (serial elimination of gross errors: Narasimhan and Jordache).
+-- Statement. The rows of a study: a block for each stage, between two blocks the row of the suspect that was taken, and after the
+-- last block the row that says why no more were taken (serial elimination of gross errors: Narasimhan and Jordache).
 use Rattle.std.specs.Prelude.{ℕ, ◌+◌, pos, List, [], ◌∷◌, ◌++◌, length}
 use Rattle.std.specs.Option.{option_map, option_to_list}
 use Rattle.pb_rows.specs.declared.name.Names.{Names}
@@ -37,7 +37,7 @@ stage_rows names period options taken (stage ∷ stages) =
 abbrev pub stop_row : List ℕ → ℕ → Stop → OutputRow
 stop_row period rounds reason = row_of kind.Stop (Name period ∷ Word (stop_place reason) ∷ Number (pos rounds) ∷ [])
 
--- the whole report; no reason to stop if no elimination was asked
+-- the whole report; no reason to stop if no elimination was asked for
 abbrev pub study_rows : Names → List ℕ → Options → Study → List OutputRow
 study_rows names period options study =
     stage_rows names period options study.taken study.stages

@@ -16,12 +16,12 @@ class_count class [] = 0
 class_count class (result ∷ results) =
     (if class_place result.classified.class == class_place class then 1 else 0) + class_count class results
 
--- the same, as a value
+-- the same as a value
 abbrev pub class_counted : Class → List StreamResult → Value
 class_counted class results = Number (pos (class_count class results))
 
--- the whole row: what the session was made of, that is its number, how many streams were asked for, and how many rows it has; how
--- many streams are of each class; and how the stage was solved, as in its block
+-- the whole row: the number that the session was made from, how many streams were asked for and how many rows it has; how many
+-- streams are of each class; and how the stage was solved, as in its block
 abbrev pub summary_row : ℕ → ℕ → ℕ → Stage → OutputRow
 summary_row made_number streams rows stage =
     row_of kind.Summary

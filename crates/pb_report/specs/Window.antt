@@ -1,11 +1,11 @@
--- Statement. The rows before the report of a window: of which periods it is, and what its names stand for.
+-- Statement. The rows before the report of a window: which periods it has, and what its names stand for.
 use Rattle.std.specs.Prelude.{ℕ, pos, List, [], ◌∷◌, map}
 use Rattle.pb_window.specs.declared.names.WindowPlace.{WindowPlace}
 use Rattle.pb_form.specs.Value.{Name, Number}
 use Rattle.pb_form.specs.declared.output.OutputKind.TheVariants as kind
 use Rattle.pb_report.specs.Row.{OutputRow, row_of}
 
--- the row of a window: the names of its first and of its last period, and how many periods it has
+-- the row of a window: the names of its first and its last period, and how many periods it has
 abbrev pub window_row : List ℕ → List ℕ → ℕ → OutputRow
 window_row first last periods = row_of kind.Window (Name first ∷ Name last ∷ Number (pos periods) ∷ [])
 

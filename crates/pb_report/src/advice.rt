@@ -1,4 +1,4 @@
-// The rows of an advice.
+// The rows of advice.
 
 ghost use Rattle.std.specs.Prelude.{◌≡◌, ◌<◌, ◌∷◌, [], length, map, string_bytes, All, OnOk, OnErr};
 ghost use Rattle.pb_report.specs.Advice.{IsNamedAdvice, advice_row, advice_rows, meter_row};
@@ -15,8 +15,8 @@ use pb_form::{OutputKind, Value};
 use pb_rows::Names;
 use std::alloc::{AllocError, Global};
 
-/// Appends the rows of an advice: `advise` with the number of streams to meter and what their meters cost together, and one `meter`
-/// row for each, with what it costs and the cycle that shows why it needs a meter.
+/// Appends the rows of advice: `advise` with the number of streams to meter and the total cost of their meters, and one `meter`
+/// row for each meter, with its stream, its cost and the cycle that shows why the stream needs one.
 pub fn write_advice(
     alloc: Global,
     names: &Names,

@@ -231,7 +231,7 @@ fn high_end(bounds: Option<Bounds>) -> Value<'static>
     }
 }
 
-// The least bounds that are written of a stream: of one without bounds none are.
+// The least bounds that are written for a stream: none for a stream without bounds.
 fn written_least(result_of: &StreamResult) -> Option<Bounds>
     ensures { result ≡ written_least result_of.now }
 {

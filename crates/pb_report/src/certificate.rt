@@ -80,15 +80,15 @@ fn parts_text(
     }
 }
 
-/// Certificates by the names of a graph's nodes and streams. The one of the last stream from each node is kept, since most streams from
-/// one node have the same.
+/// Certificates with the names of a graph's nodes and streams. The certificate of the last stream from each node is kept, since most
+/// streams from one node have the same certificate.
 #[derive(Drop)]
 pub struct Certificates<'a> {
     names: &'a Names,
     kept: Vec<Option<Kept<'a>>>,
 }
 
-// A certificate that is kept, and what it was made of.
+// A certificate that is kept, and what it was made from.
 #[derive(Drop)]
 struct Kept<'a> {
     witness: &'a Witness,
@@ -107,7 +107,7 @@ impl<'a> Model for Certificates<'a> {
 }
 
 impl<'a> Certificates<'a> {
-    /// None is kept yet.
+    /// No certificate is kept yet.
     pub fn new(alloc: Global, names: &'a Names) -> Result<Certificates<'a>, AllocError>
         ensures { IfOk result (λ certificates. certificates ≡ names.now) }
     {
@@ -118,7 +118,7 @@ impl<'a> Certificates<'a> {
         Ok(Certificates { names, kept })
     }
 
-    /// The certificate of the class of a stream from a node: the one that is kept there, if it was made of an equal witness.
+    /// The certificate of the class of a stream from a node: the kept certificate of the node, if it was made from an equal witness.
     pub fn take(
         &mut self,
         alloc: Global,

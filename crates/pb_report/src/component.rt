@@ -10,7 +10,7 @@ use pb_form::{OutputKind, Value};
 use pb_rows::Name;
 use std::alloc::{AllocError, Global};
 
-/// Appends the row before the balance of a component in a period: `component`, the component's name and the period's.
+/// Appends the row before the balance of a component in a period: `component`, and the names of the component and of the period.
 pub fn write_component(
     alloc: Global,
     component: &Name,

@@ -18,7 +18,7 @@ pub enum Form {
     Json,
 }
 
-/// Appends the row of a kind in a form. The values are one a column, and the first is the kind's word. After an `Err`, out of
+/// Appends the row of a kind in a form. There is one value for each column, and the first is the kind's word. After an `Err`, out of
 /// memory, the text is as it was.
 pub fn write_row(
     alloc: Global,

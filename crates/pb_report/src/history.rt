@@ -61,13 +61,13 @@ pub fn placed_edit(place: usize) -> Option<HistoryWord>
     EDITS.get(place).copied()
 }
 
-/// The law that this table goes both ways, and that its words are those of pb_form's column.
+/// The law that this table works in both directions, and that its words are the words of pb_form's column.
 pub fn edit_words_law()
     ensures { IsWordTable edit_words edit_place placed_edit }
 {}
 
-/// An edit: the number of its record in the session, what it did, and for which fact and why. The fact of a closing isn't written,
-/// nor the reason of a closing or of a late fact.
+/// An edit: the number of its record in the session, what it did, to which fact and why. The fact of a closing isn't written,
+/// nor is the reason of a closing or of a late fact.
 #[derive(Clone, Copy)]
 pub struct HistoryRow {
     pub at: u32,
@@ -127,7 +127,7 @@ fn edit_values<'a>(edit: &'a HistoryRow) -> [Value<'a>; 5]
     ]
 }
 
-// The fact that an edit is about; a closing is about none.
+// The fact that an edit is about; a closing is about no fact.
 fn edit_id<'a>(word: HistoryWord, id: &'a Option<Name>) -> Value<'a>
     ensures { value_as holds.Name result ≡ edit_id word id.now }
 {

@@ -1,7 +1,7 @@
-//! The rows of a session's output: refused records, the classes of a design, advices, reports, balances of components, windows,
+//! The rows of a session's output: refused records, the classes of a design, advice, reports, balances of components, windows,
 //! histories of periods, and summaries.
 //!
-//! Each call appends whole rows to `out`, in a form. After want of memory `out` is as it was.
+//! Each call appends whole rows to `out`, in a form. If it runs out of memory, `out` is as it was.
 //! A row is a kind and its values, one for each column of the kind; pb_form has the columns, and one function writes rows in a form.
 #![tactic(auto)]
 

@@ -26,7 +26,7 @@ impl Model for Output {
 }
 
 impl Output {
-    /// No row yet.
+    /// An output without rows.
     pub fn new(alloc: Global, form: Form) -> Output
         ensures { result ≡ record { form = form; text = [] } }
     {
@@ -41,7 +41,7 @@ impl Output {
         *self.text.allocator()
     }
 
-    /// Writes the row of a kind. The values are one a column, and the first is the kind's word.
+    /// Writes the row of a kind. There is one value for each column, and the first is the kind's word.
     pub fn push(&mut self, kind: OutputKind, values: &[Value]) -> Result<(), AllocError>
         requires { length values.now ≡ length (output_columns kind) }
         ensures { OnOk result (AddsRows self.old self.new (given_row kind values.now ∷ [])) }
@@ -49,7 +49,7 @@ impl Output {
         write_row(self.allocator(), kind, values, self.form, &mut self.text)
     }
 
-    /// Appends all rows to a text. An empty text takes them over, and they aren't copied. After an `Err`, want of memory, the text is
+    /// Appends all rows to a text. An empty text takes them over, without a copy. After an `Err`, out of memory, the text is
     /// as it was.
     pub fn append_to(self, out: &mut Vec<u8>) -> Result<(), AllocError>
         ensures ok { OnOk result (out.new.items ≡ out.old.items ++ self.text) }

@@ -10,8 +10,8 @@ use pb_form::{OutputKind, Value};
 use pb_rows::Name;
 use std::alloc::{AllocError, Global};
 
-/// Appends the row of a period that can't be studied, since a stream's measured total in it passes the limits: `over`, the
-/// period's name and the stream's.
+/// Appends the row of a period that can't be studied, since a stream's measured total in it exceeds the limits: `over`, and the
+/// names of the period and of the stream.
 pub fn write_over(
     alloc: Global,
     period: &Name,

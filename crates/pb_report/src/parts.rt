@@ -10,7 +10,7 @@ use pb_graph::{Member, Step};
 use pb_rows::{Name, NameList};
 use std::alloc::{AllocError, Global};
 
-/// The names of the nodes in a side, in order, with one space between.
+/// The names of the nodes in a side, in order, separated by one space.
 pub fn side_text(alloc: Global, nodes: &NameList, side: &[bool]) -> Result<String, AllocError>
     requires { length side.now ≡ length nodes.now }
     ensures { IfOk result
@@ -27,7 +27,7 @@ pub fn side_text(alloc: Global, nodes: &NameList, side: &[bool]) -> Result<Strin
     Ok(text)
 }
 
-/// The members of a cut in order, each with its sign before its name, with one space between.
+/// The members of a cut in order, each with its sign before its name, separated by one space.
 pub fn members_text(
     alloc: Global,
     streams: &NameList,
@@ -45,7 +45,7 @@ pub fn members_text(
     Ok(text)
 }
 
-/// The steps of a cycle in order, each with its direction before its name, with one space between.
+/// The steps of a cycle in order, each with its direction before its name, separated by one space.
 pub fn steps_text(alloc: Global, streams: &NameList, steps: &[Step]) -> Result<String, AllocError>
     requires { All (λ (step : Step). step.stream < length streams.now) steps.now }
     ensures { IfOk result (λ text. string_bytes text ≡ spaced (step_text streams.now) steps.now) }

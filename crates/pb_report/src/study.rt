@@ -18,7 +18,7 @@ use pb_rows::{Name, Names};
 use std::alloc::{AllocError, Global};
 
 /// Appends the report of a period: for each stage of its study a block (`report`, the nodes with their prices in units of 2^-56,
-/// the streams with reconciled flows and bounds in grams, `solved`, the rows of the tests, and `end`), before each stage but the
+/// the streams with reconciled flows and bounds in grams, `solved`, the rows of the tests, and `end`), before each stage except the
 /// first the row of the suspect that was `taken`, and at the end `stop` if suspects were to be taken.
 pub fn write_study(
     alloc: Global,
@@ -88,7 +88,7 @@ fn taken_values<'a>(
     ]
 }
 
-// Writes why the elimination stopped, if it was asked.
+// Writes why the elimination stopped, if it was asked for.
 fn write_stop(
     period: &Name,
     rounds: usize,

@@ -14,9 +14,9 @@ use pb_form::{OutputKind, Value};
 use pb_graph::{Class, List, Stage, StreamResult};
 use std::alloc::{AllocError, Global};
 
-/// Appends, in CSV, the row that sums up the study of a made session: `summary`, the number that it was made from, the streams
-/// that were asked for, the rows of the session, how many streams of its stage are of each class, the degrees of freedom, and
-/// how the stage was solved.
+/// Appends, in CSV, the row that sums up the study of a made session: `summary`, the number that it was made from, how many streams
+/// were asked for, how many rows the session has, how many streams of its stage are of each class, the degrees of freedom, and how
+/// the stage was solved.
 pub fn write_summary(
     alloc: Global,
     number: u32,

@@ -13,8 +13,8 @@ use pb_rows::Name;
 use pb_window::WindowPlace;
 use std::alloc::{AllocError, Global};
 
-/// Appends the rows before the report of a window: `window` with the names of its first and of its last period and the number of
-/// its periods, and one `place` row for each of its names, with the name of the period and that of the node or stream of the plant.
+/// Appends the rows before the report of a window: `window` with the names of its first and its last period and the number of
+/// its periods, and one `place` row for each of its names, with the names of the period and of the node or stream of the plant.
 pub fn write_window(
     alloc: Global,
     first: &Name,

@@ -218,7 +218,7 @@ last_day y m d date year month day =
     let next = day_count-next_year (pos 2199) (pos 2200) (omega (arith, ints)) refl in
     rw (year, month, day) (omega (arith, last, next, day_behind))
 
--- the day behind a date, where it isn't the last one
+-- the day after a date, if it isn't the last one
 next_date : (y m d : ℕ) → IsDate y m d → day_count (pos y) m d < 4_455_958 → DateAt (day_count (pos y) m d + 1)
 next_date y m d date before = elim (cases_lt d (days_in_month (pos y) m)) [
   | inl within ↦ record {

@@ -1,4 +1,4 @@
--- A row that needs no quotes is its fields with a comma between two.
+-- A row that needs no quotes is its fields separated by commas.
 use Rattle.std.proofs.Common.{◌≡◌, ◌∙◌, ◌<◌, ◌≤◌, ◌+◌, ◌∷◌, ◌++◌, [], ℕ, List, Bool, true, false, None, length, take, drop, get_or, ap, sym, refl, inl, inr, arith, append_assoc, append-nil}
 use Rattle.std.specs.Prelude.{◌==◌, ◌-◌, Option, Some, is_some}
 use Rattle.std.specs.List.{list_any}

@@ -49,7 +49,7 @@ copied_more room at bytes field lt within copied =
     behind : drop (at + 1) bytes ≡ replicate (room - (at + 1)) 0
     behind = sym (drop-drop 1 at bytes) ∙ ap (drop 1) copied.zeros ∙ drop-replicate 1 (room - at) 0 ∙ ap (λ (n : ℕ). replicate {A = ℕ} n 0) (omega arith)
 
--- texts of one length are the same exactly where their arrays are
+-- texts of one length are the same exactly when their arrays are
 pub same_padded : (is_form : List ℕ → Bool) (room la lb : ℕ) (xs ys : List ℕ) → IsPadded is_form room la xs → IsPadded is_form room lb ys → la ≡ lb
     → pointwise nat_eq xs ys ≡ pointwise nat_eq (take la xs) (take lb ys)
 same_padded is_form room la lb xs ys a b long = same_from_decides _ _ (parts, whole) (bytes_decides (take la xs) (take lb ys))

@@ -63,7 +63,7 @@ whole_ascii (first ∷ rest) whole = elim (cases_Bool (first == 45)) [
 pub whole_utf8 : (field : List ℕ) → is_whole field ≡ true → IsUtf8 field
 whole_utf8 field whole = IsUtf8-from_ascii field (whole_ascii field whole)
 
--- what `parse` answers for a field of the form
+-- what `parse` returns for a field of the form
 pub parsed_ok : {E : Type 0} (field : List ℕ) (r : Result ℤ E) → is_whole field ≡ true → ParsesSigned w128 10 field r → OkIff r (FitsSigned w128 (whole_value field)) (whole_value field)
 parsed_ok field (Ok z) whole parses =
     let reads = whole_reads field whole in
@@ -74,7 +74,7 @@ parsed_ok field (Err e) whole parses =
     let reads = whole_reads field whole in
     λ fits. parses (reads.0, rw reads.1 fits)
 
--- digits that were read so far, and one more of them
+-- digits that were read so far, and one more digit
 pub more_digits : (field : List ℕ) (i : ℕ) → i < length field → is_ascii_digit (get_or field i 0) ≡ true
     → digits_value 10 (take i field) * 10 + (get_or field i 0 - 48) ≡ digits_value 10 (take (i + 1) field)
 more_digits field i lt digit =
@@ -82,7 +82,7 @@ more_digits field i lt digit =
     let more = digits_value_more 10 field i lt in
     omega (arith, more, value)
 
--- fewer than 19 digits write a number of 64 bits, and so do ten times it and one more digit
+-- fewer than 19 digits write a number of 64 bits, and ten times that number and one more digit are one too
 pub few_digits : (field : List ℕ) (i : ℕ) → i < length field → length field ≤ 19 → list_all is_ascii_digit (take i field) ≡ true
     → digits_value 10 (take i field) < 10 ^ 18
 few_digits field i lt few digits = digits_value_short own (take i field) 18 digits (omega (arith, length-take-le i field (omega (arith, lt))))

@@ -1,4 +1,4 @@
--- Each record takes at least one byte, so what a reader of bytes in hand has left are the records that follow.
+-- Each record takes at least one byte, so what a reader of bytes in memory has left are the records that follow.
 use Rattle.std.proofs.Common.{Bor, ap, ◌≡◌, ◌<◌, ◌≤◌, ◌+◌, ◌∷◌, ◌++◌, [], ◌∙◌, ℕ, zero, suc, List, Bool, true, false, Option, Some, None, length, arith, sym, refl, inl, inr}
 use Rattle.std.specs.Prelude.{◌==◌, ◌||◌, IfOk, OnOk, if◌then◌else◌, Result, Ok, Err}
 use Rattle.std.proofs.lemmas.Bool.{cases_Bool}
@@ -23,7 +23,7 @@ field_next false true lf = (st.AfterCr, act.EndRecord)
 field_next false false true = (st.StartRecord, act.EndRecord)
 field_next false false false = (st.InField, act.Copy)
 
--- where a byte ends a record, the state behind it lies between records
+-- if a byte ends a record, the state after it lies between records
 abbrev Between : State × Action → Type 0
 Between next = is_end next.1 ≡ true → ends_at_end next.0 ≡ false
 
@@ -107,7 +107,7 @@ record_takes s fields field (c ∷ xs) p between e = elim (cases_Bool (is_end (s
       omega (arith, rest.1)
 ]
 
--- how many steps a reader may take makes no difference, where they are more than the bytes
+-- how many steps a reader may take makes no difference if there are more of them than bytes
 same_records : (m n : ℕ) (s : State) (xs : List ℕ) → ends_at_end s ≡ false → length xs < m → length xs < n
     → records_from default_config m s xs ≡ records_from default_config n s xs
 unfolding records_from
@@ -141,7 +141,7 @@ few_records (suc n) s xs between = by (next_record default_config s [] [] xs) re
         let few = rest p.1 p.2 leaves.0 in
         omega (arith, takes, few)
 
--- the records of bytes, where a first one is there and where none is
+-- the records of bytes, if there is a first one and if there is none
 records_more : (s : State) (xs : List ℕ) (p : Read) → ends_at_end s ≡ false → next_record default_config s [] [] xs ≡ Some p
     → records_from default_config (length xs + 1) s xs ≡ p.0 ∷ records_from default_config (length p.2 + 1) p.1 p.2
 unfolding records_from
@@ -157,12 +157,12 @@ records_none s xs e =
     let steps : length xs + 1 ≡ suc (length xs) = omega arith in
     rw (steps, e) refl
 
--- a first record, and those behind it
+-- a first record, and those after it
 follows : (p : Read) (fields : List (List ℕ)) (s : State) (ys : List ℕ) (unread : Option (List ℕ)) → fields ≡ p.0 → p.1 ≡ s → p.2 ≡ ys → unread ≡ Some ys
     → p.0 ∷ records_from default_config (length p.2 + 1) p.1 p.2 ≡ fields ∷ records_in s unread
 follows p fields s ys unread first state bytes known = rw (first, known, state, bytes) refl
 
--- what a read of a record leaves of a reader of bytes in hand, and of its records
+-- what a read of a record leaves of a reader of bytes in memory, and of its records
 record_read : (old new : Reader (Bor (List ℕ))) (fields : List (List ℕ)) → IsBetween old
     → ReadRecord (λ s. Some s.now) old new true fields → took_first new ≡ true → is_flexible new ≡ is_flexible old → ReadsFirst old new true fields
 unfolding Reached
@@ -183,14 +183,14 @@ record_read old new fields stands read first flexible =
           ∙ follows p fields (reader_state new) more.0 (unread_by new) more.2.2 more.2.3.0 more.2.3.1 more.1,
     )
 
--- where a read finds no record, none was left
+-- if a read finds no record, none was left
 none_read : (old new : Reader (Bor (List ℕ))) (fields : List (List ℕ)) → IsBetween old
     → ReadRecord (λ s. Some s.now) old new false fields → records_left old false ≡ []
 none_read old new fields stands read =
     let none = rows-end (λ (s : Bor (List ℕ)). Some s.now) old new fields default_config stands.bytes stands.config stands.unread read in
     rw stands.unread (records_none (reader_state old) stands.bytes none)
 
--- what a read does to a reader of bytes in hand, where it has an answer
+-- what a read does to a reader of bytes in memory, if it succeeds
 pub reads_first : {E : Type 0} (old new : Reader (Bor (List ℕ))) (fields : List (List ℕ)) (r : Result Bool E) → IsBetween old
     → IfOk r (λ found. (reader_trim old ≡ trim.None) → Ready old → ReadRecord (λ s. Some s.now) old new found fields)
     → OnOk r (took_first new ≡ true) → OnOk r (is_flexible new ≡ is_flexible old) → IfOk r (λ found. ReadsFirst old new found fields)
@@ -213,7 +213,7 @@ few_records_of bytes =
     let mark = strip_bom_within bytes in
     omega (arith, few, mark)
 
--- the records that were reached, where no further one follows, are all the records of the text
+-- the records that were reached, if no further one follows, are all the records of the text
 from_reached : (n : ℕ) (s s2 : State) (xs ys : List ℕ) (rows : List (List (List ℕ))) → ends_at_end s ≡ false → length xs < n
     → Reached default_config s xs rows s2 ys → next_record default_config s2 [] [] ys ≡ None → records_from default_config n s xs ≡ rows
 unfolding Reached records_from

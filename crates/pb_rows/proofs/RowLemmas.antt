@@ -9,7 +9,7 @@ use Rattle.csv.specs.Records.{field_at}
 use Rattle.csv.proofs.RecordFacts.{field-get, field-there}
 use Rattle.pb_rows.specs.Records.{without_trailing_empty}
 
--- an empty field behind the others goes
+-- an empty field after the others is dropped
 trailing_push_empty : (fields : List (List ℕ)) (field : List ℕ) → (length field == 0) ≡ true → without_trailing_empty (fields ++ field ∷ []) ≡ without_trailing_empty fields
 trailing_push_empty [] field empty = rw empty refl
 trailing_push_empty (first ∷ fields) field empty = rw (trailing_push_empty fields field empty) refl

@@ -32,7 +32,7 @@ unfolding decimal_text
 decimal_digits zero = refl
 decimal_digits (suc n) = (text_digits (suc n) (omega arith)).0
 
--- at most ten of them write a number of 32 bits
+-- at most ten digits write a number of 32 bits
 pub decimal_short : (n : ℕ) → n < 2 ^ 32 → length (decimal_text n) ≤ 10
 decimal_short n small =
     rw (← wide_text n (omega (arith, small))) (length-decimal-le 10 n (omega arith) (omega (arith, small)) (omega (arith, small)))
@@ -69,7 +69,7 @@ pub numbered_name : (letter n : ℕ) → is_name_byte letter ≡ true → n < 2 
 numbered_name letter n letter_is small =
     name_of_bytes letter (decimal_text n) letter_is (digits_in_name (decimal_text n) (decimal_digits n)) (omega (arith, decimal_short n small))
 
--- other names are told apart
+-- different names are told apart
 pub names_apart : (a b : List ℕ) → a ≢ b → same_name a b ≡ false
 names_apart a b other = elim (cases_Bool (same_name a b)) [ inl same ↦ absurd (other ((bytes_decides a b).0 same)) | inr differs ↦ differs ]
 

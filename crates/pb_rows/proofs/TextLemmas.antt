@@ -84,7 +84,7 @@ text_digits n some =
     let back = digits_back 0 (digits_of 10 n) (all_below_base_digits_of 10 n (omega arith)) in
     rw (some_text n some) (back.0, back.1 ∙ number_digits_of 10 n (omega arith))
 
--- the text of a number that isn't 0 has the form, and behind a minus sign too
+-- the text of a number that isn't 0 has the form, and after a minus sign too
 text_plain : (n : ℕ) → 0 < n → is_plain (decimal_text n) ≡ true
 text_plain n some =
     let full : (length (decimal_text n) == 0) ≡ false = ne_eqb _ 0 (λ e. absurd (omega (arith, text_length n some, e))) in
@@ -132,7 +132,7 @@ reads_back (negsuc n) = reads_back_negative n
 digit_char : (c : ℕ) → is_ascii_digit c ≡ true → (digit_value c < 10) × (48 + digit_value c ≡ c)
 digit_char c digit = grind (arith, nat_tests)
 
--- the text of a number that isn't 0, and of it with digits behind it
+-- the text of a number that isn't 0, and of that number with digits after it
 text_after : (n : ℕ) (cs : List ℕ) → 0 < n → list_all is_ascii_digit cs ≡ true → decimal_text (digits_value_after 10 n cs) ≡ decimal_text n ++ cs
 text_after n [] some digits = sym (append-nil (decimal_text n))
 text_after n (c ∷ cs) some digits =
@@ -149,7 +149,7 @@ not_true : (b : Bool) → not b ≡ true → b ≡ false
 not_true true h = cc h
 not_true false h = refl
 
--- more than one digit, of which the first is no zero
+-- more than one digit, of which the first is not zero
 unpadded : (n : ℕ) (is_zero : Bool) → not (nat_lt 1 (suc (suc n)) && is_zero) ≡ true → not is_zero ≡ true
 unpadded n is_zero h = let more : nat_lt 1 (suc (suc n)) ≡ true = grind (arith, nat_tests) in rw more at h
 

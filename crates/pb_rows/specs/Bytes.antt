@@ -1,7 +1,7 @@
 -- Statement. The bytes that names, numbers and dates are written with.
 use Rattle.std.specs.Prelude.{ℕ}
 
--- `-`: a minus sign, and what stands between the parts of a date
+-- `-`: a minus sign, and the separator between the parts of a date
 abbrev pub dash : ℕ
 dash = 45
 
@@ -13,6 +13,6 @@ dot = 46
 abbrev pub underscore : ℕ
 underscore = 95
 
--- `0`, from which the digits count up
+-- `0`, the first of the digits
 abbrev pub zero_digit : ℕ
 zero_digit = 48

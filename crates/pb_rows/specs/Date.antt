@@ -1,4 +1,4 @@
--- Statement. Civil dates, by the calendar of `jiff`, and the fields that write them.
+-- Statement. Civil dates in the calendar of `jiff`, and the fields that write them.
 use Rattle.std.specs.Prelude.{◌+◌, ◌*◌, ◌-◌, ◌/◌, ◌%◌, ◌==◌, ◌&&◌, ◌++◌, ◌≤ℤ◌, ℕ, ℤ, pos, neg_ℤ, int_le, unsigned_abs, List, [], ◌∷◌, length, slice_index, Bool, Option, Some, None, if◌then◌else◌, codes}
 use Rattle.std.specs.Char.{is_ascii_digit}
 use Rattle.std.specs.Int.{IsInRange}
@@ -9,7 +9,7 @@ use Rattle.pb_rows.specs.Bytes.{dash, zero_digit}
 abbrev pub first_year : ℕ
 first_year = 1900
 
--- the last year of them
+-- the last year of the dates that fields write
 abbrev pub last_year : ℕ
 last_year = 2199
 
@@ -30,7 +30,7 @@ abbrev pub date_text : ℕ → ℕ → ℕ → List ℕ
 date_text year month day =
     two_digits (year / 100) ++ (two_digits (year % 100) ++ (codes "-" ++ (two_digits month ++ (codes "-" ++ two_digits day))))
 
--- the calendar has this day, in one of these years
+-- whether the calendar has this day, in one of these years
 abbrev pub is_day : ℤ → ℤ → ℤ → Bool
 is_day year month day =
     int_le (pos first_year) year && int_le year (pos last_year) && int_le (pos 1) month && int_le month (pos 12)
@@ -50,11 +50,11 @@ two_digits_value tens ones =
 abbrev pub two_digits_at : List ℕ → ℕ → Option ℕ
 two_digits_at field i = two_digits_value (slice_index field i) (slice_index field (i + 1))
 
--- ten bytes, with a dash behind the year and behind the month
+-- ten bytes, with a dash after the year and after the month
 abbrev pub is_dashed : List ℕ → Bool
 is_dashed field = (length field == 10) && (slice_index field 4 == dash) && (slice_index field 7 == dash)
 
--- the day of a century, a year of it, a month and a day of the month
+-- the day given by a century, a year of that century, a month and a day of the month
 abbrev pub day_of_parts : Option ℕ → Option ℕ → Option ℕ → Option ℕ → Option ℤ
 day_of_parts (Some century) (Some year) (Some month) (Some day) = day_number (pos (century * 100 + year)) (pos month) (pos day)
 day_of_parts _ _ _ _ = None

@@ -23,7 +23,7 @@ abbrev pub is_whole : List ℕ → Bool
 is_whole [] = false
 is_whole (first ∷ rest) = if first == dash then is_plain rest && not (slice_index rest 0 == zero_digit) else is_plain (first ∷ rest)
 
--- the number that digits write, behind a minus sign or not
+-- the number that digits write, with or without a minus sign before them
 abbrev pub whole_value : List ℕ → ℤ
 whole_value [] = pos 0
 whole_value (first ∷ rest) = if first == dash then neg_ℤ (pos (digits_value 10 rest)) else pos (digits_value 10 (first ∷ rest))
@@ -32,12 +32,12 @@ whole_value (first ∷ rest) = if first == dash then neg_ℤ (pos (digits_value 
 abbrev pub number : List ℕ → Option ℤ
 number field = if is_whole field then Some (whole_value field) else None
 
--- a number that lies from lo to hi, both included
+-- a number, if it lies from lo to hi, both included
 abbrev pub within : ℤ → ℤ → Option ℤ → Option ℤ
 within lo hi None = None
 within lo hi (Some z) = if int_le lo z && int_le z hi then Some z else None
 
--- the decimal text of a number: its digits, the highest first; one zero for 0
+-- the decimal text of a number: its digits, the most significant first; a single zero for 0
 unfoldable pub decimal_text : ℕ → List ℕ
 decimal_text n = if n == 0 then zero_digit ∷ [] else map (λ digit. zero_digit + digit) (digits_of 10 n)
 

@@ -1,9 +1,9 @@
--- Inside. How a text lies in an array of bytes: in front, with zeros behind it.
+-- Inside. How a text lies in an array of bytes: at the front, with zeros after it.
 use Rattle.std.specs.Prelude.{◌≡◌, ◌≤◌, ◌-◌, ◌++◌, ℕ, List, Bool, length, take, drop, replicate, true}
 use Rattle.std.proofs.Common.{arith, ap, sym, ◌∙◌}
 use Rattle.std.proofs.lemmas.List.{length-take-le, take-append-drop}
 
--- the first bytes are of the form, and zeros come after them
+-- the first bytes have the form, and zeros come after them
 pub record IsPadded (is_form : List ℕ → Bool) (room len : ℕ) (bytes : List ℕ) : Type 0 where
   pub long : length bytes ≡ room
   pub fits : len ≤ room

@@ -4,7 +4,7 @@ use Rattle.std.specs.Cmp.Lexicographic.{pointwise}
 use Rattle.std.specs.List.{list_all}
 use Rattle.pb_rows.specs.declared.reason.TheConstants.{MOST_REASON}
 
--- how many bytes a reason has at the most
+-- the most bytes that a reason can have
 abbrev pub most_reason : ℕ
 most_reason = 80
 
@@ -24,6 +24,6 @@ is_reason field = has_reason_length field && list_all is_reason_byte field
 abbrev pub same_reason : List ℕ → List ℕ → Bool
 same_reason a b = pointwise nat_eq a b
 
--- the constant of the code is the number of its definition
+-- the constant of the code is the number defined here
 abbrev pub IsMostReason : Type 0
 IsMostReason = MOST_REASON ≡ most_reason

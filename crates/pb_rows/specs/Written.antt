@@ -9,7 +9,7 @@ pub record Written : Type 0 where
   pub text : List ℕ
   pub row : List (List ℕ)
 
--- a row as `csv` writes it, with the line feed behind it
+-- a row as `csv` writes it, followed by a line feed
 abbrev pub line_of : List (List ℕ) → List ℕ
 line_of fields = row_text default_writer fields
 
@@ -17,7 +17,7 @@ line_of fields = row_text default_writer fields
 abbrev pub text_of_rows : List (List (List ℕ)) → List ℕ
 text_of_rows rows = flat_map line_of rows
 
--- the row that is being filled gains a field, and the text stays
+-- the row that is being filled gains a field, and the text stays the same
 abbrev pub AddsField : Written → Written → List ℕ → Type 0
 AddsField old new field = new ≡ record { text = old.text; row = old.row ++ field ∷ [] }
 
@@ -25,7 +25,7 @@ AddsField old new field = new ≡ record { text = old.text; row = old.row ++ fie
 abbrev pub AddsLine : List ℕ → List ℕ → List (List ℕ) → Type 0
 AddsLine old new row = new ≡ old ++ line_of row
 
--- the text gains the line of the row that was being filled, and the next row begins without a field
+-- the text gains the line of the row that was being filled, and the next row begins without fields
 abbrev pub EndsRow : Written → Written → Type 0
 EndsRow old new = new ≡ record { text = old.text ++ line_of old.row; row = [] }
 

@@ -9,11 +9,11 @@ use std::alloc::AllocError;
 /// The first year of the dates that fields write.
 const FIRST_YEAR: u16 = 1900;
 
-/// The last year of them.
+/// The last year of the dates that fields write.
 const LAST_YEAR: u16 = 2199;
 
 /// The day that a field writes, counted from 1970-01-01: exactly `YYYY-MM-DD`, a date of the Gregorian calendar
-/// from 1900 to 2199. `Ok(None)` exactly where it isn't; no memory is taken.
+/// from 1900 to 2199. `Ok(None)` exactly when it isn't such a date; no memory is taken.
 pub fn read_date(field: &[u8]) -> Result<Option<i32>, AllocError>
     ensures value { result ≡ Ok (day_of field.now) }
     ensures within { IfOk result (λ day. IfSome day IsDay) }
@@ -35,14 +35,14 @@ fn day_of(field: &[u8]) -> Option<i32>
     day_number(u16::from(century) * 100 + u16::from(year), month, day)
 }
 
-// Whether a field has the length of a date, and its dashes.
+// Whether a field has the length and the dashes of a date.
 fn is_dashed(field: &[u8]) -> bool
     ensures { result ≡ is_dashed field.now }
 {
     field.len() == 10 && field[4] == b'-' && field[7] == b'-'
 }
 
-// The number that two digits write at a place.
+// The number that the two digits at a place write.
 fn two_digits_at(field: &[u8], i: usize) -> Option<u8>
     requires { i + 1 < length field.now }
     ensures value { result ≡ two_digits_at field.now i }

@@ -8,19 +8,19 @@ pub fn number_text_law()
     ensures { HaveOneNumberText }
 {}
 
-/// The law that a field writes a day exactly where it is the text `YYYY-MM-DD` of a date of the Gregorian calendar from
+/// The law that a field writes a day exactly when it is the text `YYYY-MM-DD` of a date of the Gregorian calendar from
 /// 1900 to 2199, and that each day of these years has one such text.
 pub fn date_text_law()
     ensures { HaveOneDateText }
 {}
 
-/// The law that the rows which a `RowWriter` has ended read back by `Rows::of` as they were, of whatever lengths, where the
-/// first field of each is one or more letters from `a` to `z`.
+/// The law that `Rows::of` reads back the rows that a `RowWriter` has ended as they were, of any lengths, if the first
+/// field of each is one or more letters from `a` to `z`.
 pub fn written_rows_law()
     ensures { WrittenRowsReadBack }
 {}
 
-/// The constant for the length of a reason is the number of its definition.
+/// The law that the constant for the length of a reason is the number in its definition.
 pub fn reason_limit_law()
     ensures { IsMostReason }
 {}

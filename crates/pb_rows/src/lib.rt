@@ -1,7 +1,7 @@
 //! Rows of a session and of a report: records and their fields in, rows out.
 //!
 //! A record is what `csv` reads by its own definition of reading (flexible, without headers, without trimming, a byte order
-//! mark taken off the front); a row is written as `csv` writes it and ended by a line feed.
+//! mark removed from the front); a row is written as `csv` writes it and ended by a line feed.
 //! Fields are read exactly: names, reasons, whole numbers and civil dates.
 #![tactic(auto)]
 

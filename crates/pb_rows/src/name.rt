@@ -92,7 +92,7 @@ impl Hash for Name {
 }
 
 impl Name {
-    /// The name that a field writes; `None` exactly where the field isn't of the form.
+    /// The name that a field writes; `None` exactly when the field doesn't have the form.
     pub fn read(field: &[u8]) -> Option<Name>
         ensures { MatchOption result (is_name field.now ≡ false)
             (λ name. (is_name field.now ≡ true) × (name ≡ field.now)) }
@@ -114,7 +114,7 @@ impl Name {
         })
     }
 
-    /// The bytes of the name, which are those of a name.
+    /// The bytes of the name, which have the form of a name.
     pub fn bytes(&self) -> &[u8]
         ensures value { result.now ≡ self.now }
         ensures form { is_name self.now ≡ true }
@@ -173,7 +173,7 @@ impl Model for NameList {
 }
 
 impl NameList {
-    /// No name.
+    /// An empty list.
     pub fn new(alloc: Global) -> NameList
         ensures { result ≡ [] }
     {
@@ -182,7 +182,7 @@ impl NameList {
         }
     }
 
-    /// Appends a name. After an `Err`, want of memory, the list is as it was.
+    /// Appends a name. After an `Err`, out of memory, the list is as it was.
     pub fn push(&mut self, name: Name) -> Result<(), AllocError>
         ensures appended { OnOk result (self.new ≡ self.old ++ name ∷ []) }
         ensures unchanged { OnErr result (self.new ≡ self.old) }
@@ -198,7 +198,7 @@ impl NameList {
         self.names.len()
     }
 
-    /// Whether there is no name.
+    /// Whether there are no names.
     pub fn is_empty(&self) -> bool
         ensures { IsTrue result ↔ (self.now ≡ []) }
     {

@@ -11,11 +11,11 @@ ghost use Rattle.pb_rows.specs.Number.{are_digits, is_padded, is_plain, is_whole
 
 use std::alloc::{AllocError, Global};
 
-// The greatest number of digits that always write a number of 64 bits.
+// The most digits whose number always fits in 64 bits.
 const MOST_DIGITS: usize = 19;
 
-/// The whole number that a field writes, where it lies from `lo` to `hi`: decimal digits without leading zeros, and `-` only
-/// before a number that isn't zero. `None` exactly where the field isn't of this form or the number lies outside.
+/// The whole number that a field writes, if it lies from `lo` to `hi`: decimal digits without leading zeros, and `-` only
+/// before a number that isn't zero. `None` exactly when the field doesn't have this form or the number lies outside.
 pub fn read_whole(field: &[u8], lo: i128, hi: i128) -> Option<i128>
     ensures { result ≡ within lo hi (number field.now) }
 {
@@ -26,7 +26,7 @@ pub fn read_whole(field: &[u8], lo: i128, hi: i128) -> Option<i128>
     }
 }
 
-// A number, where it lies from `lo` to `hi`.
+// A number, if it lies from `lo` to `hi`.
 fn within(value: i128, lo: i128, hi: i128) -> Option<i128>
     ensures { result ≡ within lo hi (Some value) }
 {
@@ -37,7 +37,7 @@ fn within(value: i128, lo: i128, hi: i128) -> Option<i128>
     }
 }
 
-// The number that a field of so few bytes writes, in one pass over them.
+// The number that a field of at most 19 bytes writes, in one pass over them.
 fn short_number(field: &[u8]) -> Option<i128>
     requires { length field.now ≤ 19 }
     ensures { result ≡ number field.now }
@@ -48,7 +48,7 @@ fn short_number(field: &[u8]) -> Option<i128>
     }
 }
 
-// The number that digits behind a minus sign write.
+// The number that digits after a minus sign write.
 fn negative_number(digits: &[u8]) -> Option<i128>
     requires { length digits.now ≤ 19 }
     ensures { result ≡ number (dash ∷ digits.now) }
@@ -59,7 +59,7 @@ fn negative_number(digits: &[u8]) -> Option<i128>
     }
 }
 
-// The number that digits without leading zeros write; `None` exactly where the field isn't of this form.
+// The number that digits without leading zeros write; `None` exactly when the field doesn't have this form.
 fn plain_number(field: &[u8]) -> Option<u64>
     requires { length field.now ≤ 19 }
     ensures { SomeIff result (is_plain field.now ≡ true) (digits_value 10 field.now) }
@@ -87,7 +87,7 @@ fn read_long(field: &[u8], lo: i128, hi: i128) -> Option<i128>
     within(whole_value(field)?, lo, hi)
 }
 
-// The number that a field of the form writes; `None` exactly where it passes 128 bits.
+// The number that a field of the form writes; `None` exactly when it doesn't fit in 128 bits.
 fn whole_value(field: &[u8]) -> Option<i128>
     requires { is_whole field.now ≡ true }
     ensures { SomeIff result (FitsSigned w128 (whole_value field.now)) (whole_value field.now) }
@@ -101,7 +101,7 @@ fn whole_value(field: &[u8]) -> Option<i128>
     }
 }
 
-/// The bytes of a whole number in decimal, in the form that `read_whole` reads. A `u32` or `u64` comes through `i128::from`.
+/// The bytes of a whole number in decimal, in the form that `read_whole` reads. Convert a `u32` or `u64` with `i128::from`.
 pub fn whole_bytes(alloc: Global, value: i128) -> Result<Vec<u8>, AllocError>
     ensures { IfOk result (λ bytes. bytes.items ≡ whole_text value) }
 {

@@ -9,7 +9,7 @@ ghost use Rattle.pb_rows.specs.Reason.{has_reason_length, is_reason, is_reason_b
 use std::fmt;
 use std::marker::Model;
 
-/// The most bytes of a reason.
+/// The most bytes that a reason can have.
 pub const MOST_REASON: usize = 80;
 
 /// A reason: 1 to 80 bytes, each from the space to `~`.
@@ -53,7 +53,7 @@ impl Eq for Reason {
 }
 
 impl Reason {
-    /// The reason that a field writes; `None` exactly where the field isn't of the form.
+    /// The reason that a field writes; `None` exactly when the field doesn't have the form.
     pub fn read(field: &[u8]) -> Option<Reason>
         ensures { MatchOption result (is_reason field.now ≡ false)
             (λ reason. (is_reason field.now ≡ true) × (reason ≡ field.now)) }
@@ -69,7 +69,7 @@ impl Reason {
         })
     }
 
-    /// The bytes of the reason, which are those of a reason.
+    /// The bytes of the reason, which have the form of a reason.
     pub fn bytes(&self) -> &[u8]
         ensures value { result.now ≡ self.now }
         ensures form { is_reason self.now ≡ true }

@@ -12,8 +12,8 @@ use std::alloc::{AllocError, Global};
 use std::marker::Model;
 use std::slice::Iter;
 
-/// The records of bytes in hand, one at a time, as `csv` reads them: with the comma, the double quote and its default
-/// terminator, without headers or trimming, of whatever lengths.
+/// The records of bytes in memory, one at a time, as `csv` reads them: with the comma, the double quote and its default
+/// terminator, without headers or trimming, and records of any lengths.
 #[derive(Drop)]
 pub struct Records<'a> {
     alloc: Global,
@@ -34,7 +34,7 @@ impl<'a> Model for Records<'a> {
 }
 
 impl<'a> Records<'a> {
-    /// The records of these bytes, none of them taken.
+    /// The records of these bytes, none taken yet.
     pub fn of(alloc: Global, bytes: &'a [u8]) -> Records<'a>
         ensures records { result ≡ record { taken = 0; left = records_of bytes.now } }
         ensures at_most_bytes { length result.left ≤ length bytes.now }
@@ -76,8 +76,8 @@ impl<'a> Records<'a> {
         }
     }
 
-    /// Takes the next record into a row, in place of its fields, and answers whether one was left. If none was, and after an
-    /// `Err`, out of memory, the row has no fields, none is left, and no more are taken than before.
+    /// Takes the next record into a row, in place of its fields, and returns whether one was left. If none was, and after an
+    /// `Err`, out of memory, the row has no fields, no record is left, and no more are taken than before.
     pub fn fill(&mut self, row: &mut Row) -> Result<bool, AllocError>
         ensures ok { IfOk result (λ found. FillsNext self.old self.new row.new found) }
         ensures err { OnErr result (self.new.left ≡ []) }
@@ -129,7 +129,7 @@ impl Model for Rows {
 }
 
 impl Rows {
-    /// No row.
+    /// An empty list.
     pub fn new(alloc: Global) -> Rows
         ensures { result ≡ [] }
     {
@@ -138,7 +138,7 @@ impl Rows {
         }
     }
 
-    /// Appends a row. After an `Err`, want of memory, the rows are as they were.
+    /// Appends a row. After an `Err`, out of memory, the rows are as they were.
     pub fn push(&mut self, row: Row) -> Result<(), AllocError>
         ensures appended { OnOk result (self.new ≡ self.old ++ row ∷ []) }
         ensures unchanged { OnErr result (self.new ≡ self.old) }
@@ -147,7 +147,7 @@ impl Rows {
         Ok(())
     }
 
-    /// The records of a text, as `Records` takes them one at a time. Refused alone for want of memory.
+    /// The records of a text, as `Records` takes them one at a time. Out of memory is the only error.
     pub fn of(alloc: Global, bytes: &[u8]) -> Result<Rows, AllocError>
         ensures records { IfOk result (λ rows. rows ≡ records_of bytes.now) }
         ensures at_most_bytes { IfOk result (λ rows. length rows ≤ length bytes.now) }
@@ -167,7 +167,7 @@ impl Rows {
         self.rows.len()
     }
 
-    /// Whether there is no record.
+    /// Whether there are no records.
     pub fn is_empty(&self) -> bool
         ensures { IsTrue result ↔ (self.now ≡ []) }
     {
@@ -190,14 +190,14 @@ impl Rows {
     }
 }
 
-// The records are at most as many as the bytes, whose number fits, as their length shows.
+// There are at most as many records as bytes, and the number of bytes fits in 64 bits, as their length shows.
 fn count_fits(bytes: &[u8])
     ensures { length bytes.now < 2 ^ 64 }
 {
     let _size = bytes.len();
 }
 
-// A flexible reader of bytes refuses for want of memory alone, never for a record's length.
+// A flexible reader of bytes fails only if out of memory, never for a record's length.
 fn out_of_memory(_error: Error) -> AllocError
     requires { NotLengths (error_kind _error) }
 {

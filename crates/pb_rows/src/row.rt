@@ -1,4 +1,4 @@
-// A record: a list of fields, and each field its bytes.
+// A record: a list of fields, each a list of bytes.
 
 ghost use Rattle.std.specs.Prelude.{◌≡◌, ◌<◌, ◌≤◌, ◌∷◌, ◌++◌, [], length, map, min, take, slice_index_or, IfOk, IfErr, OnOk, OnErr, IsTrue, ◌↔◌};
 ghost use Rattle.csv.specs.Reading.{NotLengths, error_kind};
@@ -12,7 +12,7 @@ use itoa::Buffer;
 use std::alloc::{AllocError, Global};
 use std::marker::Model;
 
-// The room that a row is made with: usual records are of fewer bytes, and of no more fields.
+// The room that a row is made with: usual records have fewer bytes, and no more fields.
 const USUAL_BYTES: usize = 64;
 
 const USUAL_FIELDS: usize = 8;
@@ -21,7 +21,7 @@ const USUAL_FIELDS: usize = 8;
 #[derive(Debug, Drop)]
 pub struct Row {
     fields: ByteRecord,
-    // Whether it is known that no bytes of an unfinished field lie behind the fields.
+    // Whether it is known that no bytes of an unfinished field lie after the fields.
     tidy: bool,
 }
 
@@ -37,7 +37,7 @@ impl Model for Row {
 }
 
 impl Row {
-    /// The row without any field.
+    /// The row without fields.
     pub fn new(alloc: Global) -> Row
         ensures { result ≡ [] }
     {
@@ -47,7 +47,7 @@ impl Row {
         }
     }
 
-    // The row without any field, with room for a usual record.
+    // The row without fields, with room for a usual record.
     pub(crate) fn with_room(alloc: Global) -> Result<Row, AllocError>
         ensures { IfOk result (λ row. row ≡ []) }
     {
@@ -57,7 +57,7 @@ impl Row {
         })
     }
 
-    /// Appends a field. After an `Err`, want of memory, the row is as it was.
+    /// Appends a field. After an `Err`, out of memory, the row is as it was.
     pub fn push(&mut self, field: &[u8]) -> Result<(), AllocError>
         ensures appended { OnOk result (self.new ≡ self.old ++ field.now ∷ []) }
         ensures unchanged { OnErr result (self.new ≡ self.old) }
@@ -80,7 +80,7 @@ impl Row {
         self.push(digits.format(value).as_bytes())
     }
 
-    /// Takes every field away. The memory stays for those to come.
+    /// Removes all fields. The memory stays for fields to come.
     pub fn clear(&mut self)
         ensures { self.new ≡ [] }
     {
@@ -88,7 +88,7 @@ impl Row {
         self.tidy = true;
     }
 
-    // Takes the next record of a reader in place of the fields, and answers whether there was one.
+    // Takes the next record of a reader in place of the fields, and returns whether there was one.
     pub(crate) fn read(&mut self, reader: &mut Reader<&[u8]>) -> Result<bool, Error>
         requires { IsBetween reader.old }
         ensures reads { IfOk result (λ found. ReadsFirst reader.old reader.new found self.new) }
@@ -127,7 +127,7 @@ impl Row {
         self.fields.get(i).unwrap_or(b"")
     }
 
-    /// Lends the fields up to the last one that isn't empty, in order, as many of them as there are places for, and answers how
+    /// Lends the fields up to the last one that isn't empty, in order, as many as there are places for, and returns how
     /// many it lends.
     pub fn lend<'a>(&'a self, places: &mut [&'a [u8]]) -> usize
         ensures within { result ≤ length places.old }
@@ -161,7 +161,7 @@ fn fewer(a: usize, b: usize) -> usize
     if a < b { a } else { b }
 }
 
-// Takes the bytes of an unfinished field away: they are made a field, and that one goes.
+// Removes the bytes of an unfinished field: they are made a field, and that field is removed.
 fn drop_unfinished(fields: &mut ByteRecord) -> Result<(), AllocError>
     ensures same { fields_of fields.new ≡ fields_of fields.old }
     ensures none { OnOk result (partial_of fields.new ≡ []) }

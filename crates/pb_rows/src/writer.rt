@@ -29,7 +29,7 @@ impl Model for RowWriter {
 }
 
 impl RowWriter {
-    /// No row yet, and no field.
+    /// A writer without any rows or fields yet.
     pub fn new(alloc: Global) -> RowWriter
         ensures { result ≡ record { text = []; row = [] } }
     {
@@ -39,7 +39,7 @@ impl RowWriter {
         }
     }
 
-    /// Appends a field to the row that is being filled. After an `Err`, want of memory, all is as it was.
+    /// Appends a field to the row that is being filled. After an `Err`, out of memory, all is as it was.
     pub fn field(&mut self, bytes: &[u8]) -> Result<(), AllocError>
         ensures appended { OnOk result (AddsField self.old self.new bytes.now) }
         ensures unchanged { OnErr result (self.new ≡ self.old) }
@@ -47,7 +47,7 @@ impl RowWriter {
         self.row.push(bytes)
     }
 
-    /// Appends a whole number as a field, in the form that `read_whole` reads. After an `Err`, want of memory, all is as it was.
+    /// Appends a whole number as a field, in the form that `read_whole` reads. After an `Err`, out of memory, all is as it was.
     pub fn whole(&mut self, value: i128) -> Result<(), AllocError>
         ensures appended { OnOk result (AddsField self.old self.new (whole_text value)) }
         ensures unchanged { OnErr result (self.new ≡ self.old) }
@@ -55,7 +55,7 @@ impl RowWriter {
         self.row.push_whole(value)
     }
 
-    /// Ends the row: its line joins the text, and the next row begins without a field. After an `Err`, want of memory, all is
+    /// Ends the row: its line joins the text, and the next row begins without fields. After an `Err`, out of memory, all is
     /// as it was.
     pub fn end_row(&mut self) -> Result<(), AllocError>
         ensures ended { OnOk result (EndsRow self.old self.new) }
@@ -75,7 +75,7 @@ impl RowWriter {
 }
 
 impl Row {
-    /// Appends the row to a text as `csv` writes it, with a line feed behind it. After an `Err`, want of memory, the text
+    /// Appends the row to a text as `csv` writes it, followed by a line feed. After an `Err`, out of memory, the text
     /// is as it was.
     pub fn write_to(&self, text: &mut Vec<u8>) -> Result<(), AllocError>
         ensures appended { OnOk result (AddsLine text.old.items text.new.items self.now) }
@@ -100,8 +100,8 @@ impl Row {
         memchr3(b',', b'"', b'\n', bytes).is_none() && memchr(b'\r', bytes).is_none()
     }
 
-    // Appends the fields of a row that needs no quotes with a comma between two, and a line feed. After an `Err`, out of memory, the
-    // text begins as before.
+    // Appends the fields of a row that needs no quotes, separated by commas, and a line feed. After an `Err`, out of memory,
+    // the text begins as before.
     fn join_to(&self, text: &mut Vec<u8>) -> Result<(), AllocError>
         requires several { 1 < length self.now }
         requires plain { list_any (needs_quotes default_writer) self.now ≡ false }
@@ -119,7 +119,7 @@ impl Row {
     }
 }
 
-// Appends the line of a row of any fields.
+// Appends the line of a row with any fields.
 fn write_quoted(row: &ByteRecord, text: &mut Vec<u8>) -> Result<(), AllocError>
     ensures appended { OnOk result (AddsLine text.old.items text.new.items (fields_of row.now)) }
     ensures unchanged { OnErr result (text.new.items ≡ text.old.items) }
@@ -128,7 +128,7 @@ fn write_quoted(row: &ByteRecord, text: &mut Vec<u8>) -> Result<(), AllocError>
     text.extend_from_slice(line.as_slice())
 }
 
-// The line of one row, by a writer of its own: so no length of an earlier row and no pending byte matters.
+// The line of one row, by a new writer, so that neither the length of an earlier row nor a pending byte matters.
 fn line_of(alloc: Global, row: &ByteRecord) -> Result<Vec<u8>, AllocError>
     ensures { IfOk result (λ line. line.items ≡ line_of (fields_of row.now)) }
 {

@@ -31,7 +31,7 @@ use Rattle.pb_session.proofs.KeepingLemmas.{first_classes, has_graph}
 use Rattle.pb_session.proofs.NamedLemmas.{unless_is}
 use Rattle.pb_session.proofs.ReportLemmas.{at_found}
 
--- an item of a list of which this holds throughout
+-- an item of a list for which this holds throughout
 at_place : {X : Type 0} (P : X → Type 0) (xs : List X) (i : ℕ) (x : X) → slice_get xs i ≡ Some x → All P xs → P x
 at_place P xs i x is all = subst P (get_or_from_slice_get xs i x x is) (all i x (slice_get_within xs i x is))
 
@@ -45,7 +45,7 @@ there (x ∷ xs) (suc i) within = there xs i (omega (arith, within))
 pub last_there : (study : Study) → length study.stages ≡ length study.taken + 1 → (last : Stage) × (last_stage study ≡ Some last)
 last_there study between = there study.stages (length study.taken) (omega (arith, between))
 
--- it says something of each stream
+-- it says something about each stream
 pub each_result : (graph : ProcessGraph) (study : Study) (last : Stage) → IsWellFormedStudy graph study → last_stage study ≡ Some last → length last.streams ≡ length graph.streams
 each_result graph study last formed is =
     (at_place IsWellFormed study.stages (length study.taken) last is formed.stages).each_stream
@@ -99,7 +99,7 @@ fault_at state component found period why there is =
     let answer : Result ProcessGraph Assembly = Err why in
     subst (λ (o : Option Period). IsBalanceAt state component o answer) (sym there) (subst (λ (a : Result ProcessGraph Assembly). BalancesIn state component period a answer) is refl)
 
--- what holds of the graph of a period that is found holds of its assembled graph
+-- what holds for the graph of a period that is found holds for its assembled graph
 pub of_graph : (P : ProcessGraph → Type 0) (rows : List StoredRow) (found : Option Period) (period : Period) (graph : ProcessGraph) → found ≡ Some period
     → Ok graph ≡ assembly_of rows (days_of period) → P graph → IfSome found (λ (p : Period). P (period_graph rows (days_of p)))
 of_graph P rows found period graph there is holds =
@@ -125,7 +125,7 @@ pub record IsStudiedAt (state : SessionState) (found : Option Period) (graph : P
   pub is_study : IsStudyOf graph state.options (critical_of state.rows) study
   pub formed : IsWellFormedStudy graph study
 
--- those of a study that is kept
+-- those of a kept study
 pub kept_studied : (state : SessionState) (found : Option Period) (study : Study) (stage : Stage) → IsKeptAt state found study → slice_get study.stages 0 ≡ Some stage
     → IsStudiedAt state found stage.graph study
 kept_studied state found study stage kept at =
@@ -199,7 +199,7 @@ fails_at state found component period why there is over =
       over = subst (λ (o : Option Period). IfSome o (λ (p : Period). IfErr answer (NamesAStream state.rows (days_of p)))) (sym there) over;
     }
 
--- what is known of the book's rows is known of the session's
+-- what is known about the book's rows is known about the session's
 moved : (P : List StoredRow → Period → Type 0) (rows : List StoredRow) (state : SessionState) (i : ℕ) (period : Period) → rows ≡ state.rows → slice_get (periods_of state.rows) i ≡ Some period
     → IfSome (slice_get (periods_of rows) i) (P rows) → P state.rows period
 moved P rows state i period is at holds =
@@ -221,7 +221,7 @@ studied_at state rows i graph study r rows_is within is answer studied =
       formed = studied.formed;
     }
 
--- and a period that has none
+-- and for a period that has no graph
 pub none_at : (state : SessionState) (rows : List StoredRow) (i : ℕ) (component : List ℕ) (why : Assembly) (r : Result ProcessGraph Assembly) → rows ≡ state.rows
     → i < length (periods_of state.rows) → r ≡ Err why → (r ≢ Err NoMemory → IfSome (slice_get (periods_of rows) i) (λ (p : Period). r ≡ assembly_of rows (days_of p)))
     → IfSome (slice_get (periods_of rows) i) (λ (p : Period). IfErr r (NamesAStream rows (days_of p))) → AnswersAt state (slice_get (periods_of state.rows) i) component (Err why)

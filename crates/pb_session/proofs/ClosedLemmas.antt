@@ -1,4 +1,4 @@
--- What a declaration leaves as it was.
+-- What a declaration doesn't change.
 use Rattle.std.proofs.Common.{◌≡◌, ◌∙◌, ◌∷◌, [], ℕ, List, length, sym, ap, subst, arith, length-append}
 use Rattle.pb_kinds.specs.declared.rows.Effect.TheVariants.{Declares}
 use Rattle.pb_book.specs.Accepted.{AreAccepted}
@@ -12,7 +12,7 @@ pub leaves_closed : ClosedGraphsLaw → (rows new : List StoredRow) (at : ℕ) �
 leaves_closed law rows new at accepted declared i period is two there closed =
     subst (λ (rs : List StoredRow). LeavesGraph rows rs (days_of period)) (sym is) (law rows at declared i period (subst AreAccepted is accepted) two there closed)
 
--- where no row joined them
+-- if no row joined them
 pub none_joined : (rows new : List StoredRow) (at : ℕ) → new ≡ rows → LeavesClosed rows at new
 none_joined rows new at stay declared i period is two there closed =
     let stored : StoredRow = record { at = at; effect = Declares declared } in

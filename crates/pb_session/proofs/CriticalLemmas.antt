@@ -11,7 +11,7 @@ use Rattle.pb_site.specs.Laws.{IsPlant}
 use Rattle.pb_elim.specs.Criticals.{AreCritical, IsCriticalRow}
 use Rattle.pb_session.specs.Criticals.{critical_row, declared_critical}
 
--- what f gives of a declaration in its range
+-- what `f` gives for a declaration in its range
 abbrev Gives : {A : Type 0} → (Declared → Option A) → (A → Type 0) → Type 0
 Gives f P = (declared : Declared) → IsInRange declared → IfSome (f declared) P
 

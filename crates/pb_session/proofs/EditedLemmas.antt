@@ -58,7 +58,7 @@ with_rows state rows = record { options = state.options; form = state.form; rows
 
 -- ---- records that write accepted rows
 
--- a row was acceptable behind those before it
+-- a row was acceptable after those before it
 pub seam : (done more : List StoredRow) (stored : StoredRow) → AreAccepted (done ++ stored ∷ more) → IsAcceptable done stored.effect
 seam done more stored accepted =
     let long = length-append done (stored ∷ more) in
@@ -144,7 +144,7 @@ not_said : (effect : Effect) (cause : Option Refusal) (accepted : Accepted) → 
 not_said effect (Some cause) accepted is = cc is
 not_said effect None accepted is = cc is
 
--- what is asked of one period
+-- what is asked for one period
 abbrev IsOfOne : Accepted → Type 0
 IsOfOne (Window first last) = ⊥
 IsOfOne accepted = Unit {0}
@@ -158,7 +158,7 @@ not_window rows (Some first) (Some last) accepted one is = by (refusal_of_window
 not_window rows (Some first) None accepted one is = cc is
 not_window rows None last accepted one is = cc is
 
--- what the book says of a request of one period it says of it after the plain rows
+-- what the book says about a request for one period, it says after the plain rows too
 same_said : (rows plain : List StoredRow) (accepted : Accepted) → IsOfOne accepted → (costs : List NamedCost) (request : Result Request FormFault) → ArePlain rows plain
     → answer_if rows costs request ≡ Says accepted → answer_if plain costs request ≡ Says accepted
 same_said rows plain accepted one costs (Ok asked.Blank) are is = is
@@ -172,12 +172,12 @@ same_said rows plain accepted one costs (Ok (asked.Window first last)) are is = 
 same_said rows plain accepted one costs (Ok asked.Advise) are is = ap (λ (ds : List Declared). advise_or_refused (refusal_of_costs ds costs)) are.declared ∙ is
 same_said rows plain accepted one costs (Err fault) are is = is
 
--- the version, where there is a period
+-- the version, if there is a period
 version_some : (rows : List StoredRow) (i : ℕ) → i < length (periods_of rows) → version_at rows ≡ Some (version_of (declared_of rows))
 version_some [] i within = absurd (omega (arith, within))
 version_some (stored ∷ rows) i within = refl
 
--- a record of which the book says something asks for the same after the plain rows, if there is a period
+-- a record about which the book says something asks for the same after the plain rows, if there is a period
 plain_answer : (rows plain : List StoredRow) (i : ℕ) (accepted : Accepted) → IsOfOne accepted → (fields : List (List ℕ)) → ArePlain rows plain → i < length (periods_of rows)
     → answer_of rows fields ≡ Says accepted → answer_of plain fields ≡ Says accepted
 plain_answer rows plain i accepted one fields are within is =
@@ -187,7 +187,7 @@ plain_answer rows plain i accepted one fields are within is =
     ap (λ (v : Option Version). answer_if plain (named_costs fields) (request_in v fields)) version
     ∙ same_said rows plain accepted one (named_costs fields) (request_in (version_at rows) fields) are is
 
--- the study of a graph asks the declarations alone
+-- the study of a graph depends only on the declarations
 report_as : (state : SessionState) (rows other : List StoredRow) (names : Names) (period : List ℕ) (graph : ProcessGraph) (text : List ℕ) → declared_of rows ≡ declared_of other
     → IsReport (with_rows state rows) names period graph text → IsReport (with_rows state other) names period graph text
 report_as state rows other names period graph text same report = record {
@@ -215,7 +215,7 @@ balances_in_as state rows other component period same_days (Ok graph) answer sam
 }
 balances_in_as state rows other component period same_days (Err why) answer same grades of = of
 
--- a report of a period says the same where the declarations and the names do, be the period open or closed
+-- a report of a period is the same if the declarations and the names are, whether the period is open or closed
 reports_by_as : (state : SessionState) (rows other : List StoredRow) (period same_days : Period) (assembly : Result ProcessGraph Assembly) (text : List ℕ) → declared_of rows ≡ declared_of other
     → same_days.name ≡ period.name → period_names rows (days_of period) ≡ period_names other (days_of same_days) → ReportsBy (with_rows state rows) period assembly text → ReportsBy (with_rows state other) same_days assembly text
 reports_by_as state rows other period same_days (Ok graph) text declared name names report =
@@ -288,7 +288,7 @@ balances_back state plain component (Some period) text are graphs (answer, of, b
 found_plain : (rows plain : List StoredRow) (i : ℕ) → ArePlain rows plain → slice_get (periods_of plain) i ≡ option_map opened (slice_get (periods_of rows) i)
 found_plain rows plain i are = ap (λ (ps : List Period). slice_get ps i) are.periods ∙ slice_get-map opened (periods_of rows) i
 
--- what the book says of a record adds the same text in both, if it does so for what is asked
+-- what the book says about a record adds the same text in both, if it does so for what is asked
 moved : (state other : SessionState) (at after : ℕ) (accepted : Accepted) (fields : List (List ℕ)) (text : List ℕ) → answer_of state.rows fields ≡ Says accepted
     → answer_of other.rows fields ≡ Says accepted → (AddsAccepted state (named_costs fields) accepted text → AddsAccepted other (named_costs fields) accepted text)
     → Adds state at fields text → Adds other after fields text

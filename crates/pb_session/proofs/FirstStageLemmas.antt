@@ -15,13 +15,13 @@ use Rattle.pb_session.specs.Session.{SessionState}
 use Rattle.pb_session.proofs.ReportLemmas.{at_found}
 use Rattle.pb_session.proofs.RowLemmas.{some_period}
 
--- a graph has its first stage, where memory wasn't wanted
+-- a graph has its first stage, unless memory ran out
 pub begins_by : (state : SessionState) (graph : ProcessGraph) (answer : Result Stage Assembly) → IfOk answer (IsFirstStage state graph) → IfErr answer (λ e. e ≡ NoMemory)
     → answer ≢ Err NoMemory → BeginsBy state (Ok graph) answer
 begins_by state graph (Ok stage) first none sure = first
 begins_by state graph (Err e) first none sure = absurd (sure (ap (λ (why : Assembly). Err why) none))
 
--- so it is of the period at a place
+-- the same for the period at a place
 pub begins_at : (state : SessionState) (i : ℕ) (assembly found : Result ProcessGraph Assembly) (answer : Result Stage Assembly) → i < length (periods_of state.rows) → found ≡ assembly
     → IfSome (slice_get (periods_of state.rows) i) (λ period. found ≡ assembly_of state.rows (days_of period)) → BeginsBy state assembly answer
     → Begins state (slice_get (periods_of state.rows) i) answer
@@ -31,7 +31,7 @@ begins_at state i assembly found answer there found_is holds by =
     let is = at_found (slice_get (periods_of state.rows) i) period (λ (p : Period). found ≡ assembly_of state.rows (days_of p)) at holds in
     subst (λ (o : Option Period). Begins state o answer) (sym at) (subst (λ (a : Result ProcessGraph Assembly). BeginsBy state a answer) (sym found_is ∙ is) by)
 
--- no stream is told, or it is one that the graph has
+-- no stream is reported, or it is a stream of the graph
 tells : (rows : List StoredRow) (period : Period) (answer : Result Stage Assembly) → IfErr answer (λ e. e ≡ NoMemory) → IfErr answer (NamesAStream rows (days_of period))
 tells rows period (Ok stage) none = tt
 tells rows period (Err e) none = subst (NamesAStream rows (days_of period)) (sym none) tt

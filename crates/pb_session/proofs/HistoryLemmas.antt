@@ -17,7 +17,7 @@ use Rattle.pb_session.specs.History.{told}
 abbrev pub touching : List StoredRow → Period → StoredRow → Bool
 touching rows period stored = edit_touches (touching_of rows) (facts_of rows) stored.effect period
 
--- what is told of those that touch it
+-- what is reported of those that touch it
 abbrev pub told_of : List StoredRow → Period → List StoredRow → List HistoryRow
 told_of rows period edits = filter_map told (filter (touching rows period) edits)
 
@@ -28,7 +28,7 @@ whole_of rows period = filter_map told (history_of rows period)
 some_is : {X : Type 0} (a b : X) → Some a ≡ Some b → a ≡ b
 some_is a b is = cc is
 
--- the first of the edits that are left
+-- the first of the remaining edits
 drop_next : {X : Type 0} (xs : List X) (e : ℕ) (x : X) → slice_get xs e ≡ Some x → drop e xs ≡ x ∷ drop (e + 1) xs
 drop_next xs e x at =
     let within = slice_get_within xs e x at in
@@ -88,7 +88,7 @@ told_one rows period e i so_far stored at touched is right =
     one_more so_far (told stored) (told_of rows period rest)
     ∙ ap (λ (others : List HistoryRow). so_far ++ others) (sym more ∙ ap (told_of rows period) (sym (drop_next (edits_of rows) e stored is))) ∙ right
 
--- none is left
+-- no edit remains
 all_told : (rows : List StoredRow) (period : Period) (e : ℕ) (so_far : List HistoryRow) → e ≡ length (edits_of rows)
     → so_far ++ told_of rows period (drop e (edits_of rows)) ≡ whole_of rows period → so_far ≡ whole_of rows period
 all_told rows period e so_far end right =
@@ -100,9 +100,9 @@ all_told rows period e so_far end right =
     none (x ∷ xs) zero same = absurd (omega (arith, same))
     none (x ∷ xs) (suc e) same = none xs e (omega (arith, same))
 
--- ---- the same of the period at a place
+-- ---- the same for the period at a place
 
--- what was told so far, and what the edits from a place on tell, is the history of the period
+-- what was reported so far, and what the edits from a place on report, is the history of the period
 abbrev pub AreTold : List StoredRow → ℕ → List HistoryRow → ℕ → Type 0
 AreTold rows i so_far e =
     IfSome (slice_get (periods_of rows) i) (λ (period : Period). so_far ++ told_of rows period (drop e (edits_of rows)) ≡ whole_of rows period)

@@ -1,4 +1,4 @@
--- What a session keeps, behind a row and behind a report.
+-- What a session keeps, after a row and after a report.
 use Rattle.std.specs.Prelude.{◌-◌, ◌+◌, ◌==◌, IsSome, IfOk, IfSome, find, option_map, slice_index_or}
 use Rattle.std.specs.List.{AllByRecursion}
 use Rattle.std.specs.Option.{option_and_then, option_map_or}
@@ -53,7 +53,7 @@ use Rattle.pb_session.proofs.NamedLemmas.{period_names_are}
 use Rattle.pb_session.proofs.ReportLemmas.{at_found}
 use Rattle.pb_session.proofs.KeptLemmas.{all_behind, behind_periods, contained_found, few_behind, few_filter, found_is, others_periods, periods_in, place_found, untouched_periods}
 
--- accepted rows, of which no two facts have one id
+-- accepted rows, no two facts of which have the same id
 abbrev pub AreInOrder : List StoredRow → Type 0
 AreInOrder rows = AreAccepted rows × NoRepeats (facts_of rows)
 
@@ -74,7 +74,7 @@ kept_at state found period graph study at is kept =
     let here : IsKeptBy state (assembly_of state.rows (days_of period)) study = subst (λ (a : Result ProcessGraph Assembly). IsKeptBy state a study) is kept in
     subst (λ (o : Option Period). IsKeptAt state o study) (sym at) here
 
--- the study at the place of a period's is that of the period
+-- the study at the place of a period's study is that of the period
 pub kept_placed : (state : SessionState) (i : ℕ) (kept : List KeptStudy) (n : ℕ) (k : KeptStudy) → place_in i kept ≡ Some n → k ≡ slice_index_or kept n k
     → AllByRecursion (IsKeptStudy state) kept → IsKeptAt state (slice_get (periods_of state.rows) i) k.study
 kept_placed state i kept n k at is all =
@@ -117,7 +117,7 @@ pub first_classes : (graph : ProcessGraph) (options : Options) (critical : Criti
     → (stage.graph ≡ graph) × IsClassification graph (printed_classes stage)
 first_classes graph options critical study stage is at = let of = is.rounds.each 0 stage at in (of.reconciled.graph_is, of.reconciled.classes)
 
--- ---- behind a stored row
+-- ---- after a stored row
 
 front_at : {A : Type 0} (xs ys : List A) (i : ℕ) (x : A) → slice_get xs i ≡ Some x → slice_get (xs ++ ys) i ≡ Some x
 front_at [] ys i x at = cc at
@@ -149,7 +149,7 @@ stays periods (Books fact late) i period at = record { period = period; there = 
 stays periods (Edits id how reason) i period at = record { period = period; there = at; days = refl }
 stays periods (Assays assay) i period at = record { period = period; there = at; days = refl }
 
--- what is kept of a graph stays kept, where neither what is asked nor the critical values change
+-- what is kept for a graph stays kept if neither the options nor the critical values change
 kept_still : (state other : SessionState) (graph : ProcessGraph) (study : Study) → other.options ≡ state.options → critical_of other.rows ≡ critical_of state.rows
     → IsKeptOf state graph study → IsKeptOf other graph study
 kept_still state other graph study options critical kept = record {
@@ -191,7 +191,7 @@ all_still law state at effect (k ∷ kept) accepted (here, all) =
       | inr spared ↦ rw spared (still law state at effect k.period k.study accepted spared here, rest)
     ]
 
--- what an answer says, but that it stores a row
+-- what an answer says, except that it stores a row
 abbrev pub IsSaid : Answer → Type 0
 IsSaid (Says StoredAccepted) = ⊥
 IsSaid answer = Unit {0}
@@ -206,7 +206,7 @@ left_same (Component component i) rows kept said = refl
 left_same (Window first last) rows kept said = refl
 left_same Advise rows kept said = refl
 
--- what the book says of a record that it takes
+-- what the book says about a record that it accepts
 abbrev pub said_ok : Accepted → Result Accepted NotAccepted
 said_ok accepted = Ok accepted
 
@@ -224,7 +224,7 @@ left_other Advise rows kept other = refl
 same_accepted : (a b : Accepted) → said_ok a ≡ said_ok b → a ≡ b
 same_accepted a b is = cc is
 
--- the studies that are left are those of their periods by the rows that are stored then
+-- the remaining studies are those of their periods by the rows that are stored then
 pub left_kept : UntouchedLaw → (state : SessionState) (new : List StoredRow) (at : ℕ) (answer : Answer) (accepted : Accepted) (kept : List KeptStudy) → said_ok accepted ≡ said_of answer
     → IsSaid answer → new ≡ after_answer state.rows at answer → (accepted ≡ StoredAccepted → AreInOrder new) → AllByRecursion (IsKeptStudy state) kept
     → AllByRecursion (IsKeptStudy (state_with state new)) (left_by accepted new kept)
@@ -250,7 +250,7 @@ left_few (Component component i) rows kept few = few
 left_few (Window first last) rows kept few = few
 left_few Advise rows kept few = few
 
--- the periods that are kept behind an accepted record are those that are kept behind the record
+-- the periods that are kept after an accepted record are those that are kept after the record
 pub keeps_by : (state : SessionState) (new : List StoredRow) (at : ℕ) (answer : Answer) (accepted : Accepted) (kept : List KeptStudy) (after : List ℕ) → said_ok accepted ≡ said_of answer
     → IsSaid answer → new ≡ after_answer state.rows at answer → KeepsAccepted (state_with state new) (periods_in (left_by accepted new kept)) accepted after
     → KeepsBy state (periods_in kept) at answer after
@@ -275,7 +275,7 @@ reported_still state new at (Stored effect) accepted before is new_is =
 reported_still state new at (Says one) accepted before is new_is =
     ap (reported_behind (state_with state new) before) (same_accepted accepted one is) ∙ ap (λ (rows : List StoredRow). reported_behind (state_with state rows) before one) new_is
 
--- no answer says that a row was stored, but the one that stores it
+-- no answer says that a row was stored, except the one that stores it
 said_stored : (effect : Effect) (cause : Option Refusal) → IsSaid (stored_or_refused effect cause)
 said_stored effect (Some cause) = tt
 said_stored effect None = tt
@@ -323,7 +323,7 @@ said_if rows costs (Err fault) = tt
 pub said : (rows : List StoredRow) (fields : List (List ℕ)) → IsSaid (answer_of rows fields)
 said rows fields = said_if rows (named_costs fields) (request_in (version_at rows) fields)
 
--- ---- behind a report
+-- ---- after a report
 
 -- what is kept of the study that was written
 record Written (state : SessionState) (i : ℕ) (found : Option Period) (graph : ProcessGraph) (made : Option Study) (kept : List KeptStudy) : Type 0 where
@@ -360,12 +360,12 @@ written state i period graph None kept last at is limits has all = by (find (is_
           of = λ one. kept_here;
         }
 
--- what holds of a list holds of its copy
+-- what holds for a list holds for its copy
 pub such_copy : {T E : Type 0} (r : Result T E) (x : T) (P : T → Type 0) → P x → IfOk r (λ y. y ≡ x) → IfOk r P
 such_copy (Ok y) x P holds is = subst P (sym is) holds
 such_copy (Err e) x P holds is = tt
 
--- the stage that is reported last, behind a study that was written, is the first one of that study
+-- the stage that is reported last, after a study was written, is the first one of that study
 stage_behind : (i : ℕ) (study : Study) (kept : List KeptStudy) (stage : Stage) → slice_get study.stages 0 ≡ Some stage
     → last_stage (studies_behind i study kept) (stage_beside study) ≡ Some stage
 stage_behind i study kept stage at = elim (cases_Bool (length study.stages == 1)) [ inl one ↦ rw one at | inr more ↦ rw (more, at) refl ]
@@ -394,7 +394,7 @@ begun graph options critical study is = by (slice_get study.stages 0) refl (some
 abbrev pub graph_in : Option Stage → Option ProcessGraph
 graph_in stage = option_map (λ (s : Stage). s.graph) stage
 
--- what a session holds behind the report of a period
+-- what a session holds after the report of a period
 pub record Settles (state : SessionState) (i : ℕ) (found : Option Period) (kept : List KeptStudy) (last : Option Stage) (new : List KeptStudy) (new_last : Option Stage) : Type 0 where
   pub keeps : KeepsReportOf state i (periods_in kept) found (periods_in new)
   pub reports : graph_in (last_stage new new_last) ≡ reported_of state (graph_in (last_stage kept last)) found
@@ -455,7 +455,7 @@ passed_at held i found period why at is =
     let here : IsReportedBy held i (assembly_of held.state.rows (days_of period)) none = subst (λ (a : Result ProcessGraph Assembly). IsReportedBy held i a none) is tt in
     subst (λ (o : Option Period). IsReportedAt held i o none) (sym at) here
 
--- behind the row that names a stream over the limits no study of the period is kept, so that all stay
+-- after the row that names a stream over the limits no study of the period is kept, so all studies stay
 other_study : (state : SessionState) (i : ℕ) (found : Option Period) (period : Period) (why : Assembly) (k : KeptStudy) → found ≡ Some period → Err why ≡ assembly_of state.rows (days_of period)
     → slice_get (periods_of state.rows) i ≡ found → IsKeptStudy state k → is_of i k ≡ false
 other_study state i found period why k at is there kept = elim (cases_Bool (is_of i k)) [
@@ -495,9 +495,9 @@ pub passes_over : (state : SessionState) (i : ℕ) (kept : List KeptStudy) (last
     → IsKeeping state kept last → Settles state i (slice_get (periods_of state.rows) i) kept last kept last
 passes_over state i kept last leaves keeping = passes_at state i (slice_get (periods_of state.rows) i) kept last refl leaves keeping
 
--- ---- the stage that was reported last, behind a stored row
+-- ---- the stage that was reported last, after a stored row
 
--- it stays, though its study may go
+-- it stays, though its study may be dropped
 untouched_stage : (state : SessionState) (rows : List StoredRow) (kept : List KeptStudy) (last : Option Stage) → AllByRecursion (IsKeptStudy state) kept
     → last_stage (untouched_studies rows kept) (saved_stage (λ (k : KeptStudy). touched_at rows k.period) kept last) ≡ last_stage kept last
 untouched_stage state rows kept (Some stage) all = refl

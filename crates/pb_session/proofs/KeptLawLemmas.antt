@@ -1,4 +1,4 @@
--- Which periods a session keeps: one list of them, and few.
+-- Which periods a session keeps: exactly one list, and not too many.
 use Rattle.std.specs.Prelude.{not, ◌==◌}
 use Rattle.std.proofs.Common.{◌≡◌, ◌∙◌, ◌≤◌, ℕ, ◌+◌, List, [], ◌∷◌, length, IfOk, Option, Some, None, Result, Ok, Err, slice_get, get_or, refl, sym, ap, subst, inl, inr}
 use Rattle.std.proofs.lemmas.Bool.{cases_Bool}

@@ -53,7 +53,7 @@ few_take zero xs = omega arith
 few_take (suc n) [] = omega arith
 few_take (suc n) (x ∷ xs) = let rest = few_take n xs in omega (arith, rest)
 
--- an item that fails is as good as gone
+-- an item that fails might as well be missing
 filter_without : {A : Type 0} (test : A → Bool) (xs : List A) (n : ℕ) (d : A) → n < length xs → test (slice_index_or xs n d) ≡ false → filter test (remove xs n) ≡ filter test xs
 filter_without test [] n d lt fails = absurd (omega (arith, lt))
 filter_without test (x ∷ xs) zero d lt fails = rw fails refl
@@ -80,7 +80,7 @@ behind_periods i study kept = elim (cases_Bool (length study.stages == 1)) [
 pub untouched_periods : (rows : List StoredRow) (kept : List KeptStudy) → periods_in (untouched_studies rows kept) ≡ untouched rows (periods_in kept)
 untouched_periods rows kept = map_filter (λ (k : KeptStudy). k.period) _ kept
 
--- ---- what holds of the studies that stay
+-- ---- what holds for the studies that stay
 
 pub all_behind : (P : KeptStudy → Type 0) (i : ℕ) (study : Study) (kept : List KeptStudy) → (length study.stages ≡ 1 → P (first i study)) → AllByRecursion P kept
     → AllByRecursion P (studies_behind i study kept)
@@ -99,7 +99,7 @@ few_behind i study kept few = elim (cases_Bool (length study.stages == 1)) [
 
 -- ---- the study of a period
 
--- what is found is of the period, and what holds of all holds of it
+-- what is found is of the period, and what holds for all holds for it
 pub found_is : (P : KeptStudy → Type 0) (i : ℕ) (kept : List KeptStudy) (k : KeptStudy) → find (is_of i) kept ≡ Some k → AllByRecursion P kept → (k.period ≡ i) × P k
 found_is P i [] k found all = cc found
 found_is P i (x ∷ kept) k found (here, all) = elim (cases_Bool (is_of i x)) [
@@ -136,7 +136,7 @@ found_contained i (x ∷ kept) k found = elim (cases_Bool (is_of i x)) [
 
 -- ---- the place of the study of a period
 
--- the study at the place of a period's is the one that is found
+-- the study at the place of the period's study is the one that is found
 pub place_found : (i : ℕ) (kept : List KeptStudy) (n : ℕ) → place_in i kept ≡ Some n → (n < length kept) × (find (is_of i) kept ≡ slice_get kept n)
 place_found i kept n at = elim (cases_Bool (nat_lt (position_or_len (is_of i) kept) (length kept))) [
   | inl there ↦
@@ -161,7 +161,7 @@ found_passes test (y ∷ xs) x found = elim (cases_Bool (test y)) [
   | inr other ↦ found_passes test xs x (rw other at found)
 ]
 
--- to take the study out that is at its place, and keep it, is to keep the one that is found
+-- to take out the study at its place, and keep it, is to keep the one that is found
 pub settled_place : (i : ℕ) (kept : List KeptStudy) (n : ℕ) (k : KeptStudy) → place_in i kept ≡ Some n → k ≡ slice_index_or kept n k
     → studies_behind i k.study (remove kept n) ≡ settled i None kept
 settled_place i kept n k at is =
@@ -188,15 +188,15 @@ placed_stage i kept n k at is =
 pub unplaced_stage : (i : ℕ) (kept : List KeptStudy) → place_in i kept ≡ None → no_stage ≡ settled_stage i None kept
 unplaced_stage i kept at = sym (ap (λ (o : Option KeptStudy). option_and_then (λ (x : KeptStudy). stage_beside x.study) o) (place_none i kept at))
 
--- ---- the first stage of a study that goes
+-- ---- the first stage of a study that is dropped
 
--- the study that is kept first is left out of those that stay, where the row touches it
+-- the first kept study isn't one of those that stay, if the row touches it
 pub first_gone : (rows : List StoredRow) (kept : List KeptStudy) (k : KeptStudy) → 0 < length kept → k ≡ slice_index_or kept 0 k → touched_at rows k.period ≡ true
     → untouched_studies rows (remove kept 0) ≡ untouched_studies rows kept
 first_gone rows kept k some is touched =
     filter_without (λ (x : KeptStudy). not (touched_at rows x.period)) kept 0 k some (ap (λ (x : KeptStudy). not (touched_at rows x.period)) (sym is) ∙ ap not touched)
 
--- and its first stage is saved, where no other was reported last
+-- and its first stage is saved, unless another was reported last
 pub first_saved : (rows : List StoredRow) (kept : List KeptStudy) (k : KeptStudy) (last : Option Stage) → 0 < length kept → k ≡ slice_index_or kept 0 k → touched_at rows k.period ≡ true
     → is_some last ≡ false → slice_get k.study.stages 0 ≡ saved_by Stored rows kept last
 first_saved rows [] k last some is touched none = absurd (omega (arith, some))
@@ -204,7 +204,7 @@ first_saved rows (x ∷ kept) k (Some stage) some is touched none = cc none
 first_saved rows (x ∷ kept) k None some is touched none =
     subst (λ (y : KeptStudy). slice_get k.study.stages 0 ≡ (if touched_at rows y.period then slice_get y.study.stages 0 else no_stage)) is (rw touched refl)
 
--- else nothing is
+-- otherwise nothing is
 pub other_saved : (rows : List StoredRow) (kept : List KeptStudy) (last : Option Stage) → is_some last ≡ true → last ≡ saved_by Stored rows kept last
 other_saved rows kept (Some stage) some = refl
 other_saved rows kept None some = cc some
@@ -226,7 +226,7 @@ slice_get-some [] n lt = absurd (omega (arith, lt))
 slice_get-some (x ∷ xs) zero lt = refl
 slice_get-some (x ∷ xs) (suc n) lt = slice_get-some xs n (omega (arith, lt))
 
--- ---- what the places say of the periods
+-- ---- what the places say about the periods
 
 contained : (i : ℕ) (kept : List KeptStudy) (o : Option KeptStudy) → find (is_of i) kept ≡ o → IsSome o → Contains (periods_in kept) i
 contained i kept None found some = cc some

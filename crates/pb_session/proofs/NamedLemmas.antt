@@ -22,17 +22,17 @@ as_many : (measure : Arc → Option Meas) (rows : List StoredRow) → length (ar
 as_many measure rows =
     length-map (arcs_of (declared_of rows)) (λ (arc : Arc). arc.name) ∙ sym (length-map (arcs_of (declared_of rows)) (stream_with measure))
 
--- what meters cost is one number a stream
+-- what meters cost is one number for each stream
 costs_each : (measure : Arc → Option Meas) (rows : List StoredRow) (costs : List NamedCost) → length (meter_costs (declared_of rows) costs) ≡ length (graph_with measure rows).streams
 costs_each measure rows costs =
     length-map (arcs_of (declared_of rows)) (cost_of_arc costs) ∙ sym (length-map (arcs_of (declared_of rows)) (stream_with measure))
 
--- each of them is what a meter may cost
+-- each is a cost that a meter may have
 pub costs_are : (measure : Arc → Option Meas) (rows : List StoredRow) (costs : List NamedCost) → All IsMeterCost (meter_costs (declared_of rows) costs)
     → AreCosts (graph_with measure rows) (meter_costs (declared_of rows) costs)
 costs_are measure rows costs within = record { each = costs_each measure rows costs; within = within }
 
--- of a graph with whatever measurements
+-- of a graph with any measurements
 pub names_are : (measure : Arc → Option Meas) (rows : List StoredRow) → HasDistinctNames (declared_of rows)
     → AreNamesOf (names_of (declared_of rows)) (graph_with measure rows)
 names_are measure rows distinct = record {

@@ -29,7 +29,7 @@ report_of state options form names period graph study options_is form_is named o
   rows = ap₂ (λ (f : Form) (o : Options). text_in f (study_rows names period o study)) form_is options_is;
 }
 
--- what holds of a period that is found
+-- what holds for a period that is found
 pub at_found : (found : Option Period) (period : Period) (P : Period → Type 0) → found ≡ Some period → IfSome found P → P period
 at_found (Some other) period P is holds = let same : other ≡ period = cc is in subst P same holds
 at_found None period P is holds = cc is

@@ -1,4 +1,4 @@
--- What the book says of a record, and what the record adds.
+-- What the book says about a record, and what the record adds.
 use Rattle.std.proofs.Common.{◌≡◌, ◌≢◌, ℕ, ◌<◌, Bool, true, false, List, [], length, Option, Some, None, IfSome, Result, Ok, Err, sym, ap, refl, subst, position, slice_get}
 use Rattle.std.proofs.lemmas.List.Quantifiers.{position-Some}
 use Rattle.std.specs.Prelude.{pos}
@@ -26,14 +26,14 @@ use Rattle.pb_book.specs.Answer.{Answer, Refused, Says, Stored, advise_or_refuse
 use Rattle.pb_session.specs.Session.{AddsAccepted, AddsBy, SessionState}
 use Rattle.pb_session.specs.Accepted.{IsOfPeriods}
 
--- what the book says of a record that it takes, and of one that it refuses
+-- what the book says about a record that it accepts, and about one that it refuses
 abbrev said_ok : Accepted → Result Accepted NotAccepted
 said_ok accepted = Ok accepted
 
 abbrev said_err : Refusal → Result Accepted NotAccepted
 said_err cause = Err (NotAcceptedFor cause)
 
--- an accepted record's answer is no refusal
+-- an accepted record's answer isn't a refusal
 pub accepted_is : (answer : Answer) (accepted : Accepted) → said_ok accepted ≡ said_of answer → false ≡ is_refused answer
 accepted_is (Refused cause) accepted is = cc is
 accepted_is (Stored effect) accepted is = refl
@@ -42,7 +42,7 @@ accepted_is (Says said) accepted is = refl
 same_accepted : (a b : Accepted) → said_ok a ≡ said_ok b → a ≡ b
 same_accepted a b is = cc is
 
--- what an accepted record adds, behind it, is what its answer adds
+-- what an accepted record adds, after it, is what its answer adds
 pub accepted_adds : (state new : SessionState) (at : ℕ) (costs : List NamedCost) (answer : Answer) (accepted : Accepted) (text : List ℕ) → said_ok accepted ≡ said_of answer
     → new ≡ record { options = state.options; form = state.form; rows = after_answer state.rows at answer } → AddsAccepted new costs accepted text → AddsBy state at costs answer text
 accepted_adds state new at costs (Refused cause) accepted text is new_is adds = cc is
@@ -50,12 +50,12 @@ accepted_adds state new at costs (Stored effect) accepted text is new_is adds = 
 accepted_adds state new at costs (Says said) accepted text is new_is adds =
     subst (λ (s : SessionState). AddsAccepted s costs said text) new_is (subst (λ (a : Accepted). AddsAccepted new costs a text) (same_accepted accepted said is) adds)
 
--- the answer to a record asks for a report, a history or a balance of a period that there is, or for a window from one to another
+-- the answer to a record asks for a report, a history or a balance of a period that exists, or for a window from one to another
 abbrev pub AnswersOf : List StoredRow → Answer → Type 0
 AnswersOf rows (Says accepted) = IsOfPeriods rows accepted
 AnswersOf rows answer = Unit {0}
 
--- a report, a history or a balance is of a period that there is, and a window from one to another
+-- a report, a history or a balance is of a period that exists, and a window from one to another
 pub of_periods : (rows new : List StoredRow) (at : ℕ) (answer : Answer) (accepted : Accepted) → said_ok accepted ≡ said_of answer → AnswersOf rows answer
     → new ≡ after_answer rows at answer → IsOfPeriods new accepted
 of_periods rows new at (Refused cause) accepted is of is_new = cc is
@@ -86,7 +86,7 @@ components_of rows component true (Some i) lt = lt
 components_of rows component true None lt = tt
 components_of rows component false found lt = tt
 
--- periods at two places, with no cause to refuse a window from the one to the other
+-- periods at two places, with no cause to refuse a window between them
 asked_of : (rows : List StoredRow) (first last : ℕ) (one other : Option Period) → slice_get (periods_of rows) first ≡ one → slice_get (periods_of rows) last ≡ other
     → AnswersOf rows (window_unless first last (refusal_of_ends rows one other))
 asked_of rows first last None other first_is last_is = tt
@@ -128,7 +128,7 @@ answers_if rows costs (Ok request) = answers_to rows costs request
 pub answers : (rows : List StoredRow) (fields : List (List ℕ)) → AnswersOf rows (answer_of rows fields)
 answers rows fields = answers_if rows (named_costs fields) (request_in (version_at rows) fields)
 
--- an accepted record that stores nothing leaves the rows as they were
+-- an accepted record that stores nothing doesn't change the rows
 pub unchanged_by : (rows : List StoredRow) (at : ℕ) (answer : Answer) (accepted : Accepted) → said_ok accepted ≡ said_of answer
     → accepted ≢ StoredAccepted → after_answer rows at answer ≡ rows
 unchanged_by rows at (Refused cause) accepted is other = refl
@@ -144,7 +144,7 @@ refused_is (Refused other) cause is = ap Refused (sym (same_refusal cause other 
 refused_is (Stored effect) cause is = cc is
 refused_is (Says said) cause is = cc is
 
--- a record of which the book says that it asks for an advice has that answer, and leaves the rows as they were
+-- a record that asks for advice, according to the book, has that answer, and doesn't change the rows
 pub advice_is : (rows new : List StoredRow) (at : ℕ) (answer : Answer) → said_ok Advise ≡ said_of answer → new ≡ after_answer rows at answer → (answer ≡ Says Advise) × (new ≡ rows)
 advice_is rows new at (Refused cause) is is_new = cc is
 advice_is rows new at (Stored effect) is is_new = absurd (cc is)

@@ -50,7 +50,7 @@ use Rattle.pb_session.proofs.NamedLemmas.{costs_are, names_are, period_names_are
 use Rattle.pb_session.proofs.RowLemmas.{AnswersOf, answers, some_period}
 use Rattle.pb_session.proofs.WindowedLemmas.{window_names_are, windows_at}
 
--- a graph of a period is there, or a stream of it is over the limits
+-- a period has a graph, or a stream of it is over the limits
 never_memory : (graph : ProcessGraph) (found : Option ℕ) → unless_over graph found ≢ Err NoMemory
 never_memory graph (Some stream) = λ is. cc is
 never_memory graph None = λ is. cc is
@@ -93,7 +93,7 @@ some_reports studies certified least tested state i asked graphs there =
 
 -- ---- the balance of a component
 
--- What is known of studies, of component graphs and of grades.
+-- What is known about studies, component graphs and grades.
 pub record HaveBalances (rows : List StoredRow) : Type 0 where
   pub studies : SomeStudyLaw
   pub certified : CertifiedLaw
@@ -107,7 +107,7 @@ pub record HaveBalances (rows : List StoredRow) : Type 0 where
 all_map : {X Y : Type 0} (P : Y → Type 0) (f : X → Y) (xs : List X) → ((x : X) → P (f x)) → All P (map f xs)
 all_map P f xs holds = All-map P f xs (λ k d lt. holds (get_or xs k d))
 
--- there is no component graph for another reason than a stream beyond the limits
+-- the only reason for a missing component graph is a stream beyond the limits
 never_fault : (graph : ProcessGraph) (found : Option ℕ) → component_unless_over graph found ≡ Err fault.NoMemory → ⊥
 never_fault graph (Some stream) is = cc is
 never_fault graph None is = cc is
@@ -183,7 +183,8 @@ some_balances state known component i asked graphs there =
 
 -- ---- a window of several periods
 
--- what holds of a window that there is no cause to refuse: what a book says of it, and that its graph is within the limits, if it has one
+-- what holds for a window that there is no cause to refuse: what a book says about it, and that its graph is within the limits, if
+-- it has one
 pub record HasWindow (rows : List StoredRow) (first last : Period) : Type 0 where
   pub made : IsBookWindow rows first last
   pub within : IfOk (assembly_between rows first last) IsProcessGraph
@@ -238,7 +239,7 @@ some_advice advices cheapest state costs graphs within =
       },
     )
 
--- what meters cost where an advice is asked for
+-- what meters cost if advice is asked for
 abbrev HasCosts : List StoredRow → List NamedCost → Answer → Type 0
 HasCosts rows costs answer = answer ≡ Says Advise → All IsMeterCost (meter_costs (declared_of rows) costs)
 
@@ -257,7 +258,7 @@ some_answer classifications advices cheapest state known at costs (Says (Compone
 some_answer classifications advices cheapest state known at costs (Says (Window i k)) asked graphs windows of within = some_window state known i k asked windows of
 some_answer classifications advices cheapest state known at costs (Says Advise) asked graphs windows of within = some_advice advices cheapest state costs graphs (within refl)
 
--- What is known of all accepted rows.
+-- What is known about all accepted rows.
 pub record AreKnown : Type 0 where
   pub classifications : SomeClassificationLaw
   pub advices : SomeAdviceLaw

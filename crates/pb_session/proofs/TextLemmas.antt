@@ -44,7 +44,7 @@ study_text law state names period graph one other a b =
     let text : Study → List ℕ = λ study. text_in state.form (study_rows names period state.options study) in
     a.rows ∙ ap text (law graph state.options (critical_of state.rows) a.study b.study a.limits a.is_study b.is_study) ∙ sym b.rows
 
--- and such a report after some rows
+-- and a report after some rows
 after_text : OneStudyLaw → (state : SessionState) (rows : List OutputRow) (names : Names) (period : List ℕ) (graph : ProcessGraph) (one other : List ℕ)
     → IsReportAfter state rows names period graph one → IsReportAfter state rows names period graph other → one ≡ other
 after_text law state rows names period graph one other a b =

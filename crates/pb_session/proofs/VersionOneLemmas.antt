@@ -1,4 +1,4 @@
--- A session of version 1 writes what it wrote before there was a version 2.
+-- A session of version 1 writes what it wrote before version 2 existed.
 use Rattle.std.proofs.Common.{◌≡◌, ◌∙◌, ◌+◌, ℕ, Bool, true, false, List, [], ◌∷◌, ◌++◌, length, map, Option, Some, None, Result, Ok, Err, slice_get, refl, sym, ap, subst, append_assoc}
 use Rattle.std.specs.Prelude.{◌-◌, ◌↔◌, filter, filter_map, option_map}
 use Rattle.std.specs.List.{cons_option}
@@ -80,7 +80,7 @@ assembly_one rows days one = ap (λ (version : Version). assembly_in version row
 names_one : (rows : List StoredRow) (days : Days) → version_of (declared_of rows) ≡ One → period_names rows days ≡ names_of (declared_of rows)
 names_one rows days one = ap (λ (version : Version). names_on version (declared_of rows) days.first days.last) one
 
--- ---- what the version decides of refusals
+-- ---- what the version decides about refusals
 
 touches_one : (declared : List Declared) (fact : Fact) (period : Period) → touches_in One declared fact period ≡ first_touches fact period
 touches_one declared (Reading id stream day grams variance) period = refl
@@ -211,7 +211,7 @@ first_text law state at fields text one unsaid =
 
 -- ---- a session
 
--- what is declared of version 1 is so whatever else is declared, and was so before it
+-- what is declared is of version 1 whatever else is declared, and was so before
 still_one : (row : Declared) (declared more : List Declared) → version_of (row ∷ declared) ≡ One → version_of (row ∷ (declared ++ more)) ≡ One
 still_one Version2 declared more one = one
 still_one row declared more one = refl
@@ -221,7 +221,7 @@ front_one [] more one = refl
 front_one (Version2 ∷ declared) more one = one
 front_one (row ∷ declared) more one = refl
 
--- a session of version 1 stays one unless a row says version 2
+-- a session of version 1 stays one unless a row states version 2
 declared_one : (effect : Effect) → says_version (Stored effect) ≡ false → version_of (cons_option (declaration_in effect) []) ≡ One
 declared_one (Declares Version2) unsaid = cc unsaid
 declared_one effect unsaid = refl
@@ -273,7 +273,7 @@ first_may : (row : Declared) → version_of (row ∷ []) ≡ One → may_declare
 first_may Version2 one may = cc one
 first_may row one may = may
 
--- a row that was accepted behind others may be one of version 1, if the session is of it
+-- a row that was accepted after others may be one of version 1, if the session is of that version
 may_one : (done : List StoredRow) (effect : Effect) → version_of (declared_of done ++ cons_option (declaration_in effect) []) ≡ One → may_do (version_at done) effect ≡ true → may_do (Some One) effect ≡ true
 may_one [] (Declares row) one may = first_may row one may
 may_one [] effect one may = refl

@@ -53,7 +53,7 @@ places_found {A = A} xs (i ∷ places) (x ∷ items) is =
       many = omega (arith, rest.many);
     }
 
--- what the book says of a window that is asked for
+-- what the book says about a window that is asked for
 pub window_at : (rows : List StoredRow) (first last : ℕ) (places : List ℕ) (window : Window) → IsWindowAsked rows first last → ArePlacesBetween rows first last places
     → length places ≤ most_periods_of_window → IsWindowBetween rows first last window → IsWindow window → AreWindowNames window → HavePlaceNames rows first last window
     → IsWindowAt rows first last places window
@@ -149,7 +149,7 @@ after_ok (Ok x) state rows names period graph old middle new begun (text, writte
     )
 after_ok (Err e) state rows names period graph old middle new begun appended = tt
 
--- nothing stays of rows if there is no memory for the report after them
+-- no rows stay if there is no memory for the report after them
 pub after_err : {T E : Type 0} (r : Result T E) (old head middle new : List ℕ) (before : ℕ) → before ≡ length old → middle ≡ old ++ head → OnErr r (new ≡ take before middle)
     → OnErr r (new ≡ old)
 after_err (Ok x) old head middle new before before_is begun kept = tt

@@ -1,4 +1,4 @@
--- Inside. Of what periods reports, histories, balances and windows are.
+-- Inside. The periods of reports, histories, balances and windows.
 use Rattle.std.specs.Prelude.{◌<◌, List, length}
 use Rattle.pb_book.specs.declared.answer.Accepted.{Accepted}
 use Rattle.pb_book.specs.declared.answer.Accepted.TheVariants.{Report, History, Component, Window}
@@ -6,7 +6,7 @@ use Rattle.pb_book.specs.declared.rows.StoredRow.{StoredRow}
 use Rattle.pb_book.specs.Rows.{periods_of}
 use Rattle.pb_book.specs.Windows.{IsWindowAsked}
 
--- a report, a history or a balance is of a period that there is, and a window from one to another that there is no cause to refuse
+-- a report, a history or a balance is of a period that exists, and there is no cause to refuse the window
 abbrev pub IsOfPeriods : List StoredRow → Accepted → Type 0
 IsOfPeriods rows (Report i) = i < length (periods_of rows)
 IsOfPeriods rows (History i) = i < length (periods_of rows)

@@ -1,7 +1,7 @@
 -- Statement. What is appended to a text.
 use Rattle.std.specs.Prelude.{◌≡◌, ℕ, List, ◌++◌, Vec}
 
--- a text of which this holds was appended
+-- a text with this property was appended
 abbrev pub AppendsText : {A : Type 0} → (List ℕ → Type 0) → Vec ℕ A → Vec ℕ A → Type 0
 AppendsText Holds old new = (text : List ℕ) × (new.items ≡ old.items ++ text) × Holds text
 

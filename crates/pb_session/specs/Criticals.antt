@@ -13,7 +13,7 @@ abbrev pub critical_row : Declared → Option CriticalRow
 critical_row (CritGlobal dof value) = Some (record { dof = dof; value = value })
 critical_row declared = None
 
--- the declared critical values, those of the global test in order
+-- the declared critical values, those of the global test in order of declaration
 abbrev pub declared_critical : List Declared → Critical
 declared_critical declared = record {
   global = filter_map critical_row declared;
@@ -21,6 +21,6 @@ declared_critical declared = record {
   measure = measure_of declared;
 }
 
--- those of the stored rows
+-- the critical values of the stored rows
 abbrev pub critical_of : List StoredRow → Critical
 critical_of rows = declared_critical (declared_of rows)

@@ -1,4 +1,4 @@
--- Statement. A report after edits is that of the edited file, and so is the balance of a component.
+-- Statement. A report after edits is the report of the edited file, and so is the balance of a component.
 use Rattle.std.specs.Prelude.{◌≡◌, ◌↔◌, ℕ, false, List, [], ◌∷◌, ◌++◌}
 use Rattle.pb_book.specs.declared.answer.Accepted.TheVariants.{Report, Component}
 use Rattle.pb_book.specs.Accepted.{AreAccepted}
@@ -8,33 +8,34 @@ use Rattle.pb_book.specs.declared.rows.StoredRow.{StoredRow}
 use Rattle.pb_book.specs.Written.{WriteRows}
 use Rattle.pb_session.specs.Session.{Adds, IsSessionText, SessionState, new_session, refuses_some}
 
--- the session with the same options and form that has stored nothing
+-- a session with the same options and form that has stored nothing
 abbrev pub begun : SessionState → SessionState
 begun state = new_session state.options state.form
 
--- Records of the edited file: they write the plain rows, one each, as if nothing had been closed, late, amended or struck.
+-- The records of the edited file: they write the plain rows, one record for each, as if nothing had been closed, late, amended or
+-- struck.
 abbrev pub IsEditedFile : List StoredRow → List (List (List ℕ)) → Type 0
 IsEditedFile rows records = WriteRows records (plain_rows rows)
 
--- a report behind these records has the text that it has after the rows of a session
+-- a report after these records has the same text as after the rows of the session
 abbrev pub ReportsAsAfter : SessionState → List (List (List ℕ)) → Type 0
 ReportsAsAfter state records =
     (at i : ℕ) (report : List (List ℕ)) (text : List ℕ) → answer_of state.rows report ≡ Says (Report i)
     → Adds state at report text ↔ IsSessionText (begun state) 1 (records ++ report ∷ []) text
 
--- a record that asks for the balance of a component after them has the text that it has after the rows of a session
+-- a record after these that asks for the balance of a component has the same text as after the rows of the session
 abbrev pub BalancesAsAfter : SessionState → List (List (List ℕ)) → Type 0
 BalancesAsAfter state records =
     (at : ℕ) (component : List ℕ) (i : ℕ) (row : List (List ℕ)) (text : List ℕ) → answer_of state.rows row ≡ Says (Component component i)
     → Adds state at row text ↔ IsSessionText (begun state) 1 (records ++ row ∷ []) text
 
--- no record of an edited file is refused, and each report and each balance after it is the one after the edits
+-- no record of an edited file is refused, and each report and each balance after it is the same as after the edits
 pub record StandsForTheEdits (state : SessionState) (records : List (List (List ℕ))) : Type 0 where
   pub accepted : refuses_some (begun state) 1 records ≡ false
   pub reports : ReportsAsAfter state records
   pub balances : BalancesAsAfter state records
 
--- so it is of all accepted rows, with whatever options and in either form
+-- this holds for all accepted rows, with any options and in either form
 abbrev pub EditedFileLaw : Type 0
 EditedFileLaw =
     (state : SessionState) (records : List (List (List ℕ))) → AreAccepted state.rows

@@ -1,4 +1,4 @@
--- Inside. The studies that a session keeps, and the stage that it reported last, as its code has them.
+-- Inside. The studies that a session keeps, and the stage that it reported last, as the code holds them.
 use Rattle.std.specs.Prelude.{◌≡◌, ◌==◌, ℕ, ◌≤◌, Bool, Contains, not, List, [], ◌∷◌, filter, find, length, map, position, slice_get, take, All, Option, Some, None, IfSome, Result, Ok, Err, option_map, if◌then◌else◌}
 use Rattle.std.specs.List.{AllByRecursion}
 use Rattle.std.specs.Option.{option_and_then}
@@ -38,76 +38,76 @@ is_of period kept = kept.period == period
 abbrev pub place_in : ℕ → List KeptStudy → Option ℕ
 place_in period kept = position (is_of period) kept
 
--- those of other periods
+-- the studies of other periods
 abbrev pub others_than : ℕ → List KeptStudy → List KeptStudy
 others_than period kept = filter (λ (k : KeptStudy). not (is_of period k)) kept
 
--- those behind a study of a period that was written
+-- the kept studies after this study of a period was written
 abbrev pub studies_behind : ℕ → Study → List KeptStudy → List KeptStudy
 studies_behind period study kept =
     if length study.stages == 1
     then take most_kept ((let first : KeptStudy = record { period = period; study = study } in first) ∷ others_than period kept)
     else others_than period kept
 
--- those behind the one that is kept of the period, if it is
+-- the kept studies after a report written from the kept study of the period, if it has one
 abbrev pub settled_by : ℕ → Option KeptStudy → List KeptStudy → List KeptStudy
 settled_by period (Some found) kept = studies_behind period found.study kept
 settled_by period None kept = kept
 
--- those behind a study that was made, or was kept
+-- the kept studies after a report of the period, written from a study that was made, or else from the kept one
 abbrev pub settled : ℕ → Option Study → List KeptStudy → List KeptStudy
 settled period (Some study) kept = studies_behind period study kept
 settled period None kept = settled_by period (find (is_of period) kept) kept
 
--- those of the periods that the last stored row doesn't touch
+-- the studies of the periods that the last stored row doesn't touch
 abbrev pub untouched_studies : List StoredRow → List KeptStudy → List KeptStudy
 untouched_studies rows kept = filter (λ (k : KeptStudy). not (touched_at rows k.period)) kept
 
--- those that an accepted record leaves
+-- the studies that an accepted record leaves
 abbrev pub left_by : Accepted → List StoredRow → List KeptStudy → List KeptStudy
 left_by Stored rows kept = untouched_studies rows kept
 left_by accepted rows kept = kept
 
 -- ---- the stage that was reported last
 
--- the first stage of the study that is kept first
+-- the first stage of the first kept study
 abbrev pub first_stage : List KeptStudy → Option Stage
 first_stage [] = None
 first_stage (k ∷ kept) = slice_get k.study.stages 0
 
--- the first stage of the study that was reported last: one of its own, or that of the study that is kept first
+-- the first stage of the study that was reported last: a stage held separately, or that of the first kept study
 abbrev pub last_stage : List KeptStudy → Option Stage → Option Stage
 last_stage kept (Some stage) = Some stage
 last_stage kept None = first_stage kept
 
--- the first stage of a study that isn't kept, since it has several
+-- the first stage of a study that isn't kept because it has several
 abbrev pub stage_beside : Study → Option Stage
 stage_beside study = if length study.stages == 1 then None else slice_get study.stages 0
 
--- that of the study that was written, where it was made or was kept
+-- that of the study that was written, whether it was made or was kept
 abbrev pub settled_stage : ℕ → Option Study → List KeptStudy → Option Stage
 settled_stage period (Some study) kept = stage_beside study
 settled_stage period None kept = option_and_then (λ (k : KeptStudy). stage_beside k.study) (find (is_of period) kept)
 
--- where the study that is kept first goes, its first stage stays, unless another one was reported last
+-- if the first kept study is dropped, its first stage stays, unless another stage was reported last
 abbrev pub saved_stage : (KeptStudy → Bool) → List KeptStudy → Option Stage → Option Stage
 saved_stage goes kept (Some stage) = Some stage
 saved_stage goes [] None = None
 saved_stage goes (k ∷ kept) None = if goes k then slice_get k.study.stages 0 else None
 
--- so it is where the last stored row touches that study
+-- this happens if the last stored row touches that study
 abbrev pub saved_by : Accepted → List StoredRow → List KeptStudy → Option Stage → Option Stage
 saved_by Stored rows kept last = saved_stage (λ (k : KeptStudy). touched_at rows k.period) kept last
 saved_by accepted rows kept last = last
 
--- the classes that stand in the results of streams
+-- the classes in the results of streams
 abbrev pub classes_in : List StreamResult → List Classified
 classes_in results = map (λ (r : StreamResult). r.classified) results
 
 -- ---- a study and what a report leaves to be kept
 
--- A study is that of a graph, by what the session asks and the critical values of the stored rows, with all that a report promises of its
--- stages; and it is well formed.
+-- A study is that of a graph, by the options of the session and the critical values of the stored rows, with all that a report
+-- promises about its stages; and it is well formed.
 pub record IsStudied (state : SessionState) (graph : ProcessGraph) (study : Study) : Type 0 where
   pub limits : IsProcessGraph graph
   pub is_study : IsStudyOf graph state.options (critical_of state.rows) study
@@ -116,7 +116,7 @@ pub record IsStudied (state : SessionState) (graph : ProcessGraph) (study : Stud
   pub tested : All TestsEachRedundant study.stages
   pub formed : IsWellFormedStudy graph study
 
--- the study is that of the graph, and it isn't kept; or none was made, since one is kept
+-- the study made is that of the graph; or none was made, because one is kept
 abbrev pub IsMade : Held → ℕ → ProcessGraph → Option Study → Type 0
 IsMade held i graph (Some study) =
     IsStudyOf graph held.state.options (critical_of held.state.rows) study
@@ -139,12 +139,12 @@ IsReportedAt held i None reported = ⊥
 
 -- ---- the component graph of a period
 
--- a graph has as many nodes and streams as another one
+-- the other graph has as many nodes and streams as this one
 pub record HasCountsOf (graph other : ProcessGraph) : Type 0 where
   pub nodes : other.nodes ≡ graph.nodes
   pub streams : length other.streams ≡ length graph.streams
 
--- an answer is the component graph of the period at a place, or the first stream beyond the limits
+-- the answer is the component graph of the period at a place, or the first stream beyond the limits
 abbrev pub IsBalanceAt : SessionState → List ℕ → Option Period → Result ProcessGraph Assembly → Type 0
 IsBalanceAt state component (Some period) answer = BalancesIn state component period (assembly_of state.rows (days_of period)) answer
 IsBalanceAt state component None answer = ⊥
@@ -155,15 +155,15 @@ IsBalanceAt state component None answer = ⊥
 abbrev pub IsKeptStudy : SessionState → KeptStudy → Type 0
 IsKeptStudy state kept = IsKeptAt state (slice_get (periods_of state.rows) kept.period) kept.study
 
--- The studies that are kept are those of their periods by the rows stored so far, at most so many, and the stage that was reported last
--- has the classes of its graph.
+-- The kept studies are those of their periods by the rows stored so far, at most as many as are allowed, and the stage that was
+-- reported last has the classes of its graph.
 pub record IsKeeping (state : SessionState) (kept : List KeptStudy) (last : Option Stage) : Type 0 where
   pub options : AreOptions state.options
   pub studies : AllByRecursion (IsKeptStudy state) kept
   pub few : length kept ≤ most_kept
   pub classes : IfSome (last_stage kept last) (λ (stage : Stage). IsClassification stage.graph (printed_classes stage))
 
--- what a session holds that is made of these
+-- what a session made of these holds
 abbrev pub held_of : SessionState → List KeptStudy → Option Stage → Held
 held_of state studies last = record {
   state = state;

@@ -18,11 +18,11 @@ use Rattle.pb_period.specs.PeriodGraph.{assembly_of}
 use Rattle.pb_session.specs.Criticals.{critical_of}
 use Rattle.pb_session.specs.Session.{SessionState, state_after}
 
--- how many studies a session keeps at the most
+-- the most studies that a session can keep
 abbrev pub most_kept : ℕ
 most_kept = 4
 
--- What a session holds: the state that its texts follow from, the places of the periods whose studies it keeps, the one reported last
+-- What a session holds: the state that determines its texts, the places of the periods whose studies it keeps, the last reported
 -- first, and the graph of its last report.
 pub record Held : Type 0 where
   pub state : SessionState
@@ -31,12 +31,12 @@ pub record Held : Type 0 where
 
 -- ---- which periods
 
--- the kept periods but for one
+-- the kept periods except one
 abbrev pub without : ℕ → List ℕ → List ℕ
 without i kept = filter (λ (k : ℕ). not (k == i)) kept
 
--- the kept periods behind the report of one: a study of one stage is kept, before all others, of which the last ones go where there
--- are too many; one of several stages isn't
+-- the kept periods after the report of period `i`: if its study has one stage, the period comes first, and the last ones are
+-- dropped if there are too many; if it has several, the period isn't kept
 abbrev pub kept_behind : ℕ → Study → List ℕ → List ℕ
 kept_behind i study kept =
     if length study.stages == 1 then take most_kept (i ∷ without i kept) else without i kept
@@ -61,27 +61,27 @@ abbrev pub KeepsAccepted : SessionState → List ℕ → Accepted → List ℕ �
 KeepsAccepted state kept (Report i) new = KeepsReportOf state i kept (slice_get (periods_of state.rows) i) new
 KeepsAccepted state kept accepted new = new ≡ kept
 
--- the kept periods after the answer to the record with this number: a stored row takes out those that it touches
+-- the kept periods after the answer to the record with this number: a stored row removes those that it touches
 abbrev pub KeepsBy : SessionState → List ℕ → ℕ → Answer → List ℕ → Type 0
 KeepsBy state kept at (Stored row) new = new ≡ untouched (with_row state.rows at row) kept
 KeepsBy state kept at (Says accepted) new = KeepsAccepted state kept accepted new
 KeepsBy state kept at answer new = new ≡ kept
 
--- The periods whose studies are kept after the record with this number, where these were kept before it.
+-- The periods whose studies are kept after the record with this number, given those that were kept before it.
 abbrev pub Keeps : SessionState → List ℕ → ℕ → List (List ℕ) → List ℕ → Type 0
 Keeps state kept at fields new = KeepsBy state kept at (answer_of state.rows fields) new
 
--- The periods whose studies are kept after some records, which are numbered from `at`, where these were kept before them.
+-- The periods whose studies are kept after some records, which are numbered from `at`, given those that were kept before them.
 abbrev pub AreKept : SessionState → List ℕ → ℕ → List (List (List ℕ)) → List ℕ → Type 0
 AreKept state kept at [] new = new ≡ kept
 AreKept state kept at (fields ∷ records) new =
     (behind : List ℕ) × Keeps state kept at fields behind
     × AreKept (state_after state at fields) behind (at + 1) records new
 
--- ---- what is kept of them
+-- ---- what is kept for a period
 
--- A study is kept of a graph: it is that of the graph, by what the session asks and the critical values of the stored rows; it has one
--- stage, which is certified, and it is well formed.
+-- A study is kept for a graph: it is the study of this graph, by the options of the session and the critical values of the stored
+-- rows; it has one stage, which is certified, and it is well formed.
 pub record IsKeptOf (state : SessionState) (graph : ProcessGraph) (study : Study) : Type 0 where
   pub limits : IsProcessGraph graph
   pub is_study : IsStudyOf graph state.options (critical_of state.rows) study
@@ -89,7 +89,7 @@ pub record IsKeptOf (state : SessionState) (graph : ProcessGraph) (study : Study
   pub certified : All IsCertifiedStage study.stages
   pub formed : IsWellFormedStudy graph study
 
--- a study is kept of a period, which has a graph then
+-- a study is kept for a period, which must have a graph
 abbrev pub IsKeptBy : SessionState → Result ProcessGraph Assembly → Study → Type 0
 IsKeptBy state (Ok graph) study = IsKeptOf state graph study
 IsKeptBy state (Err why) study = ⊥
@@ -100,7 +100,7 @@ IsKeptAt state None study = ⊥
 
 -- ---- the graph of the last report
 
--- the graph of the last report, behind one of a period that has this graph or none
+-- the graph of the last report, after a report of a period that has this graph or has none
 abbrev pub reported_by : Option ProcessGraph → Result ProcessGraph Assembly → Option ProcessGraph
 reported_by before (Ok graph) = Some graph
 reported_by before (Err why) = before
@@ -109,12 +109,12 @@ abbrev pub reported_of : SessionState → Option ProcessGraph → Option Period 
 reported_of state before (Some period) = reported_by before (assembly_of state.rows (days_of period))
 reported_of state before None = before
 
--- behind an accepted record
+-- the graph of the last report, after an accepted record
 abbrev pub reported_behind : SessionState → Option ProcessGraph → Accepted → Option ProcessGraph
 reported_behind state before (Report i) = reported_of state before (slice_get (periods_of state.rows) i)
 reported_behind state before accepted = before
 
--- behind the answer to a record
+-- the graph of the last report, after the answer to a record
 abbrev pub reported_after : SessionState → Option ProcessGraph → Answer → Option ProcessGraph
 reported_after state before (Says accepted) = reported_behind state before accepted
 reported_after state before answer = before

@@ -1,4 +1,4 @@
--- Statement. Each record adds one text to the output, and each session has one.
+-- Statement. Each record adds one text to the output, and each session has one text.
 use Rattle.std.specs.Prelude.{◌≡◌, ℕ, List}
 use Rattle.pb_elim.specs.Options.{AreOptions}
 use Rattle.pb_elim.specs.Criticals.{AreCritical}

@@ -49,24 +49,25 @@ use Rattle.pb_report.specs.Over.{over_row}
 use Rattle.pb_report.specs.Study.{study_rows}
 use Rattle.pb_report.specs.Window.{window_rows}
 
--- What a session holds: what is asked of its studies, the form of its output, and the rows stored so far.
+-- What a session holds: the options of its studies, the form of its output, and the rows stored so far.
 pub record SessionState : Type 0 where
   pub options : Options
   pub form : Form
   pub rows : List StoredRow
 
--- a text is these rows in the form of the session
+-- the text consists of these rows, in the form of the session
 abbrev pub IsTextOf : SessionState → List OutputRow → List ℕ → Type 0
 IsTextOf state rows text = text ≡ text_in state.form rows
 
--- Names of a graph: one for each node, the environment's first, and one for each stream; no two nodes share one, and no two streams.
+-- Names of a graph: one for each node, the environment's first, and one for each stream; no two nodes share a name, and no two
+-- streams.
 pub record AreNamesOf (names : Names) (graph : ProcessGraph) : Type 0 where
   pub each : IsNamed names graph
   pub environment : slice_get names.nodes 0 ≡ Some (codes "env")
   pub nodes : AreDistinct names.nodes
   pub streams : AreDistinct names.streams
 
--- A text is the design of a graph: the rows of its streams, each with its class and certificate, by their names.
+-- The text is the design of a graph: the rows of its streams under their names, each with its class and certificate.
 pub record IsDesign (state : SessionState) (names : Names) (graph : ProcessGraph) (text : List ℕ) : Type 0 where
   pub limits : IsProcessGraph graph
   pub named : AreNamesOf names graph
@@ -74,9 +75,9 @@ pub record IsDesign (state : SessionState) (names : Names) (graph : ProcessGraph
   pub are : IsClassification graph classes
   pub rows : IsTextOf state (design_rows names graph classes) text
 
--- A text is the advice for a graph, of which a meter on each stream costs this: the rows of its cheapest metering, by the names of the
--- streams. The advised choice suffices, no choice that suffices costs less, and each stream of it has a cycle whose other streams stay
--- unmeasured and cost no less.
+-- The text is the advice for a graph, given what a meter on each stream costs: the rows of its cheapest metering, by the names of
+-- the streams. The advised choice suffices, no choice that suffices costs less, and each stream of it has a cycle whose other
+-- streams stay unmeasured and cost no less.
 pub record IsAdviceText (state : SessionState) (names : Names) (graph : ProcessGraph) (costs : List ℤ) (text : List ℕ) : Type 0 where
   pub limits : IsProcessGraph graph
   pub named : AreNamesOf names graph
@@ -86,9 +87,9 @@ pub record IsAdviceText (state : SessionState) (names : Names) (graph : ProcessG
   pub cheapest : IsCheapest graph costs advice
   pub rows : IsTextOf state (advice_rows names advice) text
 
--- A text is the report of a period of this name, of which this is the graph: the rows of the study of the graph by the critical values
--- of the stored rows, each stage of which is certified, has least bounds at each stream that has bounds, and has the tests of its
--- redundant streams where it has tests, by the names of its nodes and streams.
+-- The text is the report of a period with this name and this graph: the rows of the study of the graph, by the critical values of
+-- the stored rows and under the names of its nodes and streams. Each stage of the study is certified and has least bounds at each
+-- stream that has bounds; if it has tests, it has those of its redundant streams.
 pub record IsReport (state : SessionState) (names : Names) (period : List ℕ) (graph : ProcessGraph) (text : List ℕ) : Type 0 where
   pub limits : IsProcessGraph graph
   pub named : AreNamesOf names graph
@@ -111,7 +112,7 @@ abbrev pub Reports : SessionState → Option Period → List ℕ → Type 0
 Reports state (Some period) text = ReportsBy state period (assembly_of state.rows (days_of period)) text
 Reports state None text = ⊥
 
--- A text is these rows, and after them the report of a graph.
+-- The text consists of these rows, followed by the report of a graph.
 pub record IsReportAfter (state : SessionState) (rows : List OutputRow) (names : Names) (period : List ℕ) (graph : ProcessGraph) (text : List ℕ) : Type 0 where
   pub front : List ℕ
   pub rest : List ℕ
@@ -131,8 +132,8 @@ component_assembly (Ok component) = Ok component
 component_assembly (Err (fault.Over j)) = Err (Over j)
 component_assembly (Err fault.NoMemory) = Err NoMemory
 
--- An answer is the component graph of a graph, by what the last stage of its study prints of each stream and by these grades; or its first
--- stream beyond the limits. The study is by the critical values of the stored rows.
+-- The answer is the component graph of a graph, from what the last stage of its study prints for each stream and from these grades;
+-- or its first stream beyond the limits. The study is by the critical values of the stored rows.
 pub record IsBalanceOf (state : SessionState) (graph : ProcessGraph) (grades : List (Option Grade)) (answer : Result ProcessGraph Assembly) : Type 0 where
   pub limits : IsProcessGraph graph
   pub study : Study
@@ -141,13 +142,13 @@ pub record IsBalanceOf (state : SessionState) (graph : ProcessGraph) (grades : L
   pub is_last : last_stage study ≡ Some last
   pub is : answer ≡ component_assembly (component_of graph last.streams grades)
 
--- that of the graph of a period, or the first stream of the period beyond the limits
+-- the component graph of the graph of a period, or the first stream of the period beyond the limits
 abbrev pub BalancesIn : SessionState → List ℕ → Period → Result ProcessGraph Assembly → Result ProcessGraph Assembly → Type 0
 BalancesIn state component period (Ok graph) answer = IsBalanceOf state graph (grades_of state.rows component period) answer
 BalancesIn state component period (Err why) answer = answer ≡ Err why
 
--- the text of the balance of a component in a period by its graph: the row of the component, and the report of the graph by the names of the
--- period's nodes and streams; or the row that names the first stream beyond the limits
+-- the text of the balance of a component in a period, given its graph: the row of the component, and the report of the graph under
+-- the names of the period's nodes and streams; or the row that names the first stream beyond the limits
 abbrev pub BalancesBy : SessionState → List ℕ → Period → Result ProcessGraph Assembly → List ℕ → Type 0
 BalancesBy state component period (Ok graph) text =
     IsReportAfter state (component_row component period.name ∷ []) (period_names state.rows (days_of period)) period.name graph text
@@ -165,7 +166,7 @@ Balances state component None text = ⊥
 
 -- ---- a window of several periods
 
--- the rows before the report of the window from one period to another: of which periods it is, and what its names stand for
+-- the rows before the report of the window from one period to another: which periods it covers, and what its names stand for
 abbrev pub window_head : List StoredRow → Period → Period → List OutputRow
 window_head rows first last =
     let periods = periods_between (periods_of rows) first last in
@@ -176,8 +177,8 @@ window_head rows first last =
 abbrev pub assembly_between : List StoredRow → Period → Period → Result ProcessGraph Assembly
 assembly_between rows first last = window_assembly rows (periods_between (periods_of rows) first last) (window_between rows first last)
 
--- the text of a window under the name of its first period: the rows before its report, and the report of its graph by the names of its
--- nodes and streams; or the row that names the first stream beyond the limits
+-- the text of a window under the name of its first period: the rows before its report, and the report of its graph under the names
+-- of its nodes and streams; or the row that names the first stream beyond the limits
 abbrev pub WindowsBy : SessionState → Period → Period → Result ProcessGraph Assembly → List ℕ → Type 0
 WindowsBy state first last (Ok graph) text =
     IsReportAfter state (window_head state.rows first last) (window_names (window_between state.rows first last)) first.name graph text
@@ -197,7 +198,7 @@ abbrev pub Tells : SessionState → Option Period → List ℕ → Type 0
 Tells state (Some period) text = IsTextOf state (told_history state.rows period) text
 Tells state None text = ⊥
 
--- the text that an accepted record adds, by the costs that it names
+-- the text that an accepted record adds, given the costs that it names
 abbrev pub AddsAccepted : SessionState → List NamedCost → Accepted → List ℕ → Type 0
 AddsAccepted state costs answered.Blank text = text ≡ []
 AddsAccepted state costs answered.Stored text = text ≡ []
@@ -216,9 +217,9 @@ AddsBy state at costs (Refused cause) text = IsTextOf state (refused_row at (cod
 AddsBy state at costs (Stored row) text = text ≡ []
 AddsBy state at costs (Says accepted) text = AddsAccepted state costs accepted text
 
--- The text that a record adds to the output: a refused one its row, `design` the rows of the design, `report` those of the report,
--- `history` those of the history, `advise` those of the advice, `component` its row and the report of the component's graph,
--- `window` its rows and the report of its graph.
+-- The text that a record adds to the output: for a refused record, its row; for `design`, the rows of the design; for `report`,
+-- those of the report; for `history`, those of the history; for `advise`, those of the advice; for `component`, its row and the
+-- report of the component's graph; for `window`, its rows and the report of its graph.
 abbrev pub Adds : SessionState → ℕ → List (List ℕ) → List ℕ → Type 0
 Adds state at fields text = AddsBy state at (named_costs fields) (answer_of state.rows fields) text
 
@@ -235,7 +236,7 @@ abbrev pub state_after_all : SessionState → ℕ → List (List (List ℕ)) →
 state_after_all state at [] = state
 state_after_all state at (fields ∷ records) = state_after_all (state_after state at fields) (at + 1) records
 
--- The text of a session is the texts of its records in order, each behind the rows that those before it stored. The records
+-- The text of a session consists of the texts of its records in order, each after the rows that earlier records stored. The records
 -- are numbered from `at`.
 abbrev pub IsSessionText : SessionState → ℕ → List (List (List ℕ)) → List ℕ → Type 0
 IsSessionText state at [] text = text ≡ []

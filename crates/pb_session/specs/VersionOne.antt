@@ -1,4 +1,4 @@
--- Statement. What a session writes as long as no row says that it is of version 2: what it wrote before there was one.
+-- Statement. What a session writes as long as no row states version 2: what it wrote before version 2 existed.
 use Rattle.std.specs.Prelude.{◌≡◌, ◌↔◌, ℕ, ◌+◌, ◌-◌, pos, ◌-ℤ◌, Bool, true, false, ◌&&◌, ◌||◌, List, [], ◌∷◌, ◌++◌, filter, filter_map, find, length, map, slice_get, Option, Some, None, option_map, Result, Ok, Err}
 use Rattle.std.specs.Ordering.{int_eq}
 use Rattle.pb_graph.specs.declared.records.Meas.{Meas}
@@ -52,9 +52,9 @@ use Rattle.pb_session.specs.Session.{Adds, IsAdviceText, IsBalanceOf, IsDesign, 
 
 -- ---- the graph of a period
 
--- What live facts say of an arc on some days: of a metered stream the total of its readings, where each day has one; of a batch stream
--- what its transfers moved; of a plain one nothing; of a tank its content at the end of the last day less that at the end of the day
--- before the first, where both days have a dip.
+-- What live facts say about an arc on some days. For a metered stream: the total of its readings, if each day has one. For a batch
+-- stream: what its transfers moved. For a plain stream: nothing. For a tank: its content at the end of the last day less that at
+-- the end of the day before the first, if both days have a dip.
 abbrev pub first_amount : List Declared → List Fact → Days → ArcKind → List ℕ → Option Amount
 first_amount declared facts days Metered stream = read_total (read_on facts stream) (each_of days)
 first_amount declared facts days Batch stream = Some (total_of (filter_map (transferred days stream) facts))
@@ -63,24 +63,24 @@ first_amount declared facts days Tank tank =
     change_of (content_of (points_of declared tank)) (find (is_dip_on tank (days.first -ℤ pos 1)) facts)
     (find (is_dip_on tank days.last) facts)
 
--- what is measured of an arc on some days: the grams, and the base variance with their own
+-- what is measured of an arc on some days: the grams, and the sum of the base variance and that of the grams
 abbrev pub first_measured : List StoredRow → Days → Arc → Option Meas
 first_measured rows days arc =
     option_map (measurement arc.base) (first_amount (declared_of rows) (live_facts (facts_of rows)) days arc.kind arc.name)
 
--- The graph of some days is the whole plant: its nodes are the environment and all units and tanks, its streams the declared ones and the
--- inventories of all tanks, in order of declaration.
+-- The graph of some days is the whole plant: its nodes are the environment and all units and tanks; its streams are the declared
+-- streams and the inventories of all tanks, in order of declaration.
 abbrev pub first_graph : List StoredRow → Days → ProcessGraph
 first_graph rows days = graph_with (first_measured rows days) rows
 
--- that graph, or its first stream over the limits
+-- this graph, or its first stream over the limits
 abbrev pub first_assembly : List StoredRow → Days → Result ProcessGraph Assembly
 first_assembly rows days = within_limits (first_graph rows days)
 
 -- ---- the history of a period
 
--- a reading touches the period that has its day, a transfer each that has a day in common with it, and a dip those of which its day is the
--- last one or the one before the first
+-- a reading touches the period that includes its day, a transfer each period that has a day in common with it, and a dip each
+-- period for which its day is the last one or the one before the first
 abbrev pub first_touches : Fact → Period → Bool
 first_touches (Reading id stream day grams variance) period = shares_a_day day day period
 first_touches (Transfer id stream first last grams variance) period = shares_a_day first last period
@@ -94,7 +94,8 @@ first_history rows period =
 
 -- ---- what a record adds
 
--- the text of the report of a period by its graph and the names of the plant, or the row that names the first stream beyond the limits
+-- the text of the report of a period, given its graph, by the names of the plant; or the row that names the first stream beyond the
+-- limits
 abbrev pub FirstReportsBy : SessionState → Period → Result ProcessGraph Assembly → List ℕ → Type 0
 FirstReportsBy state period (Ok graph) text = IsReport state (names_of (declared_of state.rows)) period.name graph text
 FirstReportsBy state period (Err (Over j)) text =
@@ -112,14 +113,14 @@ FirstTells state (Some period) text =
     IsTextOf state (history_rows (told_period period) (filter_map told (first_history state.rows period))) text
 FirstTells state None text = ⊥
 
--- the component graph of the graph of a period, by the grades of all streams; or the first stream of the period beyond the limits
+-- the component graph of the graph of a period, from the grades of all streams; or the first stream of the period beyond the limits
 abbrev pub FirstBalancesIn : SessionState → List ℕ → Period → Result ProcessGraph Assembly → Result ProcessGraph Assembly → Type 0
 FirstBalancesIn state component period (Ok graph) answer =
     IsBalanceOf state graph (map (grade_of state.rows component period.name) (arc_names (declared_of state.rows))) answer
 FirstBalancesIn state component period (Err why) answer = answer ≡ Err why
 
--- the text of the balance of a component in a period by its graph and the names of the plant, or the row that names the first stream beyond
--- the limits
+-- the text of the balance of a component in a period, given its graph, by the names of the plant; or the row that names the first
+-- stream beyond the limits
 abbrev pub FirstBalancesBy : SessionState → List ℕ → Period → Result ProcessGraph Assembly → List ℕ → Type 0
 FirstBalancesBy state component period (Ok graph) text =
     IsReportAfter state (component_row component period.name ∷ []) (names_of (declared_of state.rows)) period.name graph text
@@ -133,7 +134,7 @@ FirstBalances state component (Some period) text =
     × FirstBalancesBy state component period answer text
 FirstBalances state component None text = ⊥
 
--- the text that an accepted record adds; that of a window, which came after version 2, is the one of all sessions
+-- the text that an accepted record adds; for a window, introduced after version 2, it is the same as in all sessions
 abbrev pub FirstAddsAccepted : SessionState → List NamedCost → Accepted → List ℕ → Type 0
 FirstAddsAccepted state costs answered.Blank text = text ≡ []
 FirstAddsAccepted state costs answered.Stored text = text ≡ []
@@ -153,7 +154,7 @@ FirstAddsBy state at costs (Refused cause) text = IsTextOf state (refused_row at
 FirstAddsBy state at costs (Stored row) text = text ≡ []
 FirstAddsBy state at costs (Says accepted) text = FirstAddsAccepted state costs accepted text
 
--- The text that a record adds to the output, with the answer that it has in a session of version 1.
+-- The text that a record adds to the output, given the answer that it has in a session of version 1.
 abbrev pub FirstAdds : SessionState → ℕ → List (List ℕ) → List ℕ → Type 0
 FirstAdds state at fields text = FirstAddsBy state at (named_costs fields) (first_answer_of state.rows fields) text
 
@@ -162,7 +163,7 @@ abbrev pub first_state_after : SessionState → ℕ → List (List ℕ) → Sess
 first_state_after state at fields =
     record { options = state.options; form = state.form; rows = after_answer state.rows at (first_answer_of state.rows fields) }
 
--- The text of a session: the texts of its records in order, each after the rows that those before it stored.
+-- The text of a session: the texts of its records in order, each after the rows that earlier records stored.
 abbrev pub IsFirstText : SessionState → ℕ → List (List (List ℕ)) → List ℕ → Type 0
 IsFirstText state at [] text = text ≡ []
 IsFirstText state at (fields ∷ records) text =
@@ -171,19 +172,19 @@ IsFirstText state at (fields ∷ records) text =
 
 -- ---- the law
 
--- some record of a session is accepted as the one that says version 2
+-- some record of a session is accepted as the one that states version 2
 abbrev pub accepts_version_2 : SessionState → ℕ → List (List (List ℕ)) → Bool
 accepts_version_2 state at [] = false
 accepts_version_2 state at (fields ∷ records) =
     says_version (answer_of state.rows fields) || accepts_version_2 (state_after state at fields) (at + 1) records
 
--- a record of a session of version 1 that doesn't say version 2 adds what it added before there was one
+-- in a session of version 1, a record that doesn't state version 2 adds what it added before version 2 existed
 abbrev pub FirstTextLaw : Type 0
 FirstTextLaw =
     (state : SessionState) (at : ℕ) (fields : List (List ℕ)) (text : List ℕ) → version_of (declared_of state.rows) ≡ One
     → says_version (answer_of state.rows fields) ≡ false → Adds state at fields text ↔ FirstAdds state at fields text
 
--- A session writes what it wrote before there was a version 2, unless a record of it is accepted as the one that says it.
+-- A session writes what it wrote before version 2 existed, unless one of its records is accepted as the one that states it.
 abbrev pub FirstSessionTextLaw : Type 0
 FirstSessionTextLaw =
     (state : SessionState) (at : ℕ) (records : List (List (List ℕ))) (text : List ℕ) → version_of (declared_of state.rows) ≡ One
@@ -194,13 +195,13 @@ pub record IsFirstPlant (declared : List Declared) : Type 0 where
   pub boundaries : boundary_names declared ≡ []
   pub services : filter_map (λ (arc : Arc). arc.service) (arcs_of declared) ≡ []
 
--- so it is of accepted rows of version 1
+-- this holds for accepted rows of version 1
 abbrev pub FirstPlantLaw : Type 0
 FirstPlantLaw = (rows : List StoredRow) → AreAccepted rows → version_of (declared_of rows) ≡ One → IsFirstPlant (declared_of rows)
 
--- What the version decides when a row is refused, in version 1: each part of the plant is sealed once some period is closed, a fact touches
--- periods as above, no fact is of a day out of service, no assay is of a period without a day in service, and there are at most 2,000
--- streams and tanks.
+-- What the version decides about refusals, in version 1: each part of the plant is sealed once some period is closed, a fact
+-- touches periods as above, no fact is of a day out of service, no assay is of a period without a day in service, and there are at
+-- most 2,000 streams and tanks.
 pub record FirstRefusalLaw : Type 0 where
   pub sealed : (periods : List Period) (declared : Declared)
       → is_sealed_by One periods declared ≡ (is_of_plant declared && some_closed periods)
@@ -211,11 +212,11 @@ pub record FirstRefusalLaw : Type 0 where
       → is_unserved_in (service_in One declared stream) name period ≡ false
   pub most : most_arcs One ≡ 2000
 
--- an arc as a window takes it: in service on every day
+-- an arc as a window uses it: in service on every day
 abbrev pub first_window_arc : Arc → PlantArc
 first_window_arc arc = record { from = arc.from; to = arc.to; is_tank = is_inventory arc.kind; service = None }
 
--- the plant as a window takes it: all its arcs, and its nodes but the environment, also those that no arc joins
+-- the plant as a window uses it: all its arcs, and all its nodes except the environment, including those that no arc joins
 abbrev pub first_window_plant : List Declared → Plant
 first_window_plant declared = record {
   nodes = length (node_names declared) - 1;
@@ -223,11 +224,11 @@ first_window_plant declared = record {
   keeps_idle = true;
 }
 
--- what the version decides of a window: its plant, and what its periods measured
+-- what the version decides about a window: its plant, and what its periods measured
 pub record HasFirstWindows (rows : List StoredRow) : Type 0 where
   pub plant : window_plant (declared_of rows) ≡ first_window_plant (declared_of rows)
   pub flows : (arc : Arc) (period : Period) → flow_measured rows arc period ≡ first_measured rows (days_of period) arc
 
--- so it is in version 1
+-- this holds in version 1
 abbrev pub FirstWindowLaw : Type 0
 FirstWindowLaw = (rows : List StoredRow) → version_of (declared_of rows) ≡ One → HasFirstWindows rows

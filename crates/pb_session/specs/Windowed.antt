@@ -1,4 +1,4 @@
--- Inside. What the book says of a window, as the code has it.
+-- Inside. What the book says about a window, as the code holds it.
 use Rattle.std.specs.Prelude.{◌≡◌, ℕ, ◌<◌, ◌≤◌, List, length, slice_get, All, Some}
 use Rattle.pb_limits.specs.Limits.{most_periods_of_window}
 use Rattle.pb_window.specs.declared.window.Window.{Window}
@@ -12,7 +12,7 @@ use Rattle.pb_book.specs.Rows.{declared_of, periods_of}
 use Rattle.pb_book.specs.Windows.{names_of_periods, periods_between, window_between}
 use Rattle.pb_period.specs.WindowGraph.{periods_at}
 
--- These are the places of the periods from the one at a place to the one at another place, and this is their window.
+-- These are the places of the periods from the period at one place to the period at another, and this is their window.
 pub record IsWindowAt (rows : List StoredRow) (first last : ℕ) (places : List ℕ) (window : Window) : Type 0 where
   pub one : Period
   pub first_is : slice_get (periods_of rows) first ≡ Some one

@@ -6,7 +6,7 @@ ghost use Rattle.pb_session.specs.Keeping.{classes_in};
 use pb_graph::{Classified, List, StreamResult};
 use std::alloc::{AllocError, Global};
 
-/// The classes that stand in the results of streams, with their certificates.
+/// The classes in the results of streams, with their certificates.
 pub fn classes_in(alloc: Global, results: &[StreamResult]) -> Result<List<Classified>, AllocError>
     ensures { IfOk result (λ classes. classes ≡ classes_in results.now) }
 {

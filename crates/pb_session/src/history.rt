@@ -1,4 +1,4 @@
-// The history of a period, as it is told.
+// The history of a period, as it is reported.
 
 ghost use Rattle.std.specs.Prelude.{◌≡◌, ◌<◌, ◌++◌, [], length, filter_map, IfOk, IfSome, OnOk, option_and_then, slice_get};
 ghost use Rattle.std.specs.List.{cons_option};
@@ -37,7 +37,7 @@ pub fn told_edits(alloc: Global, book: &Book, i: u32) -> Result<List<HistoryRow>
     Ok(edits)
 }
 
-// Appends how the edit at a place is told.
+// Appends how the edit at a place is reported.
 fn push_at(book: &Book, e: usize, edits: &mut List<HistoryRow>) -> Result<(), AllocError>
     ensures { OnOk result (edits.new ≡ edits.old
         ++ cons_option (option_and_then told (slice_get (edits_of book.now) e)) []) }
@@ -48,7 +48,7 @@ fn push_at(book: &Book, e: usize, edits: &mut List<HistoryRow>) -> Result<(), Al
     }
 }
 
-// Appends how a row is told: what it did, the id of its fact and the reason. A row that edits nothing isn't told.
+// Appends how a row is reported: what it did, the id of its fact and the reason. A row that edits nothing isn't reported.
 fn push_told(edits: &mut List<HistoryRow>, row: &StoredRow) -> Result<(), AllocError>
     ensures { OnOk result (edits.new ≡ edits.old ++ cons_option (told row.now) []) }
 {
@@ -75,7 +75,7 @@ fn push_told(edits: &mut List<HistoryRow>, row: &StoredRow) -> Result<(), AllocE
     }
 }
 
-// What an edit of a fact does.
+// The word for an edit of a fact.
 fn word_of(edit: &Edit) -> HistoryWord
     ensures { result ≡ word_of edit.now }
 {

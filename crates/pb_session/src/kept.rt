@@ -16,17 +16,17 @@ pub struct KeptStudy {
     pub study: Study,
 }
 
-// How many studies are kept at the most.
+// The most studies that are kept.
 const MOST_KEPT: usize = 4;
 
-/// The place of the study of a period among those that are kept, if it is one of them.
+/// The place of the study of a period among the kept studies, if it is kept.
 pub fn place_of(kept: &[KeptStudy], period: u32) -> Option<usize>
     ensures { result ≡ place_in period kept.now }
 {
     kept.iter().position(|k| k.period == period)
 }
 
-/// The first stage of the study that was reported last: one of its own, or that of the study that is kept first.
+/// The first stage of the study that was reported last: a stage held separately, or that of the first kept study.
 pub fn last_stage<'a>(kept: &'a [KeptStudy], last: &'a Option<Stage>) -> Option<&'a Stage>
     ensures { option_map (λ stage. stage.now) result ≡ last_stage kept.now last.now }
 {
@@ -36,8 +36,8 @@ pub fn last_stage<'a>(kept: &'a [KeptStudy], last: &'a Option<Stage>) -> Option<
     }
 }
 
-/// Lets the studies go that a stored row touches: the last one of the book, where the record was stored. If the one that is kept first
-/// goes, its first stage stays as the one that was reported last.
+/// Drops the studies that a stored row touches: the last row of the book, if the record was stored. If the first kept study is
+/// dropped, its first stage stays, as the stage that was reported last.
 pub fn drop_touched(
     kept: &mut Vec<KeptStudy>,
     last: &mut Option<Stage>,
@@ -53,8 +53,7 @@ pub fn drop_touched(
     }
 }
 
-// Takes the study that is kept first out of the others, where the last stored row touches it, and keeps its first stage, where no other
-// was reported last.
+// Removes the first kept study if the last stored row touches it, and keeps its first stage unless another stage was reported last.
 fn save_first(kept: &mut Vec<KeptStudy>, last: &mut Option<Stage>, book: &Book)
     ensures others { untouched_studies book.now kept.new.items
         ≡ untouched_studies book.now kept.old.items }
@@ -75,8 +74,9 @@ fn first_of(study: Study) -> Option<Stage>
     study.stages.into_vec().into_iter().next()
 }
 
-/// Keeps the study that was written of a period, before all others: one that was made, or the one that is kept. Of a study of several
-/// stages the first stage alone is kept, as the one that was reported last; of those before it the last ones go where there are too many.
+/// Keeps the study that was written for a period, before all others: the study that was made, or the one already kept. If there are
+/// too many, the last ones are dropped. If the study has several stages, only its first stage is kept, as the stage that was
+/// reported last.
 pub fn settle(kept: &mut Vec<KeptStudy>, last: &mut Option<Stage>, period: u32, made: Option<Study>)
     requires { vec_len kept.old < vec_capacity kept.old }
     ensures kept { kept.new.items ≡ settled period made kept.old.items }
@@ -85,7 +85,7 @@ pub fn settle(kept: &mut Vec<KeptStudy>, last: &mut Option<Stage>, period: u32, 
     *last = keep_written(kept, period, made);
 }
 
-// Keeps the study that was written of a period, and returns the first stage of one that has several.
+// Keeps the study that was written for a period, and returns its first stage if it has several.
 fn keep_written(kept: &mut Vec<KeptStudy>, period: u32, made: Option<Study>) -> Option<Stage>
     requires { vec_len kept.old < vec_capacity kept.old }
     ensures kept { kept.new.items ≡ settled period made kept.old.items }
@@ -103,7 +103,7 @@ fn keep_written(kept: &mut Vec<KeptStudy>, period: u32, made: Option<Study>) -> 
     }
 }
 
-// Keeps a study of a period before all others, where it has one stage, and returns the first stage of one that has several.
+// Keeps a study of a period before all others if it has one stage, and returns its first stage if it has several.
 fn keep_study(kept: &mut Vec<KeptStudy>, period: u32, study: Study) -> Option<Stage>
     requires { vec_len kept.old < vec_capacity kept.old }
     ensures kept { kept.new.items ≡ studies_behind period study kept.old.items }
@@ -117,7 +117,7 @@ fn keep_study(kept: &mut Vec<KeptStudy>, period: u32, study: Study) -> Option<St
     None
 }
 
-// Lets the study of a period go, if it is kept.
+// Drops the study of a period, if it is kept.
 fn drop_study(kept: &mut Vec<KeptStudy>, period: u32)
     ensures items { kept.new.items ≡ others_than period kept.old.items }
     ensures len { vec_len kept.new ≤ vec_len kept.old }
@@ -126,7 +126,7 @@ fn drop_study(kept: &mut Vec<KeptStudy>, period: u32)
     kept.retain(|k| k.period != period);
 }
 
-// Puts a study before all others, of which the last ones go where there are too many.
+// Puts a study before all others, and drops the last ones if there are too many.
 fn put_first(kept: &mut Vec<KeptStudy>, first: KeptStudy)
     requires { vec_len kept.old < vec_capacity kept.old }
     ensures { kept.new.items ≡ take most_kept (first ∷ kept.old.items) }

@@ -1,4 +1,4 @@
-// Each record adds one text to the output, and each session has one.
+// Each record adds one text to the output, and each session has one text.
 
 ghost use Rattle.pb_session.specs.Edited.{EditedFileLaw};
 ghost use Rattle.pb_session.specs.KeptLaws.{FewKeptLaw, KeptTextLaw, OneKeptLaw, SomeKeptLaw};
@@ -17,8 +17,8 @@ use pb_elim::{
 };
 use pb_period::{graphs_law, plain_graphs_law, window_graphs_law};
 
-/// The law that what a record adds to the output is one text, and so is the output of a session: the classes of a design and
-/// their certificates leave no choice, and neither does the advice for a graph at its costs, nor the study of a graph.
+/// The law that what a record adds to the output is one text, and so is the output of a session: the classes of a design and their
+/// certificates leave no choice, nor does the advice for a graph at its costs, nor the study of a graph.
 pub fn one_text_law()
     ensures of_a_record { OneTextLaw }
     ensures of_a_session { OneSessionTextLaw }
@@ -28,9 +28,9 @@ pub fn one_text_law()
     one_study_law();
 }
 
-/// The law that each record adds some text to the output, and that each session has some text: accepted rows make process
-/// graphs, also of windows, and each of them has classes with certificates, an advice at any costs, a study, and the component graphs
-/// of its study.
+/// The law that each record adds some text to the output, and that each session has some text: accepted rows make process graphs,
+/// also for windows, and each of these has classes with certificates, advice at any costs, a study, and the component graphs of its
+/// study.
 pub fn some_text_law()
     ensures of_a_record { SomeTextLaw }
     ensures of_a_session { SomeSessionTextLaw }
@@ -53,10 +53,10 @@ pub fn some_text_law()
     accepted_law();
 }
 
-/// The law that a report after edits is that of the edited file. An edited file has one record for each plain row: the declarations,
-/// periods, critical values and assays, and then the live facts with their last values. None of its records is refused, and a report
-/// or the balance of a component after them has the text that it has after the rows of the session, with whatever options and in
-/// either form.
+/// The law that a report after edits is the report of the edited file. An edited file has one record for each plain row: the
+/// declarations, periods, critical values and assays, and then the live facts with their last values. None of its records is
+/// refused, and a report or the balance of a component after them has the same text as after the rows of the session, with any
+/// options and in either form.
 pub fn edited_file_law()
     ensures { EditedFileLaw }
 {
@@ -64,10 +64,11 @@ pub fn edited_file_law()
     plain_graphs_law();
 }
 
-/// The law that a session writes what it wrote before there was a version 2, unless one of its records is accepted as the one that says
-/// it. Records have the answers of version 1. The graph of a period is that of the whole plant, also of units and tanks that no stream
-/// joins, with the names of the plant. What is measured or refused, or stands in a history, doesn't depend on days of service: none are
-/// declared, and no boundaries. A window takes the same plant, and what the same days measured; its text is as in all sessions.
+/// The law that a session writes what it wrote before version 2 existed, unless one of its records is accepted as the one that
+/// states it. Records have the answers of version 1. The graph of a period is that of the whole plant, including units and tanks
+/// that no stream joins, with the names of the plant. What is measured, refused or listed in a history doesn't depend on days of
+/// service, as neither these nor boundaries are declared. A window uses the same plant, and what the same days measured; its text
+/// is as in all sessions.
 pub fn version_one_text_law()
     ensures of_a_record { FirstTextLaw }
     ensures of_a_session { FirstSessionTextLaw }
@@ -85,8 +86,8 @@ pub fn criticals_law()
     ranges_law();
 }
 
-/// The law of what a session keeps: its records tell of which periods it keeps a study, whatever records come, and of how many at the
-/// most. What is kept changes no text: sessions with the same rows, options and form add the same text for a record.
+/// The law of what a session keeps: its records, whatever they are, determine for which periods it keeps a study, and these are
+/// never too many. What is kept changes no text: sessions with the same rows, options and form add the same text for a record.
 pub fn kept_law()
     ensures one { OneKeptLaw }
     ensures some { SomeKeptLaw }

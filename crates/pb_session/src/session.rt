@@ -31,8 +31,8 @@ use pb_window::{Window, window_names};
 use std::alloc::{AllocError, Global};
 use std::marker::Model;
 
-/// A session: what is asked of its studies, the form of its output, and the book of its rows. Beside these it keeps studies of periods
-/// whose rows no later row touched, and the first stage of the study that it reported last, which has the classes of its streams.
+/// A session: the options of its studies, the form of its output, and the book of its rows. It also keeps studies of periods that
+/// no later row has touched, and the first stage of the study that it reported last, which has the classes of its streams.
 #[derive(Drop)]
 pub struct Session {
     alloc: Global,
@@ -40,7 +40,7 @@ pub struct Session {
     form: Form,
     book: Book,
     kept: Vec<KeptStudy>,
-    // The stage that was reported last, where it isn't that of the study that is kept first.
+    // The stage that was reported last, unless it is that of the first kept study.
     last: Option<Stage>,
 }
 
@@ -58,10 +58,10 @@ impl Model for Session {
         (record { options = a.options; form = a.form; rows = a.book }) a.kept.items a.last };
 }
 
-/// What a report that was written leaves to be kept.
+/// What a written report leaves to be kept.
 #[derive(Drop)]
 struct Reported {
-    /// The study, where it was made for the report and wasn't kept before.
+    /// The study, if it was made for the report and wasn't kept before.
     made: Option<Study>,
 }
 
@@ -112,8 +112,8 @@ impl Session {
         &self.book
     }
 
-    /// The study that is kept of the period at a place: that of its graph by the rows stored so far, of one stage. `None` exactly
-    /// where none is kept of it. At most four are. It takes no memory.
+    /// The study that is kept for the period at a place: that of its graph by the rows stored so far, with one stage. `None` iff no
+    /// study is kept for it. At most four are kept. Allocates no memory.
     pub fn kept(&self, period: u32) -> Option<&Study>
         requires { period < length (periods_of self.now.state.rows) }
         ensures found { IsSome result ↔ Contains self.now.kept period }
@@ -128,7 +128,7 @@ impl Session {
     }
 
     /// The first stage of the study that was reported last: it has the graph of that report, and the class of each stream with its
-    /// certificate. `None` exactly where no report was written. It takes no memory.
+    /// certificate. `None` iff no report was written. Allocates no memory.
     pub fn classes(&self) -> Option<&Stage>
         ensures graph { option_map (λ stage. stage.now.graph) result ≡ self.now.reported }
         ensures list { IfSome result
@@ -137,9 +137,10 @@ impl Session {
         last_stage(&self.kept, &self.last)
     }
 
-    /// Takes the record with the number `at`, counted from 1, and appends to `out` what it adds to the output. True exactly
-    /// where the record was refused. A report is kept, where its study has one stage, and a stored row lets those go that it touches.
-    /// In a session of version 2 a declaration leaves the graph of each closed period as it was. After an `Err`, out of memory, the session and `out` are as they were, with all that is kept.
+    /// Takes the record with the number `at`, counted from 1, and appends to `out` what it adds to the output. Returns true iff the
+    /// record was refused. The study of a report is kept if it has one stage, and a stored row drops the kept studies of the
+    /// periods that it touches. In a session of version 2 a declaration doesn't change the graph of a closed period. After an `Err`
+    /// (out of memory), the session, with all that it keeps, and `out` are as they were.
     pub fn row(&mut self, at: u32, row: &Row, out: &mut Vec<u8>) -> Result<bool, AllocError>
         ensures ok { OnOk result (AppendsText (Adds self.old.state at row.now) out.old out.new) }
         ensures refused { IfOk result (λ refused.
@@ -170,8 +171,8 @@ impl Session {
         }
     }
 
-    /// The first stage of the study of a period as it stands, with what the session asks of its studies. `Over` tells the first
-    /// stream whose value or variance is above the limits of a graph.
+    /// The first stage of the study of a period as it stands, by the options of the session. `Over` names the first stream whose
+    /// value or variance is above the limits of a graph.
     pub fn first_stage(&self, period: u32) -> Result<Stage, Assembly>
         requires { period < length (periods_of self.now.state.rows) }
         ensures answer { result ≢ Err Assembly.NoMemory
@@ -235,7 +236,7 @@ impl Session {
         }
     }
 
-    // Appends the rows of the design of what is stored.
+    // Appends the rows of the design of the stored plant.
     fn write_design(&self, out: &mut Vec<u8>) -> Result<(), AllocError>
         ensures ok { OnOk result (AppendsText
             (AddsAccepted self.now.state [] Design) out.old out.new) }
@@ -246,7 +247,7 @@ impl Session {
         self.write_classes(&names, &graph, out)
     }
 
-    // Appends the rows of the design of a graph whose nodes and streams have these names.
+    // Appends the rows of the design of a graph, given the names of its nodes and streams.
     fn write_classes(
         &self,
         names: &Names,
@@ -263,7 +264,7 @@ impl Session {
         write_design(self.alloc, names, graph, &classes, self.form, out)
     }
 
-    // Appends the rows of the cheapest metering of what is stored, at the costs that a record names.
+    // Appends the rows of the cheapest metering of the stored plant, at the costs that a record names.
     fn write_advice(&self, row: &Row, out: &mut Vec<u8>) -> Result<(), AllocError>
         requires { answer_of self.now.state.rows row.now ≡ Says Advise }
         ensures ok { OnOk result (AppendsText
@@ -276,8 +277,8 @@ impl Session {
         self.write_meters(&names, &plant, &costs, out)
     }
 
-    // Appends the rows of the cheapest metering of a graph, of which a meter on each stream costs this and whose nodes and streams have
-    // these names.
+    // Appends the rows of the cheapest metering of a graph, given what a meter on each stream costs, and the names of its nodes and
+    // streams.
     fn write_meters(
         &self,
         names: &Names,
@@ -308,8 +309,8 @@ impl Session {
         write_history(self.alloc, &told_period(&period), &edits, self.form, out)
     }
 
-    // Appends the report of a period, or the row that names the first stream beyond the limits, and keeps what it leaves. All memory
-    // is taken before what is kept changes.
+    // Appends the report of a period, or the row that names the first stream beyond the limits, and keeps what it leaves. All
+    // memory is allocated before what is kept changes.
     fn write_report(&mut self, i: u32, out: &mut Vec<u8>) -> Result<(), AllocError>
         requires { i < length (periods_of self.old.state.rows) }
         ensures ok { OnOk result (AppendsText (Reports self.old.state
@@ -330,7 +331,8 @@ impl Session {
         Ok(())
     }
 
-    // Appends the report of a period, and says what it leaves to be kept: it is written from the study that is kept, if one is.
+    // Appends the report of a period, and returns what it leaves to be kept. The report is written from the kept study, if there is
+    // one.
     fn report(&self, i: u32, out: &mut Vec<u8>) -> Result<Option<Reported>, AllocError>
         requires { i < length (periods_of self.now.state.rows) }
         ensures ok { OnOk result (AppendsText (Reports self.now.state
@@ -405,8 +407,8 @@ impl Session {
         }
     }
 
-    // Appends the report of a period of this name, whose graph this is, with the names of its nodes and streams, and says what it leaves
-    // to be kept.
+    // Appends the report of a period with this name and this graph, with the names of its nodes and streams, and returns what it
+    // leaves to be kept.
     fn report_graph(
         &self,
         i: u32,
@@ -435,7 +437,7 @@ impl Session {
         Ok(Reported { made: Some(study) })
     }
 
-    // Appends the report of a graph under this name, with the names of its nodes and streams. Nothing of it is kept.
+    // Appends the report of a graph under this name, with the names of its nodes and streams. Nothing is kept.
     fn write_graph(
         &self,
         names: &Names,
@@ -461,7 +463,7 @@ impl Session {
         )
     }
 
-    // The study of a graph, with what the session asks of its studies.
+    // The study of a graph, by the options of the session.
     fn study_of(&self, graph: &Graph) -> Result<Study, AllocError>
         requires { IsProcessGraph graph.now }
         ensures { IfOk result (IsStudied self.now.state graph.now) }
@@ -472,7 +474,7 @@ impl Session {
         Ok(study)
     }
 
-    // Appends the balance of a component in a period, or the row that names the first stream beyond the limits. Nothing of it is kept.
+    // Appends the balance of a component in a period, or the row that names the first stream beyond the limits. Nothing is kept.
     fn write_balance(&self, component: &Name, i: u32, out: &mut Vec<u8>) -> Result<(), AllocError>
         requires { i < length (periods_of self.now.state.rows) }
         ensures ok { OnOk result (AppendsText (Balances self.now.state component.now
@@ -515,7 +517,8 @@ impl Session {
         self.report_after(before, names, period, graph, out)
     }
 
-    // The component graph of a period whose streams have these names, by the last stage of its study: of the one that is kept, if one is.
+    // The component graph of a period whose streams have these names, by the last stage of its study: of the kept study, if there
+    // is one.
     fn balance(&self, component: &Name, i: u32, streams: &NameList) -> Result<Graph, Assembly>
         requires there { i < length (periods_of self.now.state.rows) }
         requires streams { IfSome (slice_get (periods_of self.now.state.rows) i)
@@ -547,7 +550,7 @@ impl Session {
         }
     }
 
-    // The component graph of a graph with this study, by the last stage of it and these grades.
+    // The component graph of a graph with this study, by the last stage of the study and these grades.
     fn balance_by(
         &self,
         graph: &Graph,
@@ -573,8 +576,8 @@ impl Session {
         }
     }
 
-    // Appends the window from the period at one place to the period at another, or the row that names its first stream beyond the limits.
-    // Nothing of it is kept.
+    // Appends the window from the period at one place to the period at another, or the row that names its first stream beyond the
+    // limits. Nothing is kept.
     fn write_window(&self, first: u32, last: u32, out: &mut Vec<u8>) -> Result<(), AllocError>
         requires { IsWindowAsked self.now.state.rows first last }
         ensures ok { OnOk result (AppendsText (Windows self.now.state
@@ -632,7 +635,7 @@ impl Session {
         self.report_after(before, names, &name, graph, out)
     }
 
-    // Appends the report of a graph after the rows from a place on, which stay only if there is memory for all of it.
+    // Appends the report of a graph after the rows from a place on; these rows stay only if there is memory for the whole report.
     fn report_after(
         &self,
         before: usize,
@@ -654,7 +657,7 @@ impl Session {
         Ok(())
     }
 
-    // The classes of a graph: a copy of those that were reported last where they are its classes too.
+    // The classes of a graph: a copy of those that were reported last, if they are also those of this graph.
     fn classes_of(&self, graph: &Graph) -> Result<List<Classified>, AllocError>
         requires { IsProcessGraph graph.now }
         ensures { IfOk result (IsClassification graph.now) }

@@ -13,7 +13,7 @@ use pb_period::names_of_periods;
 use pb_window::{Window, WindowPlace, window_places};
 use std::alloc::{AllocError, Global};
 
-/// What the names of a window of the periods at these places stand for: nodes and streams of the plant, in a period each.
+/// What the names of a window of the periods at these places stand for: nodes and streams of the plant, each in one period.
 pub fn places_of(
     alloc: Global,
     book: &Book,

@@ -1,4 +1,4 @@
--- Nodes in order, those of them that are kept, and their places.
+-- Nodes in order, those that are kept, and their places.
 use Rattle.std.specs.Prelude.{filter}
 use Rattle.std.specs.List.{AllPairs, list_any, range_with_len}
 use Rattle.std.specs.List.Sorted.{IsNonDecreasingBy, IsStrictlyIncreasing}
@@ -24,7 +24,7 @@ ranges from (suc a) b =
     let z : suc a + b ≡ suc (a + b) = omega arith in
     ap (range_with_len from) z ∙ ap (λ rest. from ∷ rest) (ranges (from + 1) a b ∙ ap (λ (n : ℕ). range_with_len (from + 1) a ++ range_with_len n b) e)
 
--- tests that say the same of each number of a range keep the same
+-- tests that agree on each number of a range keep the same numbers
 pub same_kept : (p q : ℕ → Bool) (from count : ℕ) → ((k : ℕ) → from ≤ k → k < from + count → p k ≡ q k) → filter p (range_with_len from count) ≡ filter q (range_with_len from count)
 same_kept p q from zero same = refl
 same_kept p q from (suc count) same =
@@ -123,7 +123,7 @@ kept_there p nodes k within passes = elim (cases_eq k 0) [
 
 -- ---- the place of a node
 
--- two nodes of one place are one
+-- two nodes with the same place are equal
 pub place_apart : (nodes : List ℕ) (a b : ℕ) → has_place nodes a ≡ true → has_place nodes b ≡ true → place_among nodes a ≡ place_among nodes b → a ≡ b
 place_apart [] a b a_in b_in same = cc a_in
 place_apart (n ∷ nodes) a b a_in b_in same = elim (cases_eq n a) [

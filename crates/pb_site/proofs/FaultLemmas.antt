@@ -68,7 +68,7 @@ arc_names-are boundaries nodes (row ∷ declared) = arc_names-are boundaries nod
 pub arc_names_of : (declared : List Declared) → arc_names declared ≡ filter_map arc_name declared
 arc_names_of declared = arc_names-are (boundary_names declared) (node_names declared) declared
 
--- a name that isn't taken is of no node, of no boundary and of no arc
+-- a name that isn't taken belongs to no node, no boundary and no arc
 pub record IsFree (declared : List Declared) (name : List ℕ) : Type 0 where
   pub either : is_node declared name ≡ false
   pub boundary : is_among (boundary_names declared) name ≡ false
@@ -104,7 +104,7 @@ no_tank (Stream n from to kind base service ∷ declared) name none =
     no_tank declared name parts.1
 no_tank (row ∷ declared) name none = no_tank declared name none
 
--- a name that no node, no boundary and no arc has is none of those declared
+-- a name that no node, no boundary and no arc has isn't declared
 pub no_name : (declared : List Declared) (name : List ℕ) → is_among (filter_map node_name declared) name ≡ false → is_among (boundary_names declared) name ≡ false
     → is_among (filter_map arc_name declared) name ≡ false → is_among (filter_map declared_name declared) name ≡ false
 no_name [] name nodes boundaries arcs = refl
@@ -165,7 +165,7 @@ pub room_boundaries : (declared : List Declared) (row : Declared) → IsFine dec
 room_boundaries declared (Boundary name) good few = let less = below most_boundaries (length (boundary_names declared)) good.room in omega (arith, less)
 room_boundaries declared row good few = omega (arith, few)
 
--- no version has more arcs than a graph has streams
+-- no version allows more arcs than a graph can have streams
 within_streams : (version : Version) → most_arcs version ≤ most_streams
 within_streams One = omega arith
 within_streams Two = omega arith
@@ -186,7 +186,7 @@ room_arcs declared row boundaries nodes good few = omega (arith, few)
 
 -- ---- the version
 
--- only the first declaration says the version
+-- only the first declaration states the version
 pub no_version : (first : Declared) (declared : List Declared) (row : Declared) → IsFine (first ∷ declared) row → says_version_2 row ≡ false
 no_version first declared Version2 good = cc good.new
 no_version first declared row good = refl

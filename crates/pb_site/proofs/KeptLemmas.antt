@@ -25,7 +25,7 @@ use Rattle.pb_site.specs.Kept.{IsKept, Notes, SameIndex, arc_name, nodes_in, tab
 use Rattle.pb_site.proofs.FaultLemmas.{IsFine, arc_names_of, both, fine, free, no_name, no_tank, no_version, not_false, room_arcs, room_boundaries, room_nodes, same_self, same_sym}
 use Rattle.pb_site.proofs.LookUpLemmas.{node_is, node_last, node_stays, node_within}
 
--- an index that gives the same is kept
+-- an index that gives the same is right too
 pub kept_same : (declared : List Declared) (old new : Index) → IsKept declared old → SameIndex old new → IsKept declared new
 kept_same declared old new kept same = record {
   version = same.version ∙ kept.version;
@@ -50,14 +50,14 @@ version_more (first ∷ declared) Version2 good = cc good.new
 version_more (Version2 ∷ declared) row good = refl
 version_more (first ∷ declared) row good = refl
 
--- a declaration that doesn't say the version leaves it
+-- a declaration that doesn't state the version doesn't change it
 version_stays : (declared : List Declared) (row : Declared) → says_version_2 row ≡ false → version_of (declared ++ row ∷ []) ≡ version_of declared
 version_stays [] Version2 silent = cc silent
 version_stays [] row silent = refl
 version_stays (Version2 ∷ declared) row silent = refl
 version_stays (first ∷ declared) row silent = refl
 
--- only the first declaration says the version
+-- only the first declaration states the version
 once_more : (declared : List Declared) (row : Declared) → IsFine declared row → All (λ (row : Declared). says_version_2 row ≡ false) (drop 1 declared)
     → All (λ (row : Declared). says_version_2 row ≡ false) (drop 1 (declared ++ row ∷ []))
 once_more [] row good once = All-nil (λ (row : Declared). says_version_2 row ≡ false)
@@ -67,7 +67,7 @@ once_more (first ∷ declared) row good once =
 
 -- ---- critical values
 
--- the first value after one more declaration, if none stands before one that declares a value
+-- the first value after one more declaration, if a declaration of a value has no value before it
 value_more : (f : Declared → Option ℤ) (declared : List Declared) (row : Declared) → (is_some (f row) ≡ true → slice_get (filter_map f declared) 0 ≡ None)
     → slice_get (filter_map f (declared ++ row ∷ [])) 0 ≡ value_with (f row) (slice_get (filter_map f declared) 0)
 value_more f declared row fresh = ap (λ (values : List ℤ). slice_get values 0) (filter_map-append f declared (row ∷ [])) ∙ by (f row) (filter_map f declared) fresh
@@ -129,7 +129,7 @@ table_more declared row name good nothing =
         push false points p = refl
     by row good = same_table (is_tank declared name) (points_of declared name)
 
--- no table is of a tank that isn't declared
+-- a tank that isn't declared has no points
 none_more : (declared : List Declared) (row : Declared) (name : List ℕ) → IsFine declared row → ((n : List ℕ) → is_tank declared n ≡ false → points_of declared n ≡ [])
     → is_tank (declared ++ row ∷ []) name ≡ false → points_of (declared ++ row ∷ []) name ≡ []
 none_more declared row name good nothing undeclared =

@@ -41,7 +41,7 @@ place_any test (x ∷ xs) within = elim (cases_Bool (test x)) [
   | inr later ↦ rw later (place_any test xs (omega (arith, rw later at within)))
 ]
 
--- which it keeps if more names come after them
+-- which stays the same if more names follow
 pub place_more : {A : Type 0} (test : A → Bool) (xs more : List A) → position_or_len test xs < length xs → position_or_len test (xs ++ more) ≡ position_or_len test xs
 place_more test [] more within = absurd (omega (arith, within))
 place_more test (x ∷ xs) more within = elim (cases_Bool (test x)) [
@@ -94,7 +94,7 @@ node_within boundaries names name some there = elim (cases_Bool (is_among bounda
   | inr inside ↦ rw inside (any_place (same_name name) names (rw inside at there))
 ]
 
--- and stays it if there are more, of which no boundary has the name of a node
+-- and stays the same if there are more names, and no new boundary has the name of a node
 pub node_stays : (boundaries more names others : List (List ℕ)) (name : List ℕ) → node_at boundaries names name < length names
     → (is_among more name ≡ true → is_among names name ≡ false) → node_at (boundaries ++ more) (names ++ others) name ≡ node_at boundaries names name
 node_stays boundaries more names others name within apart = elim (cases_Bool (is_among boundaries name)) [

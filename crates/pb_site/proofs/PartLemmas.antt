@@ -22,7 +22,7 @@ use Rattle.pb_site.specs.Laws.{DaysLaw, JoinsPlaces, SamePartLaw}
 use Rattle.pb_site.proofs.DaysLemmas.{all_kept, increasing, kept_few, kept_nodes, kept_rises, kept_there, kept_within, place_apart, ranges, same_kept}
 use Rattle.pb_site.proofs.KeptLemmas.{growth_law}
 
--- ---- what is declared later and isn't in service leaves the part as it was
+-- ---- what is declared later and isn't in service doesn't change the part
 
 none_pass : {A : Type 0} (p : A → Bool) (xs : List A) → AllByRecursion (λ x. p x ≡ false) xs → filter p xs ≡ []
 none_pass p [] none = refl
@@ -69,7 +69,7 @@ names_stay declared other more (node ∷ nodes) grown within =
     ap (λ (names : List (List ℕ)). get_or names node (codes "env")) grown ∙ get_or_append_left (node_names declared) more (codes "env") node (within 0 node (omega arith)) in
     ap₂ (λ (name : List ℕ) (names : List (List ℕ)). name ∷ names) here (names_stay declared other more nodes grown (λ k d lt. within (suc k) d (omega (arith, lt))))
 
--- the arc of a declaration that isn't in service isn't
+-- the arc of a declaration that isn't in service isn't in service
 new_away : (boundaries nodes : List (List ℕ)) (row : Declared) (first last : ℤ) → declares_in_service first last row ≡ false
     → AllByRecursion (λ arc. is_arc_in_service first last arc ≡ false) (filter_map (arc_in boundaries nodes) (row ∷ []))
 new_away boundaries nodes (Tank name base service) first last away = (away, tt)
@@ -111,7 +111,7 @@ end_to arcs k d within =
     or_true true = refl
     or_true false = refl
 
--- arcs whose ends are kept join two of the nodes that are
+-- arcs whose ends are kept join two of the kept nodes
 joins : (p : ℕ → Bool) (n : ℕ) (arcs : List Arc) → All (IsArc n) arcs → ((k : ℕ) (d : Arc) → k < length arcs → (p (get_or arcs k d).from ≡ true) × (p (get_or arcs k d).to ≡ true))
     → All (JoinsPlaces (kept_nodes p n)) arcs
 joins p n arcs joined ends k d within =

@@ -1,4 +1,4 @@
--- Statement. The first fault of a new declaration, after the declarations before it.
+-- Statement. The first fault of a new declaration, given the declarations before it.
 use Rattle.std.specs.Prelude.{ℕ, ◌==◌, Bool, true, false, ◌&&◌, ◌||◌, not, nat_le, List, [], ◌∷◌, length, filter_map, Option, Some, None, if◌then◌else◌, is_some}
 use Rattle.pb_limits.specs.Limits.{most_boundaries, most_streams, most_streams_of_version_1, most_units_and_tanks}
 use Rattle.pb_strap.specs.Table.{is_full as is_full_table, rises}
@@ -12,16 +12,16 @@ use Rattle.pb_site.specs.Row.{is_among, node_name}
 use Rattle.pb_site.specs.Service.{is_reversed}
 use Rattle.pb_site.specs.Site.{arc_names, arcs_of, boundary_names, global_of, is_tank, measure_of, nodal_of, node_names, node_of, points_of}
 
--- a name is the environment's, or that of a declared boundary, unit or tank
+-- the name belongs to the environment or to a declared boundary, unit or tank
 abbrev pub is_node : List Declared → List ℕ → Bool
 is_node declared name =
     is_among (boundary_names declared) name || is_among (node_names declared) name
 
--- a name is the environment's, or that of a declared boundary, unit, tank or stream
+-- the name belongs to the environment or to a declared boundary, unit, tank or stream
 abbrev pub is_taken : List Declared → List ℕ → Bool
 is_taken declared name = is_node declared name || is_among (arc_names declared) name
 
--- a point of a table names no declared tank, or an end of a stream no node
+-- a point of a table names a tank that isn't declared, or an end of a stream isn't a node
 abbrev pub is_unknown : List Declared → Declared → Bool
 is_unknown declared (Strap tank mm ml) = not (is_tank declared tank)
 is_unknown declared (Stream name from to kind base service) =
@@ -33,7 +33,7 @@ abbrev pub is_begun : List Declared → Bool
 is_begun [] = false
 is_begun (row ∷ declared) = true
 
--- the name is taken, such a critical value is declared, or the version isn't the first declaration
+-- the name is taken, that critical value is already declared, or the version isn't the first declaration
 abbrev pub is_duplicate : List Declared → Declared → Bool
 is_duplicate declared Version2 = is_begun declared
 is_duplicate declared (UnitRow name) = is_taken declared name
@@ -52,7 +52,7 @@ is_out_of_order declared (Strap tank mm ml) = not (rises (points_of declared tan
 is_out_of_order declared (Stream name from to kind base service) = is_reversed service
 is_out_of_order declared row = false
 
--- two ends are there, and they are one node
+-- both ends are known, and they are the same node
 abbrev pub is_one_node : Option ℕ → Option ℕ → Bool
 is_one_node (Some from) (Some to) = from == to
 is_one_node from to = false
@@ -63,24 +63,24 @@ is_mismatch declared (Stream name from to kind base service) =
     is_one_node (node_of declared from) (node_of declared to)
 is_mismatch declared row = false
 
--- as many units and tanks are declared as there may be
+-- as many units and tanks are declared as are allowed
 abbrev pub has_most_nodes : List Declared → Bool
 has_most_nodes declared = nat_le most_units_and_tanks (length (filter_map node_name declared))
 
--- as many boundaries are declared as there may be
+-- as many boundaries are declared as are allowed
 abbrev pub has_most_boundaries : List Declared → Bool
 has_most_boundaries declared = nat_le most_boundaries (length (boundary_names declared))
 
--- how many streams and tanks a plant has at the most
+-- the most streams and tanks that a plant can have
 abbrev pub most_arcs : Version → ℕ
 most_arcs One = most_streams_of_version_1
 most_arcs Two = most_streams
 
--- as many streams and tanks are declared as there may be
+-- as many streams and tanks are declared as are allowed
 abbrev pub has_most_arcs : Version → List Declared → Bool
 has_most_arcs version declared = nat_le (most_arcs version) (length (arcs_of declared))
 
--- as many units and tanks, boundaries, streams and tanks, or points of the table are declared as there may be
+-- as many units and tanks, boundaries, streams and tanks, or points of the table are declared as are allowed
 abbrev pub is_full : Version → List Declared → Declared → Bool
 is_full version declared (UnitRow name) = has_most_nodes declared
 is_full version declared (Boundary name) = has_most_boundaries declared
@@ -90,7 +90,7 @@ is_full version declared (Strap tank mm ml) = is_full_table (points_of declared 
 is_full version declared (Stream name from to kind base service) = has_most_arcs version declared
 is_full version declared row = false
 
--- the first of these faults that holds
+-- the first of these faults that is present
 abbrev pub first_fault : Bool → Bool → Bool → Bool → Bool → Option SiteFault
 first_fault unknown duplicate order mismatch full =
     if unknown then Some Unknown

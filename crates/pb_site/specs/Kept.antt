@@ -1,4 +1,4 @@
--- Inside. What a site keeps beside the declarations, so that no look-up walks them.
+-- Inside. What a site keeps beside the declarations, so that look-ups don't walk through them.
 use Rattle.std.specs.Prelude.{◌≡◌, ℕ, ◌<◌, ◌≤◌, ◌==◌, ◌-◌, nat_eq, ℤ, Bool, true, false, ◌||◌, List, [], ◌∷◌, ◌++◌, length, get_or, filter, filter_map, position, Option, Some, None, IsSomeAnd, if◌then◌else◌, codes, vec_len, vec_capacity}
 use Rattle.std.specs.Option.{option_map}
 use Rattle.std.specs.HashMap.{get, spare}
@@ -27,21 +27,21 @@ arc_name (Tank name base service) = Some name
 arc_name (Stream name from to kind base service) = Some name
 arc_name row = None
 
--- the names of the nodes by the index
+-- the names of the nodes, according to the index
 abbrev pub nodes_in : Index → List (List ℕ)
 nodes_in index = codes "env" ∷ index.nodes.keys
 
--- a name is that of a boundary or of a node by the index
+-- the name belongs to a boundary or to a node, according to the index
 abbrev pub has_node : Index → List ℕ → Bool
 has_node index name = is_among index.boundaries.keys name || is_among (nodes_in index) name
 
--- the node of a name by the index
+-- the node of a name, according to the index
 abbrev pub node_by : Index → List ℕ → Option ℕ
 node_by index name =
     if is_among index.boundaries.keys name then Some 0
     else position (same_name name) (nodes_in index)
 
--- the index gives the version, names, arcs, tables and critical values of a plant, and no table is of a tank that isn't declared
+-- the index gives the version, names, arcs, tables and critical values of a plant, and a tank that isn't declared has no points
 pub record IsKept (declared : List Declared) (index : Index) : Type 0 where
   pub version : index.version ≡ version_of declared
   pub boundaries : index.boundaries.keys ≡ boundary_names declared
@@ -55,7 +55,7 @@ pub record IsKept (declared : List Declared) (index : Index) : Type 0 where
   pub plant : IsPlant declared
   pub no_points : (name : List ℕ) → is_tank declared name ≡ false → points_of declared name ≡ []
 
--- the version after one more declaration, which may say it
+-- the version after one more declaration, which may state it
 abbrev pub version_with : Declared → Version → Version
 version_with Version2 version = Two
 version_with row version = version
@@ -82,7 +82,7 @@ pub record HasRoom (index : Index) : Type 0 where
   pub straps : 0 < spare index.straps
   pub global : 0 < spare index.global
 
--- an index that gives the same
+-- the new index gives the same as the old one
 pub record SameIndex (old new : Index) : Type 0 where
   pub version : new.version ≡ old.version
   pub boundaries : new.boundaries.keys ≡ old.boundaries.keys
@@ -109,14 +109,14 @@ pub record Notes (old new : Index) (row : Declared) : Type 0 where
   pub nodal : new.nodal ≡ value_with (nodal_value row) old.nodal
   pub measure : new.measure ≡ value_with (measure_value row) old.measure
 
--- a point can stand after the last one of a table
+-- the table has room for this point, which can follow its last one
 pub record CanAdd (mm ml : ℤ) (points : List Point) : Type 0 where
   pub level : IsLevel mm
   pub volume : IsVolume ml
   pub rising : rises points mm ml ≡ true
   pub room : length points < most_points
 
--- the names of a declaration are new, its ends are nodes, and the table of its point is there and takes it
+-- the names of a declaration are new, its ends are nodes, and its point fits a table that exists
 abbrev pub IsNew : Index → Declared → Type 0
 IsNew index (UnitRow name) = is_among index.nodes.keys name ≡ false
 IsNew index (Boundary name) = is_among index.boundaries.keys name ≡ false
@@ -136,25 +136,25 @@ is_marked marks node = get_or marks node false
 abbrev pub marked_nodes : List Bool → List ℕ
 marked_nodes marks = 0 ∷ filter (is_marked marks) (range_with_len 1 (length marks - 1))
 
--- of each of that many nodes, whether it is one of these
+-- for each of `count` nodes, whether it is one of these
 pub record MarksNodes (count : ℕ) (nodes : List ℕ) (marks : List Bool) : Type 0 where
   pub each : length marks ≡ count
   pub few : length marks ≤ most_nodes
   pub marked : marked_nodes marks ≡ nodes
 
--- of each of that many nodes, whether it is an end of one of these arcs
+-- for each of this number of nodes, whether it is an end of one of these arcs
 pub record AreEnds (nodes : ℕ) (arcs : List Arc) (ends : List Bool) : Type 0 where
   pub each : length ends ≡ nodes
   pub few : length ends ≤ most_nodes
   pub marked : (node : ℕ) → node < nodes → is_marked ends node ≡ is_end_of arcs node
 
--- the ends of an arc are marked beside those that were
+-- the ends of an arc are marked in addition to the nodes already marked
 pub record MarksEnds (arc : Arc) (old new : List Bool) : Type 0 where
   pub each : length new ≡ length old
   pub marked : (node : ℕ) → node < length old
       → is_marked new node ≡ (is_marked old node || ((arc.from == node) || (arc.to == node)))
 
--- nodes in order, not too many for a graph
+-- nodes in increasing order, not too many for a graph
 pub record AreNodes (nodes : List ℕ) : Type 0 where
   pub order : IsStrictlyIncreasing nodes
   pub few : length nodes ≤ most_nodes

@@ -1,4 +1,4 @@
--- Statement. What holds of each plant that is declared row by row.
+-- Statement. What holds for each plant that is declared row by row.
 use Rattle.std.specs.Prelude.{◌≡◌, ◌≢◌, ℕ, ◌≤◌, ◌<◌, ℤ, List, [], ◌∷◌, ◌++◌, filter_map, drop, length, All, true, false, None}
 use Rattle.std.specs.List.Sorted.{IsStrictlyIncreasing}
 use Rattle.pb_limits.specs.Limits.{most_boundaries, most_nodes, most_streams}
@@ -11,8 +11,8 @@ use Rattle.pb_site.specs.Site.{AreDistinct, HasDistinctNames, IsArc, arcs_of, bo
 use Rattle.pb_site.specs.OnDays.{arcs_on, declares_in_service, has_place, names_on, nodes_on, place_among}
 use Rattle.pb_site.specs.Faults.{fault_of}
 
--- numbers and days are in their ranges, names are distinct, each arc leads from a node to another one, there are not too many nodes,
--- boundaries and arcs, and only the first declaration says the version
+-- numbers and days are in their ranges, names are distinct, each arc leads from a node to another one, the numbers of nodes,
+-- boundaries and arcs are within the limits, and only the first declaration can state the version
 pub record IsPlant (declared : List Declared) : Type 0 where
   pub ranges : All IsInRange declared
   pub distinct : HasDistinctNames declared
@@ -22,14 +22,14 @@ pub record IsPlant (declared : List Declared) : Type 0 where
   pub few_arcs : length (arcs_of declared) ≤ most_streams
   pub version : All (λ row. says_version_2 row ≡ false) (drop 1 declared)
 
--- each plant whose declarations had no fault is one
+-- all of this holds for each plant whose declarations had no fault
 abbrev pub PlantLaw : Type 0
 PlantLaw =
     IsPlant []
     × ((declared : List Declared) (row : Declared) → IsPlant declared → IsInRange row
     → fault_of (version_of declared) declared row ≡ None → IsPlant (declared ++ row ∷ []))
 
--- one more declaration leaves the nodes and arcs that were there, and the version unless it says it
+-- one more declaration keeps the existing nodes and arcs, and the version unless it states one
 pub record GrowsBy (declared : List Declared) (row : Declared) (grown : List Declared)
     : Type 0 where
   pub nodes : node_names grown ≡ node_names declared ++ filter_map node_name (row ∷ [])
@@ -49,8 +49,8 @@ pub record JoinsPlaces (nodes : List ℕ) (arc : Arc) : Type 0 where
   pub ends : has_place nodes arc.to ≡ true
   pub apart : place_among nodes arc.from ≢ place_among nodes arc.to
 
--- the nodes of some days are nodes of the plant, in order, each arc of these days joins two of them, and the names of the nodes are
--- distinct, and those of the arcs
+-- the nodes on some days are nodes of the plant, in order; each arc on these days joins two of them; no two of these nodes have the
+-- same name, and no two of these arcs
 pub record IsPartOnDays (version : Version) (declared : List Declared) (first last : ℤ)
     : Type 0 where
   pub few : length (nodes_on version declared first last) ≤ length (node_names declared)
@@ -73,7 +73,7 @@ pub record IsSamePart (declared other : List Declared) (first last : ℤ) : Type
   pub nodes : nodes_on Two other first last ≡ nodes_on Two declared first last
   pub names : names_on Two other first last ≡ names_on Two declared first last
 
--- a declaration that isn't in service on some days leaves the part of the plant on these days as it was
+-- a declaration that isn't in service on some days doesn't change the part of the plant on these days
 abbrev pub SamePartLaw : Type 0
 SamePartLaw =
     (declared : List Declared) (row : Declared) (first last : ℤ) → IsPlant declared

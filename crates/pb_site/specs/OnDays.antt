@@ -10,12 +10,12 @@ use Rattle.pb_site.specs.declared.declared.Version.TheVariants.{One, Two}
 use Rattle.pb_site.specs.Service.{is_in_service_within}
 use Rattle.pb_site.specs.Site.{arcs_of, names_of, node_names}
 
--- an arc is in service on some day from a first to a last one
+-- an arc is in service on some day from `first` to `last`
 abbrev pub is_arc_in_service : ℤ → ℤ → Arc → Bool
 is_arc_in_service first last arc = is_in_service_within arc.service first last
 
--- The arcs on the days from a first to a last one, in order of declaration: in version 1 all, in version 2 those that are in service
--- on some of the days.
+-- The arcs on the days from `first` to `last`, in order of declaration: in version 1 all arcs, in version 2 those in service on at
+-- least one of these days.
 abbrev pub arcs_on : Version → List Declared → ℤ → ℤ → List Arc
 arcs_on One declared first last = arcs_of declared
 arcs_on Two declared first last = filter (is_arc_in_service first last) (arcs_of declared)
@@ -24,12 +24,12 @@ arcs_on Two declared first last = filter (is_arc_in_service first last) (arcs_of
 abbrev pub is_end_of : List Arc → ℕ → Bool
 is_end_of arcs node = list_any (λ (arc : Arc). (arc.from == node) || (arc.to == node)) arcs
 
--- the units and tanks, as nodes: all but the environment
+-- the units and tanks, as nodes: all nodes except the environment
 abbrev pub places_of : List Declared → List ℕ
 places_of declared = range_with_len 1 (length (node_names declared) - 1)
 
--- The nodes on these days, in order of declaration: the environment, and in version 1 all units and tanks, in version 2 those that are
--- an end of an arc of these days.
+-- The nodes on these days, in order of declaration: the environment, and then all units and tanks in version 1, or in version 2
+-- those that are an end of an arc on these days.
 abbrev pub nodes_on : Version → List Declared → ℤ → ℤ → List ℕ
 nodes_on One declared first last = 0 ∷ places_of declared
 nodes_on Two declared first last =
@@ -55,7 +55,7 @@ has_place nodes node = list_any (λ (n : ℕ). n == node) nodes
 abbrev pub place_among : List ℕ → ℕ → ℕ
 place_among nodes node = position_or_len (λ (n : ℕ). n == node) nodes
 
--- a declaration of a stream or tank that is in service on some day from a first to a last one
+-- the declaration is of a stream or tank that is in service on some day from `first` to `last`
 abbrev pub declares_in_service : ℤ → ℤ → Declared → Bool
 declares_in_service first last (Tank name base service) =
     is_in_service_within service first last

@@ -1,4 +1,4 @@
--- Statement. What one declaration says: its ranges, the node, the boundary, the arc, the point and the critical value that it declares.
+-- Statement. What one declaration says: its ranges, and the node, boundary, arc, point or critical value that it declares.
 use Rattle.std.specs.Prelude.{◌≡◌, ℕ, ◌==◌, ℤ, pos, ◌≤◌, Bool, true, false, List, Option, Some, None, IfSome, if◌then◌else◌}
 use Rattle.std.specs.List.{list_any, position_or_len}
 use Rattle.pb_limits.specs.Limits.{most_freedom}
@@ -14,7 +14,7 @@ use Rattle.pb_site.specs.declared.declared.Declared.{Declared}
 use Rattle.pb_site.specs.declared.declared.Declared.TheVariants.{Version2, Unit as UnitRow, Boundary, Tank, Strap, Stream, CritGlobal, CritNodal, CritMeasure}
 use Rattle.pb_site.specs.Service.{IsService}
 
--- the base variance of an arc of a kind: a plain one has none
+-- the base variance of an arc of this kind: 0 for a plain arc
 abbrev pub IsArcBase : ArcKind → ℤ → Type 0
 IsArcBase PlainArc base = base ≡ pos 0
 IsArcBase kind base = IsBaseVariance base
@@ -36,7 +36,7 @@ IsInRange (CritNodal value) = IsCriticalValue value
 IsInRange (CritMeasure value) = IsCriticalValue value
 IsInRange row = Unit {0}
 
--- the declaration that the session is of version 2
+-- this is the declaration that the session is of version 2
 abbrev pub says_version_2 : Declared → Bool
 says_version_2 Version2 = true
 says_version_2 row = false
@@ -64,8 +64,8 @@ declared_name row = None
 abbrev pub is_among : List (List ℕ) → List ℕ → Bool
 is_among names name = list_any (same_name name) names
 
--- The node of a name, given the names of the boundaries and those of the nodes, of which the first is the environment's: a boundary
--- is the environment, and the node of any other name is its place among the names of the nodes.
+-- The node of a name, given the names of the boundaries and those of the nodes, the environment's first. The node of a boundary is
+-- the environment; that of any other name is its place among the names of the nodes.
 abbrev pub node_at : List (List ℕ) → List (List ℕ) → List ℕ → ℕ
 node_at boundaries nodes name =
     if is_among boundaries name then 0 else position_or_len (same_name name) nodes

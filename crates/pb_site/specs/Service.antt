@@ -5,28 +5,28 @@ use Rattle.std.specs.Ordering.{int_eq}
 use Rattle.pb_rows.specs.Date.{IsDay}
 use Rattle.pb_site.specs.declared.declared.Service.{Service}
 
--- the first day in service and the last one are days that a field writes
+-- the first and last days in service are days that a field can hold
 pub record IsService (service : Service) : Type 0 where
   pub since : IsDay service.since
   pub until : IsDay service.until
 
--- the last day in service comes before the first one
+-- the last day in service comes before the first
 abbrev pub is_reversed : Option Service → Bool
 is_reversed None = false
 is_reversed (Some service) = int_lt service.until service.since
 
--- in service on a day; without days of service on every day
+-- in service on this day; if there are no days of service, on every day
 abbrev pub is_in_service_on : Option Service → ℤ → Bool
 is_in_service_on None day = true
 is_in_service_on (Some service) day = int_le service.since day && int_le day service.until
 
--- in service on each day from a first to a last one
+-- in service on each day from `first` to `last`
 abbrev pub is_in_service_throughout : Option Service → ℤ → ℤ → Bool
 is_in_service_throughout None first last = true
 is_in_service_throughout (Some service) first last =
     int_le service.since first && int_le last service.until
 
--- in service on some day from a first to a last one, which doesn't come before it
+-- in service on some day from `first` to `last`, which isn't before `first`
 abbrev pub is_in_service_within : Option Service → ℤ → ℤ → Bool
 is_in_service_within None first last = true
 is_in_service_within (Some service) first last =
@@ -37,20 +37,20 @@ abbrev pub is_eve : Option Service → ℤ → Bool
 is_eve None day = false
 is_eve (Some service) day = int_eq day (service.since -ℤ pos 1)
 
--- of the days from a first one on, the first in service
+-- the first day in service from `first` on
 abbrev pub first_served : Option Service → ℤ → ℤ
 first_served None first = first
 first_served (Some service) first = int_max first service.since
 
--- of the days up to a last one, the last in service
+-- the last day in service up to `last`
 abbrev pub last_served : Option Service → ℤ → ℤ
 last_served None last = last
 last_served (Some service) last = int_min last service.until
 
--- the content of a tank opens at the end of the day before the first one in service
+-- the day at whose end a tank has its opening content: the day before the first in service
 abbrev pub day_of_opening : Option Service → ℤ → ℤ
 day_of_opening service first = first_served service first -ℤ pos 1
 
--- and closes at the end of the last one
+-- and the day at whose end it has its closing content: the last in service
 abbrev pub day_of_closing : Option Service → ℤ → ℤ
 day_of_closing service last = last_served service last

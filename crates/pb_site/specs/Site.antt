@@ -20,7 +20,7 @@ abbrev pub version_of : List Declared → Version
 version_of (Version2 ∷ declared) = Two
 version_of declared = One
 
--- the names of the nodes: the environment's, and then those of the units and tanks
+-- the names of the nodes: first the environment's, then those of the units and tanks
 abbrev pub node_names : List Declared → List (List ℕ)
 node_names declared = codes "env" ∷ filter_map node_name declared
 
@@ -28,7 +28,7 @@ node_names declared = codes "env" ∷ filter_map node_name declared
 abbrev pub boundary_names : List Declared → List (List ℕ)
 boundary_names declared = filter_map boundary_name declared
 
--- the node of this name: a boundary is the environment
+-- the node of this name; that of a boundary is the environment
 abbrev pub node_of : List Declared → List ℕ → Option ℕ
 node_of declared name =
     if is_among (boundary_names declared) name then Some 0
@@ -57,7 +57,7 @@ arc_named declared name = find (λ (arc : Arc). same_name name arc.name) (arcs_o
 abbrev pub kind_of : List Declared → List ℕ → Option ArcKind
 kind_of declared name = option_map (λ (arc : Arc). arc.kind) (arc_named declared name)
 
--- the days on which the arc of this name is in service: version 1 has none
+-- the days on which the arc of this name is in service; version 1 has no such days
 abbrev pub service_in : Version → List Declared → List ℕ → Option Service
 service_in One declared name = None
 service_in Two declared name =
@@ -71,7 +71,8 @@ names_of declared = record { nodes = node_names declared; streams = arc_names de
 abbrev pub AreDistinct : List (List ℕ) → Type 0
 AreDistinct names = AllPairs (λ a b. same_name a b ≡ false) names
 
--- no two nodes have one name, the environment among them, and no two arcs; nor have any two units, boundaries, tanks and streams
+-- no two nodes have the same name (the environment counts as one), and no two arcs; nor have any two units, boundaries, tanks or
+-- streams
 pub record HasDistinctNames (declared : List Declared) : Type 0 where
   pub nodes : AreDistinct (node_names declared)
   pub arcs : AreDistinct (arc_names declared)
@@ -89,7 +90,7 @@ points_of declared tank = filter_map (point_of tank) declared
 abbrev pub table_of : List Declared → List ℕ → Option (List Point)
 table_of declared tank = if is_tank declared tank then Some (points_of declared tank) else None
 
--- the table of an arc of a name: that of the tank whose inventory it is, and none of a stream
+-- the table of an arc of this name: that of the tank whose inventory the arc is; a stream has no table
 abbrev pub table_of_kind : List Declared → List ℕ → ArcKind → Option (List Point)
 table_of_kind declared name Tank = Some (points_of declared name)
 table_of_kind declared name kind = None

@@ -5,7 +5,7 @@ ghost use Rattle.pb_site.specs.Row.{arc_kind};
 
 use pb_rows::Name;
 
-/// The version of a session, which says what may be declared.
+/// The version of a session, which determines what can be declared.
 #[derive(Clone, Copy, Debug, PartialEq, Eq)]
 pub enum Version {
     /// Up to 2,000 streams and tanks, each in service on every day.
@@ -21,7 +21,7 @@ pub struct Service {
     pub until: i32,
 }
 
-/// The kind of a stream: with a meter that is read each day, moved in batches, or plain, without a measurement.
+/// The kind of a stream: with a meter that is read each day, moved in batches, or plain (not measured).
 #[derive(Clone, Copy, Debug, PartialEq, Eq)]
 pub enum Kind {
     Metered,
@@ -50,8 +50,8 @@ impl From<Kind> for ArcKind {
     }
 }
 
-/// An arc of the plant: a declared stream, or the inventory stream of a tank, which leads from the tank to the environment and
-/// bears the tank's name. `from` and `to` are nodes, `base` is its base variance in squared grams, and without `service` it is in
+/// An arc of the plant: a declared stream, or the inventory stream of a tank, which leads from the tank to the environment and has
+/// the tank's name. `from` and `to` are nodes, `base` is its base variance in squared grams, and if `service` is `None`, it is in
 /// service on every day.
 #[derive(Clone, Copy)]
 pub struct Arc {
@@ -66,7 +66,7 @@ pub struct Arc {
 /// A declaration.
 #[derive(Clone, Copy)]
 pub enum Declared {
-    /// That the session is of version 2, which only the first declaration can say.
+    /// States that the session is of version 2; only the first declaration can do so.
     Version2,
     /// A unit of the plant.
     Unit {
@@ -90,7 +90,7 @@ pub enum Declared {
         ml: i64,
     },
     /// A stream from one unit or tank to another, or from or to the environment or a boundary. `base` is its base variance: from 1
-    /// to 10^19 squared grams of a metered or batch stream, 0 of a plain one.
+    /// to 10^19 squared grams for a metered or batch stream, 0 for a plain one.
     Stream {
         name: Name,
         from: Name,
@@ -114,18 +114,18 @@ pub enum Declared {
     },
 }
 
-/// Why a declaration isn't taken.
+/// Why a declaration is refused.
 #[derive(Clone, Copy, Debug, PartialEq, Eq)]
 pub enum SiteFault {
-    /// No tank is declared of the name in a strapping point, or no unit, tank or boundary of the name at an end of a stream.
+    /// No tank of the name in a strapping point is declared, or no unit, tank or boundary of the name at an end of a stream.
     Unknown,
-    /// The name is the environment's or that of a declared unit, boundary, tank or stream, such a critical value was declared, or
-    /// the version comes after another declaration.
+    /// The name belongs to the environment or to a declared unit, boundary, tank or stream, that critical value was already
+    /// declared, or the version comes after another declaration.
     Duplicate,
-    /// A level that isn't above the table's last one, a volume below its last one, or a last day in service before the first.
+    /// A level isn't above the table's last one, a volume is below its last one, or the last day in service is before the first.
     Order,
-    /// A stream from a node to itself; all boundaries are one node, the environment.
+    /// A stream leads from a node to itself. All boundaries are one node, the environment.
     Mismatch,
-    /// As many units and tanks, boundaries, streams and tanks, or points of a table as there may be.
+    /// There are already as many units and tanks, boundaries, streams and tanks, or points of a table as are allowed.
     Full,
 }

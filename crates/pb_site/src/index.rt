@@ -1,4 +1,4 @@
-// What is looked up, so that no look-up walks the declarations.
+// What is kept for look-ups, so that they don't walk through the declarations.
 
 ghost use Rattle.std.specs.Prelude.{◌≡◌, ℕ, ◌<◌, ◌≤◌, ◌∷◌, ◌++◌, [], List, Option, Some, IsSomeAnd, if◌then◌else◌, true, false, length, position, OnOk, OnErr};
 ghost use Rattle.std.specs.HashMap.{get, spare};
@@ -33,7 +33,7 @@ pub struct Index {
 }
 
 impl Index {
-    /// Makes room for one more declaration, and leaves all as it is.
+    /// Makes room for one more declaration, and changes nothing else.
     pub fn reserve(&mut self) -> Result<(), AllocError>
         ensures same { SameIndex self.old self.new }
         ensures room { OnOk result (HasRoom self.new) }
@@ -46,7 +46,7 @@ impl Index {
         self.global.reserve(1)
     }
 
-    /// Notes a declaration whose names are new. After an `Err`, out of memory, all is as it was.
+    /// Notes a declaration whose names are new. After an `Err` (out of memory), everything is as it was.
     pub fn note(&mut self, alloc: Global, row: &Declared) -> Result<(), AllocError>
         requires room { HasRoom self.old }
         requires few { length self.old.nodes.keys ≤ most_units_and_tanks }
@@ -110,7 +110,7 @@ impl Index {
         }
     }
 
-    // The node of a name that a node has.
+    // The node of a name that is known to belong to one.
     fn end(&self, name: &Name) -> u32
         requires few { length self.now.nodes.keys ≤ most_units_and_tanks }
         requires known { has_node self.now name.now ≡ true }
@@ -130,14 +130,14 @@ pub fn env() -> Name
     }
 }
 
-/// Whether a name is the environment's.
+/// Whether this is the environment's name.
 pub fn is_env(name: &Name) -> bool
     ensures { result ≡ same_name name.now (codes "env") }
 {
     name.bytes() == b"env".as_slice()
 }
 
-// The inventory stream of the tank that is the last node.
+// The inventory stream of the last node, which is a tank.
 fn inventory(nodes: &IndexSet<Name>, name: Name, base: i128, service: Option<Service>) -> Arc
     requires { length nodes.now.keys ≤ most_nodes }
     ensures { result ≡ record {
@@ -181,7 +181,7 @@ fn put<K: Eq + Hash + Drop, V: Drop>(map: &mut HashMap<K, V>, key: K, value: V)
     }
 }
 
-// Adds a point to a tank's table. After an `Err`, out of memory, the tables are as they were.
+// Adds a point to a tank's table. After an `Err` (out of memory), the tables are as they were.
 fn add_point(
     straps: &mut HashMap<Name, Strap>,
     tank: &Name,

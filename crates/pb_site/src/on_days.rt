@@ -15,8 +15,8 @@ use pb_rows::{NameList, Names};
 use std::alloc::{AllocError, Global};
 use std::marker::Model;
 
-/// The nodes of the part of a plant that is in service on some days: the environment, and in version 1 all units and tanks, in version
-/// 2 those that are an end of an arc in service on one of these days.
+/// The nodes of the part of a plant that is in service on some days: the environment, and then all units and tanks in version 1, or
+/// in version 2 those that are an end of an arc in service on one of these days.
 #[derive(Drop)]
 pub struct OnDays {
     nodes: Vec<u32>,
@@ -34,7 +34,7 @@ impl Model for OnDays {
 }
 
 impl OnDays {
-    /// The part of a plant that is in service on the days from a first to a last one.
+    /// The part of a plant that is in service on the days from `first` to `last`.
     pub fn of(alloc: Global, site: &Site, first: i32, last: i32) -> Result<OnDays, AllocError>
         ensures value { IfOk result (λ nodes. nodes
             ≡ nodes_on (version_of site.now) site.now first last) }
@@ -46,7 +46,7 @@ impl OnDays {
         })
     }
 
-    /// The nodes in order, of which the first is the environment.
+    /// The nodes in order; the first is the environment.
     pub fn nodes(&self) -> &[u32]
         ensures value { result.now ≡ self.now }
         ensures within { length self.now ≤ most_nodes }
@@ -54,7 +54,7 @@ impl OnDays {
         self.nodes.as_slice()
     }
 
-    /// The place of a node among those of these days.
+    /// The place of a node among the nodes on these days.
     pub fn place(&self, node: u32) -> u32
         requires { has_place self.now node ≡ true }
         ensures value { result ≡ place_among self.now node }
@@ -64,7 +64,7 @@ impl OnDays {
     }
 }
 
-/// The names of the nodes and arcs of the part of a plant that is in service on the days from a first to a last one, in order.
+/// The names of the nodes and arcs of the part of a plant that is in service on the days from `first` to `last`, in order.
 pub fn names_on(alloc: Global, site: &Site, first: i32, last: i32) -> Result<Names, AllocError>
     ensures value { IfOk result (λ names. names
         ≡ names_on (version_of site.now) site.now first last) }
@@ -110,7 +110,7 @@ fn arc_names_on(alloc: Global, site: &Site, first: i32, last: i32) -> Result<Nam
     Ok(names)
 }
 
-// Of each node of the plant, whether it is one of those of these days.
+// For each node of the plant, whether it is one of the nodes on these days.
 fn marks_on(alloc: Global, site: &Site, first: i32, last: i32) -> Result<Vec<bool>, AllocError>
     ensures marks { IfOk result (λ marks. MarksNodes (length (node_names site.now))
         (nodes_on (version_of site.now) site.now first last) marks.items) }
@@ -122,7 +122,7 @@ fn marks_on(alloc: Global, site: &Site, first: i32, last: i32) -> Result<Vec<boo
     }
 }
 
-// Of each node of the plant, whether it is an end of an arc that is in service on these days.
+// For each node of the plant, whether it is an end of an arc that is in service on these days.
 fn ends_on(alloc: Global, site: &Site, first: i32, last: i32) -> Result<Vec<bool>, AllocError>
     ensures { IfOk result (λ ends. AreEnds (length (node_names site.now))
         (filter (is_arc_in_service first last) (arcs_of site.now)) ends.items) }

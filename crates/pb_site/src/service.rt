@@ -26,7 +26,7 @@ pub fn is_in_service_on(service: Option<Service>, day: i32) -> bool
     }
 }
 
-/// Whether it is in service on each day from a first to a last one.
+/// Whether it is in service on each day from `first` to `last`.
 pub fn is_in_service_throughout(service: Option<Service>, first: i32, last: i32) -> bool
     ensures { result ≡ is_in_service_throughout service first last }
 {
@@ -36,7 +36,7 @@ pub fn is_in_service_throughout(service: Option<Service>, first: i32, last: i32)
     }
 }
 
-/// Whether it is in service on some day from a first to a last one, which doesn't come before it.
+/// Whether it is in service on some day from `first` to `last`, which isn't before `first`.
 pub fn is_in_service_within(service: Option<Service>, first: i32, last: i32) -> bool
     ensures { result ≡ is_in_service_within service first last }
 {
@@ -46,7 +46,7 @@ pub fn is_in_service_within(service: Option<Service>, first: i32, last: i32) -> 
     }
 }
 
-/// Whether a day is the one before the first in service.
+/// Whether this is the day before the first in service.
 pub fn is_eve(service: Option<Service>, day: i32) -> bool
     ensures { result ≡ is_eve service day }
 {
@@ -56,7 +56,7 @@ pub fn is_eve(service: Option<Service>, day: i32) -> bool
     }
 }
 
-/// Of the days from a first one on, the first in service.
+/// The first day in service from `first` on.
 pub fn first_served(service: Option<Service>, first: i32) -> i32
     ensures { result ≡ first_served service first }
 {
@@ -66,7 +66,7 @@ pub fn first_served(service: Option<Service>, first: i32) -> i32
     }
 }
 
-/// Of the days up to a last one, the last in service.
+/// The last day in service up to `last`.
 pub fn last_served(service: Option<Service>, last: i32) -> i32
     ensures { result ≡ last_served service last }
 {
@@ -76,7 +76,7 @@ pub fn last_served(service: Option<Service>, last: i32) -> i32
     }
 }
 
-/// The day at whose end the content of a tank opens, of the days from a first one on: the one before the first in service.
+/// The day at whose end a tank has its opening content: the day before the first in service from `first` on.
 pub fn opening_day(service: Option<Service>, first: i32) -> i32
     requires { IsDay first }
     ensures { result ≡ day_of_opening service first }
@@ -84,7 +84,7 @@ pub fn opening_day(service: Option<Service>, first: i32) -> i32
     first_served(service, first) - 1
 }
 
-/// The day at whose end the content of a tank closes, of the days up to a last one: the last in service.
+/// The day at whose end a tank has its closing content: the last day in service up to `last`.
 pub fn closing_day(service: Option<Service>, last: i32) -> i32
     ensures { result ≡ day_of_closing service last }
 {

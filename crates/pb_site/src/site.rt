@@ -40,7 +40,7 @@ impl Model for Site {
 }
 
 impl Site {
-    /// A plant of which nothing is declared yet.
+    /// A plant without declarations.
     pub fn new(alloc: Global) -> Site
         ensures { result ≡ [] }
     {
@@ -61,7 +61,7 @@ impl Site {
         }
     }
 
-    /// The first fault of a new declaration, of Unknown, Duplicate, Order, Mismatch and Full; `None` iff there is none.
+    /// The first fault of a new declaration, in the order Unknown, Duplicate, Order, Mismatch, Full; `None` iff it has no fault.
     pub fn judge(&self, row: &Declared) -> Option<SiteFault>
         ensures { result ≡ fault_of (version_of self.now) self.now row.now }
     {
@@ -80,7 +80,7 @@ impl Site {
         }
     }
 
-    /// Adds a declaration that has no fault. After an `Err`, out of memory, the plant is as it was.
+    /// Adds a declaration that has no fault. After an `Err` (out of memory), the plant is as it was.
     pub fn add(&mut self, row: Declared) -> Result<(), AllocError>
         requires in_range { IsInRange row }
         requires no_fault { fault_of (version_of self.old) self.old row ≡ None }
@@ -116,7 +116,7 @@ impl Site {
         self.declared.is_empty()
     }
 
-    /// The version of the session, which the first declaration says.
+    /// The version of the session, which only the first declaration can state.
     pub fn version(&self) -> Version
         ensures value { result ≡ version_of self.now }
         ensures plant { IsPlant self.now }
@@ -139,7 +139,7 @@ impl Site {
         self.index.nodes.len() as u32 + 1
     }
 
-    /// The name of a node, which is the environment's, a unit's or a tank's.
+    /// The name of a node: the environment's, a unit's or a tank's.
     pub fn node_name(&self, node: u32) -> Name
         requires { node < length (node_names self.now) }
         ensures { slice_get (node_names self.now) node ≡ Some result }
@@ -167,7 +167,7 @@ impl Site {
         self.index.arcs[place as usize]
     }
 
-    /// The strapping table of the arc at a place; `None` iff the arc isn't a tank's.
+    /// The strapping table of the arc at a place; `None` iff the arc isn't a tank's inventory.
     pub fn strap(&self, place: u32) -> Option<&Strap>
         requires { place < length (arcs_of self.now) }
         ensures { option_copied result
@@ -207,8 +207,8 @@ impl Site {
         }
     }
 
-    /// The days on which the stream or tank of a name is in service; `None` in version 1, if its row has no such days, and if there
-    /// is no stream or tank of the name.
+    /// The days on which the stream or tank of a name is in service; `None` in version 1, if its row has no such days, or if there
+    /// is no stream or tank of this name.
     pub fn service_of(&self, name: &Name) -> Option<Service>
         ensures { result ≡ service_in (version_of self.now) self.now name.now }
     {
@@ -253,8 +253,8 @@ impl Site {
         self.index.measure
     }
 
-    /// The names of the nodes and arcs. No two nodes have one name, the environment's among them, and no two arcs; nor have any two
-    /// units, boundaries, tanks and streams.
+    /// The names of the nodes and arcs. No two nodes have the same name (the environment counts as one), and no two arcs; nor have
+    /// any two units, boundaries, tanks or streams.
     pub fn names(&self) -> Result<Names, AllocError>
         ensures ok { IfOk result (λ names. names ≡ names_of self.now) }
         ensures distinct { HasDistinctNames self.now }
@@ -279,7 +279,7 @@ impl Site {
         }
     }
 
-    // Whether a point names no declared tank, or an end of a stream no node.
+    // Whether a point names a tank that isn't declared, or an end of a stream isn't a node.
     fn is_unknown(&self, row: &Declared) -> bool
         ensures { result ≡ is_unknown self.now row.now }
     {
@@ -290,7 +290,7 @@ impl Site {
         }
     }
 
-    // Whether the name is taken, such a critical value was declared, or the version isn't the first declaration.
+    // Whether the name is taken, that critical value is already declared, or the version isn't the first declaration.
     fn is_duplicate(&self, row: &Declared) -> bool
         ensures { result ≡ is_duplicate self.now row.now }
     {
@@ -307,7 +307,7 @@ impl Site {
         }
     }
 
-    // Whether a point can't stand after the last one of its table, or the last day in service comes before the first.
+    // Whether a point can't follow the last one of its table, or the last day in service comes before the first.
     fn is_out_of_order(&self, row: &Declared) -> bool
         ensures { result ≡ is_out_of_order self.now row.now }
     {
@@ -322,7 +322,7 @@ impl Site {
         }
     }
 
-    // Whether there are as many units and tanks, boundaries, streams and tanks, or points of the table as there may be.
+    // Whether there are already as many units and tanks, boundaries, streams and tanks, or points of the table as are allowed.
     fn is_full(&self, row: &Declared) -> bool
         ensures { result ≡ is_full (version_of self.now) self.now row.now }
     {
@@ -349,35 +349,35 @@ impl Site {
         }
     }
 
-    // Whether there are as many units and tanks as there may be.
+    // Whether there are already as many units and tanks as are allowed.
     fn has_most_nodes(&self) -> bool
         ensures { result ≡ has_most_nodes self.now }
     {
         self.index.nodes.len() >= MOST_UNITS_AND_TANKS
     }
 
-    // Whether there are as many boundaries as there may be.
+    // Whether there are already as many boundaries as are allowed.
     fn has_most_boundaries(&self) -> bool
         ensures { result ≡ has_most_boundaries self.now }
     {
         self.index.boundaries.len() >= MOST_BOUNDARIES
     }
 
-    // Whether there are as many streams and tanks as there may be.
+    // Whether there are already as many streams and tanks as are allowed.
     fn has_most_arcs(&self) -> bool
         ensures { result ≡ has_most_arcs (version_of self.now) self.now }
     {
         self.index.arcs.len() >= most_arcs(self.index.version)
     }
 
-    // Whether a name is the environment's, or that of a declared boundary, unit or tank.
+    // Whether a name belongs to the environment or to a declared boundary, unit or tank.
     fn is_node(&self, name: &Name) -> bool
         ensures { result ≡ is_node self.now name.now }
     {
         self.index.boundaries.contains(name) || is_env(name) || self.index.nodes.contains(name)
     }
 
-    // Whether a name is the environment's, or that of a declared boundary, unit, tank or stream.
+    // Whether a name belongs to the environment or to a declared boundary, unit, tank or stream.
     fn is_taken(&self, name: &Name) -> bool
         ensures { result ≡ is_taken self.now name.now }
     {
@@ -385,7 +385,7 @@ impl Site {
     }
 }
 
-// How many streams and tanks a plant of a version has at the most.
+// The most streams and tanks that a plant of this version can have.
 fn most_arcs(version: Version) -> usize
     ensures { result ≡ most_arcs version }
 {
@@ -395,7 +395,7 @@ fn most_arcs(version: Version) -> usize
     }
 }
 
-// Whether two ends are there, and are one node.
+// Whether both ends are known, and are the same node.
 fn is_one_node(from: Option<u32>, to: Option<u32>) -> bool
     ensures { result ≡ is_one_node from to }
 {

@@ -278,7 +278,7 @@ volumes_rise (p ∷ []) i d h lt = absurd (omega (arith, lt))
 volumes_rise (p ∷ q ∷ rest) zero d h lt = h.1
 volumes_rise (p ∷ q ∷ rest) (suc i) d h lt = volumes_rise (q ∷ rest) i d h.2 (omega (arith, lt))
 
--- the points below a level stand in front
+-- the points below a level come first
 pub is_partitioned : (points : List Point) (mm : ℤ) → IsRising points → IsPartitionedBy (λ p. int_lt p.mm mm) points
 is_partitioned points mm h i j d le lt below =
     let rise = levels_rise points i j d h le lt in

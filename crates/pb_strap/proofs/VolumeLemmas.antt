@@ -25,7 +25,7 @@ one_point p mm v at = by_lt_z mm p.mm
 walk-past : (p q : Point) (rest : List Point) (mm : ℤ) → p.mm ≤ℤ mm → q.mm <ℤ mm → volume_of (p ∷ q ∷ rest) mm ≡ volume_of (q ∷ rest) mm
 walk-past p q rest mm from above = rw (lt_false mm p.mm from) (rw (le_false mm q.mm above) refl)
 
--- what may stand behind a table may stand behind its rest
+-- what may follow a table may follow its rest
 rises-rest : (p q : Point) (rest : List Point) (mm ml : ℤ) → rises (p ∷ q ∷ rest) mm ml ≡ true → rises (q ∷ rest) mm ml ≡ true
 rises-rest p q rest mm ml above =
     let last : length (p ∷ q ∷ rest) - 1 ≡ suc (length (q ∷ rest) - 1) = omega arith in
@@ -48,7 +48,7 @@ table_grows (p ∷ q ∷ rest) mm ml level volume above at =
     ∙ table_grows (q ∷ rest) mm ml level volume (rises-rest p q rest mm ml above) (sym (walk-past p q rest level from past) ∙ at))
     (λ to. walk-here p q (rest ++ more) level from to ∙ sym (walk-here p q rest level from to) ∙ at))
 
--- what the first points tell the whole table tells
+-- what the first points give, the whole table gives
 pub volumes_kept : LongerTableLaw
 volumes_kept [] more mm rising some = cc some
 volumes_kept (p ∷ []) more mm rising some = by_lt_z mm p.mm

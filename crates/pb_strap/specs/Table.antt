@@ -1,4 +1,5 @@
--- Statement. Strapping tables: the volume of a tank at a level, and its grams (API Manual of Petroleum Measurement Standards, chapter 2.2A, capacity tables).
+-- Statement. Strapping tables: the volume of a tank at a level, and its grams (API Manual of Petroleum Measurement Standards,
+-- chapter 2.2A, capacity tables).
 use Rattle.std.specs.Prelude.{◌≡◌, ℕ, ◌+◌, ◌-◌, ◌*◌, ◌/◌, ◌^◌, ◌⊎◌, ◌++◌, nat_le, Bool, true, ◌&&◌, ◌||◌, if◌then◌else◌, ⊤, MatchOption, IsSome, IsSomeAnd, Contains, ℤ, pos, ◌+ℤ◌, ◌-ℤ◌, ◌*ℤ◌, ◌≤ℤ◌, ◌<ℤ◌, int_lt, int_le, List, [], ◌∷◌, length, slice_get, Option, Some, None}
 use Rattle.std.specs.Option.{option_map, option_map_or}
 use Rattle.pb_limits.specs.Limits.{most_density, most_points, most_volume}
@@ -11,11 +12,11 @@ IsRising [] = Unit {0}
 IsRising (p ∷ []) = Unit {0}
 IsRising (p ∷ q ∷ rest) = (p.mm <ℤ q.mm) × (p.ml ≤ℤ q.ml) × IsRising (q ∷ rest)
 
--- whether a level and a volume may stand behind a point
+-- whether a level and a volume may follow a point
 abbrev pub is_above : ℤ → ℤ → Point → Bool
 is_above mm ml p = int_lt p.mm mm && int_le p.ml ml
 
--- whether they may stand behind the last point of a table
+-- whether they may follow the last point of a table
 abbrev pub rises : List Point → ℤ → ℤ → Bool
 rises points mm ml = option_map_or (is_above mm ml) (slice_get points (length points - 1)) true
 
@@ -27,7 +28,7 @@ is_full points = nat_le most_points (length points)
 abbrev pub volume_between : Point → Point → ℤ → ℤ
 volume_between p q mm = p.ml +ℤ floor_div ((q.ml -ℤ p.ml) *ℤ (mm -ℤ p.mm)) (q.mm -ℤ p.mm)
 
--- the volume at a level: on the line between the two neighbouring points, and none outside the table
+-- the volume at a level: on the line between the two neighbouring points; none outside the table
 abbrev pub volume_of : List Point → ℤ → Option ℤ
 volume_of [] mm = None
 volume_of (p ∷ []) mm = if int_lt mm p.mm || int_lt p.mm mm then None else Some p.ml
@@ -36,7 +37,7 @@ volume_of (p ∷ q ∷ rest) mm =
     else if int_le mm q.mm then Some (volume_between p q mm)
     else volume_of (q ∷ rest) mm
 
--- the grams at a level, for a density in grams a cubic metre, which is 10^6 ml: volume times density, rounded down
+-- the grams at a level, for a density in grams per cubic metre, which is 10^6 ml: volume times density, rounded down
 abbrev pub grams_of : List Point → ℤ → ℤ → Option ℤ
 grams_of points mm density =
     option_map (λ volume. floor_div (volume *ℤ density) (pos (10 ^ 6))) (volume_of points mm)
@@ -45,14 +46,14 @@ grams_of points mm density =
 abbrev pub most_content : ℕ
 most_content = most_volume * most_density / 10 ^ 6
 
--- ---- what the volume at a level means, said without the walk
+-- ---- what the volume at a level means, without the walk over the table
 -- the table is empty, or the level is below its first point or above its last
 abbrev pub IsOutside : List Point → ℤ → Type 0
 IsOutside points mm =
     MatchOption (slice_get points 0) ⊤ (λ p. mm <ℤ p.mm)
     ⊎ MatchOption (slice_get points (length points - 1)) ⊤ (λ q. q.mm <ℤ mm)
 
--- q stands right behind p
+-- q comes right after p
 abbrev pub AreNeighbours : List Point → Point → Point → Type 0
 AreNeighbours points p q =
     (i : ℕ) × (slice_get points i ≡ Some p) × (slice_get points (i + 1) ≡ Some q)
@@ -79,7 +80,7 @@ TableGrowsLaw =
     → volume_of points level ≡ Some volume
     → volume_of (points ++ record { mm = mm; ml = ml } ∷ []) level ≡ Some volume
 
--- what a rising table tells of a level, its first points tell alone, if they tell anything
+-- if the first points of a rising table give a volume at a level, the whole table gives the same volume
 abbrev pub LongerTableLaw : Type 0
 LongerTableLaw =
     (points more : List Point) (level : ℤ) → IsRising (points ++ more)

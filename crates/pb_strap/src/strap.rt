@@ -31,7 +31,7 @@ pub enum StrapRefused {
     /// The table has as many points as it may have.
     #[error("the table is full")]
     Full,
-    /// No memory was found.
+    /// Memory ran out.
     #[error("out of memory")]
     NoMemory,
 }
@@ -97,7 +97,7 @@ impl Strap {
         self.points.len() >= MOST_POINTS
     }
 
-    /// Whether a point may stand behind the last one: its level is above the last level, and its volume not below the last volume.
+    /// Whether a point may follow the last one: its level is above the last level, and its volume not below the last volume.
     pub fn rises(&self, mm: i64, ml: i64) -> bool
         ensures { result ≡ rises self.now mm ml }
     {
@@ -107,7 +107,7 @@ impl Strap {
         }
     }
 
-    /// Adds a point, a level in millimetres and the volume up to it in millilitres, if it may stand behind the last one.
+    /// Adds a point, a level in millimetres and the volume up to it in millilitres, if it may follow the last one.
     pub fn push(&mut self, mm: i64, ml: i64) -> Result<(), StrapRefused>
         requires level { IsLevel mm }
         requires volume { IsVolume ml }
@@ -130,8 +130,7 @@ impl Strap {
         Ok(())
     }
 
-    /// Adds a point that may stand behind the last one, where there is room for it. After an `Err`, want of memory, the table is
-    /// as it was.
+    /// Adds a point that may follow the last one, to a table that has room for it. If memory runs out, the table is unchanged.
     pub fn add(&mut self, mm: i64, ml: i64) -> Result<(), AllocError>
         requires level { IsLevel mm }
         requires volume { IsVolume ml }
@@ -156,7 +155,7 @@ impl Strap {
         volume_at(&self.points, mm)
     }
 
-    /// The grams at a level in millimetres, for a density in grams a cubic metre: volume times density, rounded down.
+    /// The grams at a level in millimetres, for a density in grams per cubic metre: volume times density, rounded down.
     pub fn grams(&self, mm: i64, density: i64) -> Option<i64>
         requires { IsDensity density }
         ensures value { result ≡ grams_of self.now mm density }
@@ -198,7 +197,7 @@ fn volume_at(points: &[Point], mm: i64) -> Option<i64>
     Some(between(points[place - 1], above, mm))
 }
 
-// How many points are below a level: the place of the first point that is not.
+// The number of points below a level: the place of the first point that is not below it.
 fn count_below(points: &[Point], mm: i64) -> usize
     requires { IsRising points.now }
     ensures bound { result ≤ length points.now }

@@ -1,4 +1,4 @@
--- What a session holds after the records of a made session but the last.
+-- What a session holds after the records of a made session except the last.
 use Rattle.std.proofs.Common.{◌≡◌, ◌∙◌, ◌<◌, ℕ, ◌+◌, List, [], ◌∷◌, ◌++◌, length, take, get_or, Some, All, IfOk, ap, refl, sym, arith, length-append}
 use Rattle.std.specs.Prelude.{◌-◌, slice_get}
 use Rattle.std.proofs.lemmas.List.{length-take-le, take_more, take-append-le, take_all}

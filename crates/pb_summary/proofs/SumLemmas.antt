@@ -141,7 +141,7 @@ stream_sums number streams rows state j stored answer same begins is =
     (λ text. SumsUp number streams rows state (slice_get (periods_of state.rows) 0) text.items)
     (λ text named. sums_over number streams rows state (slice_get (periods_of state.rows) 0) j text.items begins named) moved
 
--- a stream that is told is one of the graph
+-- a stream that is reported is one of the graph
 pub told_there : (state : SessionState) (found : Option Period) (j : ℕ) (answer : Result Stage Assembly) → answer ≡ Err (Over j) → TellsAStream state found answer
     → IfSome found (λ period. j < length (period_graph state.rows (days_of period)).streams)
 told_there state (Some period) j answer is tells = subst (λ (r : Result Stage Assembly). IfErr r (NamesAStream state.rows (days_of period))) is tells

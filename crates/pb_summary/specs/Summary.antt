@@ -20,11 +20,11 @@ use Rattle.pb_make.specs.Rows.{session_rows, stored_rows}
 use Rattle.pb_session.specs.FirstStage.{IsFirstStage}
 use Rattle.pb_session.specs.Session.{SessionState, new_session, state_after_all}
 
--- what is asked of the study of a made session: a gap and so many sweeps, and no tests
+-- what the study of a made session is asked for: a gap and this many sweeps, and no tests
 abbrev pub made_options : ℕ → ℕ → Options
 made_options gap sweeps = record { gap = gap; sweeps = sweeps; tests = false; eliminate = 0 }
 
--- the session made from a number, with so many streams, when it is asked for its report
+-- the session made from a number, with this many streams, when it is asked for its report
 abbrev pub made_state : ℕ → ℕ → ℕ → ℕ → SessionState
 made_state number streams gap sweeps =
     state_after_all (new_session (made_options gap sweeps) Csv) 1 (stored_rows number streams)
@@ -48,7 +48,7 @@ SumsUp number streams rows state (Some period) text =
     SumsUpBy number streams rows state period (assembly_of state.rows (days_of period)) text
 SumsUp number streams rows state None text = ⊥
 
--- The text of the summary of the session made from a number, with so many streams, for this gap and at most so many sweeps.
+-- The text of the summary of the session made from a number, with this many streams, for this gap and at most this many sweeps.
 abbrev pub IsSummaryText : ℕ → ℕ → ℕ → ℕ → List ℕ → Type 0
 IsSummaryText number streams gap sweeps text =
     let state = made_state number streams gap sweeps in

@@ -7,7 +7,7 @@ use pb_elim::{one_study_law, some_study_law};
 use pb_make::period_law;
 use pb_period::graphs_law;
 
-/// The law that a made session has at most one summary, so the same at each run.
+/// The law that a made session has at most one summary, which is therefore the same in each run.
 pub fn one_summary_law()
     ensures { OneSummaryLaw }
 {

@@ -22,9 +22,9 @@ use pb_rows::Rows;
 use pb_session::Session;
 use std::alloc::{AllocError, Global};
 
-/// The text of the summary of the session made from a number, with so many streams: the one row that sums up the study of its
-/// period, without tests, for this gap (thousandths of a standard deviation) and at most so many sweeps; or the row that names the
-/// first stream whose total is too great to be studied. Refused alone for want of memory.
+/// The text of the summary of the session made from a number, with this many streams: the one row that sums up the study of its period,
+/// without tests, for this gap (thousandths of a standard deviation) and at most this many sweeps; or the row that names the first stream
+/// whose total is too great to be studied. Fails only if memory runs out.
 pub fn summary(
     alloc: Global,
     number: u32,
@@ -47,7 +47,7 @@ pub fn summary(
     summed(alloc, number, streams, rows.len(), &session)
 }
 
-// What is asked of the study.
+// What the study is asked for.
 fn made_options(gap: u32, sweeps: u32) -> Options
     ensures { result ≡ made_options gap sweeps }
 {
@@ -59,7 +59,7 @@ fn made_options(gap: u32, sweeps: u32) -> Options
     }
 }
 
-// A session that has taken all of these records but the last one, which asks for the report.
+// A session that has taken all these records except the last one, which asks for the report.
 fn stored(alloc: Global, rows: &Rows, options: Options) -> Result<Session, AllocError>
     requires options { AreOptions options }
     requires some { 1 ≤ length rows.now }

@@ -44,7 +44,7 @@ all_without P j ss keep all = λ k d lt.
       | inr changed ↦ subst P (sym changed) (keep (get_or ss k d) here)
     ]
 
--- it keeps the limits
+-- it is within the limits
 pub without_limits : (j : ℕ) (g : ProcessGraph) → IsProcessGraph g → IsProcessGraph (without_measurement j g)
 without_limits j g is = record {
   env = is.env;
@@ -145,7 +145,7 @@ some_tests_by some g gap sweeps low high critical (j ∷ js) limits =
       },
     )
 
--- one more test behind
+-- one more test at the end
 pub tests_more : (g : ProcessGraph) (gap sweeps : ℕ) (low : ℤ) (high critical : Option ℤ) (js : List ℕ) (tests : List MeasureTest) (j : ℕ) (test : MeasureTest)
     → AreMeasureTests g gap sweeps low high critical js tests → IsMeasureTestOf g gap sweeps low high critical j test
     → AreMeasureTests g gap sweeps low high critical (js ++ j ∷ []) (tests ++ test ∷ [])

@@ -51,7 +51,7 @@ high_nonnegative ss ps =
     none_or (list_any (λ b. int_lt adjustment_cap b) bs) (ceil_div (pos 1000 *ℤ full_squares bs) (pos (2 ^ 40)))
     (ceiling_nonnegative (pos 1000 *ℤ full_squares bs) (omega (arith, ints, squares)))
 
--- of a graph that is solved
+-- of a solved graph
 pub low_end : (g : ProcessGraph) (gap sweeps : ℕ) (low : ℤ) (high : Option ℤ) → IsSolvedStatistic g gap sweeps low high → IsNonnegative low
 low_end g gap sweeps low high is = subst IsNonnegative (sym is.is_low) (low_nonnegative g.streams is.flows _)
 

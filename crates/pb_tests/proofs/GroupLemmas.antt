@@ -13,7 +13,7 @@ use Rattle.pb_merge.specs.Grouping.{AreGroupsOf, Grouping, IsLeastNode, least_at
 use Rattle.pb_merge.proofs.GroupLaws.{free_law}
 use Rattle.pb_tests.specs.Nodal.{crossing_value, group_net, least_node, nodal_test, nodal_tests_below, test_of_group}
 
--- one stream more in the net flow of a group
+-- one more stream in the net flow of a group
 pub net_more : (numbers : List ℕ) (k j : ℕ) (ss : List Stream) (s : Stream) → j < length ss
     → group_net numbers k (drop j ss) ≡ crossing_value numbers k (get_or ss j s) +ℤ group_net numbers k (drop (j + 1) ss)
 net_more numbers k j ss s lt = ap (group_net numbers k) (drop_next ss j s lt)
@@ -54,7 +54,7 @@ free_is g grouping k limits are lt =
     subst (λ (i : ℕ). (is_free_group grouping.group g.streams i ≡ true) ↔ IsFreeGroup g n) least.member (free_law g grouping.group n limits are.groups node) in
     same_bool (get_or grouping.free k false) (is_free_group grouping.group g.streams k) (λ is. said.1 (kept.0 is)) (λ is. kept.1 (said.0 is))
 
--- ---- one group more
+-- ---- one more group
 below_next : (group : List ℕ) (ss : List Stream) (critical : Option ℤ) (k : ℕ)
     → nodal_tests_below group ss critical (k + 1) ≡ nodal_tests_below group ss critical k ++ test_of_group group ss critical k
 below_next group ss critical k = let next : k + 1 ≡ suc k = omega arith in ap (nodal_tests_below group ss critical) next

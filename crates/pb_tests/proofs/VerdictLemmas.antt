@@ -20,7 +20,7 @@ second_chosen false false h = cc h
 pub rejected : (low : ℤ) (high : Option ℤ) (c : ℤ) → verdict_at low high c ≡ Reject → c <ℤ low
 rejected low high c h = let less = first_chosen (int_lt c low) (is_at_most c high) h in omega (arith, ints, less)
 
--- one that is accepted has a high end that is at most the critical value
+-- a statistic that is accepted has a high end, which is at most the critical value
 pub accepted : (low : ℤ) (high : Option ℤ) (c : ℤ) → verdict_at low high c ≡ Accept → is_at_most c high ≡ true
 accepted low high c h = second_chosen (int_lt c low) (is_at_most c high) h
 

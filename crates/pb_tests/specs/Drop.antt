@@ -1,4 +1,4 @@
--- Statement. The test of one measurement: by how much the least weighted squares drop where it is left out (Narasimhan and Jordache, on
+-- Statement. The test of one measurement: by how much the least weighted squares drop when it is left out (Narasimhan and Jordache, on
 -- serial elimination).
 use Rattle.std.specs.Prelude.{◌≡◌, ℕ, ℤ, pos, ◌-ℤ◌, List, length, Option, Some, None, slice_get}
 use Rattle.std.specs.Int.{int_max}
@@ -11,12 +11,12 @@ use Rattle.pb_tests.specs.Verdicts.{measure_verdict}
 abbrev pub without_measurement : ℕ → ProcessGraph → ProcessGraph
 without_measurement stream graph = record graph { streams = unmeasured_at stream graph.streams }
 
--- the low end of the drop, at least 0: the low end with the measurement less the high end without it, and 0 where there is none
+-- the low end of the drop, at least 0: the low end with the measurement less the high end without it; 0 if there is no high end
 abbrev pub drop_low : ℤ → Option ℤ → ℤ
 drop_low low None = pos 0
 drop_low low (Some high_without) = int_max (pos 0) (low -ℤ high_without)
 
--- the high end of the drop: the high end with the measurement, where there is one, less the low end without it
+-- the high end of the drop: the high end with the measurement, if there is one, less the low end without it
 abbrev pub drop_high : Option ℤ → ℤ → Option ℤ
 drop_high None low_without = None
 drop_high (Some high) low_without = Some (high -ℤ low_without)
@@ -33,7 +33,7 @@ pub record IsMeasureTestOf (graph : ProcessGraph) (gap sweeps : ℕ) (low : ℤ)
   pub critical_is : test.critical ≡ critical
   pub verdict_is : test.verdict ≡ measure_verdict test.low test.high critical
 
--- the tests of the measurements of a list of streams, one of each, in order
+-- the tests of the measurements of a list of streams, one for each, in order
 pub record AreMeasureTests (graph : ProcessGraph) (gap sweeps : ℕ) (low : ℤ) (high critical : Option ℤ) (streams : List ℕ) (tests : List MeasureTest) : Type 0 where
   pub each : length tests ≡ length streams
   pub right :

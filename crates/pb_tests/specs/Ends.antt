@@ -8,7 +8,7 @@ use Rattle.pb_gap.specs.Solution.{IsSolvedStatistic}
 abbrev pub IsNonnegative : ℤ → Type 0
 IsNonnegative z = pos 0 ≤ℤ z
 
--- the ends of the statistic of a graph, solved, at least 0 and not too wide
+-- the ends of the statistic of a solved graph, at least 0 and not too wide
 pub record IsEndPair (graph : ProcessGraph) (gap sweeps : ℕ) (ends : ℤ × Option ℤ) : Type 0 where
   pub statistic : IsSolvedStatistic graph gap sweeps ends.0 ends.1
   pub low : IsNonnegative ends.0

@@ -14,7 +14,7 @@ use Rattle.pb_tests.specs.Nodal.{AreNodalTests, most_group_net}
 use Rattle.pb_tests.specs.Drop.{IsMeasureTestOf, AreMeasureTests, drop_high, drop_low, without_measurement}
 use Rattle.pb_tests.specs.Decided.{AreSquaresAbove, AreSquaresAboveBy, AreSquaresWithinBy, AreEnds}
 
--- a process graph has nodal tests, and no others
+-- the nodal tests of a process graph exist and are unique
 abbrev pub SomeNodalTestsLaw : Type 0
 SomeNodalTestsLaw = (graph : ProcessGraph) (critical : Option ℤ) → IsProcessGraph graph
     → (tests : List NodalTest) × AreNodalTests graph critical tests
@@ -39,7 +39,8 @@ abbrev pub FreeGroupsLaw : Type 0
 FreeGroupsLaw = (graph : ProcessGraph) (critical : Option ℤ) (tests : List NodalTest)
     → IsProcessGraph graph → AreNodalTests graph critical tests → AreOfFreeGroups graph tests
 
--- the net flow of a nodal test is that of as many values as a graph has streams, and its variance that of as many variances
+-- the net flow of a nodal test is at most what as many streams as a graph may have can bring, and its variance is at most the sum of as
+-- many variances
 pub record IsNodalNumber (test : NodalTest) : Type 0 where
   pub net : unsigned_abs test.net ≤ most_group_net
   pub positive : pos 0 ≤ℤ test.variance
@@ -49,7 +50,7 @@ abbrev pub NodalRangeLaw : Type 0
 NodalRangeLaw = (graph : ProcessGraph) (critical : Option ℤ) (tests : List NodalTest)
     → IsProcessGraph graph → AreNodalTests graph critical tests → All IsNodalNumber tests
 
--- the measurement of a stream has a test, and no other
+-- the test of the measurement of a stream exists and is unique
 abbrev pub SomeMeasureTestLaw : Type 0
 SomeMeasureTestLaw = (graph : ProcessGraph) (gap sweeps : ℕ) (low : ℤ) (high critical : Option ℤ) (stream : ℕ)
     → IsProcessGraph graph → (test : MeasureTest) × IsMeasureTestOf graph gap sweeps low high critical stream test
@@ -59,7 +60,7 @@ OneMeasureTestLaw = (graph : ProcessGraph) (gap sweeps : ℕ) (low : ℤ) (high 
     → IsProcessGraph graph → IsMeasureTestOf graph gap sweeps low high critical stream test
     → IsMeasureTestOf graph gap sweeps low high critical stream other → test ≡ other
 
--- a list of streams has tests, and no others
+-- the tests of the measurements of a list of streams exist and are unique
 abbrev pub SomeMeasureTestsLaw : Type 0
 SomeMeasureTestsLaw = (graph : ProcessGraph) (gap sweeps : ℕ) (low : ℤ) (high critical : Option ℤ) (streams : List ℕ)
     → IsProcessGraph graph → (tests : List MeasureTest) × AreMeasureTests graph gap sweeps low high critical streams tests
@@ -69,25 +70,25 @@ OneMeasureTestsLaw = (graph : ProcessGraph) (gap sweeps : ℕ) (low : ℤ) (high
     → IsProcessGraph graph → AreMeasureTests graph gap sweeps low high critical streams tests
     → AreMeasureTests graph gap sweeps low high critical streams others → tests ≡ others
 
--- the ends of the statistic of a graph that is solved are ends by its flows
+-- the ends of the statistic of a solved graph are ends by its flows
 abbrev pub EndsLaw : Type 0
 EndsLaw = (graph : ProcessGraph) (gap sweeps : ℕ) (low : ℤ) (high : Option ℤ) → IsProcessGraph graph
     → (statistic : IsSolvedStatistic graph gap sweeps low high) → AreEnds graph statistic.flows low high
 
--- Where the global test rejects, the weighted squares of each balanced vector are above the critical value.
+-- If the global test rejects, the weighted squares of each balanced vector are above the critical value.
 abbrev pub GlobalRejectLaw : Type 0
 GlobalRejectLaw = (graph : ProcessGraph) (flows : List ℤ) (low : ℤ) (high : Option ℤ) (dof : ℕ) (critical : ℤ) (x : Fractional)
     → IsProcessGraph graph → AreEnds graph flows low high → global_verdict low high dof (Some critical) ≡ Reject
     → IsBalancedFractional graph x → AreSquaresAbove graph x critical
 
--- Where it accepts, those of the flows are at most that.
+-- If it accepts, those of the flows are at most the critical value.
 abbrev pub GlobalAcceptLaw : Type 0
 GlobalAcceptLaw = (graph : ProcessGraph) (flows : List ℤ) (low : ℤ) (high : Option ℤ) (dof : ℕ) (critical : ℤ)
     → IsProcessGraph graph → AreEnds graph flows low high → global_verdict low high dof (Some critical) ≡ Accept
     → AreSquaresAtMost graph (whole_flows flows) critical
 
--- The ends by flows of a graph, and by others of the graph without the measurement of a stream: where the drop between them is
--- rejected, the weighted squares of each balanced vector are above those of the others, without the measurement, by more than the
+-- With ends by flows of a graph, and ends by other flows of the graph without the measurement of a stream: if the drop between them is
+-- rejected, the weighted squares of each balanced vector are above those of the other flows, without the measurement, by more than the
 -- critical value.
 abbrev pub DropRejectLaw : Type 0
 DropRejectLaw = (graph : ProcessGraph) (stream : ℕ) (flows others : List ℤ) (low low_without : ℤ) (high high_without : Option ℤ) (critical : ℤ) (x : Fractional)
@@ -98,8 +99,8 @@ DropRejectLaw = (graph : ProcessGraph) (stream : ℕ) (flows others : List ℤ) 
     → IsBalancedFractional graph x
     → AreSquaresAboveBy graph x (without_measurement stream graph) (whole_flows others) critical
 
--- Where it is accepted, the weighted squares of the flows are above those of each vector that is balanced without the measurement by at
--- most the critical value.
+-- If it is accepted, the weighted squares of the flows are above those of each vector that is balanced without the measurement by at most
+-- the critical value.
 abbrev pub DropAcceptLaw : Type 0
 DropAcceptLaw = (graph : ProcessGraph) (stream : ℕ) (flows others : List ℤ) (low low_without : ℤ) (high high_without : Option ℤ) (critical : ℤ) (y : Fractional)
     → IsProcessGraph graph → AreEnds graph flows low high
@@ -108,7 +109,7 @@ DropAcceptLaw = (graph : ProcessGraph) (stream : ℕ) (flows others : List ℤ) 
     → IsBalancedFractional (without_measurement stream graph) y
     → AreSquaresWithinBy graph (whole_flows flows) (without_measurement stream graph) y critical
 
--- The test of a measurement that rejects: the weighted squares of each balanced vector are above those of the second solution's flows,
+-- If the test of a measurement rejects, the weighted squares of each balanced vector are above those of the second solution's flows,
 -- without the measurement, by more than the critical value.
 abbrev pub MeasureRejectLaw : Type 0
 MeasureRejectLaw = (graph : ProcessGraph) (gap sweeps : ℕ) (low : ℤ) (high : Option ℤ) (critical : ℤ) (stream : ℕ) (test : MeasureTest) (x : Fractional)
@@ -117,7 +118,7 @@ MeasureRejectLaw = (graph : ProcessGraph) (gap sweeps : ℕ) (low : ℤ) (high :
     → IsBalancedFractional graph x
     → AreSquaresAboveBy graph x (without_measurement stream graph) (whole_flows is.statistic.flows) critical
 
--- And that accepts: the weighted squares of the first solution's flows are above those of each vector that is balanced, without the
+-- If it accepts, the weighted squares of the first solution's flows are above those of each vector that is balanced, without the
 -- measurement, by at most the critical value.
 abbrev pub MeasureAcceptLaw : Type 0
 MeasureAcceptLaw = (graph : ProcessGraph) (gap sweeps : ℕ) (low : ℤ) (high : Option ℤ) (critical : ℤ) (stream : ℕ) (test : MeasureTest) (y : Fractional)

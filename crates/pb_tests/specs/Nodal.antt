@@ -11,7 +11,7 @@ use Rattle.pb_graph.specs.Squares.{value_or_zero}
 use Rattle.pb_merge.specs.Variance.{group_variance}
 use Rattle.pb_tests.specs.Verdicts.{nodal_verdict}
 
--- what the measured value of a stream brings into group k: nothing where both ends are on one side
+-- what the measured value of a stream brings into group k: nothing if both ends are on the same side
 abbrev pub crossing_value : List ℕ → ℕ → Stream → ℤ
 crossing_value group k stream =
     entering (group_at group stream.from == k) (group_at group stream.to == k) (value_or_zero stream.meas)
@@ -39,7 +39,7 @@ nodal_test group streams critical k = record {
   verdict = nodal_verdict (group_net group k streams) (group_variance group k streams) critical;
 }
 
--- the test of group k, and none where it isn't free
+-- the test of group k, or none if it isn't free
 abbrev pub test_of_group : List ℕ → List Stream → Option ℤ → ℕ → List NodalTest
 test_of_group group streams critical k =
     if is_free_group group streams k then nodal_test group streams critical k ∷ [] else []
@@ -50,7 +50,7 @@ nodal_tests_below group streams critical zero = []
 nodal_tests_below group streams critical (suc k) =
     nodal_tests_below group streams critical k ++ test_of_group group streams critical k
 
--- The nodal tests of a graph: one of each free group, in order of the groups.
+-- The nodal tests of a graph: one for each free group, in order of the groups.
 pub record AreNodalTests (graph : ProcessGraph) (critical : Option ℤ) (tests : List NodalTest) : Type 0 where
   pub group : List ℕ
   pub groups : AreGroups graph group

@@ -1,10 +1,10 @@
-// What is proved of the definitions alone. The contract of each function is a law; it calls those that the proof stands on.
+// What is proved of the definitions alone. The contract of each function is a law; it calls the laws that its proof uses.
 
 ghost use Rattle.pb_tests.specs.Laws.{SomeNodalTestsLaw, OneNodalTestsLaw, FreeGroupsLaw, NodalRangeLaw, SomeMeasureTestLaw, OneMeasureTestLaw, SomeMeasureTestsLaw, OneMeasureTestsLaw, EndsLaw, GlobalRejectLaw, GlobalAcceptLaw, DropRejectLaw, DropAcceptLaw, MeasureRejectLaw, MeasureAcceptLaw};
 
 use pb_gap::{solved_statistic_law, statistic_law, weight_law};
 
-/// A process graph has nodal tests by each critical value, and no others.
+/// The nodal tests of a process graph, by each critical value, exist and are unique.
 pub fn nodal_tests_law()
     ensures some { SomeNodalTestsLaw }
     ensures one { OneNodalTestsLaw }
@@ -15,12 +15,12 @@ pub fn free_groups_law()
     ensures { FreeGroupsLaw }
 {}
 
-/// The net flow and the variance of each nodal test are within the limits that its verdict asks.
+/// The net flow and the variance of each nodal test are within the limits that its verdict requires.
 pub fn nodal_range_law()
     ensures { NodalRangeLaw }
 {}
 
-/// The measurement of a stream has a test, and no other.
+/// The test of the measurement of a stream exists and is unique.
 pub fn measure_test_law()
     ensures some { SomeMeasureTestLaw }
     ensures one { OneMeasureTestLaw }
@@ -28,7 +28,7 @@ pub fn measure_test_law()
     solved_statistic_law();
 }
 
-/// The measurements of a list of streams have tests, and no others.
+/// The tests of the measurements of a list of streams exist and are unique.
 pub fn measure_tests_law()
     ensures some { SomeMeasureTestsLaw }
     ensures one { OneMeasureTestsLaw }
@@ -36,8 +36,7 @@ pub fn measure_tests_law()
     solved_statistic_law();
 }
 
-/// The ends of the statistic of a graph that is solved are below the weighted squares of each balanced vector, and above those of its
-/// flows.
+/// The ends of the statistic of a solved graph are below the weighted squares of each balanced vector, and above those of its flows.
 pub fn ends_law()
     ensures { EndsLaw }
 {
@@ -52,7 +51,7 @@ pub fn decided_global_law()
     weight_law();
 }
 
-/// The same of the drop between the ends of two statistics, wherever these come from.
+/// The same for the drop between the ends of two statistics, wherever these come from.
 pub fn decided_drop_law()
     ensures reject { DropRejectLaw }
     ensures accept { DropAcceptLaw }

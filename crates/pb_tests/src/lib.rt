@@ -1,8 +1,8 @@
-//! Gross error tests: global, nodal, and of each measurement. Each decides only where the ends of its statistic do.
+//! Gross error tests: global, nodal, and of each measurement. Each decides only if the ends of its statistic do.
 //!
-//! A test that rejects says so of every balanced vector, and one that accepts of the flows that are printed; between, it is undecided
-//! (Narasimhan and Jordache, "Data Reconciliation and Gross Error Detection"; Mah and Tamhane 1982). The laws stand on empty functions,
-//! whose contracts state them for the crates above.
+//! A rejection holds for every balanced vector, and an acceptance for the printed flows; in between, a test is undecided (Narasimhan and
+//! Jordache, "Data Reconciliation and Gross Error Detection"; Mah and Tamhane 1982). The laws are the contracts of empty functions, which
+//! state them for the crates above.
 #![tactic(auto)]
 
 mod laws;

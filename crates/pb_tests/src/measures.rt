@@ -41,7 +41,7 @@ fn drop_high(high: Option<i128>, low_without: i128) -> Option<i128>
     }
 }
 
-/// The ends of the statistic of a graph, solved.
+/// The ends of the statistic of a graph once it is solved.
 pub fn solved_ends(
     alloc: Global,
     graph: &Graph,
@@ -76,7 +76,7 @@ fn ends_without(
     solved_ends(alloc, &without, gap, sweeps)
 }
 
-/// The test of the measurement of a stream: by how much the least weighted squares drop where it is left out, between two ends in
+/// The test of the measurement of a stream: by how much the least weighted squares drop when it is left out, between two ends in
 /// thousandths. The two ends given are those of the graph, solved at the same gap with at most as many sweeps.
 pub fn measure(
     alloc: Global,
@@ -110,7 +110,7 @@ pub fn measure(
     })
 }
 
-/// The tests of the measurements of a list of streams, one of each, in order.
+/// The tests of the measurements of a list of streams, one for each, in order.
 pub fn measure_tests(
     alloc: Global,
     graph: &Graph,

@@ -16,7 +16,7 @@ use pb_graph::{Graph, List, Meas, NodalTest, Stream, Verdict};
 use pb_merge::Groups;
 use std::alloc::{AllocError, Global};
 
-// A measured value, 0 where there is none.
+// A measured value, or 0 if there is none.
 fn value_or_zero(meas: Option<Meas>) -> i128
     requires { IfSome meas (λ m. unsigned_abs m.value ≤ most_value) }
     ensures value { result ≡ value_or_zero meas }
@@ -141,7 +141,7 @@ pub fn nodal(graph: &Graph, groups: &Groups, group: u32, critical: Option<i64>) 
     }
 }
 
-// The nodal tests of the free ones of the groups of a graph, in order.
+// The nodal tests of the free groups of a graph, in order.
 fn free_tests(
     alloc: Global,
     graph: &Graph,

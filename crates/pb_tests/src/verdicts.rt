@@ -33,7 +33,7 @@ pub fn global(low: i128, high: Option<i128>, dof: u32, critical: Option<i64>) ->
     verdict(low, high, critical)
 }
 
-// The critical value of the first row for so many degrees of freedom.
+// The critical value of the first row for this many degrees of freedom.
 fn critical_for(dof: u32, rows: &[CriticalRow]) -> Option<i64>
     ensures { result ≡ critical_for dof rows.now }
 {
@@ -45,7 +45,7 @@ fn critical_for(dof: u32, rows: &[CriticalRow]) -> Option<i64>
     None
 }
 
-/// The global test with its critical value, that of the row for so many degrees of freedom.
+/// The global test with its critical value, that of the row for this many degrees of freedom.
 pub fn global_test(rows: &[CriticalRow], low: i128, high: Option<i128>, dof: u32) -> GlobalTest
     ensures { result ≡ global_test_of rows.now low high dof }
 {

@@ -85,7 +85,7 @@ tail_same x y xs ys same = cc same
 no_dot : (rest : Bool) → (is_ascii_digit 46 && rest) ≡ true → ⊥
 no_dot rest is = cc is
 
--- what stands before the first dot, and what stands after it
+-- what is before the first dot, and what is after it
 pub split_dot : (a b c d : List ℕ) → list_all is_ascii_digit a ≡ true → list_all is_ascii_digit c ≡ true → a ++ 46 ∷ b ≡ c ++ 46 ∷ d → (a ≡ c) × (b ≡ d)
 split_dot [] b [] d a_is c_is same = (refl, tail_same 46 46 b d same)
 split_dot [] b (y ∷ c) d a_is c_is same =

@@ -17,7 +17,7 @@ stream_at (x ∷ ss) [] j s each at = absurd (omega (arith, each))
 stream_at (x ∷ ss) (m ∷ ms) zero s each at = ap (λ (y : WindowStream). Some (graph_stream y m)) (same_Some x s at)
 stream_at (x ∷ ss) (m ∷ ms) (suc j) s each at = stream_at ss ms j s (omega (arith, each)) at
 
--- one stream more
+-- one more stream
 pub one_more : {A : Type 0} (xs : List A) (j : ℕ) (x : A) → slice_get xs j ≡ Some x → take (j + 1) xs ≡ take j xs ++ x ∷ []
 one_more [] j x at = cc at
 one_more (y ∷ xs) zero x at = ap (λ z. z ∷ []) (same_Some y x at)

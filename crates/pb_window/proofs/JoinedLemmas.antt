@@ -15,7 +15,7 @@ or_false : (b : Bool) → (b || false) ≡ b
 or_false true = refl
 or_false false = refl
 
--- one arc more joins its ends, if it is in service
+-- one more arc joins its ends, if it is in service
 joined_next : (arcs : List PlantArc) (span : Span) (i : ℕ) (d : PlantArc) (node : ℕ) → i < length arcs
     → is_joined (take (i + 1) arcs) span node ≡ (is_joined (take i arcs) span node || (is_served span (get_or arcs i d) && is_end node (get_or arcs i d)))
 joined_next arcs span i d node lt =

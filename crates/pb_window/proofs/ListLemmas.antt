@@ -7,7 +7,7 @@ use Rattle.std.proofs.lemmas.Bool.{cases_Bool, ltb-false}
 use Rattle.std.proofs.lemmas.List.Elements.{filter-append, filter_map-append}
 use Rattle.std.proofs.lemmas.List.Sums.{fails_before_first}
 
--- ---- what is made, and what is left
+-- ---- what is made, and the rest
 
 pub append_piece : {A : Type 0} (whole made rest piece left : List A) → whole ≡ made ++ rest → rest ≡ piece ++ left → whole ≡ (made ++ piece) ++ left
 append_piece {A} whole made rest piece left so_far next = so_far ∙ ap (λ (r : List A). made ++ r) next ∙ sym (append_assoc made piece left)

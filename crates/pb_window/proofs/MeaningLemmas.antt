@@ -19,7 +19,7 @@ use Rattle.pb_window.proofs.NameLemmas.{shape_in}
 
 -- ---- numbered lists
 
--- an item after its place in a list
+-- an item, preceded by its place in a list
 abbrev IsAt : {A : Type 0} → List A → ℕ × A → Type 0
 IsAt whole numbered = slice_get whole numbered.0 ≡ Some numbered.1
 
@@ -33,7 +33,7 @@ all_at {A} whole n (x ∷ xs) are = (
       subst (λ (i : ℕ). slice_get whole i ≡ Some y) e (are (suc k) y at)),
 )
 
--- a period after its number
+-- a period, preceded by its number
 abbrev IsSpanAt : List Span → NumberedSpan → Type 0
 IsSpanAt spans numbered = span_of spans numbered.0 ≡ Some numbered.1
 

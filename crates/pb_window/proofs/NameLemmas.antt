@@ -64,7 +64,7 @@ forms_rise {A} code key e forms b xs is = by xs (rise_within key b b xs e (omega
     by [] are = refl
     by (y ∷ ys) are = rw (forms y are.0.1) (by ys are.1)
 
--- ---- two numbers, by a key of them
+-- ---- two numbers, by a key
 
 -- two numbers by which keys differ aren't the same two
 other_numbers : (t i u j : ℕ) → t * 65536 + i < u * 65536 + j → (t ≢ u) ⊎ (i ≢ j)

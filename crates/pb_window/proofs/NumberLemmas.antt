@@ -1,4 +1,4 @@
--- Which nodes of a plant stand among those of a window, and their numbers.
+-- Which nodes of a plant are among those of a window, and their numbers.
 use Rattle.std.specs.Prelude.{filter, map, position}
 use Rattle.std.specs.Option.{option_map_or}
 use Rattle.std.specs.List.{AllByRecursion, enumerate_from, flat_map, list_any, range_with_len}
@@ -50,7 +50,7 @@ pub in_period : (plant : Plant) (period : ℕ) (span : Span) (n : ℕ) → is_no
 in_period plant period span n is least most =
     in_numbered n period 1 (nodes_in plant span) (in_filter (is_node_in plant span) n (range_with_len 1 plant.nodes) is (in_range n 1 plant.nodes least (omega (arith, most))))
 
--- the nodes of a period stand among these
+-- the nodes of a period are among these
 abbrev pub HasNodes : Plant → List WindowNode → NumberedSpan → Type 0
 HasNodes plant nodes numbered =
     (n : ℕ) → is_node_in plant numbered.1 n ≡ true → 1 ≤ n → n ≤ plant.nodes → list_any (stands_for numbered.0 n) nodes ≡ true
@@ -84,7 +84,7 @@ number_small nodes period n = by (position (stands_for period n) nodes) refl
     by None at = omega arith
     by (Some i) at = let parts = position-Some (stands_for period n) nodes i some_node at in omega (arith, parts.0)
 
--- what stands at a number that is that of a node
+-- what is at a number that is that of a node
 node_at : (nodes : List WindowNode) (period n i : ℕ) → position (stands_for period n) nodes ≡ Some i → ((get_or nodes i some_node).period ≡ period) × ((get_or nodes i some_node).node ≡ n)
 node_at nodes period n i at =
     let here = (position-Some (stands_for period n) nodes i some_node at).1 in

@@ -11,7 +11,7 @@ use Rattle.pb_window.specs.declared.window.Window.{Window}
 use Rattle.pb_window.specs.declared.window.WindowNode.{WindowNode}
 use Rattle.pb_window.specs.declared.window.WindowStream.{WindowStream}
 
--- such a name
+-- a name of this form
 abbrev pub code_text : ℕ → ℕ → ℕ → List ℕ
 code_text letter period place = letter ∷ (decimal_text period ++ dot ∷ decimal_text place)
 
@@ -41,7 +41,7 @@ pub record AreNames (names : List (List ℕ)) : Type 0 where
   pub forms : list_all is_name names ≡ true
   pub differ : AllPairs (λ one other. same_name one other ≡ false) names
 
--- such are those of a window's nodes, the environment among them, and those of its streams
+-- the names of a window's nodes, including the environment, are like that, and so are those of its streams
 pub record AreWindowNames (window : Window) : Type 0 where
   pub nodes : AreNames (window_names window).nodes
   pub streams : AreNames (window_names window).streams

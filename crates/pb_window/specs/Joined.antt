@@ -8,12 +8,12 @@ use Rattle.pb_window.specs.Plant.{is_end, is_joined}
 abbrev pub is_marked : List Bool → ℕ → Bool
 is_marked marks node = slice_index_or marks node false
 
--- of each of that many nodes, whether one of these arcs joins it in a period
+-- for each of this many nodes, whether one of these arcs joins it in a period
 pub record AreJoined (arcs : List PlantArc) (span : Span) (nodes : ℕ) (joined : List Bool) : Type 0 where
   pub each : length joined ≡ nodes
   pub marked : (node : ℕ) → node < nodes → is_marked joined node ≡ is_joined arcs span node
 
--- the ends of an arc are marked beside those that were
+-- the ends of an arc are marked, and so are the nodes that were
 pub record MarksEnds (arc : PlantArc) (old new : List Bool) : Type 0 where
   pub each : length new ≡ length old
   pub marked : (node : ℕ) → node < length old → is_marked new node ≡ (is_marked old node || is_end node arc)

@@ -20,7 +20,7 @@ abbrev pub WindowNamesLaw : Type 0
 WindowNamesLaw = (plant : Plant) (spans : List Span) (window : Window) → IsPlant plant → length spans ≤ most_periods_of_window
     → window_of plant spans ≡ Ok window → AreWindowNames window
 
--- names of a plant and of periods, one for each, are found by each node and stream of their window
+-- with names of a plant and of periods, one for each, each node and stream of their window finds its names
 abbrev pub WindowPlacesLaw : Type 0
 WindowPlacesLaw = (plant : Plant) (spans : List Span) (window : Window) (names : Names) (periods : List (List ℕ)) → window_of plant spans ≡ Ok window
     → length names.nodes ≡ 1 + plant.nodes → length names.streams ≡ length plant.arcs → length periods ≡ length spans → HaveNames names periods window

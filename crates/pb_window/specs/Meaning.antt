@@ -1,4 +1,4 @@
--- Statement. What each node and stream of a window is, without the order in which they stand.
+-- Statement. What each node and stream of a window is, whatever their order.
 use Rattle.std.specs.Prelude.{◌≡◌, ◌⊎◌, ◌+◌, ◌≤◌, ℤ, true, false, List, slice_get, Some}
 use Rattle.pb_window.specs.declared.plant.Plant.{Plant}
 use Rattle.pb_window.specs.declared.plant.PlantArc.{PlantArc}
@@ -17,7 +17,7 @@ pub record IsNodeOf (plant : Plant) (spans : List Span) (node : WindowNode) : Ty
   pub most : node.node ≤ plant.nodes
   pub joined : is_node_in plant span node.node ≡ true
 
--- the flow of a stream of the plant in one of the periods, in which it is in service
+-- the flow of a stream of the plant in one of the periods, in which the stream is in service
 pub record IsFlowOf (plant : Plant) (spans : List Span) (nodes : List WindowNode) (stream : WindowStream) : Type 0 where
   pub span : Span
   pub there : span_of spans stream.period ≡ Some span
@@ -29,7 +29,7 @@ pub record IsFlowOf (plant : Plant) (spans : List Span) (nodes : List WindowNode
   pub from : stream.from ≡ number_of nodes stream.period arc.from
   pub to : stream.to ≡ number_of nodes stream.period arc.to
 
--- what a tank of the plant holds between a period and the next one, in one of which it is in service
+-- what a tank of the plant holds between a period and the next one, in at least one of which it is in service
 pub record IsContentOf (plant : Plant) (spans : List Span) (nodes : List WindowNode) (stream : WindowStream) : Type 0 where
   pub arc : PlantArc
   pub declared : slice_get plant.arcs stream.arc ≡ Some arc

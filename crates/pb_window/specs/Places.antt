@@ -9,7 +9,7 @@ use Rattle.pb_window.specs.declared.window.WindowNode.{WindowNode}
 use Rattle.pb_window.specs.declared.window.WindowStream.{WindowStream}
 use Rattle.pb_window.specs.Codes.{node_code, stream_code}
 
--- the name of a period, by its number; that of the first one for 0
+-- the name of a period, by its number; the name of the first one for 0
 abbrev pub period_name : List (List ℕ) → ℕ → List ℕ
 period_name periods period = slice_index_or periods (period - 1) []
 
@@ -21,7 +21,7 @@ node_place plant periods node = record {
   name = slice_index_or plant.nodes node.node [];
 }
 
--- an arc of the plant in a period; a content is in the period that it follows, the first one in the first period
+-- an arc of the plant in a period; a content is in the period that it follows, and the first content is in the first period
 abbrev pub stream_place : Names → List (List ℕ) → WindowStream → WindowPlace
 stream_place plant periods stream = record {
   code = stream_code stream;
@@ -29,7 +29,7 @@ stream_place plant periods stream = record {
   name = slice_index_or plant.streams stream.arc [];
 }
 
--- What the names of a window stand for: those of its nodes but the environment, and then those of its streams.
+-- What the names of a window stand for: those of its nodes except the environment, and then those of its streams.
 abbrev pub window_places : Names → List (List ℕ) → Window → List WindowPlace
 window_places plant periods window = map (node_place plant periods) window.nodes ++ map (stream_place plant periods) window.streams
 
@@ -48,7 +48,7 @@ pub record HaveNames (plant : Names) (periods : List (List ℕ)) (window : Windo
   pub nodes : All (HasNodeNames plant periods) window.nodes
   pub streams : All (HasStreamNames plant periods) window.streams
 
--- so they have by any names of this plant and of these periods, one for each
+-- any names of this plant and of these periods, one for each, give them names
 abbrev pub IsNamedBy : Plant → List Span → Window → Type 0
 IsNamedBy plant spans window =
     (names : Names) (periods : List (List ℕ)) → length names.nodes ≡ 1 + plant.nodes

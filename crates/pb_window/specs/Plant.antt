@@ -1,4 +1,4 @@
--- Statement. A plant with its days of service, and what of it is there in a period.
+-- Statement. A plant with its days of service, and which parts of it are there in a period.
 use Rattle.std.specs.Prelude.{◌≡◌, ◌≢◌, ℕ, ◌≤◌, ◌==◌, ◌&&◌, ◌||◌, ℤ, pos, ◌-ℤ◌, int_le, Bool, true, List, length, filter, All, Option, Some, None}
 use Rattle.std.specs.Int.{int_max, int_min}
 use Rattle.std.specs.List.{enumerate_from, list_any, range_with_len}
@@ -9,7 +9,7 @@ use Rattle.pb_window.specs.declared.plant.PlantArc.{PlantArc}
 use Rattle.pb_window.specs.declared.plant.Service.{Service}
 use Rattle.pb_window.specs.declared.plant.Span.{Span}
 
--- in service on some day of a period; without days of service on every day
+-- in service on some day of a period; without days of service, on every day
 abbrev pub is_in_service : Option Service → Span → Bool
 is_in_service None span = true
 is_in_service (Some service) span = int_le service.since span.last && int_le span.first service.until
@@ -18,12 +18,12 @@ is_in_service (Some service) span = int_le service.since span.last && int_le spa
 abbrev pub is_served : Span → PlantArc → Bool
 is_served span arc = is_in_service arc.service span
 
--- what a tank holds opens in a period at the end of the day before its first day of service there
+-- the day at whose end the content of a tank opens in a period: the day before its first day of service there
 abbrev pub opening_day : Option Service → Span → ℤ
 opening_day None span = span.first -ℤ pos 1
 opening_day (Some service) span = int_max span.first service.since -ℤ pos 1
 
--- and closes at the end of its last one
+-- and the day at whose end it closes: its last day of service there
 abbrev pub closing_day : Option Service → Span → ℤ
 closing_day None span = span.last
 closing_day (Some service) span = int_min span.last service.until
@@ -44,7 +44,7 @@ is_node_in plant span node = plant.keeps_idle || is_joined plant.arcs span node
 abbrev pub nodes_in : Plant → Span → List ℕ
 nodes_in plant span = filter (is_node_in plant span) (range_with_len 1 plant.nodes)
 
--- an arc after its number in the plant
+-- an arc, preceded by its number in the plant
 abbrev pub NumberedArc : Type 0
 NumberedArc = ℕ × PlantArc
 
@@ -65,6 +65,6 @@ pub record IsPlant (plant : Plant) : Type 0 where
   pub few_arcs : length plant.arcs ≤ most_streams
   pub arcs : All (IsPlantArc plant.nodes) plant.arcs
 
--- a period begins on a day that a field writes
+-- the first day of a period is one that a field can write
 abbrev pub IsSpan : Span → Type 0
 IsSpan span = IsDay span.first

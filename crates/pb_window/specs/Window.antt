@@ -14,7 +14,7 @@ use Rattle.pb_window.specs.declared.window.WindowNode.{WindowNode}
 use Rattle.pb_window.specs.declared.window.WindowStream.{WindowStream}
 use Rattle.pb_window.specs.Plant.{NumberedArc, arcs_in, closing_day, is_served, nodes_in, opening_day}
 
--- a period after its number in the window, counted from 1
+-- a period, preceded by its number in the window, counted from 1
 abbrev pub NumberedSpan : Type 0
 NumberedSpan = ℕ × Span
 
@@ -31,7 +31,7 @@ window_node period placed = record { period = period; place = placed.0; node = p
 abbrev pub nodes_of_period : Plant → NumberedSpan → List WindowNode
 nodes_of_period plant numbered = map (window_node numbered.0) (enumerate_from 1 (nodes_in plant numbered.1))
 
--- The nodes of a window but the environment: those of each period in turn.
+-- The nodes of a window except the environment: those of each period in turn.
 abbrev pub window_nodes : Plant → List Span → List WindowNode
 window_nodes plant spans = flat_map (nodes_of_period plant) (numbered_spans spans)
 
@@ -39,14 +39,14 @@ window_nodes plant spans = flat_map (nodes_of_period plant) (numbered_spans span
 abbrev pub stands_for : ℕ → ℕ → WindowNode → Bool
 stands_for period node one = (one.period == period) && (one.node == node)
 
--- the number in the window's graph of a node of the plant in a period: its place after the environment, and the environment's number
--- for what is no node of the period
+-- the number in the window's graph of a node of the plant in a period: its place after the environment, or the environment's number if it
+-- isn't a node of the period
 abbrev pub number_of : List WindowNode → ℕ → ℕ → ℕ
 number_of nodes period node = option_map_or (λ place. 1 + place) (position (stands_for period node) nodes) 0
 
 -- ---- flows
 
--- the flow of an arc in a period, by its place in the graph of the period; an inventory is none
+-- the flow of an arc in a period, by its place in the graph of the period; none for an inventory
 abbrev pub flow_of : List WindowNode → ℕ → ℕ × NumberedArc → Option WindowStream
 flow_of nodes period placed =
     let arc = placed.1.1 in
@@ -69,7 +69,7 @@ window_flows arcs nodes spans = flat_map (flows_of_period arcs nodes) (numbered_
 
 -- ---- contents
 
--- the period with a number, which is none for 0 and after the last one
+-- the period with a number; there is none for 0 and after the last one
 abbrev pub span_of : List Span → ℕ → Option Span
 span_of spans period = if period == 0 then None else slice_get spans (period - 1)
 
@@ -82,19 +82,19 @@ if_served arc (Some span) = if is_served span arc then Some span else None
 abbrev pub stay_of : List Span → PlantArc → ℕ → Option Span
 stay_of spans arc period = if_served arc (span_of spans period)
 
--- The day at whose end the content between two periods is held: the day at whose end it closes in the one before, or else that at whose
--- end it opens in the one after. There is no content if the tank is in service in neither.
+-- The day at whose end the content between two periods is held: the day at whose end it closes in the period before, or, if the tank isn't
+-- in service then, the day at whose end it opens in the period after. There is no content if the tank is in service in neither.
 abbrev pub content_day : PlantArc → Option Span → Option Span → Option ℤ
 content_day arc (Some before) after = Some (closing_day arc.service before)
 content_day arc None (Some after) = Some (opening_day arc.service after)
 content_day arc None None = None
 
--- an end of a content: the tank's node in a period in which it is in service, and else the environment
+-- an end of a content: the tank's node in a period in which it is in service, otherwise the environment
 abbrev pub content_end : List WindowNode → ℕ → PlantArc → Option Span → ℕ
 content_end nodes period arc None = 0
 content_end nodes period arc (Some span) = number_of nodes period arc.from
 
--- what a tank holds after the period with a number, 0 for the first opening, and before the next one
+-- what a tank holds after the period with a number (0 for the first opening) and before the next one
 abbrev pub content_of : List WindowNode → List Span → NumberedArc → ℕ → Option WindowStream
 content_of nodes spans numbered period =
     let arc = numbered.1 in
@@ -109,7 +109,7 @@ content_of nodes spans numbered period =
       to = content_end nodes (period + 1) arc after;
     }) (content_day arc before after)
 
--- the contents of an arc, which are none unless it is a tank's
+-- the contents of an arc; there are none unless it is a tank's
 abbrev pub contents_of_arc : List WindowNode → List Span → NumberedArc → List WindowStream
 contents_of_arc nodes spans numbered =
     if numbered.1.is_tank then filter_map (content_of nodes spans numbered) (range_with_len 0 (length spans + 1)) else []
@@ -147,7 +147,7 @@ pub record IsWindowStream (nodes : ℕ) (stream : WindowStream) : Type 0 where
   pub to : stream.to < nodes
   pub apart : stream.from ≢ stream.to
 
--- the form of a window, with the environment as a node more
+-- the form of a window, with the environment as one more node
 pub record IsWindow (window : Window) : Type 0 where
   pub few_nodes : 1 + length window.nodes ≤ most_nodes
   pub few_streams : length window.streams ≤ most_streams

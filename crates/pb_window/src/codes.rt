@@ -20,7 +20,7 @@ fn code_text(alloc: Global, letter: u8, period: u32, place: u32) -> Result<Vec<u
     Ok(text)
 }
 
-// Such a text as a name.
+// The same text as a name.
 fn code(alloc: Global, letter: u8, period: u32, place: u32) -> Result<Name, AllocError>
     requires { is_name_byte letter ≡ true }
     ensures { IfOk result (λ name. name ≡ code_text letter period place) }
@@ -39,8 +39,8 @@ pub fn node_code(alloc: Global, node: &WindowNode) -> Result<Name, AllocError>
     code(alloc, b'n', node.period, node.place)
 }
 
-/// The name of a stream of a window. That of a flow is `s`, the number of its period, and its place in the graph of that period;
-/// that of a content is `c`, the number of the period that it follows, and the number of the tank's arc.
+/// The name of a stream of a window. The name of a flow is `s`, the number of its period, and its place in the graph of that period; the
+/// name of a content is `c`, the number of the period that it follows, and the number of the tank's arc.
 pub fn stream_code(alloc: Global, stream: &WindowStream) -> Result<Name, AllocError>
     ensures { IfOk result (λ name. name ≡ stream_code stream.now) }
 {

@@ -85,7 +85,7 @@ fn content_of(
     })
 }
 
-// Appends the contents of an arc, which are none unless it is a tank's.
+// Appends the contents of an arc; there are none unless it is a tank's.
 fn push_arc(
     nodes: &[WindowNode],
     spans: &[Span],

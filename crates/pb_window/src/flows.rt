@@ -13,7 +13,7 @@ use crate::window::{Source, WindowFault, WindowNode, WindowStream};
 use pb_graph::MOST_STREAMS;
 use std::alloc::{AllocError, Global};
 
-// The arcs that are in service in a period, each after its number in the plant.
+// The arcs that are in service in a period, each preceded by its number in the plant.
 fn arcs_in(
     alloc: Global,
     arcs: &[PlantArc],
@@ -76,7 +76,7 @@ fn push_period(
     Ok(())
 }
 
-/// Appends the flows of a window, period after period; or says that they are too many.
+/// Appends the flows of a window, period after period. Fails if there are too many.
 pub fn push_flows(
     arcs: &[PlantArc],
     nodes: &[WindowNode],

@@ -36,8 +36,8 @@ fn graph_stream(stream: &WindowStream, meas: Option<Meas>) -> Stream
     }
 }
 
-/// The graph of a window, with what was measured of each of its streams: of a flow what its period measured of its arc, of a
-/// content the dip of its day. Or the first stream whose measurement is outside the limits.
+/// The graph of a window, with what was measured of each of its streams: for a flow, what its period measured of its arc; for a content,
+/// the dip of its day. Or the first stream whose measurement is outside the limits.
 pub fn window_graph(
     alloc: Global,
     window: &Window,

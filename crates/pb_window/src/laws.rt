@@ -18,7 +18,7 @@ pub fn window_names_law()
     ensures { WindowNamesLaw }
 {}
 
-/// Names of a plant and of periods, one for each, are found by each node and stream of their window.
+/// With names of a plant and of periods, one for each, each node and stream of their window finds its names.
 pub fn window_places_law()
     ensures { WindowPlacesLaw }
 {}

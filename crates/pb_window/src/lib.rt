@@ -4,7 +4,7 @@
 //! tank's node in that period to its node in the next one (dynamic data reconciliation by a balance over each interval;
 //! Narasimhan and Jordache, "Data Reconciliation and Gross Error Detection", chapter 6).
 //!
-//! The laws stand on empty functions, whose contracts state them for the crates above.
+//! The laws are the contracts of empty functions, which state them for the crates above.
 #![tactic(auto)]
 
 mod codes;

@@ -10,8 +10,8 @@ use pb_graph::List;
 use pb_rows::{Name, NameList, Names};
 use std::alloc::{AllocError, Global};
 
-/// What a name of a window stands for: a node or a stream of the plant, by its declared name, in a period. A content is that of a
-/// tank in the period that it follows; the first one is in the first period.
+/// What a name of a window stands for: a node or a stream of the plant, by its declared name, in a period. A content stands for a tank in
+/// the period that it follows; the first one is in the first period.
 #[derive(Clone, Copy, Debug)]
 pub struct WindowPlace {
     pub code: Name,
@@ -62,7 +62,7 @@ pub fn window_names(alloc: Global, window: &Window) -> Result<Names, AllocError>
     })
 }
 
-// The name of a period, by its number; that of the first one for 0.
+// The name of a period, by its number; the name of the first one for 0.
 fn period_name(periods: &NameList, period: u32) -> Name
     requires { period - 1 < length periods.now }
     ensures { result ≡ slice_index_or periods.now (period - 1) [] }
@@ -140,8 +140,8 @@ fn push_streams(
     Ok(())
 }
 
-/// What the names of a window stand for: those of its nodes but the environment, and then those of its streams. `plant` has the
-/// names of the plant's nodes, the environment first, and of its arcs, and `periods` those of the window's periods.
+/// What the names of a window stand for: those of its nodes except the environment, and then those of its streams. `plant` has the names of
+/// the plant's nodes, the environment first, and of its arcs, and `periods` those of the window's periods.
 pub fn window_places(
     alloc: Global,
     window: &Window,

@@ -23,7 +23,7 @@ fn mark(joined: &mut [bool], arc: &PlantArc)
     joined[arc.to as usize] = true;
 }
 
-// Of the environment and of each unit and tank, whether an arc in service joins it in a period.
+// For the environment and each unit and tank, whether an arc in service joins it in a period.
 fn joined_in(alloc: Global, plant: &Plant, span: &Span) -> Result<Vec<bool>, AllocError>
     requires { IsPlant plant.now }
     ensures { IfOk result (λ joined.
@@ -38,7 +38,7 @@ fn joined_in(alloc: Global, plant: &Plant, span: &Span) -> Result<Vec<bool>, All
     Ok(joined)
 }
 
-// Whether a unit or tank is a node of the graph of a period in which arcs join the marked ones.
+// Whether a unit or tank is a node of the graph of a period, if the marked ones are those that arcs join in it.
 fn is_kept(plant: &Plant, joined: &[bool], node: u32) -> bool
     requires { node < length joined.now }
     ensures { result ≡ (plant.now.keeps_idle || is_marked joined.now node) }
@@ -62,7 +62,7 @@ fn nodes_in(alloc: Global, plant: &Plant, span: &Span) -> Result<Vec<u32>, Alloc
     Ok(list)
 }
 
-// Appends the nodes of a period, which are those units and tanks.
+// Appends the nodes of a period: these units and tanks.
 fn push_nodes(period: u32, list: &[u32], nodes: &mut Vec<WindowNode>) -> Result<(), AllocError>
     requires { length list.now ≤ most_units_and_tanks }
     ensures { OnOk result (nodes.new.items
@@ -78,7 +78,7 @@ fn push_nodes(period: u32, list: &[u32], nodes: &mut Vec<WindowNode>) -> Result<
     Ok(())
 }
 
-/// The nodes of a window but the environment, period after period; or that they are too many.
+/// The nodes of a window except the environment, period after period. Fails if there are too many.
 pub fn window_nodes(
     alloc: Global,
     plant: &Plant,
@@ -111,8 +111,8 @@ fn place_of(nodes: &[WindowNode], period: u32, node: u32) -> Option<usize>
         .position(|one| one.period == period && one.node == node)
 }
 
-/// The number of a node of the plant in a period among the nodes of a window's graph; 0 for the environment, and for what is no
-/// node of the period.
+/// The number of a node of the plant in a period among the nodes of a window's graph; 0 for the environment, and for what isn't a node of
+/// the period.
 pub fn number_of(nodes: &[WindowNode], period: u32, node: u32) -> u32
     requires { length nodes.now < 2 ^ 31 }
     ensures { result ≡ number_of nodes.now period node }

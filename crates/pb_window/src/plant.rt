@@ -1,4 +1,4 @@
-// A plant with its days of service, and what of it is there in a period.
+// A plant with its days of service, and which parts of it are there in a period.
 
 ghost use Rattle.std.specs.Prelude.{◌≡◌, ◌↔◌, IsTrue};
 ghost use Rattle.pb_window.specs.Plant.{IsPlant, IsPlantArc, IsSpan, closing_day, is_in_service, is_served, opening_day};
@@ -13,8 +13,8 @@ pub struct Service {
     pub until: i32,
 }
 
-/// A stream of a plant, or the inventory of a tank, which leads from the tank to the environment. The environment is node 0;
-/// without days of service it is in service on every day.
+/// A stream of a plant, or the inventory of a tank, which leads from the tank to the environment. The environment is node 0. An arc without
+/// days of service is in service on every day.
 #[derive(Clone, Copy, Debug, PartialEq, Eq)]
 pub struct PlantArc {
     pub from: u32,
@@ -23,7 +23,7 @@ pub struct PlantArc {
     pub service: Option<Service>,
 }
 
-/// A plant, as far as a window asks: how many units and tanks it has, its streams and inventories in order of declaration, and
+/// A plant, as far as a window needs it: the number of its units and tanks, its streams and inventories in order of declaration, and
 /// whether a unit or tank that no arc in service joins is a node all the same.
 #[derive(Debug, Drop)]
 pub struct Plant {
@@ -60,7 +60,7 @@ pub fn opening_day(arc: &PlantArc, span: &Span) -> i32
     }
 }
 
-/// The day at whose end it closes.
+/// The day at whose end the content of a tank closes in a period.
 pub fn closing_day(arc: &PlantArc, span: &Span) -> i32
     ensures { result ≡ closing_day arc.now.service span.now }
 {
@@ -77,8 +77,8 @@ fn is_plant_arc(nodes: u32, arc: &PlantArc) -> bool
     arc.from <= nodes && arc.to <= nodes && arc.from != arc.to && (!arc.is_tank || arc.to == 0)
 }
 
-/// Whether a plant has no more units, tanks and streams than a graph may have, and each arc joins two of its nodes; that of a
-/// tank leads to the environment.
+/// Whether a plant has no more units, tanks and streams than a graph may have, and each arc joins two of its nodes; the arc of a tank leads
+/// to the environment.
 pub fn is_plant(plant: &Plant) -> bool
     ensures { IsTrue result ↔ IsPlant plant.now }
 {

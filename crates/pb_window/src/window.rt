@@ -33,9 +33,8 @@ pub enum Source {
     Content(i32),
 }
 
-/// A stream of a window. That of a flow has the number of its period, its place in the graph of that period, and the number of
-/// its arc in the plant. That of a content has the number of the period that it follows, 0 before the first one, and the number
-/// of the tank's arc as its place.
+/// A stream of a window. A flow has the number of its period, its place in the graph of that period, and the number of its arc in the
+/// plant. A content has the number of the period that it follows, 0 before the first one, and the number of the tank's arc as its place.
 #[derive(Clone, Copy, Debug, PartialEq, Eq)]
 pub struct WindowStream {
     pub source: Source,
@@ -46,7 +45,7 @@ pub struct WindowStream {
     pub to: u32,
 }
 
-/// The nodes of a window but the environment, and its streams, both in order.
+/// The nodes of a window except the environment, and its streams, both in order.
 #[derive(Debug, Drop)]
 pub struct Window {
     pub nodes: List<WindowNode>,

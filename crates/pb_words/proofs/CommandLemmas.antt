@@ -25,7 +25,7 @@ some≢none x e = true≢false (ap some_in e)
 same_some : {X : Type 0} (x y : X) → Some x ≡ Some y → x ≡ y
 same_some x y e = ap (λ o. unwrap_or o x) e
 
--- a number of a range that begins at a natural number is one itself
+-- a number in a range that begins at a natural number is a natural number too
 pub natural_within : (least most : ℕ) (o : Option ℤ) (z : ℤ) → within (pos least) (pos most) o ≡ Some z → (n : ℕ) × (z ≡ pos n) × (n ≤ most)
 natural_within least most None z e = absurd (some≢none z (sym e))
 natural_within least most (Some (negsuc n)) z e = absurd (some≢none z (sym e))
@@ -66,7 +66,7 @@ run_or_check e = true≢false (ap (λ (t : List ℕ). bytes_eq t (codes "run")) 
 check_or_make : codes "check" ≡ codes "make" → ⊥
 check_or_make e = true≢false (ap (λ (t : List ℕ). bytes_eq t (codes "check")) e)
 
--- where nothing asks for a command of a mode, nothing of that mode asks for any
+-- if nothing asks for a command of a mode, nothing of that mode asks for any command
 pub no_run : (given : Given) → given.mode ≡ Some (codes "run") → ((options : Options) (form : Form) → AsksRun given options form → ⊥)
     → (command : Command) → Asks given command → ⊥
 no_run given mode none (Run options form) asks = none options form asks
@@ -128,7 +128,7 @@ one_asked given (Make n s p g k) (Make m t q h l) x y = one_make given n m s t p
 
 -- ---- commands and clap
 
--- words that clap takes give the command that is asked for
+-- words that clap accepts give the command that is asked for
 pub command_here : (words : List (List ℕ)) (given : Given) (command : Command) → IsGivenByClap words given → Asks given command → IsCommandOf words command
 command_here words given command taken asks =
     let p = parts_of_taken words given taken in

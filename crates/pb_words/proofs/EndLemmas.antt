@@ -45,7 +45,7 @@ no_defaults_fault (a ∷ rest) rows each = both_empty _ _ (no_default_fault rows
 rules_default : EachRule (λ a. given_default_fault a a.defaults ≡ []) rules_in
 rules_default = (refl, (refl, (refl, (refl, (refl, (refl, (refl, (refl, (refl, tt)))))))))
 
--- a flag that is not given gets a row that says `false`, and no other argument gets one
+-- a flag that isn't given gets a row that says `false`, and no other argument gets a row
 abbrev false_row : Text → Row
 false_row name = record { id = name; values = codes "false" ∷ []; count = None; source = Some DefaultValue; reading = AsWritten }
 
@@ -181,7 +181,7 @@ fault_is : (words : List Text) → fault_of line words
     (or_else (defaults_fault (settled rules_in (end_of words).held).rows rules_in) (check_fault shape (finished rules_in (end_of words).held) false)))
 fault_is words = leaf_fault (built line) nothing_held words refl
 
--- what clap takes is the line of parts, and clap gives what they give
+-- what clap accepts is the line of parts, and clap gives what they give
 pub parts_of_taken : (words : List Text) (given : Given) → IsGivenByClap words given → (parts : List Part) × ArePartsOf parts words × (given ≡ given_by parts)
 parts_of_taken words given taken =
     let e = sym (fault_is words) ∙ taken.taken in
@@ -225,13 +225,13 @@ taken_of_line parts known once =
     stands : Stands [] (walk_from nothing_held)
     stands = record { front = []; last = nothing; position = 1; is = refl; are = refl; known = tt; fresh = tt; first = λ e. refl }
 
--- and clap takes the line of each list of known parts that say each thing once
+-- and clap accepts the line of each list of known parts that say each thing once
 pub taken_of_parts : (parts : List Part) (words : List Text) → ArePartsOf parts words → IsGivenByClap words (given_by parts)
 taken_of_parts parts words are = subst (λ (ws : List Text). IsGivenByClap ws (given_by parts)) (sym are.are) (taken_of_line parts are.known are.once)
 
 -- ---- in the words of the code
 
--- each of these texts is of a known form exactly where all are
+-- each of these texts is of a known form iff all are
 pub all_formed : {X : Type 0} (f : X → Text) (xs : List X) → All (λ x. IsTrue (is_plain_or_named (f x))) xs → IsTrue (list_all is_plain_or_named (map f xs))
 all_formed f [] each = refl
 all_formed f (x ∷ xs) each = ap₂ (λ a b. a && b) (each 0 x (omega arith)) (all_formed f xs (λ k d lt. each (suc k) d (omega arith)))

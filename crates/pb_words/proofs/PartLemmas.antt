@@ -1,4 +1,4 @@
--- How `clap` goes over the words of parts, forwards: where each part is known and says something new, it takes them all.
+-- How `clap` goes over the words of parts, forwards: if each part is known and says something new, it accepts them all.
 use Rattle.std.proofs.Common.{◌≡◌, ◌∙◌, ◌==◌, arith, ℕ, suc, true, false, refl, sym, ap, subst, IsTrue, fold, All, List, [], ◌∷◌, ◌++◌, Option, Some, None, codes, append-nil, append_assoc, true≢false}
 use Rattle.std.specs.Str.{bytes_eq}
 use Rattle.clap.specs.Lexer.{name_and_value}

@@ -24,7 +24,7 @@ pub neither : (a b : Bool) → (a || b) ≡ false → (a ≡ false) × (b ≡ fa
 neither true b e = absurd (true≢false e)
 neither false b e = (refl, e)
 
--- a row of an id that has none joins at the end
+-- a row of an id that has no row yet is added at the end
 pub at_new_row : (id : Text) (change : Row → List Row) (missing rows : List Row) → has_row id rows ≡ false → at_row id change missing rows ≡ rows ++ missing
 at_new_row id change missing [] none = refl
 at_new_row id change missing (r ∷ rs) none =
@@ -43,7 +43,7 @@ pub used_values : (id text : Text) (rows : List Row) → has_row id rows ≡ fal
 used_values id text rows none =
     ap (with_values id AsWritten CommandLine (text ∷ [])) (without_none id rows none) ∙ new_values id AsWritten CommandLine (text ∷ []) rows none
 
--- the rows of parts have an id where a part has its name
+-- an id has a row among those of the parts iff a part has its name
 pub named_row : (id : Text) (parts : List Part) → has_row id (map row_of parts) ≡ is_named id parts
 named_row id parts = sym (list_any-map (λ (r : Row). bytes_eq r.id id) row_of parts)
 

@@ -38,7 +38,7 @@ abbrev pub Each : (Text → Type 0) → List Text → Type 0
 Each P [] = Unit {0}
 Each P (x ∷ xs) = P x × Each P xs
 
--- what holds of each of these names holds of a name among them
+-- what holds for each of these names holds for a name among them
 pub one_of : (P : Text → Type 0) (names : List Text) (name : Text) → Each P names → IsTrue (is_among name names) → P name
 one_of P [] name each among = absurd (true≢false (sym among))
 one_of P (x ∷ xs) name each among = go (bytes_eq x name) refl among (λ h. one_of P xs name each.1 h)
@@ -205,7 +205,7 @@ all_parts front last = front ++ last_parts last
 
 -- ---- the forms of words
 
--- the name of an option before an equals sign, and its value behind it
+-- the name of an option before an equals sign, and its value after it
 any_before_end : (xs : Text) → list_any (λ b. b == 61) xs ≡ true → position_or_len (λ b. b == 61) xs < length xs
 any_before_end [] e = absurd (true≢false (sym e))
 any_before_end (x ∷ xs) e = go (x == 61) refl e (λ h. any_before_end xs h)

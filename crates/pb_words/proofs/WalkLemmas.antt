@@ -18,7 +18,7 @@ use Rattle.pb_words.proofs.StepLemmas.{Last, nothing, mode_word, waits_for, has_
 
 -- ---- a use that a word makes at once
 
--- using the argument so is what the part says
+-- using the argument in this way is what the part says
 pub record IsUseOf (a : Rule) (values : List Text) (part : Part) : Type 0 where
   pub uses : (rows : List Row) → has_row (name_of part) rows ≡ false → used a values rows ≡ rows ++ row_of part ∷ []
   pub passes : (rows : List Row) → has_row (name_of part) rows ≡ false → use_fault false a values rows ≡ []
@@ -81,7 +81,7 @@ index_there position e = rw e refl
 index_past : (position : ℕ) → (1 == position) ≡ false → arg_by_index rules_in position ≡ None
 index_past position e = rw e refl
 
--- the word of a mode, where nothing waits for a value
+-- the word of a mode, if nothing waits for a value
 module _ (front : List Part) (last : Last) (known : IsKnownLast last) (position : ℕ) (word : Text) where
   pub mode_fault : arg_by_index rules_in position ≡ Some built_mode → step_fault shape position (held_at front last) value ≡ settle_fault rules_in false (held_at front last)
   mode_fault found =
@@ -158,7 +158,7 @@ known_all front (has_value name v) fresh last known = All-push IsKnownPart front
 
 -- ---- back: the parts so far, from the words so far
 
--- where the walk stands is where it stands after these parts, of whose words and of an option that waits the words so far consist
+-- the walk stands where it stands after these parts; the words so far are theirs, and those of an option that waits for its value
 pub record Standing (seen : List Text) (w : Walk) : Type 0 where
   pub front : List Part
   pub last : Last

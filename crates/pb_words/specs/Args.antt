@@ -1,4 +1,4 @@
--- Statement. The words that the system's arguments give, or why they give none.
+-- Statement. The words that the system's arguments give, or why they give no words.
 use Rattle.std.specs.Prelude.{ℕ, List, drop, map, Result, Ok, Err, String, string_bytes}
 use Rattle.std.specs.IoError.{error_kind}
 use Rattle.std.specs.Vec.Iter.{into_iter_items}
@@ -10,7 +10,7 @@ use Rattle.std.specs.declared.vec.IntoIter.{IntoIter}
 use Rattle.pb_words.specs.declared.command.WordsRefused.{WordsRefused}
 use Rattle.pb_words.specs.declared.command.WordsRefused.TheVariants.{Usage, NoMemory}
 
--- why there are no words if the system doesn't give the arguments: it found no memory, or else one of them is no text
+-- why there are no words if the system doesn't give the arguments: it ran out of memory, or else one of them isn't text
 abbrev pub refused_by : ErrorKind → WordsRefused
 refused_by kind.OutOfMemory = NoMemory
 refused_by _ = Usage
@@ -19,7 +19,7 @@ refused_by _ = Usage
 abbrev pub words_after_name : IntoIter (String Global) Global → List (List ℕ)
 words_after_name args = map string_bytes (drop 1 (into_iter_items args))
 
--- the words that the arguments give, or why they give none
+-- the words that the arguments give, or why they give no words
 abbrev pub words_given : Result (IntoIter (String Global) Global) Error → Result (List (List ℕ)) WordsRefused
 words_given (Ok args) = Ok (words_after_name args)
 words_given (Err error) = Err (refused_by (error_kind error))

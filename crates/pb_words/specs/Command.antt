@@ -12,27 +12,27 @@ use Rattle.pb_words.specs.Given.{Given, given_by}
 use Rattle.pb_words.specs.declared.command.Command.{Command}
 use Rattle.pb_words.specs.declared.command.Command.TheVariants.{Run, Check, Make}
 
--- the greatest number that a session is made from: every number of 32 bits is one
+-- the greatest number that a session can be made from: any number of 32 bits will do
 abbrev pub greatest_number : ℕ
 greatest_number = 4294967295
 
--- the natural number among the whole ones
+-- a whole number as a natural one, if it isn't negative
 abbrev pub natural : Option ℤ → Option ℕ
 natural None = None
 natural (Some (pos n)) = Some n
 natural (Some (negsuc n)) = None
 
--- the number that a text gives within a range, in the form that `read_whole` reads; another number where no text was given
+-- the number that a text gives within a range, in the form that `read_whole` reads; if no text was given, the usual number
 abbrev pub number_or : ℕ → ℕ → ℕ → Option (List ℕ) → Option ℕ
 number_or least most usual None = Some usual
 number_or least most usual (Some text) = natural (within (pos least) (pos most) (number text))
 
--- the form that a text names; csv where none was given
+-- the form that a text names; csv if no text was given
 abbrev pub IsFormOf : Option (List ℕ) → Form → Type 0
 IsFormOf None form = form ≡ Csv
 IsFormOf (Some text) form = ((text ≡ codes "csv") × (form ≡ Csv)) ⊎ ((text ≡ codes "json") × (form ≡ Json))
 
--- What was given asks for a run with these options in this form. Rounds of elimination ask for tests too.
+-- What was given asks for a run with these options in this form. Rounds of elimination also ask for tests.
 pub record AsksRun (given : Given) (options : Options) (asked : Form) : Type 0 where
   pub mode : given.mode ≡ Some (codes "run")
   pub gap : number_or 1 most_gap 10 given.gap ≡ Some options.gap
@@ -56,7 +56,7 @@ pub record AsksCheck (given : Given) : Type 0 where
   pub no_tests : given.tests ≡ false
   pub no_summary : given.summary ≡ false
 
--- What was given asks for a session made from this number with so many streams, or for its summary with this gap and so many
+-- What was given asks for a session made from this number with this many streams, or for its summary with this gap and this many
 -- sweeps.
 pub record AsksMake (given : Given) (from count : ℕ) (summed : Bool) (within_gap within_sweeps : ℕ) : Type 0 where
   pub mode : given.mode ≡ Some (codes "make")
@@ -81,7 +81,8 @@ pub record IsCommandOf (words : List (List ℕ)) (command : Command) : Type 0 wh
   pub read : ArePartsOf parts words
   pub asks : Asks (given_by parts) command
 
--- A session to be made within the limits: a number of 32 bits, so many streams, and for its summary a gap and so many sweeps.
+-- A session to be made is within the limits: its number is one of 32 bits, and the number of streams, and the gap and number of
+-- sweeps for its summary, lie in their ranges.
 pub record IsMakeInRange (from count within_gap within_sweeps : ℕ) : Type 0 where
   pub number : from ≤ greatest_number
   pub least : least_streams ≤ count

@@ -4,8 +4,8 @@ use Rattle.std.specs.Option.{option_map_or}
 use Rattle.std.specs.Str.{bytes_eq}
 use Rattle.pb_words.specs.Parts.{Part, name_of, text_of}
 
--- What was given: a text for the mode and for each option that takes a value, where it stands in the line, and for each flag
--- whether it does.
+-- What was given: a text for the mode and for each option that takes a value, if it is in the line, and for each flag whether it is
+-- in the line.
 pub record Given : Type 0 where
   pub mode : Option (List ℕ)
   pub gap : Option (List ℕ)
@@ -17,15 +17,15 @@ pub record Given : Type 0 where
   pub tests : Bool
   pub summary : Bool
 
--- what the parts say of a name, if one of them does
+-- what the parts say about a name, if one of them does
 abbrev pub said_of : List ℕ → List Part → Option (List ℕ)
 said_of name parts = option_map text_of (find (λ part. bytes_eq (name_of part) name) parts)
 
--- whether the text is `true`, as a flag says
+-- whether the text is `true`, which is the text of a flag
 abbrev pub is_true : Option (List ℕ) → Bool
 is_true said = option_map_or (λ text. bytes_eq text (codes "true")) said false
 
--- what is given by the text that is said of each name
+-- what is given, from what is said about each name
 abbrev pub given_of : (List ℕ → Option (List ℕ)) → Given
 given_of said = record {
   mode = said (codes "mode");

@@ -10,7 +10,7 @@ use Rattle.pb_words.specs.Command.{IsCommandOf}
 abbrev pub OneCommandLaw : Type 0
 OneCommandLaw = (words : List (List ℕ)) (one other : Command) → IsCommandOf words one → IsCommandOf words other → one ≡ other
 
--- `clap` takes words of known forms exactly where they are those of a line of parts, and hands out what the parts give
+-- `clap` accepts words of known forms iff they are those of a line of parts, and returns what the parts give
 abbrev pub ClapLaw : Type 0
 ClapLaw =
     (words : List (List ℕ)) (given : Given)

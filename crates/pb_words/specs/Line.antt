@@ -20,29 +20,29 @@ flag_rule name = record (new_rule name) { long = Some name; action = Some SetTru
 abbrev pub bare : App
 bare = on_top (λ s. record s { no_binary_name = true; disable_help_flag = true; disable_version_flag = true }) (new_app (codes "plantbal"))
 
--- the mode, and what a run and making a session both take
+-- the mode, and the options of both a run and making a session
 abbrev pub with_mode : App → App
 with_mode app = with_rule (with_rule (with_rule app mode_rule) (option_rule (codes "gap"))) (option_rule (codes "sweeps"))
 
--- what a run takes besides
+-- the further options of a run
 abbrev pub with_run : App → App
 with_run app = with_rule (with_rule (with_rule app (option_rule (codes "eliminate"))) (option_rule (codes "format"))) (flag_rule (codes "tests"))
 
--- and what making a session takes
+-- and those of making a session
 abbrev pub with_make : App → App
 with_make app = with_rule (with_rule (with_rule app (option_rule (codes "number"))) (option_rule (codes "streams"))) (flag_rule (codes "summary"))
 
 abbrev pub line : App
 line = with_make (with_run (with_mode bare))
 
--- a word without a hyphen at its head, or two hyphens and a name
+-- a word that doesn't begin with a hyphen, or two hyphens and a name
 abbrev pub is_plain_or_named : Text → Bool
 is_plain_or_named [] = true
 is_plain_or_named (first ∷ []) = not (first == dash)
 is_plain_or_named (first ∷ second ∷ []) = not (first == dash)
 is_plain_or_named (first ∷ second ∷ third ∷ rest) = not (first == dash) || (second == dash)
 
--- whether each word is one
+-- whether each word is plain or named
 abbrev pub are_plain_or_named : List Text → Bool
 are_plain_or_named words = list_all is_plain_or_named words
 
@@ -50,7 +50,7 @@ are_plain_or_named words = list_all is_plain_or_named words
 abbrev pub given_in : List Row → Given
 given_in rows = given_of (λ name. first_of name rows)
 
--- The words as clap reads them: each is plain or named, clap takes them, and these are the texts that it hands out.
+-- The words as `clap` reads them: each is plain or named, `clap` accepts them, and these are the texts that it returns.
 pub record IsGivenByClap (words : List Text) (given : Given) : Type 0 where
   pub formed : IsTrue (are_plain_or_named words)
   pub taken : fault_of line words ≡ []

@@ -8,7 +8,7 @@ use Rattle.pb_rows.specs.Bytes.{dash}
 abbrev pub option_names : List (List ℕ)
 option_names = codes "gap" ∷ codes "sweeps" ∷ codes "eliminate" ∷ codes "format" ∷ codes "number" ∷ codes "streams" ∷ []
 
--- the options that stand alone
+-- the options without a value
 abbrev pub flag_names : List (List ℕ)
 flag_names = codes "tests" ∷ codes "summary" ∷ []
 
@@ -35,14 +35,14 @@ abbrev pub line_of : List Part → List (List ℕ)
 line_of [] = []
 line_of (part ∷ rest) = words_of part ++ line_of rest
 
--- what a part says something of: the mode, or the option by its name
+-- what a part is about: the mode, or the option by its name
 abbrev pub name_of : Part → List ℕ
 name_of (mode word) = codes "mode"
 name_of (flag name) = name
 name_of (apart name value) = name
 name_of (joined name value) = name
 
--- what it says: the mode's word, an option's value, and of a flag that it is there
+-- what it says: the mode's word, an option's value, and for a flag, that it is there
 abbrev pub text_of : Part → List ℕ
 text_of (mode word) = word
 text_of (flag name) = codes "true"
@@ -58,19 +58,19 @@ has_hyphen (first ∷ rest) = first == dash
 abbrev pub is_among : List ℕ → List (List ℕ) → Bool
 is_among name names = list_any (λ known. bytes_eq known name) names
 
--- A part of a known form: a word without a hyphen at its head for the mode, the whole name of a flag, and the whole name of an
--- option with its value; a value that is a word of its own has no hyphen at its head.
+-- A part of a known form: a word that doesn't begin with a hyphen for the mode, the whole name of a flag, or the whole name of an
+-- option with its value; a value that is a separate word doesn't begin with a hyphen.
 abbrev pub IsKnownPart : Part → Type 0
 IsKnownPart (mode word) = has_hyphen word ≡ false
 IsKnownPart (flag name) = IsTrue (is_among name flag_names)
 IsKnownPart (apart name value) = IsTrue (is_among name option_names) × (has_hyphen value ≡ false)
 IsKnownPart (joined name value) = IsTrue (is_among name option_names)
 
--- whether one of the parts says something of this name
+-- whether one of the parts is about this name
 abbrev pub is_named : List ℕ → List Part → Bool
 is_named name parts = list_any (λ part. bytes_eq (name_of part) name) parts
 
--- no part says something of what a part before it has said
+-- no part is about what an earlier part was about
 abbrev pub EachOnce : List Part → Type 0
 EachOnce parts = (before after : List Part) (part : Part) → parts ≡ before ++ part ∷ after → is_named (name_of part) before ≡ false
 

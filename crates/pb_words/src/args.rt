@@ -10,8 +10,8 @@ use std::alloc::{AllocError, Global};
 use std::env::Args;
 use std::io;
 
-/// The words of the system's arguments: all after the first, which is the program's name, in order. Where the system doesn't give
-/// the arguments, the refusal is that of its error, see [`refused_args`].
+/// The words of the system's arguments: all after the first, which is the program's name, in order. If the system doesn't give the
+/// arguments, the refusal is that of its error; see [`refused_args`].
 pub fn words_of(alloc: Global, args: io::Result<Args>) -> Result<Words, WordsRefused>
     ensures ok { IfOk result (λ words. words_given args ≡ Ok words) }
     ensures refused { IfErr (words_given args) (λ why. result ≡ Err why) }
@@ -26,8 +26,8 @@ pub fn words_of(alloc: Global, args: io::Result<Args>) -> Result<Words, WordsRef
     }
 }
 
-/// Why there are no words if the system doesn't give the arguments: `NoMemory` exactly if it found no memory, and else `Usage`, as for
-/// an argument that is no text.
+/// Why there are no words if the system doesn't give the arguments: `NoMemory` iff it ran out of memory, and otherwise `Usage`, as
+/// for an argument that isn't text.
 pub fn refused_args(kind: io::ErrorKind) -> WordsRefused
     ensures { result ≡ refused_by kind }
 {

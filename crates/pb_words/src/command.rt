@@ -21,15 +21,15 @@ use thiserror::Error;
 /// What a command line asks for.
 #[derive(Clone, Copy, Debug, PartialEq, Eq)]
 pub enum Command {
-    /// The run of a session, with what is asked of each study and the form of the output.
+    /// The run of a session, with the options of each study and the form of the output.
     Run {
         options: Options,
         form: Form,
     },
-    /// The check of a report by its own numbers.
+    /// The check of a report by the report's own numbers.
     Check,
-    /// A session made from a number with so many streams; or, with `summary`, a row on the first stage of its first report, which
-    /// is asked with this gap, in thousandths of a standard deviation, and at most so many sweeps.
+    /// A session made from a number, with this many streams; or, with `summary`, a row on the first stage of its first report, with
+    /// this gap, in thousandths of a standard deviation, and at most this many sweeps.
     Make {
         number: u32,
         streams: u32,
@@ -45,17 +45,17 @@ pub enum WordsRefused {
     /// The words give no command.
     #[error("the words give no command")]
     Usage,
-    /// No memory was found.
+    /// Memory ran out.
     #[error("no memory was found")]
     NoMemory,
 }
 
-// A made session has at least so many streams.
+// A made session has at least this many streams.
 const LEAST_STREAMS: u32 = 3;
 
-/// The command that words give: exactly one mode, `run`, `check` or `make`, and its options, each at most once and in any order, as two
-/// words or as one with an equals sign. `Usage` exactly where they give none. A word of one hyphen, of two alone, or of one and a name
-/// is refused before any memory is asked for.
+/// The command that words give: exactly one mode, `run`, `check` or `make`, and its options, each at most once and in any order, as
+/// two words or as one with an equals sign. Returns `Usage` only if they give no command. A word that is one hyphen, two hyphens,
+/// or one hyphen and a name is refused before any memory is allocated.
 pub fn read_words(alloc: Global, words: &Words) -> Result<Command, WordsRefused>
     ensures ok { IfOk result (λ command. IsCommandOf words.now command) }
     ensures within { IfOk result IsInRange }
@@ -75,7 +75,7 @@ pub fn read_words(alloc: Global, words: &Words) -> Result<Command, WordsRefused>
     }
 }
 
-// Whether each word has no hyphen at its head, or has two and a name.
+// Whether each word doesn't begin with a hyphen, or is two hyphens and a name.
 fn are_plain_or_named(words: &[String]) -> bool
     ensures { IsTrue result ↔ All (λ w. IsTrue (is_plain_or_named (string_bytes w))) words.now }
 {
@@ -84,7 +84,7 @@ fn are_plain_or_named(words: &[String]) -> bool
         .all(|word| is_plain_or_named(word.as_str().as_bytes()))
 }
 
-// Whether a word has no hyphen at its head, or has two and a name.
+// Whether a word doesn't begin with a hyphen, or is two hyphens and a name.
 fn is_plain_or_named(word: &[u8]) -> bool
     ensures { result ≡ is_plain_or_named word.now }
 {
@@ -110,7 +110,7 @@ fn asked(matches: &ArgMatches) -> Option<Command>
     }
 }
 
-// The run that they ask for.
+// The run that the matches ask for.
 fn run_asked(matches: &ArgMatches) -> Option<Command>
     requires mode { first_value (found_of matches.now) (codes "mode") ≡ Some (codes "run") }
     ensures some { IfSome result (Asks (given_of (first_value (found_of matches.now)))) }
@@ -131,7 +131,7 @@ fn run_asked(matches: &ArgMatches) -> Option<Command>
     Some(Command::Run { options, form })
 }
 
-// The check that they ask for: it takes no option.
+// The check that the matches ask for; it takes no options.
 fn check_asked(matches: &ArgMatches) -> Option<Command>
     requires mode { first_value (found_of matches.now) (codes "mode") ≡ Some (codes "check") }
     ensures some { IfSome result (Asks (given_of (first_value (found_of matches.now)))) }
@@ -152,7 +152,7 @@ fn check_asked(matches: &ArgMatches) -> Option<Command>
     Some(Command::Check)
 }
 
-// The session to be made that they ask for.
+// The making of a session that the matches ask for.
 fn make_asked(matches: &ArgMatches) -> Option<Command>
     requires mode { first_value (found_of matches.now) (codes "mode") ≡ Some (codes "make") }
     ensures some { IfSome result (Asks (given_of (first_value (found_of matches.now)))) }
@@ -197,8 +197,7 @@ fn are_tests_asked(matches: &ArgMatches) -> bool
     is_set(matches, "tests") || is_there(matches, "eliminate")
 }
 
-// The number that was given for an option, or the usual one; `None` exactly where the text that was given is no number of the
-// range.
+// The number that was given for an option, or the usual one; `None` iff the text that was given isn't a number in the range.
 fn number_or(matches: &ArgMatches, name: &str, least: u32, most: u32, usual: u32) -> Option<u32>
     ensures { result ≡ number_or least most usual (first_value (found_of matches.now) name.now) }
 {
@@ -211,7 +210,7 @@ fn number_or(matches: &ArgMatches, name: &str, least: u32, most: u32, usual: u32
     }
 }
 
-// The whole number that a text writes, where it lies in the range.
+// The whole number that a text writes, if it lies in the range.
 fn whole_between(text: &str, least: u32, most: u32) -> Option<i128>
     ensures value { result ≡ within (pos least) (pos most) (number text.now) }
     ensures between { IfSome result (λ z. (pos 0 ≤ℤ z) × (z ≤ℤ pos most)) }
@@ -219,7 +218,7 @@ fn whole_between(text: &str, least: u32, most: u32) -> Option<i128>
     read_whole(text.as_bytes(), i128::from(least), i128::from(most))
 }
 
-// The form that was given; `None` exactly where its text names none.
+// The form that was given, or CSV; `None` iff a text was given that doesn't name a form.
 fn form_of(matches: &ArgMatches) -> Option<Form>
     ensures some { IfSome result (IsFormOf (first_value (found_of matches.now) (codes "format"))) }
     ensures none { IsNone result → (form : Form)

@@ -2,13 +2,12 @@
 
 ghost use Rattle.pb_words.specs.Laws.{ClapLaw, OneCommandLaw};
 
-/// The law that words give at most one command, so that what they ask for is settled.
+/// The law that words give at most one command, so that what they ask for is determined.
 pub fn one_command_law()
     ensures { OneCommandLaw }
 {}
 
-/// The law that `clap` takes words of known forms exactly where they are those of a line of parts, and hands out what the parts
-/// give.
+/// The law that `clap` accepts words of known forms iff they are those of a line of parts, and returns what the parts give.
 pub fn clap_law()
     ensures { ClapLaw }
 {}

@@ -1,7 +1,7 @@
 //! The words of a command line, and the command that they give.
 //!
-//! [`words_of`] takes the words out of the system's arguments. [`read_words`] reads them as `clap` takes them apart: the mode, flags,
-//! and options with their values. Numbers are read as fields of rows are.
+//! [`words_of`] takes the words out of the system's arguments. [`read_words`] reads them as `clap` takes them apart: the mode,
+//! flags, and options with their values. Numbers are read as in the fields of rows.
 #![tactic(auto)]
 
 mod args;

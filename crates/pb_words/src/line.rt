@@ -23,7 +23,7 @@ fn option<'a>(alloc: Global, name: &'a str) -> Arg<'a>
     Arg::new(alloc, name).long(name).action(ArgAction::Set)
 }
 
-// An option that stands alone.
+// An option without a value.
 fn flag<'a>(alloc: Global, name: &'a str) -> Arg<'a>
     ensures rule { rule_of result ≡ flag_rule name.now }
     ensures local { result.global ≡ false }
@@ -31,7 +31,7 @@ fn flag<'a>(alloc: Global, name: &'a str) -> Arg<'a>
     Arg::new(alloc, name).long(name).action(ArgAction::SetTrue)
 }
 
-// The mode, and what a run and making a session both take.
+// The mode, and the options of both a run and making a session.
 fn with_mode<'a>(alloc: Global, command: Command<'a>) -> Result<Command<'a>, AllocError>
     ensures { IfOk result (λ r. app_of r ≡ with_mode (app_of command.entry)) }
 {
@@ -41,7 +41,7 @@ fn with_mode<'a>(alloc: Global, command: Command<'a>) -> Result<Command<'a>, All
     with_gap.arg(option(alloc, "sweeps"))
 }
 
-// What a run takes besides.
+// The further options of a run.
 fn with_run<'a>(alloc: Global, command: Command<'a>) -> Result<Command<'a>, AllocError>
     ensures { IfOk result (λ r. app_of r ≡ with_run (app_of command.entry)) }
 {
@@ -50,7 +50,7 @@ fn with_run<'a>(alloc: Global, command: Command<'a>) -> Result<Command<'a>, Allo
     with_format.arg(flag(alloc, "tests"))
 }
 
-// And what making a session takes.
+// And those of making a session.
 fn with_make<'a>(alloc: Global, command: Command<'a>) -> Result<Command<'a>, AllocError>
     ensures { IfOk result (λ r. app_of r ≡ with_make (app_of command.entry)) }
 {
@@ -72,7 +72,7 @@ fn line<'a>(alloc: Global) -> Result<Command<'a>, AllocError>
     with_make(alloc, with_run)
 }
 
-// The words as `clap` takes them apart; `Usage` exactly where it doesn't take them.
+// The words as `clap` takes them apart; `Usage` only if it doesn't accept them.
 pub(crate) fn taken_apart<'a>(
     alloc: Global,
     words: &'a Words,
@@ -90,7 +90,7 @@ pub(crate) fn taken_apart<'a>(
     }
 }
 
-// Why `clap` gave no matches: it found no memory exactly if it says so, and else it doesn't take the words.
+// Why `clap` gave no matches: `NoMemory` iff its error says so; otherwise it doesn't accept the words.
 fn refusal(error: &Error) -> WordsRefused
     ensures { (result ≡ NoMemory) ↔ (kind_of error.now ≡ OutOfMemory) }
 {

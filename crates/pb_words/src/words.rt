@@ -20,7 +20,7 @@ impl Model for Words {
 }
 
 impl Words {
-    /// No word.
+    /// An empty list of words.
     pub fn new(alloc: Global) -> Words
         ensures { result ≡ [] }
     {
@@ -37,7 +37,7 @@ impl Words {
         Words { alloc, words }
     }
 
-    /// Appends a word. After an `Err`, out of memory, the words are as they were.
+    /// Appends a word. After an `Err` (out of memory), the words are as they were.
     pub fn push(&mut self, word: &str) -> Result<(), AllocError>
         ensures appended { OnOk result (self.new ≡ self.old ++ word.now ∷ []) }
         ensures unchanged { OnErr result (self.new ≡ self.old) }

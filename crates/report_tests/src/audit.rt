@@ -1,5 +1,4 @@
-// What no clause says: that a report is judged where memory is ample, and the exact bytes of the rows. More files are
-// checked in `cli`.
+// What no clause says: that a report is judged if memory is ample, and the exact bytes of the rows. More files are checked in `cli`.
 
 use pb_audit::{Judged, judge_next};
 use pb_rows::Records;

@@ -1,12 +1,12 @@
-// What no clause says: that a block is read where memory is ample. What is said of rows with one fault, of each kind, stands in many
-// cases of `block_cases`.
+// What no clause says: that a block is read if memory is ample. What is said of rows with one fault, of each kind, is in many cases of
+// `block_cases`.
 
 use pb_readback::{Block, ReadRefused, read};
 use pb_rows::{Name, Records};
 use std::alloc::Global;
 use std::test::Fail;
 
-// Of a block its period and round, how many nodes are named, how many prices it has and the first one, and the statistic's ends.
+// For a block: its period and round, how many nodes are named, how many prices it has, the first price, and the ends of the statistic.
 type Found = (
     Name,
     u32,
@@ -26,7 +26,7 @@ fn found(block: &Block) -> Found {
     )
 }
 
-// What is read of a short text. Of a row that can't be read its number, and the code of its fault.
+// What is read of a short text. For a row that can't be read: its number, and the code of its fault.
 fn read_of(alloc: Global, text: &[u8]) -> Result<Option<Found>, Option<(u32, u32)>> {
     if 10_000 < text.len() {
         return Err(None);

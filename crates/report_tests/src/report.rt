@@ -1,4 +1,4 @@
-// What no clause says: that calls succeed where memory is ample, and rows that no session gives. What sessions give is data, in
+// What no clause says: that calls succeed if memory is ample, and rows that no session gives. What sessions give is data, in
 // examples/worked.
 
 mod histories;
@@ -203,7 +203,7 @@ fn is_named(names: &Names, graph: &Graph) -> bool
     names.nodes.len() == graph.nodes() as usize && names.streams.len() == graph.len() as usize
 }
 
-// Whether each certificate speaks of the graph alone.
+// Whether each certificate refers only to the graph.
 fn are_within(graph: &Graph, classes: &[Classified]) -> bool
     ensures { IsTrue result → All
         (λ (classified : Classified). IsWitnessWithin graph.now classified.witness) classes.now }
@@ -213,7 +213,7 @@ fn are_within(graph: &Graph, classes: &[Classified]) -> bool
         .all(|classified| classified.witness.is_within(graph))
 }
 
-// The rows of a study, which is let go after them.
+// The rows of a study, which is dropped after them.
 fn report(
     alloc: Global,
     names: Names,

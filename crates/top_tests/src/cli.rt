@@ -17,8 +17,8 @@ const TWO_METERS: &str =
 const REPORT: &str =
     "report,d1,0,2,2,10,5000\nnode,env,0\nnode,U,-72057594038\nstream,A,env,U,102000000,1000000000000,redundant,101000000,100999997,101000002,100999998,101000001,cut,env,-A +B\nstream,B,U,env,100000000,1000000000000,redundant,101000000,100999998,101000003,100999999,101000002,cut,U,+A -B\nsolved,1,converged,2,0,1,1999,2000\nglobal,3841,accept\nnodal,U,2000000,2000000000000,,nocritical\nmeasure,A,1999,2000,,nocritical\nmeasure,B,1999,2000,,nocritical\nend,d1,0\n";
 
-/// How a run over ends in memory goes: its words, the most bytes of a take and of a put, the number of the take and of the put that
-/// fails, counted from 1 (0 names none), and how many bytes there is room for.
+/// How a run over ends in memory goes: its words, the most bytes of a take and of a put, the number of the take and of the put that fails,
+/// counted from 1 (0 for none), and how many bytes there is room for.
 #[derive(Clone, Copy)]
 struct Ends<'a> {
     words: &'a [&'a str],
@@ -56,7 +56,7 @@ const CHECK: Ends<'static> = Ends {
     room: 65_536,
 };
 
-// A run over ends in memory, of which nothing is claimed here.
+// A run over ends in memory, about which nothing is claimed here.
 fn run_in_memory(
     alloc: Global,
     words: &Words,
@@ -120,7 +120,7 @@ const MAKE: Ends<'static> = Ends {
     room: 65_536,
 };
 
-// The k-th put fails, one byte a put: the first k - 1 bytes are written. All of them are if it would come after the last one.
+// The k-th put fails, with one byte per put: the first k - 1 bytes are written, or all bytes if that put would come after the last one.
 fn assert_cut_at_each_put(
     rt: &impl Abort,
     alloc: Global,
@@ -150,7 +150,7 @@ fn stops_where_a_put_fails(rt: HostRuntime) -> Result<(), AllocError> {
     assert_cut_at_each_put(&rt, alloc, CHECK, &reports, "yes,d1,0\nyes,d1,0\n")
 }
 
-/// The k-th take fails, seven bytes a take: nothing is written.
+/// The k-th take fails, with seven bytes per take: nothing is written.
 #[test]
 fn stops_where_a_take_fails(rt: HostRuntime) -> Result<(), AllocError> {
     let takes = TWO_METERS.len() as u32 / 7 + 2;
@@ -170,7 +170,7 @@ fn stops_where_a_take_fails(rt: HostRuntime) -> Result<(), AllocError> {
     Ok(())
 }
 
-/// A run over ends that never fail, and how many bytes it writes. No fault is its answer: that is proved.
+/// A run over ends that never fail, and how many bytes it writes. It is proved that its status is no fault of an end.
 fn sure_run(alloc: Global, words: &Words, input: Vec<u8>) -> (Status, u64)
     ensures read { result.0 ≢ ReadFault }
     ensures written { result.0 ≢ WriteFault }
@@ -207,8 +207,8 @@ fn refuses_one_byte_too_many(rt: HostRuntime) -> Result<(), AllocError> {
     gives(&rt, rt.alloc(), ends, &feeds, Status::TooLarge, "")
 }
 
-/// Words that are no command; input that is cut, and names and numbers of another form; a session that is made, of which the sixth put
-/// of one byte fails; and a sink with room for the first 100 bytes of a report.
+/// Words that are no command; input that is cut, and names and numbers of another form; a made session whose sixth put of one byte fails;
+/// and a sink with room for the first 100 bytes of a report.
 #[test]
 fn ends_by_words_input_and_sink(rt: HostRuntime) -> Result<(), AllocError> {
     let no_command = Ends {

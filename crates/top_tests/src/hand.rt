@@ -1,4 +1,4 @@
-//! Runs and checks of bytes in hand: each way that they end with ample memory.
+//! Runs and checks of bytes in memory: each way that they end with ample memory.
 
 ghost use Rattle.std.specs.Prelude.{◌≤◌, length};
 ghost use Rattle.pb_limits.specs.Limits.{most_bytes};
@@ -11,14 +11,14 @@ use pb_report::Form;
 use std::alloc::{AllocError, Global};
 use std::process::Abort;
 
-/// What is done with bytes in hand: their records are answered, or their blocks judged.
+/// What is done with bytes in memory: their records are answered, or their blocks judged.
 #[derive(Clone, Copy)]
 enum Deed {
     Answer,
     Judge,
 }
 
-/// A sink with room for some rows, whose put of this number fails, counted from 1; 0 names none.
+/// A sink with room for some rows, whose put of this number fails, counted from 1; 0 for none.
 fn sink_of(alloc: Global, failing_put: u32) -> Result<MemSink, AllocError> {
     let failing_puts = vec![in alloc; failing_put]?;
     MemSink::new(alloc, 4_096, 4_096, failing_puts)

@@ -11,7 +11,7 @@ pub(crate) fn words_from(alloc: Global, list: &[&str]) -> Result<Words, AllocErr
     Ok(words)
 }
 
-// Texts, one after the other.
+// Texts, one after another.
 pub(crate) fn joined(alloc: Global, texts: &[&[u8]]) -> Result<Vec<u8>, AllocError> {
     let mut all = Vec::new(alloc);
     for text in texts {

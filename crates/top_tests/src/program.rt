@@ -1,4 +1,4 @@
-// What no clause says: that the program finds memory for its run, and what stands on its third end, byte for byte.
+// What no clause says: that the program finds memory for its run, and what it writes to its third end, byte for byte.
 
 use pb_cli::run_program;
 use pb_io::{MemSink, MemSource};
@@ -7,8 +7,8 @@ use std::env::Args;
 use std::io;
 use std::process::ExitCode;
 
-/// How the program goes over ends in memory: its words, or why the system doesn't give them; its input, the number of the take and of
-/// the put that fails, counted from 1 (0 names none), and how many bytes the third end has room for.
+/// How the program goes over ends in memory: its words, or why the system doesn't give them; its input, the number of the take and of the
+/// put that fails, counted from 1 (0 for none), and how many bytes the third end has room for.
 #[derive(Clone, Copy)]
 struct Case<'a> {
     words: Result<&'a [&'a str], io::ErrorKind>,
@@ -73,7 +73,7 @@ fn sink_of(alloc: Global, room: usize, failing_put: u32) -> Result<MemSink, Allo
     MemSink::new(alloc, room, 4_096, failing_puts)
 }
 
-// The program over ends in memory, of which nothing is claimed here.
+// The program over ends in memory, about which nothing is claimed here.
 fn run_in_memory(
     alloc: Global,
     args: io::Result<Args>,
@@ -115,7 +115,7 @@ fn gives(
     )
 }
 
-/// Each status with its number and, if it is no success, its line; a third end with too little room, which holds what goes into it; and
+/// Each status with its number and, unless it is a success, its line; a third end with too little room, which holds what goes into it; and
 /// arguments that the system doesn't give.
 #[test]
 fn ends_with_a_number_and_a_line(rt: HostRuntime) -> Result<(), AllocError> {

@@ -15,7 +15,7 @@ use std::test::Fail;
 const PLANT: &[u8] =
     b"unit,U\nstream,T,env,U,batch,1\nstream,O,U,env,plain,0\nperiod,d1,2024-01-30,2024-01-30\n";
 
-// What is asked of the studies: a gap of 10 thousandths, and at most 5,000 sweeps.
+// What the studies are asked for: a gap of 10 thousandths, and at most 5,000 sweeps.
 fn asked() -> Options
     ensures { result ≡ record { gap = 10; sweeps = 5000; tests = false; eliminate = 0 } }
 {
@@ -27,7 +27,7 @@ fn asked() -> Options
     }
 }
 
-// The rows of that day with transfers of 10^13 grams each, of which a hundred are the greatest total, and a last row.
+// The rows of that day with transfers of 10^13 grams each, a hundred of which are the greatest total, and a last row.
 fn rows_of(alloc: Global, transfers: u32, last: &[u8]) -> Result<Rows, Fail> {
     let mut text = Vec::from_slice(alloc, PLANT)?;
     for i in 0..transfers {
@@ -43,7 +43,7 @@ fn is_refused(session: &mut Session, at: u32, row: &Row, out: &mut Vec<u8>) -> R
     Ok(session.row(at, row, out)?)
 }
 
-// Takes rows one after the other, and says whether the last one is refused.
+// Takes rows one after another, and returns whether the last one is refused.
 fn take_all(session: &mut Session, rows: &Rows, out: &mut Vec<u8>) -> Result<bool, Fail> {
     let mut at = 0u32;
     let mut refused = false;
@@ -54,7 +54,7 @@ fn take_all(session: &mut Session, rows: &Rows, out: &mut Vec<u8>) -> Result<boo
     Ok(refused)
 }
 
-// How many streams the first stage of the first period has, or which stream has too great a total.
+// The number of streams of the first stage of the first period, or the stream whose total is too great.
 fn streams_of(session: &Session) -> Result<Result<usize, u32>, Fail> {
     if session.book().periods() == 0 {
         return Err(Fail::new("no period"));

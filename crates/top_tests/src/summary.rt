@@ -1,4 +1,4 @@
-// What no clause says: that a summary is given where memory is ample.
+// What no clause says: that a summary is given if memory is ample.
 
 use pb_summary::summary;
 use std::test::Fail;

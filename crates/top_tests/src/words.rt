@@ -20,7 +20,7 @@ fn read(alloc: Global, words: &[&str]) -> Result<Result<Command, WordsRefused>, 
     Ok(read_words(alloc, &list))
 }
 
-/// One list of words for each command, and words that are none. More of both are tried on the built program.
+/// One list of words for each command, and words that are no command. More of both are tried on the built program.
 #[test]
 fn reads_commands(rt: HostRuntime) -> Result<(), AllocError> {
     let options = Options {
@@ -80,7 +80,7 @@ fn reads_commands(rt: HostRuntime) -> Result<(), AllocError> {
     Ok(())
 }
 
-// The words of the system's arguments, where these are they.
+// The words that are read if these are the system's arguments.
 fn given(alloc: Global, args: &[&str]) -> Result<Result<Words, WordsRefused>, AllocError> {
     let mut list = Vec::new(alloc);
     for arg in args {
@@ -120,7 +120,7 @@ fn takes_the_words_after_the_name(rt: HostRuntime) -> Result<(), AllocError> {
     Ok(())
 }
 
-/// Arguments that the system doesn't give are no words; whether memory lacked, its error says.
+/// Arguments that the system doesn't give are no words; its error says whether memory ran out.
 #[test]
 fn refuses_arguments_that_are_not_given(rt: HostRuntime) {
     for (kind, refused) in [

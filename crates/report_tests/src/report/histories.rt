@@ -11,7 +11,7 @@ fn reason(bytes: &[u8]) -> Result<Reason, Fail> {
     Ok(Reason::read(bytes).ok_or("a reason")?)
 }
 
-// A closing and the edits after it. What isn't written of them is filled too.
+// A closing and the edits after it. Fields that aren't written are filled too.
 fn edits(alloc: Global) -> Result<List<HistoryRow>, Fail> {
     let id = Some(name(b"r1")?);
     let words = [

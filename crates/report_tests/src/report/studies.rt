@@ -8,7 +8,7 @@ use pb_report::write_summary;
 use std::alloc::Global;
 use std::test::Fail;
 
-// A meter that says a gram and one that says none, of variance 1 each.
+// A meter that reads one gram and one that reads none, each with variance 1.
 fn half_a_gram_stage(alloc: Global) -> Result<Stage, Fail> {
     let prices = list(alloc, &[0, -36_028_797_018_963_968])?;
     let graph = meters(alloc, 1, 0, 1)?;

@@ -7,7 +7,7 @@ use Rattle.pb_kinds.specs.Costs.{IsMeterCost}
 use Rattle.pb_book.specs.Costs.{cost_after, cost_named}
 use Rattle.pb_book.proofs.costs.costs_by_name.Given as goal
 
--- what was named so far, and then what is left, gives each stream its cost
+-- what was named so far, and then the rest, gives each stream its cost
 abbrev pub invariant-loop-i : goal.invariant-loop-i
 invariant-loop-i l = record {
   value : (name : List ℕ) → fold (cost_after name) (unwrap_or (get same_name l.costs name) (pos 1)) (drop l.i l.named) ≡ cost_named l.named name;

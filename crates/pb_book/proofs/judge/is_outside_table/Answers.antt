@@ -7,7 +7,7 @@ use Rattle.pb_strap.specs.Table.{volume_of}
 use Rattle.pb_site.specs.Site.{table_of}
 use Rattle.pb_book.proofs.judge.is_outside_table.Goals as goal
 
--- a table has no volume at a level exactly where the look-up gives none
+-- a table has no volume at a level iff the look-up gives none
 outside : (table : List Point) (found : Option (List Point)) (mm : ℤ) (volume : Option ℤ) (none : Bool) → Some table ≡ found → volume ≡ volume_of table mm → is_some volume ≡ not none
     → none ≡ is_none (option_and_then (λ (points : List Point). volume_of points mm) found)
 outside table found mm volume none there value is = rw (← there, ← value) (by volume none is)

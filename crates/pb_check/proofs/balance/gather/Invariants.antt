@@ -4,7 +4,7 @@ use Rattle.pb_graph.specs.Balance.{net_of}
 use Rattle.pb_elim.specs.Printed.{printed_flows}
 use Rattle.pb_check.proofs.balance.gather.Given as goal
 
--- what is gathered and the net flows of the streams left make the net flows of all
+-- what is gathered and the net flows of the remaining streams make the net flows of all
 abbrev pub invariant-loop-j : goal.invariant-loop-j
 invariant-loop-j l = record {
   each : length l.nets ≡ l.stage.graph.nodes;

@@ -45,7 +45,7 @@ returns-in-Some c =
     bounds_fail stage c.loop-j.j r c.in_ok-found.found c.in-Some.fault c.requires.formed at c.in_ok-found.ensures c.loop-j.invariant
     (some_there c.bounds_difference.result c.in-Some.fault (r.bounds ≡ c.in_ok-found.found) (DifferAt c.loop-j.j r.bounds c.in_ok-found.found) c.in-Some.is c.bounds_difference.ensures)
 
--- one stream more
+-- one more stream
 pub loop-j-preserved : goal.loop-j-preserved
 loop-j-preserved c =
     let stage = c.args.stage.now in

@@ -19,7 +19,7 @@ returns-then-not-is_measure_verdict c =
       is = c.at_stream.ensures;
     }
 
--- one verdict more
+-- one more verdict
 pub loop-row-preserved : goal.loop-row-preserved
 loop-row-preserved c =
     let rows = c.args.rows.now in

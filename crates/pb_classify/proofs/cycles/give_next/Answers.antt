@@ -10,7 +10,7 @@ use Rattle.pb_classify.proofs.CycleLemmas.{cycle_within, all_none, all_more}
 use Rattle.pb_classify.proofs.cycles.give_next.Goals as goal
 use Rattle.pb_classify.proofs.cycles.give_next.Goals.{then-is_some-via-then-is_some, then-is_some-via-else-is_some+then-holds}
 
--- a stream that is measured or held is no chord
+-- a stream that is measured or held isn't a chord
 pub returns-then-is_some : goal.returns-then-is_some
 returns-then-is_some c =
     let g = c.args.graph.now in

@@ -8,7 +8,7 @@ use Rattle.pb_cli.proofs.answers.answer_record.Goals as goal
 apart : OutOfMemory ≡ SinkFault → ⊥
 apart e = cc e
 
--- no memory was found for the text
+-- out of memory for the text
 pub returns-in_err-refused : goal.returns-in_err-refused
 returns-in_err-refused g c =
     let p = err_from_is_err_and c.from_residual.result c.from_residual.ensures.1 in

@@ -24,7 +24,7 @@ turns-init g c =
 no_sink_fault : OutOfMemory ≡ SinkFault → ⊥
 no_sink_fault e = cc e
 
--- want of memory is no fault of the sink
+-- running out of memory isn't a fault of the sink
 pub returns-in_err-fill-clause-cut : goal.returns-in_err-fill-clause-cut
 returns-in_err-fill-clause-cut g c =
     let p = err_from_is_err_and c.from_residual.result c.from_residual.ensures.1 in
@@ -48,7 +48,7 @@ returns-in_err-some_refused-clause-cause g c =
     let p = err_from_is_err_and c.from_residual-in_err-some_refused.result c.from_residual-in_err-some_refused.ensures.1 in
     rw (p.1, p.2, ← c.turns.invariant.faults) c.in_err-some_refused.ensures.cause
 
--- no memory was found for the next record
+-- out of memory for the next record
 pub returns-in_err-fill-clause-some : goal.returns-in_err-fill-clause-some
 returns-in_err-fill-clause-some g c =
     let (text, a, puts) = c.turns.invariant.so_far in
@@ -76,7 +76,7 @@ returns-in_err-some_refused-clause-cut g c =
       puts_more _ _ _ text piece puts more,
     ))
 
--- no memory was found for its text
+-- out of memory for its text
 pub returns-in_err-some_refused-clause-some : goal.returns-in_err-some_refused-clause-some
 returns-in_err-some_refused-clause-some g c =
     let (text, a, puts) = c.turns.invariant.so_far in

@@ -17,7 +17,7 @@ returns-in_err-judge_block-clause-cut g c =
       puts_more _ _ _ text piece puts more,
     ))
 
--- no memory was found for it
+-- out of memory for the row
 pub returns-in_err-judge_block-clause-some : goal.returns-in_err-judge_block-clause-some
 returns-in_err-judge_block-clause-some g c =
     let (text, a, puts) = c.turns.invariant.so_far in

@@ -4,7 +4,7 @@ use Rattle.pb_cli.specs.Status.{number_of}
 use Rattle.pb_cli.proofs.ProgramLemmas.{line_of_name, put_unless_fault}
 use Rattle.pb_cli.proofs.program.report.Goals as goal
 
--- the name is no success's
+-- the name isn't that of a success
 pub returns-clause-line : goal.returns-clause-line
 returns-clause-line g c =
     let old = g.E.Sink.seen c.args.errors.now in

@@ -3,7 +3,7 @@ use Rattle.pb_words.specs.Args.{words_given}
 use Rattle.pb_cli.proofs.ProgramLemmas.{not_run, ran}
 use Rattle.pb_cli.proofs.program.run_args.Goals as goal
 
--- `run` says each field
+-- `run` gives each field
 pub returns-in-Ok : goal.returns-in-Ok
 returns-in-Ok g c =
     let said = c.run.ensures in

@@ -4,7 +4,7 @@ use Rattle.pb_cli.proofs.ProgramLemmas.{name_cut}
 use Rattle.pb_cli.proofs.TextLemmas.{any_err}
 use Rattle.pb_cli.proofs.program.write_line.Goals as goal
 
--- a name that is cut short is a line that is
+-- if a name is cut short, so is its line
 pub returns-in_err-write_all-clause-prefix : goal.returns-in_err-write_all-clause-prefix
 returns-in_err-write_all-clause-prefix g c =
     any_err c.from_residual.result _ (λ e.

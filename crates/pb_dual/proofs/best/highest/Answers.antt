@@ -11,7 +11,7 @@ use Rattle.pb_dual.proofs.best.highest.Goals as goal
 abbrev some_border_stream : BorderStream
 some_border_stream = record { stream = 0; other = 0; enters = false; value = pos 0; variance = pos 0; room = pos 0 }
 
--- one stream more is asked
+-- one more stream is considered
 pub loop-stream-preserved : goal.loop-stream-preserved
 loop-stream-preserved c =
     let border = c.args.border.now in

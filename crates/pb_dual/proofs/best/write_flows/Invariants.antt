@@ -2,7 +2,7 @@ use Rattle.std.proofs.Common.{◌≡◌, ℤ, List, length, drop}
 use Rattle.pb_dual.specs.Border.{HaveFlows, AreSameElsewhere}
 use Rattle.pb_dual.proofs.best.write_flows.Given as goal
 
--- what is left to write is at the streams left
+-- the flows still to be written are at the streams left
 abbrev pub invariant-loop-stream : goal.invariant-loop-stream
 invariant-loop-stream l = record {
   each : length l.flows ≡ length l.fn.flows;

@@ -9,7 +9,7 @@ use Rattle.pb_dual.proofs.border.add_all.Goals as goal
 abbrev some_stream : Stream
 some_stream = record { from = 0; to = 0; meas = None }
 
--- each group has its border of one stream more
+-- each group has its border with one more stream
 pub loop-j-preserved : goal.loop-j-preserved
 loop-j-preserved c k lt =
     let group = c.args.group.now in

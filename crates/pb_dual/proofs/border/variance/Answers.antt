@@ -10,7 +10,7 @@ use Rattle.pb_dual.proofs.border.variance.Goals as goal
 abbrev some_border_stream : BorderStream
 some_border_stream = record { stream = 0; other = 0; enters = false; value = pos 0; variance = pos 0; room = pos 0 }
 
--- one variance more joins the total
+-- one more variance joins the total
 pub loop-stream-preserved : goal.loop-stream-preserved
 loop-stream-preserved c =
     let border = c.args.border.now in

@@ -13,7 +13,7 @@ use Rattle.pb_elim.proofs.stages.enclosure_of.Goals as goal
 pub sum_for-requires : goal.sum_for-requires
 sum_for-requires c = witness_signs c.args.solver.now.graph c.args.stream c.args.classified.now c.requires.classified.certified
 
--- the sum for a stream is one of measured streams, none twice
+-- the sum for a stream is a sum of measured streams, each at most once
 signed : (g : ProcessGraph) (j : ℕ) (c : Classified) (o : Option (List Member)) (sum members : List Member) → StreamSumLaw → IsProcessGraph g → IsCertified g j c
     → o ≡ sum_for j c.class c.witness → o ≡ Some sum → members ≡ sum → AreSigned g members
 signed g j c o sum members sums limits certified is some same =

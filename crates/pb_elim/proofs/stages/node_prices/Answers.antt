@@ -11,7 +11,7 @@ use Rattle.pb_gap.specs.State.{price_in}
 use Rattle.pb_elim.proofs.StageLemmas.{price_more}
 use Rattle.pb_elim.proofs.stages.node_prices.Goals as goal
 
--- one node more has its price
+-- one more node has its price
 pub loop-node-preserved : goal.loop-node-preserved
 loop-node-preserved c =
     let fits : FitsSigned w128 c.price.result = search rules in

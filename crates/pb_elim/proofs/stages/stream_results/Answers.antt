@@ -22,7 +22,7 @@ stream_result-requires-clause-classified c =
     class_at c.args.solver.now.graph c.args.classes at.yielded (into_iter_items c.next.new.self) x c.len-stream.result c.requires.classes whole
     (sym at.invariant.so_far.each ∙ sym c.len-stream.ensures)
 
--- one stream more has its result
+-- one more stream has its result
 pub loop-classified-preserved : goal.loop-classified-preserved
 loop-classified-preserved c =
     let at = c.loop-classified in

@@ -22,7 +22,7 @@ stage_without-requires-clause-stream c =
     let formed = formed_at at.stages at.count last at.invariant.so_far.formed.stages c.at-last.ensures in
     (taken_within last.graph options critical at.count last.tests c.in-Some.suspect formed.tests suspect).stream
 
--- one round more
+-- one more round
 pub loop-count-preserved : goal.loop-count-preserved
 loop-count-preserved c =
     let at = c.loop-count in
@@ -45,7 +45,7 @@ loop-count-preserved c =
       count = omega (arith, ap length c.in_ok-push-3.ensures.ok, length_push at.taken t, count);
     }
 
--- where no stream is taken, the rule says to stop
+-- if no stream is taken, the rule says to stop
 pub returns-in_default : goal.returns-in_default
 returns-in_default c =
     let at = c.loop-count in
@@ -63,7 +63,7 @@ returns-in_default c =
           subst (λ (k : ℕ). IsDone options critical k last.tests) (sym count) (subst (λ (s : Stage). IsDone options critical at.count s.tests) same done);
     }
 
--- and so it does after as many rounds as are asked
+-- and so it does after as many rounds as are asked for
 pub returns : goal.returns
 returns c =
     let at = c.loop-count in

@@ -8,7 +8,7 @@ step_up-parent-requires-clause-later c =
     let less : place_of c.args.trees.now c.loop-a.b < place_of c.args.trees.now c.loop-a.a = search rules in
     (c.loop-a.b, c.loop-a.invariant.here, c.loop-a.invariant.level, less)
 
--- one step more from the one end
+-- one more step from the first end
 pub loop-a-preserved-then-place : goal.loop-a-preserved-then-place
 loop-a-preserved-then-place c =
     let t = c.args.trees.now in
@@ -25,7 +25,7 @@ step_up-parent-requires-else-place-clause-later c =
     ne (placed_once c.args.graph.now.nodes c.args.graph.now.streams c.args.held.now t c.loop-a.a c.loop-a.b c.requires.trees c.loop-a.invariant.there c.loop-a.invariant.here e) in
     (c.loop-a.a, c.loop-a.invariant.there, sym c.loop-a.invariant.level, omega (arith, le, apart))
 
--- one step more toward the other end
+-- one more step toward the second end
 pub loop-a-preserved : goal.loop-a-preserved
 loop-a-preserved c =
     let t = c.args.trees.now in

@@ -10,7 +10,7 @@ use Rattle.pb_forest.proofs.NetLemmas.{item_small}
 use Rattle.pb_forest.proofs.ChordLemmas.{brought_small, gathered-append}
 use Rattle.pb_forest.proofs.flows.gather.Goals as goal
 
--- one chord more is brought
+-- one more chord is brought
 pub loop-chord-preserved : goal.loop-chord-preserved
 loop-chord-preserved c =
     let cs = c.args.chords.now in

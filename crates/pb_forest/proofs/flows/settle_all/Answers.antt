@@ -30,7 +30,7 @@ settle-requires-clause-nets c = λ i d lt.
     let small : unsigned_abs (item c.loop-i.out i) < 2 ^ 68 = c.loop-i.invariant.small i in
     rw (get_or_default c.loop-i.out i d (pos 0) lt) small
 
--- one node more is balanced
+-- one more node is balanced
 pub loop-i-preserved : goal.loop-i-preserved
 loop-i-preserved c =
     let t = c.args.trees.now in

@@ -15,7 +15,7 @@ join-requires c =
     let j = c.loop-j.j in
     subst (λ (n : ℕ). IsStream n (get_or ss j some_stream)) (sym c.loop-j.invariant.labels.each) (c.requires.ends j some_stream c.loop-j-test.true)
 
--- one stream more of the kind, or of the other kind
+-- one more stream of the kind, or of the other kind
 pub loop-j-preserved : goal.loop-j-preserved
 loop-j-preserved c =
     let ss = c.args.streams.now in

@@ -5,7 +5,7 @@ use Rattle.pb_graph.specs.Parts.{IsLabelling}
 use Rattle.pb_forest.specs.Forest.{is_before, IsDecided}
 use Rattle.pb_forest.proofs.labels.pass.Given as goal
 
--- the streams so far are decided, and the labels tell what they join
+-- the streams so far are decided, and the labels show what they join
 abbrev pub invariant-loop-j : goal.invariant-loop-j
 invariant-loop-j l = record {
   labels : IsLabelling l.streams (length l.fn.parts) (is_before l.measured l.j) l.parts;

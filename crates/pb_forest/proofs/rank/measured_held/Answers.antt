@@ -10,7 +10,7 @@ use Rattle.pb_forest.proofs.rank.measured_held.Goals as goal
 abbrev some_stream : Stream
 some_stream = record { from = 0; to = 0; meas = None }
 
--- one stream more
+-- one more stream
 pub loop-j-preserved : goal.loop-j-preserved
 loop-j-preserved c =
     let ss = c.args.streams.now in

@@ -4,7 +4,7 @@ use Rattle.pb_form.specs.Seen.{column_seen}
 use Rattle.pb_form.specs.Texts.{texts_of}
 use Rattle.pb_form.proofs.texts.write_texts.Given as goal
 
--- the texts so far, with those of the values that are left, are the texts of all values
+-- the texts so far, with the texts of the values that are left, are the texts of all values
 abbrev pub invariant-loop-i : goal.invariant-loop-i
 invariant-loop-i l = record {
   texts : All IsUtf8 l.row;

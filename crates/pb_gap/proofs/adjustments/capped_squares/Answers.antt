@@ -12,7 +12,7 @@ use Rattle.pb_gap.specs.Statistic.{adjustment_below, adjustments_by, capped_squa
 use Rattle.pb_gap.proofs.Columns.{adjustment_item, length-adjustments}
 use Rattle.pb_gap.proofs.adjustments.capped_squares.Goals as goal
 
--- the square of one adjustment more joins the total
+-- the square of one more adjustment joins the total
 pub loop-j-preserved : goal.loop-j-preserved
 loop-j-preserved c =
     let ss = c.args.streams.now in

@@ -15,7 +15,7 @@ use Rattle.pb_gap.proofs.Widths.{int_lt_no, int_lt_yes}
 use Rattle.pb_gap.proofs.Columns.{adjustment_item, length-adjustments}
 use Rattle.pb_gap.proofs.adjustments.full_squares.Goals as goal
 
--- an adjustment above the most leaves no sum
+-- an adjustment above the cap leaves no sum
 pub returns-then-adjustment-gt-ADJUSTMENT_CAP-clause-value : goal.returns-then-adjustment-gt-ADJUSTMENT_CAP-clause-value
 returns-then-adjustment-gt-ADJUSTMENT_CAP-clause-value c =
     let ss = c.args.streams.now in
@@ -34,7 +34,7 @@ returns-then-adjustment-gt-ADJUSTMENT_CAP-clause-value c =
     let any = list_any_at (λ b. int_lt adjustment_cap b) bs j (pos 0) within passes in
     rw any refl
 
--- the square of one adjustment more joins the total
+-- the square of one more adjustment joins the total
 pub loop-j-preserved : goal.loop-j-preserved
 loop-j-preserved c =
     let ss = c.args.streams.now in

@@ -13,7 +13,7 @@ use Rattle.pb_gap.proofs.Columns.{all_put, deviation_item, dual_item, length-dev
 use Rattle.pb_gap.proofs.deviations.write_near_deviations.Goals.{After-square_up_to-left}
 use Rattle.pb_gap.proofs.deviations.write_near_deviations.Goals as goal
 
--- the deviation of one stream more
+-- the deviation of one more stream
 own : (c : After-square_up_to-left) (price : ℕ → ℤ) → c.args.dual_flows.now ≡ dual_flows_of price c.args.streams.now
     → c.stream_deviation-deviation.result ≡ item (deviations_of price c.args.streams.now c.args.flows.now) c.loop-j.j
 own c price of_price =
@@ -30,7 +30,7 @@ own c price of_price =
     let value = simp to_z-of_z at c.stream_deviation-deviation.ensures.value in
     value price (dual_item price ss c.args.dual_flows.now j some_stream of_price there) ∙ sym (deviation_item price ss ps j some_stream c.requires.measured.each there)
 
--- what is left with it
+-- the rest of the limit's square after it
 rest : (c : After-square_up_to-left) (price : ℕ → ℤ) → c.args.dual_flows.now ≡ dual_flows_of price c.args.streams.now
     → (c.args.limit *ℤ c.args.limit) ≤ℤ ((to_z w128 c.loop-j.left-bits -ℤ c.square_up_to-left.result) +ℤ sum_over (λ a. a *ℤ a) (take (c.loop-j.j + 1) (deviations_of price c.args.streams.now c.args.flows.now)))
 rest c price of_price =

@@ -5,7 +5,7 @@ use Rattle.pb_dual.specs.DualValue.{dual_flows_of}
 use Rattle.pb_gap.specs.Gap.{deviations_of}
 use Rattle.pb_gap.proofs.deviations.write_near_deviations.Given as goal
 
--- the deviations so far are written, and what is left of the limit's square is at least what their squares leave
+-- the deviations so far are written, and the rest of the limit's square is at least what their squares leave
 abbrev pub invariant-loop-j : goal.invariant-loop-j
 invariant-loop-j l = record {
   room : length l.out ≡ length l.streams;

@@ -11,7 +11,7 @@ use Rattle.pb_gap.proofs.MemberLists.{some_member}
 use Rattle.pb_gap.proofs.SmallFlowLemmas.{turned}
 use Rattle.pb_gap.proofs.least.flow_sum.Goals as goal
 
--- the flow of one member more joins the total
+-- the flow of one more member joins the total
 pub loop-member-preserved : goal.loop-member-preserved
 loop-member-preserved c =
     let ms = c.args.members.now in

@@ -16,7 +16,7 @@ use Rattle.pb_gap.proofs.Columns.{dual_item}
 use Rattle.pb_gap.proofs.MemberLists.{some_member}
 use Rattle.pb_gap.proofs.sums.dual_flow_sum.Goals as goal
 
--- the dual flow of one member more joins the total
+-- the dual flow of one more member joins the total
 pub loop-member-preserved : goal.loop-member-preserved
 loop-member-preserved c =
     let ss = c.args.streams.now in

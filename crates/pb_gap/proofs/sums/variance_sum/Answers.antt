@@ -12,7 +12,7 @@ use Rattle.pb_gap.specs.Bounds.{variance_in}
 use Rattle.pb_gap.proofs.MemberLists.{some_member}
 use Rattle.pb_gap.proofs.sums.variance_sum.Goals as goal
 
--- the variance of one member more joins the total
+-- the variance of one more member joins the total
 pub loop-member-preserved : goal.loop-member-preserved
 loop-member-preserved c =
     let ss = c.args.streams.now in

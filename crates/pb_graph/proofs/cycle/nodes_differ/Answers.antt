@@ -12,7 +12,7 @@ some_step = record { stream = 0; forward = false }
 pub loop-step-init : goal.loop-step-init
 loop-step-init c = record { once = refl; seen = λ n le. none_seen (most_nodes + 1) n; room = length-replicate (most_nodes + 1) false }
 
--- a node that was seen comes twice
+-- a node that was seen appears twice
 pub returns-then-seen-node : goal.returns-then-seen-node
 returns-then-seen-node c =
     let nodes = c.args.nodes in
@@ -23,7 +23,7 @@ returns-then-seen-node c =
     let le : begin_of nodes ss (get_or steps i some_step) ≤ nodes = omega (arith, is, c.begin-node.ensures.within) in
     sym (seen_twice nodes ss steps c.loop-step.seen i some_step c.loop-step-test.true le c.loop-step.invariant.seen (ap (λ (n : ℕ). get_or c.loop-step.seen n false) (sym is) ∙ c.if-seen-node.true))
 
--- one node more is seen
+-- one more node is seen
 pub loop-step-preserved : goal.loop-step-preserved
 loop-step-preserved c =
     let nodes = c.args.nodes in

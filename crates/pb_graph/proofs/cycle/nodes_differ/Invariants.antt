@@ -4,7 +4,7 @@ use Rattle.pb_graph.specs.Cycle.{is_distinct, begin_of}
 use Rattle.pb_graph.proofs.CycleLemmas.{AreSeen}
 use Rattle.pb_graph.proofs.cycle.nodes_differ.Given as goal
 
--- the nodes so far come once, and those are seen
+-- the nodes so far appear once, and those are seen
 abbrev pub invariant-loop-step : goal.invariant-loop-step
 invariant-loop-step l = record {
   once : is_distinct (begin_of l.nodes l.streams) (take l.step-index l.steps) ≡ true;

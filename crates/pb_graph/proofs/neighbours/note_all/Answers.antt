@@ -10,7 +10,7 @@ use Rattle.pb_graph.proofs.neighbours.note_all.Goals as goal
 abbrev some_stream : Stream
 some_stream = record { from = 0; to = 0; meas = None }
 
--- one more stream is noted at both its ends
+-- one more stream is added at both its ends
 pub loop-j-preserved : goal.loop-j-preserved
 loop-j-preserved c =
     let lists = c.loop-j.lists in

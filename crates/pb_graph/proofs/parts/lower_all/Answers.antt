@@ -4,7 +4,7 @@ use Rattle.std.proofs.lemmas.List.Edits.{map_over_more}
 use Rattle.pb_graph.specs.Labels.{lowered}
 use Rattle.pb_graph.proofs.parts.lower_all.Goals as goal
 
--- one label more gives way
+-- one more label is replaced
 pub loop-label-preserved : goal.loop-label-preserved
 loop-label-preserved c =
     let labels = c.loop-label.labels in

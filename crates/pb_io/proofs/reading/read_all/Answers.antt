@@ -1,4 +1,4 @@
--- The bytes taken before a refusal are those that were read so far, and those of the last turn.
+-- The bytes taken before a refusal are the bytes that were read so far, and the bytes of the last turn.
 use Rattle.std.proofs.Common.{◌++◌, take, arith, length-append}
 use Rattle.std.proofs.lemmas.List.{length-take, length-take-le}
 use Rattle.pb_io.proofs.TakingLemmas.{one_turn_more}

@@ -13,6 +13,6 @@ invariant-turns g l = record {
   faults : (g.S.Source.seen l.source).faults ≡ (g.S.Source.seen l.fn.source).faults;
 }
 
--- each turn but the last takes at least one byte
+-- each turn except the last takes at least one byte
 abbrev pub decreases-turns : goal.decreases-turns
 decreases-turns g l = l.limit + 1 - vec_len l.all

@@ -3,7 +3,7 @@ use Rattle.std.proofs.lemmas.List.{take_all}
 use Rattle.pb_io.proofs.PieceLemmas.{front_more}
 use Rattle.pb_io.proofs.writing.write_all.Goals as goal
 
--- the piece that was put is all that is behind the bytes that were put before
+-- the piece that was put is all that comes after the bytes that were put before
 pub loop-done-preserved : goal.loop-done-preserved
 loop-done-preserved g c =
     let rest = drop c.loop-done.done c.args.bytes.now in

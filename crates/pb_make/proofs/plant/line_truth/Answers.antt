@@ -6,7 +6,7 @@ use Rattle.pb_limits.specs.Limits.{most_made_streams}
 use Rattle.pb_make.proofs.PlantLemmas.{truth_more}
 use Rattle.pb_make.proofs.plant.line_truth.Goals as goal
 
--- what one side stream more adds joins the flow
+-- what one more side stream adds joins the flow
 pub loop-side-preserved : goal.loop-side-preserved
 loop-side-preserved c =
     let sides = c.args.sides.now in

@@ -8,13 +8,13 @@ use Rattle.pb_merge.proofs.numbers.number_all.Goals as goal
 pub overflow_cast-len : goal.overflow_cast-len
 overflow_cast-len c = omega (arith, c.len.ensures, c.loop-node.invariant.few, c.loop-node.least.ok.0)
 
--- a label that isn't the node stands before it
+-- a label that isn't the node comes before it
 pub number-group_of-requires : goal.number-group_of-requires
 number-group_of-requires c ne =
     let low = c.requires.low c.loop-node.node c.loop-node-test.true in
     omega (arith, low, ne, ap length c.deref.ensures.value, c.loop-node.invariant.each)
 
--- one node more has the number of its group
+-- one more node has the number of its group
 pub loop-node-preserved : goal.loop-node-preserved
 loop-node-preserved c =
     let labels = c.args.labels.now in

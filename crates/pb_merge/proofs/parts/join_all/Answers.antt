@@ -13,7 +13,7 @@ pub join-requires : goal.join-requires
 join-requires c =
     subst (λ (n : ℕ). IsStream n (get_or c.args.streams.now c.loop-stream.stream-index some_stream)) (sym c.loop-stream.invariant.each) (c.requires.ends c.loop-stream.stream-index some_stream c.loop-stream-test.true)
 
--- one stream more
+-- one more stream
 pub loop-stream-preserved : goal.loop-stream-preserved
 loop-stream-preserved c =
     let ss = c.args.streams.now in

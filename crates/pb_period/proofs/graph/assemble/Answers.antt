@@ -10,7 +10,7 @@ use Rattle.pb_period.specs.Days.{days_of}
 use Rattle.pb_period.specs.PeriodGraph.{IsStreamOfGraph, assembly_in, graph_in}
 use Rattle.pb_period.proofs.graph.assemble.Goals as goal
 
--- what holds of the version and the days of a period that is found holds of the period
+-- what holds for the version and the days of a period that is found holds for the period
 found_at : (P : Version → Days → Type 0) (version own : Version) (days : Days) (found : Option Period) (period : Period) → own ≡ version → days ≡ days_of period → found ≡ Some period
     → P version days → IfSome found (λ (p : Period). P own (days_of p))
 found_at P version own days found period own_is days_is at holds =

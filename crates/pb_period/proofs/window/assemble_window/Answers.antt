@@ -12,7 +12,7 @@ use Rattle.pb_period.proofs.GraphLemmas.{finished}
 use Rattle.pb_period.proofs.WindowLemmas.{IsLeast, as_many_streams, none_over_of, outside_over, outside_within, streams_least}
 use Rattle.pb_period.proofs.window.assemble_window.Goals as goal
 
--- the first stream outside the limits that is told
+-- the first stream outside the limits, which is returned
 first_told : (graph : ProcessGraph) (j : ℕ) (why : WindowAssembly) (r : Result ProcessGraph WindowAssembly) → r ≡ Err why → why ≡ Over j → IfErr r (IsFirstOutside graph) → IsOutside graph j
 first_told graph j why r is why_is told =
     let same : r ≡ Err (Over j) = cc (is, why_is) in subst (λ (x : Result ProcessGraph WindowAssembly). IfErr x (IsFirstOutside graph)) same told

@@ -7,7 +7,7 @@ use Rattle.pb_points.specs.CutLists.{with_stream, AreCutsBefore}
 use Rattle.pb_points.proofs.CutLemmas.{stream_more, cuts_end}
 use Rattle.pb_points.proofs.cuts.add_all.Goals as goal
 
--- one stream more
+-- one more stream
 pub loop-j-preserved : goal.loop-j-preserved
 loop-j-preserved c =
     let g = c.args.graph.now in

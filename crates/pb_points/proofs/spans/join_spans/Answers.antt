@@ -10,7 +10,7 @@ loop-i-init c =
     let w = c.args.walk.now in
     subst (λ (n : ℕ). AreWholeFrom ss c.args.forest.now.held w n c.args.spans.now) (sym c.len-i.ensures) (whole_none ss c.args.forest.now.held w c.args.spans.now c.requires.own)
 
--- one span more is whole
+-- one more span is whole
 pub loop-i-preserved : goal.loop-i-preserved
 loop-i-preserved c =
     let ss = c.args.graph.now.streams in

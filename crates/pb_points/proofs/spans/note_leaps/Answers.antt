@@ -8,7 +8,7 @@ use Rattle.pb_points.proofs.SpanLemmas.{own_same, own_more}
 use Rattle.pb_points.proofs.spans.note_leaps.Goals as goal
 use Rattle.pb_points.proofs.spans.note_leaps.Goals.{then-is_leap, else-is_leap}
 
--- one stream more
+-- one more stream
 pub loop-j-preserved : goal.loop-j-preserved
 loop-j-preserved c =
     let ss = c.args.graph.now.streams in

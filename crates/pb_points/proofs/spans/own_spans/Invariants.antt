@@ -3,7 +3,7 @@ use Rattle.pb_points.specs.Tables.{span_at}
 use Rattle.pb_points.specs.Spans.{own_span}
 use Rattle.pb_points.proofs.spans.own_spans.Given as goal
 
--- the spans so far are those of one entry
+-- the spans so far are those of single entries
 abbrev pub invariant-loop-i : goal.invariant-loop-i
 invariant-loop-i l = record {
   each : length l.spans.items ≡ l.i;

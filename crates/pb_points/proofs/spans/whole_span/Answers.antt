@@ -5,7 +5,7 @@ use Rattle.pb_points.specs.Spans.{IsDeeper}
 use Rattle.pb_points.proofs.SpanLemmas.{deeper_more}
 use Rattle.pb_points.proofs.spans.whole_span.Goals as goal
 
--- the span behind is joined
+-- the span after it is joined
 pub loop-span-preserved : goal.loop-span-preserved
 loop-span-preserved c =
     let ss = c.args.graph.now.streams in

@@ -10,7 +10,7 @@ use Rattle.pb_report.specs.Given.{IsNamedMeter}
 use Rattle.pb_report.specs.Names.{IsNamed}
 use Rattle.pb_report.proofs.advice.write_advice.Goals as goal
 
--- a meter of the graph speaks of streams that have names
+-- a meter of the graph refers only to streams that have names
 named_meter : (names : Names) (graph : ProcessGraph) (meter : Meter) → IsNamed names graph → IsMeterWithin graph meter → IsNamedMeter names meter
 named_meter names graph meter named within = record {
   stream = subst (λ (n : ℕ). meter.stream < n) (sym named.streams) within.stream;

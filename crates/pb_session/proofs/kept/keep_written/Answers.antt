@@ -4,7 +4,7 @@ use Rattle.pb_session.specs.Keeping.{place_in, settled, settled_stage, studies_b
 use Rattle.pb_session.proofs.KeptLemmas.{placed_stage, settled_none, settled_place, unplaced_stage}
 use Rattle.pb_session.proofs.kept.keep_written.Goals as goal
 
--- the study that is kept goes first
+-- the kept study is put first
 pub returns-in-Some-place_of-clause-kept : goal.returns-in-Some-place_of-clause-kept
 returns-in-Some-place_of-clause-kept c =
     let i = c.args.period in

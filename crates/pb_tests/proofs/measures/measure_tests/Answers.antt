@@ -10,7 +10,7 @@ use Rattle.pb_tests.proofs.DropLemmas.{tests_more}
 use Rattle.pb_tests.proofs.EndLemmas.{tests_within}
 use Rattle.pb_tests.proofs.measures.measure_tests.Goals as goal
 
--- one test more
+-- one more test
 pub loop-stream-preserved : goal.loop-stream-preserved
 loop-stream-preserved c =
     let fits : FitsSigned w128 c.args.low = c.ranges.low in

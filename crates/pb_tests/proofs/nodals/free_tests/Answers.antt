@@ -6,7 +6,7 @@ use Rattle.pb_tests.proofs.GroupLemmas.{free_is, left_out, taken_more}
 use Rattle.pb_tests.proofs.nodals.free_tests.Goals.{then-free+in_ok-push, else-free}
 use Rattle.pb_tests.proofs.nodals.free_tests.Goals as goal
 
--- one group more has its test, where it is free
+-- one more group has its test, if it is free
 pub loop-group-preserved : goal.loop-group-preserved
 loop-group-preserved c =
     let at = c.loop-group in

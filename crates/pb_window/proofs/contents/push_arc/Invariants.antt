@@ -3,7 +3,7 @@ use Rattle.std.specs.List.{filter_map, range_with_len}
 use Rattle.pb_window.specs.Window.{content_of}
 use Rattle.pb_window.proofs.contents.push_arc.Given as goal
 
--- the contents so far stand at the end
+-- the contents so far are at the end
 abbrev pub invariant-loop-period : goal.invariant-loop-period
 invariant-loop-period l =
     l.fn.streams.items ++ filter_map (content_of l.nodes l.spans (l.number, l.arc)) (range_with_len 0 (length l.spans + 1))

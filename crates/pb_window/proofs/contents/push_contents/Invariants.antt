@@ -3,7 +3,7 @@ use Rattle.std.specs.List.{enumerate_from, flat_map}
 use Rattle.pb_window.specs.Window.{contents_of_arc, window_contents}
 use Rattle.pb_window.proofs.contents.push_contents.Given as goal
 
--- the contents of the arcs so far stand at the end
+-- the contents of the arcs so far are at the end
 abbrev pub invariant-loop-j : goal.invariant-loop-j
 invariant-loop-j l =
     l.fn.streams.items ++ window_contents l.arcs l.nodes l.spans

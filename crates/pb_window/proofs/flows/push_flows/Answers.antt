@@ -8,7 +8,7 @@ use Rattle.pb_window.specs.Window.{flow_of, flows_of_period, window_flows}
 use Rattle.pb_window.proofs.ListLemmas.{grown}
 use Rattle.pb_window.proofs.flows.push_flows.Goals as goal
 
--- the flows of one period more, at the step `c`
+-- the flows of one more period, at the step `c`
 pub loop-t-preserved : goal.loop-t-preserved
 loop-t-preserved c =
     let arcs = c.args.arcs.now in

@@ -3,7 +3,7 @@ use Rattle.std.specs.List.{enumerate_from, flat_map}
 use Rattle.pb_window.specs.Window.{flows_of_period, window_flows}
 use Rattle.pb_window.proofs.flows.push_flows.Given as goal
 
--- the flows of the periods so far stand at the end
+-- the flows of the periods so far are at the end
 abbrev pub invariant-loop-t : goal.invariant-loop-t
 invariant-loop-t l =
     l.fn.streams.items ++ window_flows l.arcs l.nodes l.spans

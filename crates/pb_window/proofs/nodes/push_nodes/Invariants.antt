@@ -3,7 +3,7 @@ use Rattle.std.specs.List.{enumerate_from}
 use Rattle.pb_window.specs.Window.{window_node}
 use Rattle.pb_window.proofs.nodes.push_nodes.Given as goal
 
--- the nodes so far stand at the end
+-- the nodes so far are at the end
 abbrev pub invariant-loop-i : goal.invariant-loop-i
 invariant-loop-i l =
     l.fn.nodes.items ++ map (window_node l.period) (enumerate_from 1 l.list)

@@ -5,7 +5,7 @@ use Rattle.std.proofs.lemmas.Iterator.Adapters.{YieldsList-from_skip, YieldsList
 use Rattle.std.specs.Vec.Iter.{into_iter_items, into_iter_len}
 use Rattle.pb_words.proofs.args.after_name.Goals as goal
 
--- the chain gives the arguments but the first
+-- the chain gives the arguments except the first
 pub returns : goal.returns
 returns c =
     let all = into_iter_items c.args.args in

@@ -5,7 +5,7 @@ use Rattle.pb_words.specs.Args.{refused_by}
 use Rattle.pb_words.specs.declared.command.WordsRefused.TheVariants.{Usage}
 use Rattle.pb_words.proofs.args.refused_args.Goals as goal
 
--- each other kind is no lack of memory
+-- no other kind means that memory ran out
 others : (k : ErrorKind) → (k ≡ kind.OutOfMemory → ⊥) → refused_by k ≡ Usage
 others kind.OutOfMemory not = absurd (not refl)
 others _ not = refl

@@ -13,7 +13,7 @@ formed_words : (words : List (List ℕ)) (texts : List (String Global)) → map 
     → All (λ w. IsTrue (is_plain_or_named (string_bytes w))) texts → IsTrue (list_all is_plain_or_named words)
 formed_words words texts are each = subst (λ (ws : List (List ℕ)). IsTrue (list_all is_plain_or_named ws)) are (all_formed string_bytes texts each)
 
--- a word of another form is of no known part
+-- a word of another form belongs to no known part
 pub returns-then-not-are_plain_or_named-clause-usage : goal.returns-then-not-are_plain_or_named-clause-usage
 returns-then-not-are_plain_or_named-clause-usage c = λ e command of.
     let words = c.args.words.now in
@@ -34,7 +34,7 @@ returns-in-Some-clause-ok c =
     record { formed = formed; taken = c.in-Ok.ensures.taken; is = found_given (found_of c.in-Ok.matches) words c.in-Ok.ensures.rows } in
     command_here words given c.in-Some.command taken c.in-Some.ensures.some
 
--- and where they ask for none there is none
+-- and if they ask for no command, there is none
 pub returns-in-Ok-clause-usage : goal.returns-in-Ok-clause-usage
 returns-in-Ok-clause-usage c = λ e command of.
     let words = c.args.words.now in
@@ -45,14 +45,14 @@ returns-in-Ok-clause-usage c = λ e command of.
     record { formed = formed; taken = c.in-Ok.ensures.taken; is = found_given (found_of c.in-Ok.matches) words c.in-Ok.ensures.rows } in
     c.in-None.ensures.none refl command (asked_here words given command taken of)
 
--- words that clap refuses are of no known parts
+-- words that clap refuses belong to no known parts
 pub returns-clause-usage : goal.returns-clause-usage
 returns-clause-usage c = λ e command of. c.in-Err.ensures.refused e (taken_of_parts of.parts c.args.words.now of.read).taken
 
 pub returns-in-Some-clause-within : goal.returns-in-Some-clause-within
 returns-in-Some-clause-within c = in_range (given_of (first_value (found_of c.in-Ok.matches))) c.in-Some.command c.in-Some.ensures.some
 
--- behind the first test each word is plain or named
+-- after the first test each word is plain or named
 pub returns-in-Some-clause-malformed : goal.returns-in-Some-clause-malformed
 returns-in-Some-clause-malformed c = λ malformed.
     let yes : c.are_plain_or_named.result ≡ true = search rules in

@@ -5,7 +5,7 @@ use Rattle.pb_words.proofs.CommandLemmas.{one_asked}
 use Rattle.pb_words.proofs.EndLemmas.{taken_of_parts}
 use Rattle.pb_words.proofs.laws.one_command_law.Goals as goal
 
--- both ask for what `clap` hands out
+-- both ask for what `clap` returns
 pub returns : goal.returns
 returns c = λ words one other a b.
     let given = (taken_of_parts a.parts words a.read).is ∙ sym (taken_of_parts b.parts words b.read).is in

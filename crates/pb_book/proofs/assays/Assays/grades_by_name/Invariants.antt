@@ -6,7 +6,7 @@ use Rattle.pb_rows.specs.Name.{same_name}
 use Rattle.pb_book.specs.Assays.{grade_among}
 use Rattle.pb_book.proofs.assays.Assays.grades_by_name.Given as goal
 
--- the map has the grades that the assays so far give
+-- the map has the grades from the assays so far
 abbrev pub invariant-loop-i : goal.invariant-loop-i
 invariant-loop-i l = record {
   value : (stream : List ℕ) → get same_name l.grades stream ≡ grade_among (take l.i l.self) l.component l.period stream;

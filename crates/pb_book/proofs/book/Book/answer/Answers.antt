@@ -12,7 +12,7 @@ use Rattle.pb_book.specs.Costs.{refusal_of_costs}
 use Rattle.pb_book.specs.Rows.{declared_of}
 use Rattle.pb_book.proofs.book.Book.answer.Goals as goal
 
--- an advice stores nothing
+-- advice stores nothing
 rows_stay : (rows : List StoredRow) (at : ℕ) (cause : Option Refusal) → rows ≡ after_answer rows at (advise_or_refused cause)
 rows_stay rows at (Some cause) = refl
 rows_stay rows at None = refl

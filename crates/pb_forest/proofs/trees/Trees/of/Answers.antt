@@ -6,7 +6,7 @@ use Rattle.pb_forest.specs.Trees.{root_of}
 use Rattle.pb_forest.proofs.TreeLemmas.{whole_trees}
 use Rattle.pb_forest.proofs.trees.Trees.of.Goals as goal
 
--- one node more is found
+-- one more node is found
 pub loop-node-preserved : goal.loop-node-preserved
 loop-node-preserved c =
     let more : (n : ℕ) → n < c.loop-node.node + 1 → (r : ℕ) × (root_of c.grow.new.self n ≡ Some r) = λ n lt. elim (cases_eq n c.loop-node.node) [

@@ -5,7 +5,7 @@ use Rattle.pb_gap.specs.State.{price_in}
 use Rattle.pb_gap.specs.Solution.{EachMissesBefore}
 use Rattle.pb_gap.proofs.iterate.Iterate.solve.Given as goal
 
--- the prices are those after so many sweeps, and each number of sweeps before it misses the gap
+-- the prices are those after this many sweeps, and each smaller number of sweeps misses the gap
 abbrev pub invariant-loop-k : goal.invariant-loop-k
 invariant-loop-k l = record {
   graph : l.self.graph ≡ l.fn.self.graph;

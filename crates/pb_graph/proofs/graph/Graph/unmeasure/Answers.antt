@@ -4,7 +4,7 @@ use Rattle.pb_graph.specs.ProcessGraph.{ProcessGraph, IsProcessGraph, unmeasured
 use Rattle.pb_graph.proofs.UnmeasureLemmas.{unmeasured_graph}
 use Rattle.pb_graph.proofs.graph.Graph.unmeasure.Goals as goal
 
--- the graph without one measurement keeps the limits
+-- the graph without one measurement is within the limits
 pub invariant_of-result : goal.invariant_of-result
 invariant_of-result c =
     let g : ProcessGraph = record { nodes = c.self.inside.nodes; streams = c.self.inside.streams.items } in

@@ -6,7 +6,7 @@ use Rattle.pb_graph.specs.Search.{way_of, end_of}
 use Rattle.pb_graph.proofs.FoundLemmas.{Climbs, climb_more, climb_end}
 use Rattle.pb_graph.proofs.search.Tree.climb.Goals as goal
 
--- one step more up the tree
+-- one more step up the tree
 pub loop-at-preserved : goal.loop-at-preserved
 loop-at-preserved c =
     let t = c.args.self.now in

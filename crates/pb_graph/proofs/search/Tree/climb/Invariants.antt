@@ -5,7 +5,7 @@ use Rattle.pb_graph.specs.Search.{place_of}
 use Rattle.pb_graph.proofs.FoundLemmas.{Climbs}
 use Rattle.pb_graph.proofs.search.Tree.climb.Given as goal
 
--- the steps so far lead here, and from nodes that were found later
+-- the steps so far lead here, from nodes that were found later
 abbrev pub invariant-loop-at : goal.invariant-loop-at
 invariant-loop-at l = Climbs (ends_of (is_open l.marks) l.streams) (length l.self.place) l.streams l.self l.from l.steps l.at
 

@@ -2,7 +2,7 @@ use Rattle.std.proofs.Common.{arith, rules}
 use Rattle.pb_graph.proofs.SearchLemmas.{room_left}
 use Rattle.pb_graph.proofs.search.Tree.follow.Goals as goal
 
--- where a node isn't found the order has room
+-- if a node isn't found, the order has room
 pub hang-requires-clause-order : goal.hang-requires-clause-order
 hang-requires-clause-order c =
     let tree = c.requires.tree in

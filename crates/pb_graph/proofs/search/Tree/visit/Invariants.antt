@@ -4,7 +4,7 @@ use Rattle.pb_graph.specs.Path.{is_open}
 use Rattle.pb_graph.specs.Search.{IsTree, place_of, visited}
 use Rattle.pb_graph.proofs.search.Tree.visit.Given as goal
 
--- the streams left are to be followed from the tree so far
+-- the streams left are still to be followed from the tree so far
 abbrev pub invariant-loop-stream_id : goal.invariant-loop-stream_id
 invariant-loop-stream_id l = record {
   so_far : visited l.streams l.marks l.node (drop l.stream_id-index l.list) l.self ≡ visited l.streams l.marks l.node l.list l.fn.self;

@@ -1,7 +1,7 @@
 use Rattle.std.proofs.Common.{inl, inr, arith}
 use Rattle.pb_io.proofs.mem_sink.MemSinkSink.put.Goals as goal
 
--- where bytes were appended the list doesn't name the call, and room was left
+-- if bytes were appended, the list doesn't name the call, and room was left
 pub returns-clause-fails : goal.returns-clause-fails
 returns-clause-fails c = (
   λ e. absurd (cc e),

@@ -11,7 +11,7 @@ use Rattle.pb_merge.proofs.MadeLemmas.{IsMade, made_groups, made_grouping}
 use Rattle.pb_merge.proofs.groups.Groups.of.Goals.{In_ok-free}
 use Rattle.pb_merge.proofs.groups.Groups.of.Goals as goal
 
--- the label of a node is the least of its part
+-- the label of a node is the least node of its part
 pub number_all-requires-clause-own : goal.number_all-requires-clause-own
 number_all-requires-clause-own c n lt =
     let is = c.in_ok-parts.ensures in

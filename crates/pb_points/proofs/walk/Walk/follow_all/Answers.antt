@@ -24,7 +24,7 @@ pub loop-j-init : goal.loop-j-init
 loop-j-init c =
     following_none c.args.graph.now.nodes c.args.graph.now.streams c.args.forest.now.held c.args.self.now c.args.i c.args.list.now c.args.stack.now.items c.requires.walking c.requires.deepest
 
--- one stream more
+-- one more stream
 pub loop-j-preserved : goal.loop-j-preserved
 loop-j-preserved c =
     let ss = c.args.graph.now.streams in

@@ -5,7 +5,7 @@ use Rattle.pb_points.proofs.EntryLemmas.{unentered_set}
 use Rattle.pb_points.proofs.StackLemmas.{takes_none, takes_next, waits_last, measure_falls, on_ok_both}
 use Rattle.pb_points.proofs.walk.Walk.take.Goals as goal
 
--- the node was entered meanwhile
+-- the node was entered in the meantime
 pub returns-then-has-clause-walking : goal.returns-then-has-clause-walking
 returns-then-has-clause-walking c =
     let w = c.args.self.now in

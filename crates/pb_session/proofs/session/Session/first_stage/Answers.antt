@@ -18,7 +18,7 @@ ok_sure graph r is = λ other. cc (is, other)
 err_sure : (why : Assembly) (r : Result ProcessGraph Assembly) → r ≡ Err why → why ≢ NoMemory → r ≢ Err NoMemory
 err_sure why r is sure = λ other. sure (cc (is, other))
 
--- what is known of the book's rows is known of the session's
+-- what is known about the book's rows is known about the session's
 moved : (rows : List StoredRow) (state : SessionState) (i : ℕ) (r : Result ProcessGraph Assembly) → rows ≡ state.rows
     → IfSome (slice_get (periods_of rows) i) (λ period. r ≡ assembly_of rows (days_of period)) → IfSome (slice_get (periods_of state.rows) i) (λ period. r ≡ assembly_of state.rows (days_of period))
 moved rows state i r is holds = subst (λ (rs : List StoredRow). IfSome (slice_get (periods_of rs) i) (λ period. r ≡ assembly_of rs (days_of period))) is holds

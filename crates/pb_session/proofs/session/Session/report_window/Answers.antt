@@ -15,7 +15,7 @@ use Rattle.pb_session.specs.Windowed.{IsWindowAt}
 use Rattle.pb_session.proofs.WindowedLemmas.{head_is, head_ok}
 use Rattle.pb_session.proofs.session.Session.report_window.Goals as goal
 
--- what is known of the session's rows is known of the book's
+-- what is known about the session's rows is known about the book's
 pub places_of-requires-clause-there : goal.places_of-requires-clause-there
 places_of-requires-clause-there c =
     let rows_is : c.self.inside.book ≡ c.args.self.now.state.rows = ap (λ (h : Held). h.state.rows) c.self.view_is in

@@ -22,7 +22,7 @@ use Rattle.pb_session.proofs.KeptLemmas.{periods_in}
 use Rattle.pb_session.proofs.RowLemmas.{accepted_adds, accepted_is, advice_is, answers, of_periods, refused_is, unchanged_by}
 use Rattle.pb_session.proofs.session.Session.row.Goals as goal
 
--- what the book says is no want of memory
+-- what the book says isn't that memory ran out
 accepted_sure : (accepted : Accepted) (result : Result Accepted NotAccepted) → result ≡ Ok accepted → result ≢ Err NoMemory
 accepted_sure accepted result is = λ other. cc (is, other)
 
@@ -55,7 +55,7 @@ stage_left : (state : SessionState) (accepted : Accepted) (rows : List StoredRow
     → new_last ≡ saved_by accepted rows kept last → AllByRecursion (IsKeptStudy state) kept → last_stage new new_last ≡ last_stage kept last
 stage_left state accepted rows kept new last new_last left saved all = ap₂ last_stage left saved ∙ left_stage state accepted rows kept last all
 
--- what is kept behind the row is that of the rows stored then
+-- what is kept after the row is that of the rows stored then
 pub invariant_of-self : goal.invariant_of-self
 invariant_of-self c =
     let state : SessionState = record { options = c.self.inside.options; form = c.self.inside.form; rows = c.self.inside.book } in
@@ -76,7 +76,7 @@ invariant_of-self c =
       classes = subst (λ (o : Option Stage). IfSome o (λ (s : Stage). IsClassification s.graph (printed_classes s))) (sym stage) c.self.invariant.classes;
     }
 
--- a refused record leaves it as it was
+-- a refused record doesn't change it
 pub invariant_of-self-in-Err-Refused : goal.invariant_of-self-in-Err-Refused
 invariant_of-self-in-Err-Refused c =
     let state : SessionState = record { options = c.self.inside.options; form = c.self.inside.form; rows = c.self.inside.book } in

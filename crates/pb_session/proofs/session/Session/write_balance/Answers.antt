@@ -35,7 +35,7 @@ over_sure j r is = λ other. cc (is, other)
 some_so : (found : Option Period) (period : Period) (P : Period → Type 0) → found ≡ Some period → P period → IfSome found P
 some_so found period P is holds = subst (λ (o : Option Period). IfSome o P) (sym is) holds
 
--- what is known of the period and its names, by the rows of the session
+-- what is known about the period and its names, by the rows of the session
 record IsNamedPeriod (state : SessionState) (i : ℕ) (period : Period) (names : Names) : Type 0 where
   there : slice_get (periods_of state.rows) i ≡ Some period
   names_are : names ≡ period_names state.rows (days_of period)

@@ -10,7 +10,7 @@ use Rattle.pb_session.proofs.KeepingLemmas.{Settles, graph_in, passes_over, sett
 use Rattle.pb_session.proofs.KeptLemmas.{periods_in}
 use Rattle.pb_session.proofs.session.Session.write_report.Goals as goal
 
--- what is held behind the row that names a stream over the limits
+-- what is held after the row that names a stream over the limits
 none_held : (state : SessionState) (i : ℕ) (before kept : List KeptStudy) (last : Option Stage) (left : Option Reported) → before ≡ kept → left ≡ None
     → IsReportedAt (held_of state before last) i (slice_get (periods_of state.rows) i) left → IsKeeping state kept last
     → Settles state i (slice_get (periods_of state.rows) i) kept last before last
@@ -20,7 +20,7 @@ none_held state i before kept last left same none leaves keeping =
     subst (λ (o : Option Reported). IsReportedAt (held_of state kept last) i found o) none (subst (λ (ks : List KeptStudy). IsReportedAt (held_of state ks last) i found left) same leaves) in
     subst (λ (ks : List KeptStudy). Settles state i found kept last ks last) (sym same) (passes_over state i kept last here keeping)
 
--- what is held behind a report
+-- what is held after a report
 some_held : (state : SessionState) (i : ℕ) (before kept new : List KeptStudy) (last new_last : Option Stage) (left : Option Reported) (r : Reported) → before ≡ kept → left ≡ Some r
     → new ≡ settled i r.made before → new_last ≡ settled_stage i r.made before
     → IsReportedAt (held_of state before last) i (slice_get (periods_of state.rows) i) left → IsKeeping state kept last
