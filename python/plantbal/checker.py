@@ -136,13 +136,14 @@ class Block:
 
     def test_witness(self) -> Iterator[Found]:
         """The cut or cycle has the stream once, and shows its class."""
+        have = {s.name for s in self.measured}  # a value
         for s in self.streams:
-            others = [self.named[name].value is not None for name, _ in s.parts if name != s.name]
+            others = [name for name, _ in s.parts if name != s.name]
             if s.kind in ("observable", "redundant"):
-                shown = s.shape == "cut" and all(others) and s.parts == self.cut(s.side)
+                shown = s.shape == "cut" and have.issuperset(others) and s.parts == self.cut(s.side)
             else:
                 steps = [(self.named[name], sign) for name, sign in s.parts]
-                shown = s.shape == "cycle" and not any(others) and is_cycle(steps)
+                shown = s.shape == "cycle" and have.isdisjoint(others) and is_cycle(steps)
             if not shown or len(others) != len(s.parts) - 1:
                 yield s.name, 0, 0
 
@@ -211,10 +212,9 @@ class Block:
 
     def test_nodal(self) -> Iterator[Found]:
         """There is a nodal test of each free group, with its net flow and its variance."""
-        if not self.tests:
-            return
         nodal = [test for test in self.tests if test.row == "nodal"]
-        yield from differ("", (len(nodal), len(self.free)))
+        free = self.free if self.tests else []
+        yield from differ("", (len(nodal), len(free)))
         net, variance = Counter[int](), Counter[int]()
         for s in self.measured:
             start, end = self.group[s.start], self.group[s.end]
@@ -222,7 +222,7 @@ class Block:
                 net[group] += sign * s.value
                 variance[group] += s.variance
         place = {node: place for place, node in enumerate(self.nodes)}
-        for test, group in zip(nodal, self.free):
+        for test, group in zip(nodal, free):
             stated = place[test.name], test.net, test.variance
             yield from differ(test.name, *zip(stated, (group, net[group], variance[group])))
 
