@@ -17,7 +17,7 @@ from typing import IO
 
 from plantbal.faults import Fault, ToolMissing
 from plantbal.fleet.engines import Asked, Begin, Came, Ended, Job
-from plantbal.fleet.job import JOB, SAID, ended
+from plantbal.fleet.job import JOB, SAID, ended, times
 
 HEADS = "Seq Host Starttime JobRuntime Send Receive Exitval Signal Command".split()
 _PAUSES = 0.01, 0.2  # seconds after which the log is looked at again, the fewest and the most
@@ -55,7 +55,7 @@ def run(
         return
     handed = list(done)  # by their numbers
     _write_log(asked.log, len(handed))
-    left = set[int]()
+    logged = set[int]()
     with (
         tempfile.TemporaryFile() as said,
         ThreadPoolExecutor(1, "hand-out") as other,
@@ -69,7 +69,7 @@ def run(
             for row in _rows_as_they_come(asked.log, process):
                 number = int(row["Seq"])
                 if number > len(done):
-                    left.add(number)
+                    logged.add(number)
                     yield _ended(asked, handed[number - 1], row)
             handing.result()
         except BaseException:
@@ -80,21 +80,22 @@ def run(
             text = said.read().decode("utf-8", "replace").strip()
             raise Fault(f"parallel ended with the status {_TROUBLE}: {text or 'it says no more'}")
     for number, job in enumerate(handed[len(done) :], len(done) + 1):
-        if number not in left:
+        if number not in logged:
             yield Ended(job.site, came=Came(None, 0.0, 0.0))
 
 
 def _ended(asked: Asked, job: Job, row: dict[str, str]) -> Ended:
     """Return how a job ended, by its row of the log of jobs."""
-    begun, seconds = float(row["Starttime"]), float(row["JobRuntime"])
-    signal = int(row["Signal"])
+    begun, seconds, signal = float(row["Starttime"]), float(row["JobRuntime"]), int(row["Signal"])
     if signal and asked.timeout is not None and seconds >= asked.timeout:
         return Ended(job.site, "timeout")
-    status = 128 + signal if signal else int(row["Exitval"])
-    if asked.retries > 1 and not signal:  # the log may have 0 for 1
-        with suppress(OSError, ValueError, IndexError):
-            status = ended(str(job.part))[0]
-    return Ended(job.site, came=Came(status, begun, seconds))
+    status, end = 128 + signal if signal else int(row["Exitval"]), begun + seconds
+    with suppress(OSError, ValueError, IndexError):
+        if asked.retries > 1 and not signal:  # the log may have 0 for 1
+            status, begun, end = ended(str(job.part))
+        elif status in (0, 1):  # parallel may look at it late
+            begun, end = times(str(job.part))
+    return Ended(job.site, came=Came(status, round(begun, 3), round(end - begun, 3)))
 
 
 def _hand_out(

@@ -7,6 +7,7 @@ from __future__ import annotations
 
 import argparse
 import datetime
+import gc
 import signal
 import sys
 import threading
@@ -231,6 +232,7 @@ def _load() -> None:
     from plantbal.fleet import gather, index, keep  # noqa: F401
 
     index.template()
+    gc.freeze()  # all this stays, and the garbage collector needn't go through it again
 
 
 def _size_of(site: Site) -> int:
