@@ -154,16 +154,8 @@ def parse_rows(source: str, text: str, kinds: Collection[str] | None = None) -> 
         lines = enumerate(text.splitlines(), 1)
         rows = [_row_of_json(source, number, line) for number, line in lines if line]
         return [row for row in rows if kinds is None or row["row"] in kinds]
-    # Most outputs have no power of ten, and a search for one is slow.
-    powers = _POWER.search(text) if "e+" in text or "E+" in text else None
-    if powers:
-        raise InputFault(
-            f"{powers.group()} stands here, as a spreadsheet writes long numbers",
-            place=Place(file=source, line=text.count("\n", 0, powers.start()) + 1),
-            text=powers.group(),
-            remedy="take the file as plantbal wrote it; plantbal-desk report FILE --out FILE.xlsx "
-            "makes a workbook of it",
-        )
+    if kinds is None:
+        _refuse_powers(source, 1, text)
     output = schema().output
     keys = {kind: ("row", *row.names) for kind, row in output.items()}
     unwanted = [] if kinds is None else [kind for kind in output if kind not in kinds]
@@ -172,9 +164,26 @@ def parse_rows(source: str, text: str, kinds: Collection[str] | None = None) -> 
         names = keys.get(fields[0], ())
         if len(names) != len(fields):
             names = _names_of(source, number, fields)
-        if kinds is None or fields[0] in kinds:
+        if kinds is None:
+            found.append(dict(zip(names, fields)))
+        elif fields[0] in kinds:
+            _refuse_powers(source, number, ",".join([*fields, ""]))
             found.append(dict(zip(names, fields)))
     return found
+
+
+def _refuse_powers(source: str, line: int, text: str) -> None:
+    """Refuse a text that begins in a line if it has numbers as a spreadsheet writes them."""
+    # Most outputs have no power of ten, and a search for one is slow.
+    powers = _POWER.search(text) if "e+" in text or "E+" in text else None
+    if powers:
+        raise InputFault(
+            f"{powers.group()} stands here, as a spreadsheet writes long numbers",
+            place=Place(file=source, line=line + text.count("\n", 0, powers.start())),
+            text=powers.group(),
+            remedy="take the file as plantbal wrote it; plantbal-desk report FILE --out FILE.xlsx "
+            "makes a workbook of it",
+        )
 
 
 def read_rows(path: str | Path, *wanted: str) -> list[Values]:

@@ -50,6 +50,8 @@ def test_rows_of_some_kinds(path: Path) -> None:
     assert parse_rows("x", text.replace("\n", "\r\n"), kinds) == wanted
     with pytest.raises(InputFault, match="a node row has 3 columns, this one has 2"):
         parse_rows("x", f"{text}node,env\n", kinds)
+    with pytest.raises(InputFault, match=r"line 1: 1.5E\+12 stands here"):
+        parse_rows("x", f"solved,1,converged,2,0,1,3,1.5E+12\n{text}", kinds)
 
 
 def test_json_rows_of_some_kinds() -> None:

@@ -8,27 +8,28 @@ import shlex
 import subprocess
 import sys
 import tempfile
-from collections.abc import Generator, Sequence
+import time
+from collections.abc import Generator, Iterator, Sequence
 from concurrent.futures import ThreadPoolExecutor
 from contextlib import suppress
 from pathlib import Path
 from typing import IO
 
 from plantbal.faults import Fault, ToolMissing
-from plantbal.fleet.engines import Asked, Begin, Ended, Job
-from plantbal.fleet.job import JOB
+from plantbal.fleet.engines import Asked, Begin, Came, Ended, Job
+from plantbal.fleet.job import JOB, SAID, ended, times
 
 HEADS = "Seq Host Starttime JobRuntime Send Receive Exitval Signal Command".split()
-_AT_ONCE = 8  # how many jobs are made ready at once
+_PAUSES = 0.01, 0.2  # seconds after which the log is looked at again, the fewest and the most
 _TROUBLE = 255  # parallel's own; up to 101 it is how many jobs failed
 
 
 def run(
     asked: Asked, jobs: Sequence[Job], begin: Begin, done: Sequence[Job] = ()
 ) -> Generator[Ended, None, None]:
-    """Run jobs, and give each as it ends; the failed ones come last.
+    """Run jobs, and give each as it ends, by the rows of the log of jobs.
 
-    The log of jobs has the finished ones under their numbers of now, and `--resume-failed` passes
+    The log has the finished ones first, under their numbers of now, and `--resume-failed` passes
     these over. It goes by numbers alone, and a session may have come, gone or changed since the log
     was written: so it is made anew from what is done.
 
@@ -54,7 +55,7 @@ def run(
         return
     handed = list(done)  # by their numbers
     _write_log(asked.log, len(handed))
-    ended = set[str]()
+    logged = set[int]()
     with (
         tempfile.TemporaryFile() as said,
         ThreadPoolExecutor(1, "hand-out") as other,
@@ -62,13 +63,14 @@ def run(
     ):
         # What hands the jobs out closes the pipe: if parallel is stopped, that may fail.
         given, process.stdin = process.stdin, None
-        assert given is not None and process.stdout is not None
-        handing = other.submit(_hand_out, given, handed, jobs, begin)
+        assert given is not None
+        handing = other.submit(_hand_out, given, asked, handed, jobs, begin)
         try:
-            for line in process.stdout:
-                job = handed[int(line) - 1]
-                ended.add(job.site)
-                yield Ended(job.site)
+            for row in _rows_as_they_come(asked.log, process):
+                number = int(row["Seq"])
+                if number > len(done):
+                    logged.add(number)
+                    yield _ended(asked, handed[number - 1], row)
             handing.result()
         except BaseException:
             _stop(process)
@@ -77,38 +79,65 @@ def run(
             said.seek(0)
             text = said.read().decode("utf-8", "replace").strip()
             raise Fault(f"parallel ended with the status {_TROUBLE}: {text or 'it says no more'}")
-    stopped = _stopped(asked.log)
     for number, job in enumerate(handed[len(done) :], len(done) + 1):
-        if job.site not in ended:
-            late = number in stopped and asked.timeout is not None
-            yield Ended(job.site, "timeout" if late else "")
+        if number not in logged:
+            yield Ended(job.site, came=Came(None, 0.0, 0.0))
 
 
-def _hand_out(given: IO[bytes], handed: list[Job], jobs: Sequence[Job], begin: Begin) -> None:
+def _ended(asked: Asked, job: Job, row: dict[str, str]) -> Ended:
+    """Return how a job ended, by its row of the log of jobs."""
+    begun, seconds, signal = float(row["Starttime"]), float(row["JobRuntime"]), int(row["Signal"])
+    if signal and asked.timeout is not None and seconds >= asked.timeout:
+        return Ended(job.site, "timeout")
+    status, end = 128 + signal if signal else int(row["Exitval"]), begun + seconds
+    with suppress(OSError, ValueError, IndexError):
+        if asked.retries > 1 and not signal:  # the log may have 0 for 1
+            status, begun, end = ended(str(job.part))
+        elif status in (0, 1):  # parallel may look at it late
+            begun, end = times(str(job.part))
+    return Ended(job.site, came=Came(status, round(begun, 3), round(end - begun, 3)))
+
+
+def _hand_out(
+    given: IO[bytes], asked: Asked, handed: list[Job], jobs: Sequence[Job], begin: Begin
+) -> None:
     """Hand jobs to parallel: those that are done first, then each other one once it is ready."""
-    with suppress(BrokenPipeError), given, ThreadPoolExecutor(4, "begin") as pool:
+    with suppress(BrokenPipeError), given:
         for job in handed:
-            given.write(_arguments(job))
-        for place in range(0, len(jobs), _AT_ONCE):
-            some = jobs[place : place + _AT_ONCE]
-            for job, is_ready in zip(some, pool.map(begin, some)):
-                if is_ready:
-                    handed.append(job)
-                    given.write(_arguments(job))
-            given.flush()
+            given.write(_command(asked, job))
+        for job in jobs:
+            if begin(job):
+                handed.append(job)
+                given.write(_command(asked, job))
+                given.flush()
 
 
-def _arguments(job: Job) -> bytes:
-    return f"{job.session}\0{job.output}\0".encode("utf-8", "surrogateescape")
+def _command(asked: Asked, job: Job) -> bytes:
+    """Return the command of a job, for the shell.
+
+    Parallel gets whole commands, and each becomes the program: a shell that waits for it, and words
+    that parallel has to quote, take more time. Only if a job that fails is tried again the shell
+    stays, to say that a program with refused rows, which ends with 1, hasn't failed.
+    """
+    session, output = shlex.quote(str(job.session)), shlex.quote(str(job.output))
+    if asked.retries > 1:
+        said = f'set -- {session} {output}; eval "$PLANTBAL_JOB"'
+    else:
+        err = shlex.quote(str(job.part / SAID))
+        said = f"exec {shlex.join(asked.command)} 2>{err} <{session} >{output}"
+    return said.encode("utf-8", "surrogateescape") + b"\0"
 
 
 def _started(asked: Asked, said: int) -> subprocess.Popen[bytes]:
-    """Start parallel; each job writes its number if the program was done.
+    """Start parallel.
 
-    Its lines needn't be grouped: parallel then keeps no files for them, which takes it less time.
+    Jobs write nothing, so their lines needn't be grouped: parallel then keeps no files for them,
+    which takes it less time.
     """
-    command = ["parallel", "--plain", "--will-cite", "--null", "--max-args", "2", "--ungroup"]
-    command += ["--joblog", str(asked.log), "--resume-failed", "--retries", str(asked.retries)]
+    command = ["parallel", "--plain", "--will-cite", "--null", "--ungroup"]
+    command += ["--joblog", str(asked.log), "--resume-failed"]
+    if asked.retries > 1:
+        command += ["--retries", str(asked.retries)]
     if asked.jobs:
         command += ["--jobs", str(asked.jobs)]
     if asked.timeout is not None:
@@ -116,19 +145,34 @@ def _started(asked: Asked, said: int) -> subprocess.Popen[bytes]:
     shows = sys.stderr.isatty()
     if shows:
         command.append("--bar")
-    command.append('set -- {1} {2}; eval "$PLANTBAL_JOB"')
-    script = f'set -- "$1" "$2" {shlex.join(asked.command)}\n{JOB.strip()} && echo "$PARALLEL_SEQ"'
+    script = f'set -- "$1" "$2" {shlex.join(asked.command)}\n{JOB.strip()}'
     try:
         return subprocess.Popen(
             command,
             stdin=subprocess.PIPE,
-            stdout=subprocess.PIPE,
+            stdout=subprocess.DEVNULL,
             stderr=None if shows else said,
             env={**os.environ, "PARALLEL_SHELL": "/bin/sh", "PLANTBAL_JOB": script},
             pass_fds=() if asked.lock is None else (asked.lock,),
         )
     except FileNotFoundError as error:
         raise ToolMissing("`parallel`", "GNU parallel (parallel)") from error
+
+
+def _rows_as_they_come(log: Path, process: subprocess.Popen[bytes]) -> Iterator[dict[str, str]]:
+    """Give the rows of the log of jobs until parallel has ended."""
+    rest, over, pause = b"", False, _PAUSES[0]
+    with log.open("rb", buffering=0) as file:
+        while not over:
+            over = process.poll() is not None  # before the last look
+            *lines, rest = (rest + file.read()).split(b"\n")
+            for line in lines:
+                row = line.decode("utf-8", "replace").split("\t", len(HEADS) - 1)
+                if len(row) == len(HEADS) and row[0].isdigit():
+                    yield dict(zip(HEADS, row))
+            pause = _PAUSES[0] if lines else min(1.5 * pause, _PAUSES[1])
+            if not (over or lines):
+                time.sleep(pause)
 
 
 def _stop(process: subprocess.Popen[bytes]) -> None:
@@ -144,22 +188,6 @@ def _stop(process: subprocess.Popen[bytes]) -> None:
         process.wait(10)
     except subprocess.TimeoutExpired:
         process.kill()
-
-
-def read_log(log: Path) -> list[dict[str, str]]:
-    """Return the rows of a log of jobs; nothing if there is none."""
-    try:
-        text = log.read_text(encoding="utf-8", errors="replace")
-    except OSError:
-        return []
-    rows = [line.split("\t", len(HEADS) - 1) for line in text.splitlines()]
-    return [dict(zip(HEADS, row)) for row in rows if len(row) == len(HEADS) and row[0].isdigit()]
-
-
-def _stopped(log: Path) -> set[int]:
-    """Return the numbers of the jobs that a signal ended, by the last row of each."""
-    last = {int(row["Seq"]): row["Signal"] != "0" for row in read_log(log)}
-    return {number for number, stopped in last.items() if stopped}
 
 
 def _write_log(log: Path, count: int) -> None:

@@ -7,18 +7,19 @@ from __future__ import annotations
 
 import argparse
 import datetime
+import gc
 import signal
 import sys
 import threading
 from collections.abc import Callable, Iterator
-from concurrent.futures import Future, ThreadPoolExecutor
+from concurrent.futures import ThreadPoolExecutor
 from contextlib import closing, contextmanager
 from dataclasses import dataclass, field, replace
 from pathlib import Path
 
 from plantbal.faults import Fault, InputFault
 from plantbal.files import write_text
-from plantbal.fleet.engines import WHY, Asked, Engine, Job
+from plantbal.fleet.engines import WHY, Asked, Ended, Engine, Job
 from plantbal.fleet.given import Given, sha256_of
 from plantbal.fleet.night import Kept, Night, Run, alone
 from plantbal.fleet.rows import Plant, failed, summary
@@ -181,15 +182,16 @@ class Fleet:
         self.begun.add(site)
         return True
 
-    def came(self, site: Site, why: str) -> None:
+    def came(self, ended: Ended) -> None:
         """Take in a plant whose job ended."""
+        site = self._site_of[ended.site]
         self.begun.discard(site)
-        if why:
+        if ended.why:
             self.night.drop(site)
-            self.plants[site.name] = failed(site, why, WHY[why])
+            self.plants[site.name] = failed(site, ended.why, WHY[ended.why])
             return
         try:
-            kept = self.night.publish(site, self.runs[site])
+            kept = self.night.publish(site, self.runs[site], ended.came)
         except (OSError, InputFault) as error:
             self.plants[site.name] = failed(site, "nooutput", f"its output is lost: {error}")
             return
@@ -204,7 +206,6 @@ class Fleet:
 
     def run(self, engine: Engine, asked: Asked, again: bool) -> None:
         """Run what has no output yet; sessions are read, and outputs taken in, while others run."""
-        taken = list[Future[None]]()
         try:
             # Mostly these wait for the disk.
             with ThreadPoolExecutor(8, "fleet") as pool:
@@ -217,12 +218,10 @@ class Fleet:
                 pool.submit(_load)
                 with closing(every):
                     for ended in every:
-                        taken.append(pool.submit(self.came, self._site_of[ended.site], ended.why))
+                        self.came(ended)
         finally:
             for site in self.begun:
                 self.night.drop(site)
-        for each in taken:
-            each.result()
 
     def in_order(self) -> list[Plant]:
         """Return the plants by name, with the reasons in their rows."""
@@ -234,6 +233,7 @@ def _load() -> None:
     from plantbal.fleet import gather, index, keep  # noqa: F401
 
     index.template()
+    gc.freeze()  # all this stays, and the garbage collector needn't go through it again
 
 
 def _size_of(site: Site) -> int:

@@ -67,6 +67,25 @@ class Asked:
 
 
 @dataclass(frozen=True, slots=True)
+class Came:
+    """How the program ended.
+
+    Attributes
+    ----------
+    status : int or None
+        Its status; None if it didn't run.
+    begun : float
+        When it began, in seconds since 1970.
+    seconds : float
+        How long it took.
+    """
+
+    status: int | None
+    begun: float
+    seconds: float
+
+
+@dataclass(frozen=True, slots=True)
 class Ended:
     """A job that ended, and why it has no status, if it has none.
 
@@ -76,10 +95,13 @@ class Ended:
         The plant.
     why : str
         Why the program didn't end by itself, such as ``timeout``; empty if it did.
+    came : Came or None
+        How it ended by itself; None if the files that it left say so.
     """
 
     site: str
     why: str = ""
+    came: Came | None = None
 
 
 # What the words of `Ended.why` mean.

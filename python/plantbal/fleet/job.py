@@ -126,6 +126,17 @@ def ended(part: str) -> tuple[int, float, float]:
     return int(said[0]), Path(part).stat().st_mtime, status.stat().st_mtime
 
 
+def times(part: str) -> tuple[float, float]:
+    """Return when a job began whose files were made right then, and when it wrote the last time.
+
+    Raises
+    ------
+    OSError, ValueError
+        If its folder has gone, or is empty.
+    """
+    return os.stat(part).st_mtime, max(each.stat().st_mtime for each in os.scandir(part))
+
+
 def failed(part: str) -> bool:
     """Say whether the program wasn't done, by the files that a job left."""
     try:

@@ -28,6 +28,7 @@ from dataclasses import dataclass, fields, replace
 from pathlib import Path
 
 from plantbal.faults import Fault, InputFault, Place
+from plantbal.fleet.engines import Came
 from plantbal.fleet.given import Given
 from plantbal.fleet.job import SAID, STATUS, ended
 from plantbal.fleet.sites import Site
@@ -204,26 +205,41 @@ class Night:
         with suppress(OSError):  # there are other nights in it
             self.part_of(site).parent.rmdir()
 
-    def publish(self, site: Site, asked: Run) -> Kept:
+    def publish(self, site: Site, asked: Run, came: Came | None = None) -> Kept:
         """Give the files of a plant their names, and return what is kept.
 
         An output is kept if the program ended with 0 or 1: otherwise it may be cut off. The disk may
         still lack some of it if the power fails now: then it isn't of its digest, and `kept` has
         nothing of it.
+
+        Parameters
+        ----------
+        site : Site
+            The plant.
+        asked : Run
+            What was asked.
+        came : Came, optional
+            How the program ended; without it the files that it left say so.
         """
         part = self.part_of(site)
-        status, begun, seconds = status_of(part)
-        run = replace(asked, status=status, begun=begun, seconds=seconds)
-        if status not in (0, 1):
+        came = came or came_of(part)
+        if came.status not in (0, 1):
             (part / self.output_name).unlink(missing_ok=True)
-        files = {name: (part / name).read_bytes() for name in os.listdir(part) if name != STATUS}
+        files = {name: _read(f"{part}/{name}") for name in os.listdir(part) if name != STATUS}
         output, sums = files.get(self.output_name, b""), _sums(files)
-        run = replace(run, output_sha256=sums.get(self.output_name, ""))
+        run = replace(
+            asked,
+            status=came.status,
+            begun=came.begun,
+            seconds=came.seconds,
+            output_sha256=sums.get(self.output_name, ""),
+        )
         said = run.to_json()
-        (part / STATUS).write_bytes(said)
+        with open(f"{part}/{STATUS}", "wb", buffering=0) as file:
+            file.write(said)
         sums |= _sums({STATUS: said})
         put(part, self.folder_of(site))
-        if status in (0, 1):
+        if came.status in (0, 1):
             newest = self.out / site.name / "latest"
             if not newest.exists() or os.readlink(newest) <= self.name:
                 link(newest, self.name)
@@ -235,13 +251,19 @@ def _sums(files: dict[str, bytes]) -> dict[str, str]:
     return {name: hashlib.sha256(data).hexdigest() for name, data in files.items()}
 
 
-def status_of(part: Path) -> tuple[int | None, float, float]:
-    """Return how a job ended by what it left: the status, when it began, and how long it took."""
+def _read(path: str) -> bytes:
+    """Return the bytes of a file."""
+    with open(path, "rb", buffering=0) as file:
+        return file.read()
+
+
+def came_of(part: Path) -> Came:
+    """Return how a job ended by what it left."""
     try:
         status, begun, end = ended(str(part))
-        return status, round(begun, 3), round(end - begun, 3)
+        return Came(status, round(begun, 3), round(end - begun, 3))
     except (OSError, ValueError, IndexError):
-        return None, 0.0, 0.0
+        return Came(None, 0.0, 0.0)
 
 
 def _clear(home: Path) -> None:
