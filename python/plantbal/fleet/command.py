@@ -1,7 +1,6 @@
-"""Runs a folder of sessions, keeps each night, and says which plants need a person.
+"""Runs a folder of sessions, keeps each night, and says which plants need a person."""
 
-Only what starts the first sessions is loaded here: `_load` loads the rest while these run.
-"""
+# Only what starts the first sessions is loaded here: `_load` loads the rest while these run.
 
 from __future__ import annotations
 
@@ -45,8 +44,9 @@ The table goes to standard output too, with a row for each period's last report:
   seconds,warnings,look
 
 Windows and balances of components have rows of their own, their `period` such as may to june and
-cu in may; a window's `suspects` are codes of its streams, which `look` names. `state` is converged, unconverged, over (a total beyond the limits), none (no report), unreadable
-(the output is none of plantbal's), yes or no (of a check). Of a plant without an output it is the
+cu in may; a window's `suspects` are codes of its streams, which `look` names. `state` is converged,
+unconverged, over (a total beyond the limits), none (no report), unreadable (the output is none of
+plantbal's), yes or no (of a check). Of a plant without an output it is the
 name of the program's status of 2 to 6, ended (another status), timeout, lost (by a machine of the
 cluster), nosession or nooutput (files that can't be read or written). `verdict` is that of the
 global test, which needs --tests or --eliminate N among WORDS; `suspects` are there only if it
@@ -225,7 +225,7 @@ class Fleet:
 
     def in_order(self) -> list[Plant]:
         """Return the plants by name, with the reasons in their rows."""
-        return [self.plants[site.name] for site in self.sites]
+        return [self.plants[name] for name in sorted(self.plants)]
 
 
 def _load() -> None:
@@ -247,9 +247,12 @@ def lint_plants(plants: list[Plant], chosen: list[Site]) -> None:
     """Add to plants what lint finds in their sessions; its errors are in their outputs, too."""
     from plantbal.lint import brief, lint_session
 
-    for plant, site in zip(plants, chosen):
+    path_of = {site.name: site.path for site in chosen}
+    for plant in plants:
+        if plant.rows[0].state == "nosession":
+            continue  # it can't be read, or may be a pipe
         try:
-            findings = lint_session(site.path)
+            findings = lint_session(path_of[plant.site])
         except Fault:
             continue  # the plant's row says so
         plant.rows = [replace(row, warnings=brief(findings)) for row in plant.rows]
@@ -303,6 +306,8 @@ def run(options: argparse.Namespace) -> int:
     name = options.date or datetime.date.today().isoformat()
     digest = "" if elsewhere else sha256_of(program)
     fleet = Fleet(Night(out, name, program, digest, options.words or ["run"]), chosen.sites)
+    for site, fault in chosen.wrong.items():
+        fleet.plants[site.name] = failed(site, "nosession", fault)
     engine = _engine(elsewhere or options.send or options.engine == "dask")
     begun = _now()
     with _stopped_by_sigterm(), alone(out) as lock:
@@ -319,7 +324,7 @@ def run(options: argparse.Namespace) -> int:
         try:
             fleet.run(engine, asked, options.again)
         except KeyboardInterrupt:
-            count = f"{len(fleet.plants)} of {len(chosen.sites)} plants"
+            count = f"{len(fleet.plants)} of {len(chosen.sites) + len(chosen.wrong)} plants"
             say(f"stopped after {count}: the same words with --date {name} run the others")
             return 130
         from plantbal.fleet.index import index
@@ -330,11 +335,17 @@ def run(options: argparse.Namespace) -> int:
             lint_plants(plants, chosen.sites)
         for plant in plants:
             plant.tell()
-        times = Times(begun, _now())
-        keep(fleet.night, plants, fleet.runs, fleet.sums, times)
-        index(fleet.night, plants, times)
+        times, unkept = Times(begun, _now()), list[Exception]()
+        try:
+            keep(fleet.night, plants, fleet.runs, fleet.sums, times)
+            index(fleet.night, plants, times)
+        except (Fault, OSError) as error:  # the disk is full, mostly: what is known is said
+            unkept.append(error)
     write_text("-", table(plants))
-    return _say_all(say, plants, out)
+    status = _say_all(say, plants, None if unkept else out / "index.html")
+    for error in unkept:
+        raise error
+    return status
 
 
 def _program(named: str | None, elsewhere: bool) -> Path:
@@ -346,8 +357,8 @@ def _program(named: str | None, elsewhere: bool) -> Path:
     return Path(named)
 
 
-def _say_all(say: Callable[[str], None], plants: list[Plant], out: Path) -> int:
-    """Say which plants need a person and why, and return the status."""
+def _say_all(say: Callable[[str], None], plants: list[Plant], page: Path | None) -> int:
+    """Say which plants need a person and why, and where the page is; return the status."""
     wanting = [plant for plant in plants if plant.needs]
     for plant in wanting:
         for said in plant.says():
@@ -355,5 +366,5 @@ def _say_all(say: Callable[[str], None], plants: list[Plant], out: Path) -> int:
     for plant in plants:
         if warnings := plant.rows[0].warnings:
             say(f"{plant.site}: {warnings}")
-    say(f"{summary(plants)}: {out / 'index.html'}")
+    say(f"{summary(plants)}: {page}" if page else summary(plants))
     return 1 if wanting else 0

@@ -26,6 +26,13 @@ _NUMBERS = {
     "status": "INTEGER",
     "seconds": "REAL",
 }
+# What to do about a database that is good and can't be written.
+_REMEDIES = {
+    sqlite3.SQLITE_FULL: "make room",
+    sqlite3.SQLITE_IOERR: "make room",
+    sqlite3.SQLITE_BUSY: "close it in the other program that has it open",
+    sqlite3.SQLITE_READONLY: "ask for the right to write there",
+}
 _TABLES = f"""
 CREATE TABLE IF NOT EXISTS nights (
     night TEXT PRIMARY KEY, begun TEXT, ended TEXT, program TEXT, program_sha256 TEXT, words TEXT,
@@ -131,10 +138,12 @@ def database(path: Path) -> Iterator[sqlite3.Connection]:
                 raise sqlite3.DatabaseError("its table has other columns")
             yield base
     except sqlite3.Error as error:
+        code = getattr(error, "sqlite_errorcode", 0) & 0xFF
+        remedy = _REMEDIES.get(code, "move the file away")
         raise InputFault(
             f"the nights can't be kept there: {error}",
             place=Place(file=str(path)),
-            remedy="move the file away, and run the fleet again: no session runs twice",
+            remedy=f"{remedy}, and run the fleet again: no session runs twice",
         ) from error
 
 
