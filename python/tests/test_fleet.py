@@ -239,6 +239,7 @@ OUTPUTS = {
     "other": ("echo no such luck >&2; exit 17", "ended", "status 17; no such luck"),
     "killed": ("kill -9 $$", "ended", "signal 9 stopped it; often that means that memory ran out"),
     "crashed": ("kill -SEGV $$", "ended", "status 139; signal 11 stopped it"),
+    "status 1": ('cat "$CANNED"; exit 1', "converged", "status 1, and no row of its output says why"),
     "nothing": ("exit 0", "unreadable", "none of the reports that its session asks for"),
     "late": ("exec sleep 60", "timeout", "stopped by the time limit"),
 }
@@ -248,7 +249,7 @@ OUTPUTS = {
 def test_outputs(tmp_path: Path, say: Desk, monkeypatch: pytest.MonkeyPatch, engine: str) -> None:
     """An output that can't be read is a row, and so is each end of the program but its own."""
     monkeypatch.setenv("CANNED", str(example("refinery_day.out.csv")))
-    cases = "".join(f"{name}) {made} ;;\n" for name, (made, _, _) in OUTPUTS.items())
+    cases = "".join(f"'{name}') {made} ;;\n" for name, (made, _, _) in OUTPUTS.items())
     program = tmp_path / "stub"
     program.write_text(f'#!/bin/sh\nread case\ncase $case in\n{cases}*) cat "$CANNED";;\nesac\n')
     program.chmod(0o755)

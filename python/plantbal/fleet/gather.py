@@ -40,6 +40,9 @@ _TOLD = frozenset(
     " design class advise meter".split()
 )
 
+# The rows for which the program ends with 1.
+_FOUND = frozenset(["refused", "no", "unreadable"])
+
 
 @dataclass(frozen=True)
 class Told:
@@ -114,6 +117,8 @@ def gather(night: Night, site: Site, kept: Kept, given: Given) -> Plant:
     except InputFault as fault:
         return failed(site, "unreadable", str(fault), run)
     plant = _of_rows(Told(site, rows))
+    if run.status == 1 and not _FOUND & {row["row"] for row in rows}:
+        plant.why.append("the program ended with status 1, and no row of its output says why")
     plant.rows = [
         replace(row, status=str(run.status), seconds=f"{run.seconds:.3f}") for row in plant.rows
     ]
