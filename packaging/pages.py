@@ -128,25 +128,25 @@ A session is a file of rows in CSV: what
 .B plantbal run
 reads from standard input.
 It declares a plant, books facts, and asks for reports of periods, in one list of rows that are
-read in order: a row sees what stands before it.
+read in order: a row sees only what comes before it.
 .PP
-Fields have commas between them.
-A field that begins with a double quote goes on to the next lone one, and may hold commas and line
-ends; two double quotes in it are one.
+Fields are separated by commas.
+A field that begins with a double quote continues to the next single one, and may contain commas
+and line ends; two double quotes in it stand for one.
 A record ends with a line feed, a carriage return, or both.
-A byte order mark in front of the file is taken off, empty lines are no records, and empty fields
-at the end of a record are dropped.
-Spaces are never dropped, there is no heading and no comment.
+A byte order mark at the beginning of the file is removed, empty lines aren't records, and empty
+fields at the end of a record are dropped.
+Spaces are never dropped; there is no header line, and there are no comments.
 .PP
 A session is of version 2 if the row
 .B version,2
-stands before all rows that are stored, and else of version 1.
-One of version 2 may have boundaries, and tanks and streams that are in service from the day SINCE to
-the day UNTIL, both counted; its reports have what is in service on some day of their period.
+comes before all rows that are stored; otherwise it is of version 1.
+A session of version 2 may have boundaries, and tanks and streams that are in service from the day
+SINCE to the day UNTIL inclusive; its reports contain what is in service on some day of their period.
 .PP
 A row that can't be accepted writes one
 .B refused
-row with the number of its record and a code, changes nothing, and the session goes on.
+row with the number of its record and a code and changes nothing, and the session goes on.
 """
 FIELDS = """
 A
@@ -154,7 +154,7 @@ A
 is 1 to 32 letters of ASCII, digits, underscores, hyphens or full stops.
 Units, tanks, streams and boundaries share one space of names, in which
 .B env
-stands for the world outside; periods have a space of their own, and so have the ids of facts.
+stands for the world outside; periods have a space of their own, and so do the ids of facts.
 A
 .B reason
 is 1 to 80 characters from the space to the tilde.
@@ -164,8 +164,8 @@ is written as in
 .BR 2024\\-05\\-01 ,
 from 1900\\-01\\-01 to 2199\\-12\\-31.
 .PP
-A number is whole and in digits alone, without leading zeros, with a hyphen in front if it is
-negative.
+A number is whole and written in digits only, without leading zeros, with a hyphen in front if it
+is negative.
 A tonne is 1,000,000 grams.
 """
 
@@ -210,7 +210,7 @@ def session_page() -> str:
     for key, about in LIMITS.items():
         lines += [".IP \\(bu 2", f"{rows.limits[key]:,} {about},"]
     lines[-1] = lines[-1].rstrip(",") + "."
-    lines += [".SH REFUSALS", "The lowest code that holds is given."]
+    lines += [".SH REFUSALS", "The row gives the lowest code that applies."]
     lines += code_items(rows.refusals)
     lines += [
         ".SH EXAMPLES",
@@ -235,7 +235,7 @@ and
 write to standard output, and what
 .B plantbal check
 reads: rows in CSV, each of which begins with its kind.
-Each row ends with a line feed; a field with a comma, a double quote or a line end stands between
+Each row ends with a line feed; a field with a comma, a double quote or a line end is put between
 double quotes.
 .PP
 A report is a block of rows:
@@ -252,12 +252,12 @@ the rows of tests if they were asked for
 .BR measure ),
 and
 .BR end .
-If suspects were taken out there are several blocks of a period, with a
+If suspects were taken out there are several blocks for a period, with a
 .B taken
 row between two of them and
 .B stop
 after the last one.
-The other rows stand between blocks.
+All other rows come between blocks.
 .PP
 A
 .B stream
@@ -265,7 +265,7 @@ row of a report without least bounds lacks the two columns
 .B least_lo
 and
 .BR least_hi ,
-as in the reports of other programs; then all of its block do.
+as in the reports of other programs; then all stream rows of its block do.
 """
 JSON = """
 With
@@ -274,10 +274,10 @@ each row of
 .B run
 is one object on a line: the key
 .B row
-has its kind, and each column stands under its name.
+has its kind, and each column has its name as its key.
 The keys come in byte order, every value is a string, and an empty field is the empty string.
 .B plantbal check
-reads CSV alone.
+reads only CSV.
 """
 
 

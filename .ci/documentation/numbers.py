@@ -81,10 +81,10 @@ def front(t: dict[str, int]) -> list[str]:
         f" {t['first_answer_seconds']} seconds |",
         f"| the proofs and the program | `./build` | {t['build_minutes_on_four']} minutes on four"
         " processors |",
-        "| the same, its tests and the wrong bodies that must be refused | `rt ci` | some"
+        "| the same, the tests and the wrong bodies that must be refused | `rt ci` | some"
         f" {t['gate_minutes_on_four']} minutes on four processors,"
-        f" {t['gate_minutes_on_two']} on two (reckoned) |",
-        "| that, the planted edits, examples, scripts and documents | `.ci/run` |"
+        f" {t['gate_minutes_on_two']} on two (estimated) |",
+        "| all this, the planted edits, examples, scripts and documents | `.ci/run` |"
         f" {t['checks_minutes']} minutes more |",
     ]
 
@@ -94,25 +94,25 @@ def paragraphs(t: dict[str, int]) -> list[str]:
     limit, more = t["limit_processor_minutes"], t["limit_more_minutes"]
     found = (
         f"`rt ci` takes about {t['gate_minutes_on_four']} minutes on four processors and"
-        f" {t['gate_minutes_on_two']} on two. These are some {t['gate_processor_minutes']}"
+        f" {t['gate_minutes_on_two']} on two. That is some {t['gate_processor_minutes']}"
         f" processor minutes: {t['proofs_processor_minutes']} for the proofs,"
         f" {t['tests_processor_minutes']}"
         f" for the tests, and {t['edits_processor_minutes']} for the edits, more than a third of"
-        " them for the proof that comes before a crate's first edit. What `.ci/run` does after it"
-        f" takes {t['checks_minutes']} minutes, `./build` {t['build_minutes_on_four']} on four"
+        " them for the proof that comes before a crate's first edit. What `.ci/run` does after"
+        f" that takes {t['checks_minutes']} minutes, `./build` {t['build_minutes_on_four']} on four"
         f" processors, and an answer before the build {t['first_answer_seconds']} seconds. The"
-        " number on two processors is reckoned from the run on four; docs/times.txt says how.",
-        "All of these are from nothing. Some releases of the kit keep what earlier runs of `rt ci`"
-        " proved, and a run then takes the time of what changed and of the crates above it. With"
-        " the others each run is one from nothing. `rt check` and `rt lib` keep their work in"
-        " `out/` with all releases.",
+        " number for two processors is estimated from the run on four; docs/times.txt says how.",
+        "All of these times are from scratch. Some releases of the kit keep what earlier runs of"
+        " `rt ci` proved; then a run takes only the time for what changed and for the crates above"
+        " it. With other releases each run starts from scratch. `rt check` and `rt lib` keep their"
+        " work in `out/` with all releases.",
         f"**The budget is an hour on four processors and a hundred minutes on two**: about"
-        f" {t['budget_processor_minutes']} minutes of a quiet processor, of which four busy ones make"
-        " a third more. `.ci/run` ends with what took how long, by"
-        f" kind, task and crate, and fails if `rt ci` took more than {limit} minutes divided by its"
+        f" {t['budget_processor_minutes']} minutes of a quiet processor, or a third more with four"
+        " busy ones. `.ci/run` ends with a list of how long everything took, by kind, task and"
+        f" crate, and fails if `rt ci` took more than {limit} minutes divided by its"
         f" lanes, plus {more}: {limit // 4 + more} minutes in four lanes, {limit // 2 + more} in"
-        " two. It runs as many tasks side by side as there are processors, and 3.5 GB of free"
-        " memory for each (`RT_JOBS`).",
+        " two. It runs as many tasks side by side as there are processors, as long as there are"
+        " 3.5 GB of free memory for each (`RT_JOBS`).",
     )
     wide = textwrap.TextWrapper(135, break_long_words=False, break_on_hyphens=False)
     return "\n\n".join(map(wide.fill, found)).split("\n")

@@ -356,19 +356,20 @@ def body_of(sources: Sources, page: Page) -> list[str]:
     lines += [f"## The contract of `{TOP_CALL}`", "", f"In `{short(page.run.path)}`:", ""]
     lines += [*page.here(page.run), *code_block("rust", page.run.text), "", "## What it takes", ""]
     lines += paragraph(
-        "The contract speaks of what the source and the sink have been seen to do, and of the value"
-        " of the words. The traits say what every source and every sink keeps to; the blocks after"
-        " them, what a contract sees of those that `main` hands over, and of words."
+        "The contract refers to what the source and the sink have been seen to do, and to the value"
+        " of the words. The traits say what every source and every sink guarantees. The blocks"
+        " after them say what a contract sees of those that `main` hands over, and of words."
     )
     lines += shown(page, page.ends)
     lines += ["", "## Laws beside it", ""]
     lines += paragraph(
-        "These functions do nothing. What their contracts say is proved of the words above and"
-        " below: that each input has one text, that one's own reports pass a check, that a report"
-        " after edits is that of the edited file, that a session of version 1 writes what it wrote"
-        " before there was a version 2, that the decided tests of measurements are right, that"
-        " there are least vectors, which differ only on unobservable streams, and what follows for"
-        " printed flows, nodal tests, closed periods and plain rows."
+        "These functions do nothing; what matters is their contracts, which are proved of the words"
+        " above and below. They say that each input has exactly one text, that the program's own"
+        " reports pass a check, and that a report after edits is that of the edited file. A session"
+        " of version 1 writes what it wrote before there was a version 2. The decided tests of"
+        " measurements are right. There are least vectors, which differ only on unobservable"
+        " streams. The remaining laws say what follows for printed flows, nodal tests, closed"
+        " periods and plain rows."
     )
     lines += shown(page, page.laws)
     for layer, files in chapters(sources, page):
@@ -400,14 +401,15 @@ def document(sources: Sources) -> str:
         ),
         "",
         *paragraph(
-            f"The program is proved to meet the contract of `pb_cli::{TOP_CALL}`, and beside it stand a few"
-            " laws. Whoever reads these must believe that their words mean what they should. These"
-            f" are all of them: {count} definitions in {len(page.files)} files, by the layers of"
-            f" their crates from the program down, and after them the {len(page.reach.types)} types"
-            " and constants of the code that they speak of. Words that aren't here are those of the"
-            f" toolchain's libraries: {libraries}. Nothing else of the repository has to be read to"
-            " know what is claimed: bodies, invariants, lemmas and the other contracts only serve"
-            " to prove it."
+            f"The program is proved to meet the contract of `pb_cli::{TOP_CALL}`, and a few laws"
+            " are proved as well. To accept these claims, a reader must believe that their words"
+            f" mean what they should. This page has all of these words: {count} definitions in"
+            f" {len(page.files)} files, by the layers of their crates from the program down, and"
+            f" then the {len(page.reach.types)} types and constants of the code to which they"
+            " refer."
+            " Words that aren't here come from the toolchain's libraries:"
+            f" {libraries}. Nothing else in the repository has to be read to know what is claimed:"
+            " bodies, invariants, lemmas and the other contracts only serve to prove it."
         ),
         "",
         "## Contents",

@@ -23,15 +23,14 @@ from plantbal.session import Session
 from plantbal.workbook import Cell, read_workbook
 
 HELP = """
-SESSION is a session, of which the plant is taken: boundaries, units, tanks and streams. COSTS is a
-table, CSV or xlsx, with the columns stream and cost: what a meter on this stream would cost, a
-whole number in any unit. A stream without a meter that isn't in it costs 1; without COSTS all do.
+SESSION is a session, of which only the plant is used: boundaries, units, tanks and streams. COSTS
+is a table, CSV or xlsx, with the columns stream and cost: what a meter on this stream would cost,
+a whole number in any unit. A meter on a stream that isn't in COSTS costs 1.
 
-The program is asked which streams to meter. No other choice that makes every stream observable
-costs less: that is proved. Each stream to meter has a line with its cost, and with the other
-streams on its cycle: they stay without a meter, and none of them costs less. With --form csv the
-columns are stream, cost and cycle; with --draw the plant is drawn, with the streams to meter in
-violet.
+The program says which streams to meter. It is proved that no other choice that makes every stream
+observable costs less. Each stream to meter has a line with its cost, and with the other streams on
+its cycle: they stay without a meter, and none of them costs less. With --form csv the columns are
+stream, cost and cycle; with --draw the plant is drawn, with the streams to meter in violet.
 
 examples:
   plantbal-desk advise plant.csv costs.csv --draw meters.svg

@@ -37,17 +37,18 @@ HELP = """
 SESSION is a file; `-` is standard input. The program is run, and the bundle is written by rename:
 
   session.csv    the session, byte for byte
-  output.csv     what the program writes of it
-  summary.txt    what a person has to know, and the flows of the period in tonnes
+  output.csv     the program's output for it
+  summary.txt    what you need to know, and the flows of the period in tonnes
   manifest.json  the period, its days, the time, the words, the program's digest, its version
                  and where that is from, and the digest of each file
   SHA256SUMS     the digests of all these, for `sha256sum --check`
 
-The same session, words, program and time give the same bytes. The time is that of --time, else that
-of the variable SOURCE_DATE_EPOCH, else now. A bundle that is there already isn't overwritten.
+The same session, words, program and time give the same bytes. The time is that of --time, or else
+that of the variable SOURCE_DATE_EPOCH, or else now. An existing bundle isn't overwritten.
 
-The status is 1 if a person has to look (a row is refused, a report isn't converged, a global test
-rejects), and 2 to 6 as the program's. The bundle is written all the same, if there is a report.
+The status is 1 if somebody has to look (a row is refused, a report hasn't converged, a global test
+rejects), and a status of 2 to 6 is the program's. If there is a report, the bundle is written all
+the same.
 
 examples:
   plantbal-desk archive plant.csv --period 2024-04

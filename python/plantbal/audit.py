@@ -36,22 +36,22 @@ from plantbal.verdicts import explain_check
 
 HELP = """
 BUNDLE is what `plantbal-desk archive` wrote; or REPORT is an output of the program, as CSV or as
-JSON lines, and SESSION its session. With a bundle SESSION is that of the books, and the bundle's own
-has to be the same, or its beginning. In this order:
+JSON lines, and SESSION its session. If you name a bundle and a session, that of the bundle must be
+the same, or its beginning. In this order:
 
   the digests of the files are compared; manifest and summary are made again and compared
   the program is run again with the same words, and its output is compared byte for byte
   the report is checked by `plantbal check`, and by the checker in plain Python
-  the report is held against the session: its plant, the value and the variance of each stream,
+  the report is compared with the session: its plant, the value and the variance of each stream,
   critical values, refused rows, and which block is the last of its period
 
-Each sentence begins with `good:`, `note:` (a person may want to know it) or `wrong:` (it doesn't
-hold). Without a bundle the words are those of --words, or else those that the report shows.
+Each sentence begins with `good:`, `note:` (you may want to know it) or `wrong:` (it doesn't hold).
+Without a bundle the words are those of --words, or else those that the report shows.
 
-With --no-program the program isn't run, so it needn't be there; the checker in plain Python and the
+With --no-program the program isn't run and need not be there; the checker in plain Python and the
 comparison with the session remain. A note says what isn't compared then.
 
-The status is 1 if anything is wrong, with --strict also if there is a note, else 0.
+The status is 1 if anything is wrong, and with --strict also if there is a note; otherwise it is 0.
 
 examples:
   plantbal-desk audit plant_2024-04.zip

@@ -23,15 +23,15 @@ A row for each meter:
           which holds 95 times in 100; and what the meter says, as circles
   middle  flow less meter, in standard deviations of the meter, as bars, with the same band. A meter
           that is adjusted the same way in each period is worth a look
-  right   the sum of flow less meter since the first period, in tonnes: a drift goes away from 0
+  right   the sum of flow less meter since the first period, in tonnes: a drift moves away from 0
 
 Below: the statistic of the global test, and its critical value if the session has one and was run
 with --tests. Periods that the global test rejects are hatched everywhere, and have a cross below.
 
-Flows to book are of the last round of each period's last report; meters, adjustments and statistic
-of its first round, before any meter was taken. Periods stand at their days, if --session names the
-session, or if they are called by them (2024, 2024-Q2, 2024-05, 2024-05-17); otherwise one after the
-other.
+Flows to book are from the last round of each period's last report; meters, adjustments and
+statistic are from its first round, before any meter was taken out. Periods are placed at their
+days if --session names the session, or if their names are days (2024, 2024-Q2, 2024-05,
+2024-05-17); otherwise they come one after another.
 
 examples:
   plantbal run --tests < year.csv | plantbal-desk chart --session year.csv > year.svg

@@ -31,14 +31,14 @@ from plantbal.runs import check, run
 
 OUTPUT_HELP = """
 The report goes to standard output, or to the file of --out by its ending: .csv, .sqlite or .xlsx.
-The file is written whole or not at all. Why a report isn't to be booked without a look (refused
-rows, no report, not converged, a global test that rejects) is said on standard error, and the
-status is 1.
+The file is written whole or not at all. If somebody has to look at a report before it is booked
+(refused rows, no report, not converged, a global test that rejects), standard error says why, and
+the status is 1.
 """
 RUN_HELP = """
-On standard error: how many rows are refused and the first five with their lines, in sentences; of
-each period whether it has a report, whether this has converged, and what its global test says;
-where the output is. A long run shows on a terminal how far it is. The status is 2 to 6 if that is
+Standard error says how many rows are refused, with the first five in sentences with their lines.
+For each period it says whether there is a report, whether it converged, and what its global test
+says; then where the output is. On a terminal a long run shows its progress. A status of 2 to 6 is
 the program's.
 """
 FIRST = 5
@@ -264,7 +264,7 @@ def _schema(options: argparse.Namespace) -> int:
 
 
 RUN = SimpleNamespace(
-    __doc__="Runs a session by plantbal and says what has to be looked at before it is booked.",
+    __doc__="Runs a session with plantbal and says what needs a look before it is booked.",
     HELP=f"""
 SESSION is a file; without it standard input is read.{OUTPUT_HELP}{RUN_HELP}
 examples:
@@ -274,7 +274,7 @@ examples:
     run=_run,
 )
 SOLVE = SimpleNamespace(
-    __doc__="Reconciles a session by scipy, and hands out what plantbal's check says yes to.",
+    __doc__="Reconciles a session with scipy, and returns only what plantbal's check accepts.",
     HELP=f"""
 It serves plants on which sweeps don't come near, such as long lines of units with equal meters.
 SESSION is a file; without it standard input is read.{OUTPUT_HELP}
@@ -285,10 +285,10 @@ examples:
     run=_solve,
 )
 CHECK = SimpleNamespace(
-    __doc__="Checks a report, of CSV or of JSON lines, and says in a sentence what is wrong.",
+    __doc__="Checks a report, in CSV or as JSON lines, and says in a sentence what is wrong.",
     HELP="""
-REPORT is a file; without it standard input is read. The status is 0 if each block gets a yes, else
-1; a file without a block is a fault.
+REPORT is a file; without it standard input is read. The status is 0 if each block gets a yes, and
+1 otherwise; a file without a block is a fault.
 
 examples:
   plantbal-desk check report.jsonl
@@ -297,10 +297,10 @@ examples:
     run=_check,
 )
 REPORT = SimpleNamespace(
-    __doc__="Turns a report into CSV, a database of SQLite, or a workbook with one table a sheet.",
+    __doc__="Turns a report into CSV, an SQLite database, or a workbook with one table a sheet.",
     HELP="""
 REPORT is what plantbal wrote, as CSV or as JSON lines; without it standard input is read. JSON
-lines become CSV again, so that a check takes them.
+lines are turned back into CSV, which a check can read.
 
 examples:
   plantbal-desk report day.jsonl | plantbal check

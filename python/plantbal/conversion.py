@@ -1,4 +1,4 @@
-"""Makes a session of plantbal from a plant's workbook, or says all that is wrong in it."""
+"""Makes a session of plantbal from a plant's workbook, or says everything that is wrong in it."""
 
 from __future__ import annotations
 
@@ -19,10 +19,10 @@ from plantbal.session import Session
 from plantbal.workbook import read_workbook
 
 HELP = """
-WORKBOOK is an xlsx file, or a folder of CSV files, of which each is a sheet by its name:
+WORKBOOK is an xlsx file, or a folder of CSV files, each of which is the sheet of its name:
   streams    tag, stream, from, to, kind, unit, density, error, base, since, until
-  units      name (without it, units are the ends of streams that are no tanks)
-  boundaries name: further names of env, for a jetty, a rail head, a pipeline
+  units      name (without it, units are the ends of streams that aren't tanks)
+  boundaries name: other names for env, such as a jetty, a rail head, a pipeline
   tanks      tank, error, base, density, since, until
   straps     tank, level, volume, unit (m3 without it)
   readings   the days down and a column for each tag; or days across; or long: day, tag, value, unit
@@ -32,17 +32,18 @@ WORKBOOK is an xlsx file, or a folder of CSV files, of which each is a sheet by 
   assays     component, stream, period, grade, error, unit
   critical   test, dof, value
   periods    name, first, last (without it, each calendar month with a reading is a period)
-  windows    first, last: periods from the first to the last that are reconciled at once too
-  rows       rows of a session as they are, such as amend, strike and close
+  windows    first, last: periods to reconcile together as well, from the first to the last
+  rows       rows of a session, unchanged, such as amend, strike and close
 
-Columns stand in any order; titles above, a row of units, sums below and remarks are passed over.
-Units are t, kt, kg, g, lb, klb, and with a density m3, L, mL, bbl; densities are in kg/m3, levels
-in mm, if no unit stands after them. An error is `1.5 %`, `0.2 t`, or both with `or` between; a
-tank's may be `3 mm`. A grade has its unit after it, %, ppm or g/t, and a percentage as its error is
-one of the grade; a balance is asked for each component of a period. What is finer than a gram is
-rounded, and that is said. A stream or tank is in service from its day `since` to its day `until`,
-both counted; without a day there is no such end. With these columns, or with boundaries, the
-session is of version 2. If there is a fault, no session is written; all faults are said at once.
+Columns may be in any order; titles above, a row of units, sums below and remarks are skipped.
+Units are t, kt, kg, g, lb, klb, and with a density m3, L, mL, bbl; densities are in kg/m3 and
+levels in mm unless a unit comes after them. An error is `1.5 %`, `0.2 t`, or both with `or`
+between; a tank's may be `3 mm`. A grade has its unit after it, %, ppm or g/t, and an error in
+percent is a percentage of the grade; a balance is asked for each component of a period. What is
+finer than a gram is rounded, and a note says so. A stream or tank is in service from its day
+`since` to its day `until`, both inclusive; without a day there is no such end. With these columns,
+or with boundaries, the session is of version 2. If there is a fault, no session is written; all
+faults are reported at once.
 
 examples:
   plantbal-desk convert april.xlsx --out april.csv

@@ -1,4 +1,4 @@
-"""Critical values of chi-squared as rows of a session, by scipy."""
+"""Writes critical values of chi-squared, computed with scipy, as rows of a session."""
 
 from __future__ import annotations
 
@@ -16,9 +16,9 @@ LEVEL is the chance that plants without a fault are rejected, such as 0.05.
                              than LEVEL
   critical 0.05 --measure 9  the test of each of 9 measured streams, likewise
 
-A report's degrees of freedom stand in its row `solved`. For many tests at once each has the level
-1 - (1 - LEVEL)^(1/N): this is Sidak's correction, exact for independent tests and, for these, never
-too lenient.
+A report's row `solved` has its degrees of freedom. If there are many tests at once, each has the
+level 1 - (1 - LEVEL)^(1/N): this is Sidak's correction, exact for independent tests and, for
+these, never too lenient.
 """
 
 

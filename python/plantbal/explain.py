@@ -1,5 +1,5 @@
-"""Says of each refused row of a session, in a sentence with its line, which field is wrong and what
-was probably meant."""
+"""Says for each refused row of a session, in a sentence with its line, which field is wrong and
+what was probably meant."""
 
 from __future__ import annotations
 
@@ -30,16 +30,17 @@ from plantbal.session import (
 
 HELP = """
 SESSION is a file as plantbal reads it; `-` is standard input. Each refused row is shown with its
-line, a mark under the field, what the field has to be, and what was probably meant. Rows that are
-refused only because an earlier one was stand under that one. What is wrong with the whole file
+line, a mark under the field, what the field should be, and what was probably meant. Rows that are
+refused only because an earlier row was are shown under that row. What is wrong with the whole file
 (UTF-16, semicolons, an unclosed quote, no report row) is said once.
 
-OUTPUT is what plantbal wrote for the session, as CSV or as JSON lines: then it is compared with it.
+OUTPUT is what plantbal wrote for the session, as CSV or as JSON lines: the two are compared.
 
-If the first file is a report, the second is what a check said of it; without it the check is made
-here. Each `no` and each `unreadable` is shown with its row, and with what the test asks.
+If the first file is a report, the second is what a check said about it; without it the command
+makes the check itself. Each `no` and each `unreadable` is shown with its row, and with what the
+test asks for.
 
-The status is 1 if there was anything to explain, else 0.
+The status is 1 if there was anything to explain, and 0 otherwise.
 
 examples:
   plantbal-desk explain day.csv

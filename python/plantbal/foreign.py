@@ -1,5 +1,5 @@
-"""Writes another program's reconciliation, here one by scipy, in the form of plantbal's report, so
-that it can be checked."""
+"""Writes another program's reconciliation, here one made with scipy, in the form of plantbal's
+report, so that it can be checked."""
 
 from __future__ import annotations
 
@@ -13,14 +13,15 @@ from plantbal.solver import solved_rows
 
 HELP = """
 REPORT is what plantbal wrote for a session, as CSV or as JSON lines; without it standard input is
-read. Of a period's first round it gives the plant, the measurements, the classes and their
-certificates. Nothing of its solution is used: the flows and the multipliers of the balances are
-solved for by scipy, in floating point, and refined. Then the multipliers are rounded to prices, the
-flows to whole grams that balance, and gap, bounds, least bounds and statistic follow from these by
-the rules of the report.
+read. The first round of a period gives the plant, the measurements, the classes and their
+certificates. Nothing of its solution is used: scipy solves for the flows and the multipliers of
+the balances, in floating point, and they are refined. Then the multipliers are rounded to prices
+and the flows to whole grams that balance, and gap, bounds, least bounds and statistic follow from
+these by the rules of the report.
 
-With --change the report says another flow for one stream, and all else as before: such a report is
-wrong. With --without-least its streams have no least bounds, as those of a program that knows none.
+With --change the report has another flow for one stream, and everything else as before: such a
+report is wrong. With --without-least its streams have no least bounds, as in the report of a
+program that doesn't know them.
 
 examples:
   plantbal run < day.csv | plantbal-desk from-scipy --period day1 | plantbal check

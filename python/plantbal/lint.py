@@ -1,4 +1,4 @@
-"""Says what of a session is accepted and looks wrong, each with a code and a severity."""
+"""Says what in a session is accepted but looks wrong, each with a code and a severity."""
 
 from __future__ import annotations
 
@@ -69,8 +69,9 @@ SESSION is a file; without it standard input is read. Each finding is a line on 
 
   FILE:LINE: SEVERITY: what is there: what to do [CODE]
 
-or, with --json, an object of a list. How many there are is said on standard error. The program
-isn't run. The status is 1 if there is an error, with --strict also if there is a warning, else 0.
+or, with --json, an object in a list. Standard error says how many there are. The program isn't
+run. The status is 1 if there is an error, and with --strict also if there is a warning; otherwise
+it is 0.
 
 """
     + "\n".join(f"  {rule.severity:8}{rule.code:17}{rule.about}" for rule in RULES.values())

@@ -1,4 +1,4 @@
-"""Draws a report or a design by Graphviz: units, tanks, streams by class, flows in tonnes, one
+"""Draws a report or a design with Graphviz: units, tanks, streams by class, flows in tonnes, one
 certificate marked, and which streams to meter."""
 
 from __future__ import annotations
@@ -17,13 +17,13 @@ OUTPUT is what plantbal wrote, as CSV or as JSON lines; without it standard inpu
 report is drawn, or, if there is none, the last design. The picture is SVG, and goes to standard
 output, or to the file of --out.
 
-Units are boxes, tanks are cylinders with what they gained, `env` is left open. Arrows are as wide
-as their tonnes. Streams: redundant green, with a full dot; nonredundant brown and dashed, with a
-ring; observable blue and dashed, with a triangle; unobservable grey and dotted, with a question
-mark, and without a figure; red with a `!` is a suspect (its measurement test rejects, and so does
-the global test), or what was taken. With --mark the certificate of a stream is shown: the parts of
-its cut or cycle are drawn thick, and the units of the cut's side are filled. A plant of 300 streams
-takes a second or two, one of 2,000 some minutes.
+Units are boxes, tanks are cylinders with what they gained, `env` is left open. The width of an
+arrow shows its tonnes. Streams: redundant green, with a full dot; nonredundant brown and dashed,
+with a ring; observable blue and dashed, with a triangle; unobservable grey and dotted, with a
+question mark, and without a figure; red with a `!` is a suspect (its measurement test rejects, and
+so does the global test), or was taken out. With --mark the certificate of a stream is shown: the
+parts of its cut or cycle are drawn thick, and the units on the cut's side are filled. A plant of
+300 streams takes a second or two, a plant of 2,000 some minutes.
 
 With --advice the last design is drawn with the last advice: the streams to meter are violet, with a
 `+` and what the meter costs; --mark shows the cycle for which one of them is metered.

@@ -22,23 +22,24 @@ if TYPE_CHECKING:
     from plantbal.trend import Trend
 
 HELP = """
-OUTPUT is what plantbal wrote of a session with assays and component rows, as CSV or as JSON lines;
-without it standard input is read. Of each balance the last round is taken, of its last report.
+OUTPUT is what plantbal wrote for a session with assays and component rows, as CSV or as JSON
+lines; without it standard input is read. For each balance the last round of its last report is
+used.
 
 There is a row for each stream that enters or leaves the plant, and for what each tank gained: how
-much of the component it carries in tonnes, with its standard deviation, and which share that is of
-what came in. The share of a product is its recovery. At the end stands the same of all periods
+much of the component it carries in tonnes, with its standard deviation, and what share that is of
+what came in. The share of a product is its recovery. At the end come the same rows for all periods
 together. A stream that nothing determines has no figure.
 
-The standard deviations are those of the grades alone: the flows of a balance count as exact.
+The standard deviations come only from the grades: the flows of a balance count as exact.
 
   text   tonnes and percent, as a table to be read
   csv    grams, and shares as fractions, with all digits
-  json   the same as a list of objects; what there is none of is null
+  json   the same as a list of objects; a missing figure is null
 
 --chart draws the recovery of each product over the periods, in a band of two standard deviations
-to each side, with what the assays alone say as circles; and below it where the component went. A
-product is what --product names, else the leaving stream that carries most.
+to each side, with the values by the assays alone as circles; and below it where the component
+went. A product is what --product names, or else the leaving stream that carries most.
 
 examples:
   plantbal-desk recovery shifts.out.csv

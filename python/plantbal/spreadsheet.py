@@ -25,18 +25,18 @@ HELP = """
 READINGS is a CSV file with a row for each day: the day in the first column, then a column for each
 tag, in tonnes. The heads of the columns are the tags. An empty field is a missing reading.
 
-TAGS is a CSV file with the heads tag,stream,from,to,error and, if it is wanted, base:
+TAGS is a CSV file with the heads tag,stream,from,to,error and, if you want it, base:
   tag     the head of the column in READINGS; empty for a stream without a meter
   stream  the name of the stream in the session; from and to are its ends, `env` the world outside
   error   the standard deviation of a day's reading: `1.5 %` of the reading, `0.2 t`, or
-          `1.5 % or 0.2 t`, the greater of both; empty for a stream without a meter
-  base    the standard deviation that the meter has in every period beside these, such as `0.5 t`
+          `1.5 % or 0.2 t`, the greater of the two; empty for a stream without a meter
+  base    a further standard deviation that the meter has in every period, such as `0.5 t`
 
 Fields are separated by commas, semicolons or tabs, whichever the first line has. Tonnes become
 grams exactly; more than six decimals are refused. Each month of READINGS becomes a period from its
-first to its last row, and a report. What is missing is said on standard error, days at the ends of
-a month too, and how many warnings lint has. No session is written if a unit would have nothing
-coming in, or nothing going out: mostly its name is mistyped.
+first to its last row, and a report. Standard error says what is missing, including days at the
+ends of a month, and how many warnings lint has. No session is written if nothing would enter a
+unit, or nothing would leave it: usually its name is mistyped.
 
 examples:
   plantbal-desk from-spreadsheet tags.csv readings.csv > session.csv

@@ -1,4 +1,4 @@
-"""Tables of a session's reports: flows, classes, suspects or imbalances by period."""
+"""Makes tables of a session's reports: flows, classes, suspects or imbalances by period."""
 
 from __future__ import annotations
 
@@ -24,19 +24,19 @@ goes to standard output, as CSV:
              standard deviation in the column ±; empty if nothing determines it
   classes    a row for each stream, a column for each period: the class
   count      a row for each class, a column for each period: how many streams have it
-  contents   of a window, a row for each tank: what it holds before the first period and after each
+  contents   for a window, a row for each tank: what it holds before the first period and after each
              period, in tonnes, with its standard deviation in the column ±
 
 or as lines with tabs between:
 
-  suspects   of each round the streams whose measurement test rejects: period, round, stream,
+  suspects   for each round the streams whose measurement test rejects: period, round, stream,
              statistic
   imbalance  what the measurements leave over at each unit whose streams are all measured: period,
              unit, tonnes
 
-Of flows, classes and count each period's last round is taken, of its last report. With --component
-they are those of the balances of a component, and with --window those of the last window: its
-flows have a row for each stream and its periods as columns.
+Flows, classes and count are of the last round of each period's last report. With --component they
+are those of the balances of a component, and with --window those of the last window: its flows
+have a row for each stream and its periods as columns.
 
 examples:
   plantbal run < month.csv | plantbal-desk tables flows > flows.csv

@@ -18,8 +18,8 @@ KIND is the plant:
   concentrator  daily readings, estimates, tickets
   utility       daily readings and estimates of steam, gas and water, in tonnes or by a density
 
-FILE is an xlsx file. Its sheets have their heads, a note at each head, lists to choose from, and no
-row. The sheet `about` says what each sheet is for; `convert` passes it over.
+FILE is an xlsx file. Its sheets have their heads, a note at each head, lists to choose from, and
+no rows. The sheet `about` says what each sheet is for; `convert` skips it.
 
 examples:
   plantbal-desk template refinery plant.xlsx

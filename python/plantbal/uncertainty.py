@@ -21,18 +21,19 @@ if TYPE_CHECKING:
     import pandas
 
 HELP = """
-OUTPUT is what plantbal wrote, as CSV or as JSON lines; without it standard input is read. Of each
-period's last report the last round is taken. There is a row for each stream that is measured or
-observable; an unobservable one has no flow to book, and no uncertainty. Windows and balances of
+OUTPUT is what plantbal wrote, as CSV or as JSON lines; without it standard input is read. The last
+round of each period's last report is used. There is a row for each stream that is measured or
+observable; an unobservable stream has no flow to book, and no uncertainty. Windows and balances of
 components have names of their own, such as may to june and cu in may.
 
-  text   tonnes, as a table to be read: flow, its standard deviation, that of the meter alone, by
+  text   tonnes, as a table to read: flow, its standard deviation, that of the meter alone, by
          how much it is smaller (the gain), and the three meters that contribute most to it
   csv    the same in grams with all digits, a column for each; shares and gain as fractions
-  json   the same as a list of objects; what there is none of is null
+  json   the same as a list of objects; a missing figure is null
 
 Twice the standard deviation holds 95 times in 100, if the meters are as good as their variances
-say. It speaks of the plant. The bounds of a report speak of its arithmetic alone.
+say. It says something about the plant. The bounds of a report say something only about its
+arithmetic.
 
 examples:
   plantbal run < month.csv | plantbal-desk uncertainty

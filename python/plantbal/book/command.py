@@ -10,15 +10,15 @@ from dataclasses import dataclass
 from typing import Protocol, cast
 
 HELP = """
-The book is the present folder, or that of --book. It has
+The book is the current folder, or that of --book. It has
   plant.csv     the rows of the plant, with which the next year begins
   meters.csv    tags, units, densities and errors of meters and gauges
-  2024.csv      the session of a year; rows are only added to it
+  2024.csv      the session of a year; rows are added to it, and never changed
   reports/      the last report of each period, with its history, and of each window
   journal.csv   a line for each action: when, who, what, why, and which rows it added
 
-A command is done as a whole or not at all, at whatever moment it is stopped; what was begun is
-finished by the next command. Two commands at a time wait for each other.
+A command is carried out as a whole or not at all, at whatever moment it is stopped; the next
+command finishes what was begun. Two commands at the same time wait for each other.
 
 examples:
   plantbal-desk book new 2024 plant.xlsx

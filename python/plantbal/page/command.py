@@ -24,19 +24,19 @@ if TYPE_CHECKING:
     from plantbal.output import Output
 
 HELP = """
-OUTPUT is what plantbal wrote, as JSON lines or as CSV; without it standard input is read. The
-page goes to standard output, or to the file of --out. If --session names the session, the page
-has the days of periods, whether they are open, the opening and closing of tanks, edits with
-before and after, refused rows in sentences, and what lint warns of. With --run the file is the
-session itself, and it is run first, with its tests; then standard error and the status say what
-they say of plantbal-desk run.
+OUTPUT is what plantbal wrote, as JSON lines or as CSV; without it standard input is read. The page
+goes to standard output, or to the file of --out. If --session names the session, the page has the
+days of periods, whether they are open, the opening and closing of tanks, edits with before and
+after, refused rows in sentences, and what lint warns of. With --run the file is the session
+itself, and it is run first, with its tests; standard error and the status are then as for
+plantbal-desk run.
 
 Each period has a verdict in words, its tanks and streams with measured value, adjustment and what
-is booked, and a drawing. Choose a row or an arrow: its cut or cycle is marked. Above 60 streams
-what lies within two steps of the chosen stream is drawn. If Graphviz needs longer than --seconds,
-the page comes without drawings and says so.
+is booked, and a drawing. Choose a row or an arrow: its cut or cycle is marked. With more than 60
+streams only what lies within two steps of the chosen stream is drawn. If Graphviz takes longer
+than --seconds, the page comes without drawings and says so.
 
---xlsx writes the tables as a workbook, --pdf the page on A4 by chromium. If one of them is named,
+--xlsx writes the tables as a workbook, --pdf the page on A4, with chromium. If either is given,
 the page itself is written only if --out names a file.
 
 examples:
