@@ -306,8 +306,8 @@ def run(options: argparse.Namespace) -> int:
     name = options.date or datetime.date.today().isoformat()
     digest = "" if elsewhere else sha256_of(program)
     fleet = Fleet(Night(out, name, program, digest, options.words or ["run"]), chosen.sites)
-    for site, fault in chosen.wrong.items():
-        fleet.plants[site.name] = failed(site, "nosession", fault)
+    for site, said in chosen.wrong.items():
+        fleet.plants[site.name] = failed(site, "nosession", said)
     engine = _engine(elsewhere or options.send or options.engine == "dask")
     begun = _now()
     with _stopped_by_sigterm(), alone(out) as lock:
@@ -343,8 +343,8 @@ def run(options: argparse.Namespace) -> int:
             unkept.append(error)
     write_text("-", table(plants))
     status = _say_all(say, plants, None if unkept else out / "index.html")
-    for error in unkept:
-        raise error
+    for fault in unkept:
+        raise fault
     return status
 
 
