@@ -586,6 +586,21 @@ def test_the_night_cannot_be_kept(
     assert "database or disk is full: make room, and run the fleet again" in found.err
 
 
+def test_a_session_that_has_gone(tmp_path: Path, program: Path, say: Desk) -> None:
+    """A plant that was run the night before and has no session now is told once."""
+    data = SITE.format(100_000_000).encode()
+    folder = folder_of(tmp_path / "sessions", {"a.csv": data, "b.csv": data})
+    words = ["fleet", "--program", program, "--out", tmp_path / "out", folder]
+    assert say(*words, "--date", "2026-11-27").status == 0
+    (folder / "b.csv").unlink()
+    for _ in range(2):  # a night that is run again says it again
+        found = say(*words, "--date", "2026-11-28")
+        assert (found.status, row_of(found.out, "b")["state"]) == (1, "nosession")
+        assert "fleet: b: its session has gone; it was run on 2026-11-27\n" in found.err
+    found = say(*words, "--date", "2026-11-29")
+    assert (found.status, [row["site"] for row in rows_of(found.out)]) == (0, ["a"])
+
+
 def test_what_is_no_file(tmp_path: Path, program: Path, say: Desk) -> None:
     """A pipe isn't opened, since nobody may write to it: the night would wait for ever."""
     data = SITE.format(100_000_000).encode()

@@ -328,8 +328,12 @@ def run(options: argparse.Namespace) -> int:
             say(f"stopped after {count}: the same words with --date {name} run the others")
             return 130
         from plantbal.fleet.index import index
-        from plantbal.fleet.keep import Times, keep, table
+        from plantbal.fleet.keep import Times, gone, keep, table
 
+        for site_name, before in gone(fleet.night, fleet.plants).items():
+            fault = f"its session has gone; it was run on {before}"
+            site = Site(site_name, folder / f"{site_name}.csv")
+            fleet.plants[site_name] = failed(site, "nosession", fault)
         plants = fleet.in_order()
         if options.lint:
             lint_plants(plants, chosen.sites)

@@ -6,8 +6,8 @@ import csv
 import io
 import sqlite3
 import subprocess
-from collections.abc import Iterable, Iterator, Mapping, Sequence
-from contextlib import closing, contextmanager
+from collections.abc import Collection, Iterable, Iterator, Mapping, Sequence
+from contextlib import closing, contextmanager, suppress
 from dataclasses import dataclass
 from pathlib import Path
 
@@ -145,6 +145,24 @@ def database(path: Path) -> Iterator[sqlite3.Connection]:
             place=Place(file=str(path)),
             remedy=f"{remedy}, and run the fleet again: no session runs twice",
         ) from error
+
+
+def gone(night: Night, sites: Collection[str]) -> dict[str, str]:
+    """Return the plants of the night before that aren't among these sites, each with that night.
+
+    Those that had no session then either aren't among them: each is told once.
+    """
+    path = night.out / "fleet.sqlite"
+    if not path.exists():
+        return {}
+    with suppress(sqlite3.Error), closing(sqlite3.connect(path)) as base:
+        rows = base.execute(
+            "SELECT DISTINCT site, night FROM plants WHERE state <> 'nosession' AND night ="
+            " (SELECT MAX(night) FROM nights WHERE night < ?)",
+            (night.name,),
+        )
+        return {site: before for site, before in rows if site not in sites}
+    return {}  # it is none: whoever writes to it says so
 
 
 def _insert(base: sqlite3.Connection, night: Night, plants: Sequence[Plant], times: Times) -> None:
