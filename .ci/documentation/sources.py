@@ -2,6 +2,7 @@
 
 from __future__ import annotations
 
+import itertools
 import os
 import re
 from collections.abc import Iterator, Mapping
@@ -99,7 +100,7 @@ class Spec:
     path, crate, module : str
         Where it is, from the top; its crate; and what `use` calls it.
     head : str
-        Its first line.
+        The comment that it begins with, as one line.
     definitions : list of Definition
         What it defines, in order.
     """
@@ -111,9 +112,10 @@ class Spec:
         self.module = f"Rattle.{self.crate}.specs.{found[2].replace('/', '.')}"
         self.imports = imports(text)
         lines = text.splitlines()
-        self.head = lines[0] if lines and lines[0].startswith("--") else ""
+        heading = list(itertools.takewhile(lambda line: line.startswith("--"), lines))
+        self.head = " ".join([*heading[:1], *(line.removeprefix("--").strip() for line in heading[1:])])
         self.definitions: list[Definition] = []
-        self._read(lines[1 if self.head else 0 :])
+        self._read(lines[len(heading) :])
         self.names = {definition.name: definition for definition in self.definitions}
         self.homes = {
             member: definition

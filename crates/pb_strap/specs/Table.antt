@@ -1,4 +1,5 @@
--- Statement. Strapping tables: the volume of a tank at a level, and its grams (API Manual of Petroleum Measurement Standards, chapter 2.2A, capacity tables).
+-- Statement. Strapping tables: the volume of a tank at a level, and its grams (API Manual of Petroleum Measurement Standards,
+-- chapter 2.2A, capacity tables).
 use Rattle.std.specs.Prelude.{◌≡◌, ℕ, ◌+◌, ◌-◌, ◌*◌, ◌/◌, ◌^◌, ◌⊎◌, ◌++◌, nat_le, Bool, true, ◌&&◌, ◌||◌, if◌then◌else◌, ⊤, MatchOption, IsSome, IsSomeAnd, Contains, ℤ, pos, ◌+ℤ◌, ◌-ℤ◌, ◌*ℤ◌, ◌≤ℤ◌, ◌<ℤ◌, int_lt, int_le, List, [], ◌∷◌, length, slice_get, Option, Some, None}
 use Rattle.std.specs.Option.{option_map, option_map_or}
 use Rattle.pb_limits.specs.Limits.{most_density, most_points, most_volume}

@@ -25,7 +25,7 @@ from plantbal.fleet.sites import NIGHT, Site, sites
 from plantbal.program import find_program
 
 HELP = """
-Each FOLDER/SITE.csv is a session. What is kept of a night, which has the name of its day:
+Each FOLDER/SITE.csv is a session. These files are kept for a night, which has the name of its day:
 
   OUT/SITE/NIGHT/output.csv   the output (.jsonl with --format json), with stderr.txt and run.json
   OUT/SITE/latest             a link to the last night that has an output
@@ -34,9 +34,9 @@ Each FOLDER/SITE.csv is a session. What is kept of a night, which has the name o
   OUT/fleet.sqlite            the tables `nights` and `plants` of all nights
   OUT/index.html              the last night, for a browser
 
-An output gets its place when it is whole. A fleet that was stopped continues if the same words are
-given again: plants that have their output aren't run again, unless the session, the program or the
-words changed.
+An output is put in its place only when it is complete. A fleet that was stopped continues if you
+give the same words again: plants that have their output aren't run again, unless the session, the
+program or the words have changed.
 
 The table goes to standard output too, with a row for each period's last report:
 
@@ -44,27 +44,27 @@ The table goes to standard output too, with a row for each period's last report:
   seconds,warnings,look
 
 Windows and balances of components have rows of their own, their `period` such as may to june and
-cu in may; a window's `suspects` are codes of its streams, which `look` names. `state` is converged,
-unconverged, over (a total beyond the limits), none (no report), unreadable (the output is none of
-plantbal's), yes or no (of a check). Of a plant without an output it is the
-name of the program's status of 2 to 6, ended (another status), timeout, lost (by a machine of the
-cluster), nosession or nooutput (files that can't be read or written). `verdict` is that of the
-global test, which needs --tests or --eliminate N among WORDS; `suspects` are there only if it
-rejects and no row is refused, or if a stream was taken. `look` says why a person has to look: a
-row is refused, there is no report, it isn't converged, the global test rejects or can't be made.
-It is said on standard error too. The status is 1 if a person has to look at any plant, else 0.
+cu in may; a window's `suspects` are codes of its streams, which `look` names. `state` is
+converged, unconverged, over (a total beyond the limits), none (no report), unreadable (the output
+isn't plantbal's), yes or no (of a check). For a plant without an output it is the name of the
+program's status of 2 to 6, ended (another status), timeout, lost (by a machine of the cluster),
+nosession or nooutput (files that can't be read or written). `verdict` is that of the global test,
+which needs --tests or --eliminate N among WORDS; `suspects` are given only if it rejects and no
+row is refused, or if a stream was taken out. `look` says why somebody has to look: a row is
+refused, there is no report, it hasn't converged, the global test rejects or can't be made.
+Standard error says so too. The status is 1 if somebody has to look at any plant, and 0 otherwise.
 
-Words after a lone -- are given to plantbal; without them they are `run`:
+Words after a single -- are given to plantbal; the default is `run`:
 
   plantbal-desk fleet --out nights sessions -- run --tests > table.csv
   plantbal-desk fleet --timeout 600 --retries 2 --out nights sessions -- run --tests > table.csv
   plantbal-desk fleet --scheduler tcp://head:8786 --program /usr/bin/plantbal \\
       --out /shared/nights /shared/sessions > table.csv
 
-With a cluster of dask each machine has the program at the same place, and sees the folders under
-the same names; with --send it needn't: then the bytes of sessions and outputs go over the network.
-With --lint each session is read for what is accepted and looks wrong, too, which takes longer than
-most reports do.
+With a cluster of dask each machine has the program in the same place, and sees the folders under
+the same names; with --send it need not see them: then the bytes of sessions and outputs go over
+the network. With --lint each session is also read for what is accepted but looks wrong, which
+takes longer than most reports do.
 """
 def add_arguments(parser: argparse.ArgumentParser) -> None:
     """Add the words of the command."""
