@@ -331,9 +331,9 @@ def run(options: argparse.Namespace) -> int:
         from plantbal.fleet.keep import Times, gone, keep, table
 
         for site_name, before in gone(fleet.night, fleet.plants).items():
-            fault = f"its session has gone; it was run on {before}"
             site = Site(site_name, folder / f"{site_name}.csv")
-            fleet.plants[site_name] = failed(site, "nosession", fault)
+            said = f"its session has gone; it was run on {before}"
+            fleet.plants[site_name] = failed(site, "nosession", said)
         plants = fleet.in_order()
         if options.lint:
             lint_plants(plants, chosen.sites)
