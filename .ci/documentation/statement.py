@@ -19,6 +19,8 @@ TOP_CALL = "run_program"
 MADE_OF_ARGUMENTS = ("Words",)
 # The clauses of the contract of the call in words, which stand in front.
 IN_WORDS = ".ci/documentation/clauses.md"
+# How the signs of the contract and of the definitions are read.
+SIGNS = ".ci/documentation/signs.md"
 # What README.md promises beside the contract of the call: laws over the same words.
 LAWS = (
     "run_text_law",
@@ -352,7 +354,9 @@ def shown(page: Page, parts: list[Part]) -> list[str]:
 
 def body_of(sources: Sources, page: Page) -> list[str]:
     """Return the page without its head."""
-    lines = [*sources.text(IN_WORDS).rstrip().split("\n"), ""]
+    lines = []
+    for text in (IN_WORDS, SIGNS):
+        lines += [*sources.text(text).rstrip().split("\n"), ""]
     lines += [f"## The contract of `{TOP_CALL}`", "", f"In `{short(page.run.path)}`:", ""]
     lines += [*page.here(page.run), *code_block("rust", page.run.text), "", "## What it takes", ""]
     lines += paragraph(

@@ -36,7 +36,8 @@ from plantbal.verdicts import explain_check
 
 HELP = """
 BUNDLE is what `plantbal-desk archive` wrote; or REPORT is an output of the program, as CSV or as
-JSON lines, and SESSION its session. In this order:
+JSON lines, and SESSION its session. If you name a bundle and a session, that of the bundle must be
+the same, or its beginning. In this order:
 
   the digests of the files are compared; manifest and summary are made again and compared
   the program is run again with the same words, and its output is compared byte for byte
@@ -48,7 +49,7 @@ Each sentence begins with `good:`, `note:` (you may want to know it) or `wrong:`
 Without a bundle the words are those of --words, or else those that the report shows.
 
 With --no-program the program isn't run and need not be there; the checker in plain Python and the
-comparison with the session remain.
+comparison with the session remain. A note says what isn't compared then.
 
 The status is 1 if anything is wrong, and with --strict also if there is a note; otherwise it is 0.
 
@@ -265,6 +266,18 @@ def _made_again(
     return differ
 
 
+def session_held(audit: Audit, given: Given, path: str) -> None:
+    """Hold the session of a bundle against that of the books, which may have gone on since."""
+    source, data = read_bytes(path)
+    if data.startswith(given.data):
+        rest = "" if data == given.data else ", with which it begins"
+        audit.add("good", f"{given.session}: it is that of the books, {source}{rest}")
+        return
+    there = differs_at(given.data, data)
+    what = f"{there.one} stands there, and the session of the books, {source}, has {there.other}"
+    audit.add("wrong", f"{given.session}: {there.place}: {what}")
+
+
 # ---- a report and its session
 
 
@@ -436,19 +449,22 @@ def add_arguments(parser: argparse.ArgumentParser) -> None:
 
 
 def given_of(audit: Audit, options: argparse.Namespace) -> Given:
-    """Return what is audited, by the words of the command."""
-    if options.session is None:
-        if not read_bytes(options.report)[1].startswith(b"PK"):
-            raise Fault(
-                f"{options.report} is no bundle",
-                text=options.report,
-                remedy="name its session too: plantbal-desk audit REPORT SESSION",
-            )
+    """Return what is audited, by the words of the command: a bundle, or a report and its session."""
+    report, output = read_bytes(options.report)
+    if output.startswith(b"PK"):
         if options.words:
             remedy = "leave --words out: a bundle has its own"
             raise Fault("--words is for a report and its session", remedy=remedy)
-        return given_of_bundle(audit, options.report)
-    report, output = read_bytes(options.report)
+        given = given_of_bundle(audit, options.report)
+        if options.session is not None:
+            session_held(audit, given, options.session)
+        return given
+    if options.session is None:
+        raise Fault(
+            f"{options.report} is no bundle",
+            text=options.report,
+            remedy="name its session too: plantbal-desk audit REPORT SESSION",
+        )
     session, data = read_bytes(options.session)
     parsed = None
     if output.lstrip().startswith(b"{") or not options.words:
@@ -474,15 +490,15 @@ def run(options: argparse.Namespace) -> int:
             raise
     given = given_of(audit, options)
     usual = words_of(tests=False, eliminate=0, gap=10, sweeps=5000)
-    if not options.words and options.session and given.words[: len(usual)] != usual:
+    if not options.words and not given.sum and given.words[: len(usual)] != usual:
         what = (
             f"the report was asked for with {' '.join(given.words[1:])}, and {' '.join(usual[1:])}"
         )
         audit.add("note", f"{given.report}: {what} are usual: see whether this was meant")
     if options.no_program:
-        audit.add(
-            "note", f"{given.report}: the program wasn't run: the report may be that of others"
-        )
+        what = "the program wasn't run, so these aren't compared: gap and sweeps, which measurements"
+        rest = "are tested and by what, what was taken, the heads of windows and balances, histories"
+        audit.add("note", f"{given.report}: {what} {rest}")
     else:
         run_again(audit, given, options.program, options.prog)
     verdicts = check_twice(audit, given, options.program, not options.no_program)

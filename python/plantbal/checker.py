@@ -6,7 +6,7 @@
 It makes the tests that `plantbal check` makes, and writes the same rows: yes, no or unreadable. It
 is written from docs/GUIDE.md and docs/FORMAT.md, is a file by itself, and needs Python alone. Every
 number is a whole number or a fraction of two. The status is 0 if each block gets a yes, and 1 if
-one doesn't, if a row can't be read, or if there is no block.
+one doesn't, if a row can't be read, or if there is no block; 2 if words are given.
 """
 
 from __future__ import annotations
@@ -414,6 +414,9 @@ def findings(data: bytes) -> Iterator[tuple[str, ...]]:
 
 def main() -> NoReturn:
     """Check standard input, and end with the status."""
+    if sys.argv[1:]:
+        print("checker: it reads standard input: python3 checker.py < report.csv", file=sys.stderr)
+        sys.exit(2)
     data, verdicts = sys.stdin.buffer.read(MOST_BYTES + 1), set[str]()
     if len(data) > MOST_BYTES:
         sys.exit(f"checker: the report has more than {MOST_BYTES:,} bytes: split it")

@@ -159,8 +159,7 @@ def periods_of(data: bytes, output: Output) -> list[str]:
         if name in over:
             lines.append(f"{name}: {over[name]}")
         elif name in last:
-            what = "a balance" if last[name].component else "a report"
-            lines.append(f"{name}: {what}, {last[name].verdict}")
+            lines.append(f"{name}: a {last[name].asked.what}, {last[name].verdict}")
         else:
             lines.append(f"{name}: no report was asked for; the row report,{name} asks for it")
     return lines

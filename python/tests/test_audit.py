@@ -176,8 +176,23 @@ def test_without_the_program(say: Desk, month: Path, monkeypatch: pytest.MonkeyP
     said = say("audit", month)
     assert said.status == 1 and "--no-program" in said.err
     said = say("audit", month, "--no-program")
-    assert said.status == 0 and "the program wasn't run" in said.out
+    assert said.status == 0 and "the program wasn't run, so these aren't compared" in said.out
     assert "the checker in plain Python says yes" in said.out
+
+
+def test_a_bundle_and_the_books(say: Desk, month: Path, tmp_path: Path) -> None:
+    """Whoever makes a whole new bundle makes its digests too, and not the session of the books."""
+    books, data = tmp_path / "books.csv", files_of(month)[SESSION]
+    books.write_bytes(data)
+    said = say("audit", month, books)
+    assert said.status == 0 and "session.csv: it is that of the books, " in said.out
+    books.write_bytes(data + b"close,2024-04\n")
+    said = say("audit", month, books)
+    assert said.status == 0 and "books.csv, with which it begins\n" in said.out
+    books.write_bytes(data.replace(b"12408500000", b"12408500001"))
+    said = say("audit", month, books)
+    assert said.status == 1 and len(sentences(said, "wrong")) == 1
+    assert "session.csv: line " in said.out and "the session of the books, " in said.out
 
 
 # ---- what doesn't hold

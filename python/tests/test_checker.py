@@ -171,6 +171,13 @@ def test_it_runs_alone(tmp_path: Path, data: bytes, status: int, out: bytes, err
     assert done.stderr.startswith(err) and bool(done.stderr) == bool(err)
 
 
+def test_it_takes_no_words(tmp_path: Path) -> None:
+    command = [sys.executable, "-I", checker.__file__, str(tmp_path / "report.csv")]
+    done = subprocess.run(command, capture_output=True, check=False)
+    assert (done.returncode, done.stdout) == (2, b"")
+    assert b"python3 checker.py < report.csv" in done.stderr
+
+
 def test_it_needs_python_alone() -> None:
     tree = ast.parse(Path(checker.__file__).read_text(encoding="utf-8"))
     used = set()

@@ -145,6 +145,11 @@ def test_what_is_kept(program: Path, tmp_path: Path, say: Desk) -> None:
     assert say(*words[:-1], "--date", "2026-11-27", sessions).status == 0
     assert (out / "latest").readlink() == Path("nights", NIGHT)
     assert (out / "a b" / "latest").readlink() == Path(NIGHT)
+    # words that are none take each night's output: the link leads to the last one that has its own
+    for night, left in ((NIGHT, "2026-11-28"), ("2026-11-28", "2026-11-27"), ("2026-11-27", "")):
+        assert say(*words[:-1], "--date", night, sessions, "--", "walk").status == 1
+        newest = out / "a b" / "latest"
+        assert (newest.readlink() == Path(left)) if left else not newest.is_symlink()
 
 
 def test_each_mistake(program: Path, tmp_path: Path, say: Desk) -> None:
@@ -232,7 +237,10 @@ OUTPUTS = {
     "usage": ("echo Usage >&2; exit 2", "Usage", "status 2, Usage; these words are no command"),
     "memory": ("echo NoMemory >&2; exit 6", "NoMemory", "it ran out of memory"),
     "other": ("echo no such luck >&2; exit 17", "ended", "status 17; no such luck"),
-    "killed": ("kill -9 $$", "ended", "status 137; signal 9 stopped it"),
+    "killed": ("kill -9 $$", "ended", "signal 9 stopped it; often that means that memory ran out"),
+    "crashed": ("kill -SEGV $$", "ended", "status 139; signal 11 stopped it"),
+    "status 1": ('cat "$CANNED"; exit 1', "converged", "status 1, and no row of its output says why"),
+    "nothing": ("exit 0", "unreadable", "none of the reports that its session asks for"),
     "late": ("exec sleep 60", "timeout", "stopped by the time limit"),
 }
 
@@ -241,16 +249,18 @@ OUTPUTS = {
 def test_outputs(tmp_path: Path, say: Desk, monkeypatch: pytest.MonkeyPatch, engine: str) -> None:
     """An output that can't be read is a row, and so is each end of the program but its own."""
     monkeypatch.setenv("CANNED", str(example("refinery_day.out.csv")))
-    cases = "".join(f"{name}) {made} ;;\n" for name, (made, _, _) in OUTPUTS.items())
+    cases = "".join(f"'{name}') {made} ;;\n" for name, (made, _, _) in OUTPUTS.items())
     program = tmp_path / "stub"
     program.write_text(f'#!/bin/sh\nread case\ncase $case in\n{cases}*) cat "$CANNED";;\nesac\n')
     program.chmod(0o755)
-    sessions = {f"{name}.csv": f"{name}\n".encode() for name in [*OUTPUTS, "good"]}
+    texts = {name: f"{name}\nreport,may1\n" for name in [*OUTPUTS, "good"]}
+    sessions = {f"{name}.csv": text.encode() for name, text in texts.items()}
     folder = folder_of(tmp_path / "sessions", sessions)
     words = ["fleet", "--program", program, "--timeout", "3", "--jobs", "4", "--engine", engine]
     found = say(*words, "--out", tmp_path / "out", folder)
     assert found.status == 1
     assert row_of(found.out, "good")["look"] == ""
+    assert "memory" not in row_of(found.out, "crashed")["look"]
     for name, (_, state, said) in OUTPUTS.items():
         row = row_of(found.out, name)
         assert (row["state"], said in row["look"]) == (state, True), row
@@ -541,16 +551,69 @@ NAMES = {
     "2026-11-29.csv": "the name 2026-11-29 is one of the nights' own: rename it",
     "two\nlines.csv": "its name has other characters than letters, digits, signs and spaces",
     os.fsdecode(b"\xff.csv"): "its name has other characters",
-    "a.CSV": "it would be the same plant as a.CSV: rename one of them",
+    "a.CSV": "it would be the same plant as a.csv, and none is run: rename one of them",
 }
 
 
 @pytest.mark.parametrize("name, said", NAMES.items(), ids=NAMES)
 def test_names(tmp_path: Path, program: Path, say: Desk, name: str, said: str) -> None:
-    folder = folder_of(tmp_path / "sessions", {"a.csv": b"", name: b""})
+    """A name that won't do is that plant's fault, and the others are run."""
+    data = SITE.format(100_000_000).encode()
+    folder = folder_of(tmp_path / "sessions", {"a.csv": data, name: data, "b.csv": data})
     found = say("fleet", "--program", program, "--out", tmp_path / "out", folder)
     assert found.status == 1 and said in found.err
-    assert not (tmp_path / "out").exists()
+    states = [row["state"] for row in rows_of(found.out)]
+    good = 1 if name == "a.CSV" else 2
+    assert sorted(states) == ["converged"] * good + ["nosession"]
+    assert (tmp_path / "out" / "b" / "latest" / "output.csv").exists()
+
+
+def test_the_night_cannot_be_kept(
+    tmp_path: Path, program: Path, say: Desk, monkeypatch: pytest.MonkeyPatch
+) -> None:
+    """What is known is said all the same, and a full disk is no reason to move the nights away."""
+    folder = folder_of(tmp_path / "sessions", {"a.csv": b""})
+
+    def full(base: sqlite3.Connection, *_: object) -> None:
+        """Write more than may be written."""
+        base.execute("PRAGMA max_page_count = 1")
+        base.execute("CREATE TABLE more (text)")
+
+    monkeypatch.setattr("plantbal.fleet.keep._insert", full)
+    found = say("fleet", "--program", program, "--out", tmp_path / "out", folder)
+    assert (found.status, row_of(found.out, "a")["state"]) == (1, "none")
+    assert "1 plant, of which 1 needs a person\n" in found.err
+    assert "database or disk is full: make room, and run the fleet again" in found.err
+
+
+def test_a_session_that_has_gone(tmp_path: Path, program: Path, say: Desk) -> None:
+    """A plant that was run the night before and has no session now is told once."""
+    data = SITE.format(100_000_000).encode()
+    folder = folder_of(tmp_path / "sessions", {"a.csv": data, "b.csv": data})
+    words = ["fleet", "--program", program, "--out", tmp_path / "out", folder]
+    assert say(*words, "--date", "2026-11-27").status == 0
+    (folder / "b.csv").unlink()
+    for _ in range(2):  # a night that is run again says it again
+        found = say(*words, "--date", "2026-11-28")
+        assert (found.status, row_of(found.out, "b")["state"]) == (1, "nosession")
+        assert "fleet: b: its session has gone; it was run on 2026-11-27\n" in found.err
+    found = say(*words, "--date", "2026-11-29")
+    assert (found.status, [row["site"] for row in rows_of(found.out)]) == (0, ["a"])
+
+
+def test_what_is_no_file(tmp_path: Path, program: Path, say: Desk) -> None:
+    """A pipe isn't opened, since nobody may write to it: the night would wait for ever."""
+    data = SITE.format(100_000_000).encode()
+    folder = folder_of(tmp_path / "sessions", {"a.csv": data})
+    (folder / "folder.csv").mkdir()
+    (folder / "gone.csv").symlink_to("nowhere")
+    (folder / "link.csv").symlink_to("a.csv")
+    os.mkfifo(folder / "pipe.csv")
+    found = say("fleet", "--lint", "--program", program, "--out", tmp_path / "out", folder)
+    states = {row["site"]: row["state"] for row in rows_of(found.out)}
+    wrong = dict.fromkeys(("folder", "gone", "pipe"), "nosession")
+    assert states == wrong | dict.fromkeys(("a", "link"), "converged")
+    assert found.status == 1 and "pipe.csv: it is a pipe or a device, and no file" in found.err
 
 
 def test_check(program: Path, tmp_path: Path, say: Desk) -> None:
@@ -616,7 +679,8 @@ def test_wrong(
     monkeypatch.chdir(tmp_path)
     options = [word for pair in words.items() for word in pair if word is not None]
     found = say("fleet", *options, folder)
-    assert (found.status, said in found.err, found.out) == (status, True, ""), found.err
+    assert (found.status, said in found.err) == (status, True), found.err
+    assert bool(found.out) == ("fleet.sqlite" in said)  # what came of the plants is said all the same
     assert "Traceback" not in found.err
 
 

@@ -165,3 +165,9 @@ def test_progress_counts() -> None:
     assert progress.says(9).startswith("run: 9 s, report 2 of 2")
     progress(b"report,q,0,2,1,1,1\nend,q,0\n")
     assert progress.says(9) == "run: 9 s, 2 rounds of reports done"
+
+
+def test_a_window_is_called_one(program: Path, say: Desk, tmp_path: Path) -> None:
+    words = ["run", "--program", program, "--out", tmp_path / "out.csv"]
+    found = say(*words, example("missed_dip.csv"))
+    assert "plantbal-desk run: may2 to may3: a window, converged" in found.err

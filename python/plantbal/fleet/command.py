@@ -1,7 +1,6 @@
-"""Runs a folder of sessions, keeps each night, and says which plants need a person.
+"""Runs a folder of sessions, keeps each night, and says which plants need a person."""
 
-Only what starts the first sessions is loaded here: `_load` loads the rest while these run.
-"""
+# Only what starts the first sessions is loaded here: `_load` loads the rest while these run.
 
 from __future__ import annotations
 
@@ -225,7 +224,7 @@ class Fleet:
 
     def in_order(self) -> list[Plant]:
         """Return the plants by name, with the reasons in their rows."""
-        return [self.plants[site.name] for site in self.sites]
+        return [self.plants[name] for name in sorted(self.plants)]
 
 
 def _load() -> None:
@@ -248,9 +247,12 @@ def lint_plants(plants: list[Plant], chosen: list[Site]) -> None:
     """Add to plants what lint finds in their sessions; its errors are in their outputs, too."""
     from plantbal.lint import brief, lint_session
 
-    for plant, site in zip(plants, chosen):
+    path_of = {site.name: site.path for site in chosen}
+    for plant in plants:
+        if plant.rows[0].state == "nosession":
+            continue  # it can't be read, or may be a pipe
         try:
-            findings = lint_session(site.path)
+            findings = lint_session(path_of[plant.site])
         except Fault:
             continue  # the plant's row says so
         plant.rows = [replace(row, warnings=brief(findings)) for row in plant.rows]
@@ -304,6 +306,8 @@ def run(options: argparse.Namespace) -> int:
     name = options.date or datetime.date.today().isoformat()
     digest = "" if elsewhere else sha256_of(program)
     fleet = Fleet(Night(out, name, program, digest, options.words or ["run"]), chosen.sites)
+    for site, said in chosen.wrong.items():
+        fleet.plants[site.name] = failed(site, "nosession", said)
     engine = _engine(elsewhere or options.send or options.engine == "dask")
     begun = _now()
     with _stopped_by_sigterm(), alone(out) as lock:
@@ -320,22 +324,32 @@ def run(options: argparse.Namespace) -> int:
         try:
             fleet.run(engine, asked, options.again)
         except KeyboardInterrupt:
-            count = f"{len(fleet.plants)} of {len(chosen.sites)} plants"
+            count = f"{len(fleet.plants)} of {len(chosen.sites) + len(chosen.wrong)} plants"
             say(f"stopped after {count}: the same words with --date {name} run the others")
             return 130
         from plantbal.fleet.index import index
-        from plantbal.fleet.keep import Times, keep, table
+        from plantbal.fleet.keep import Times, gone, keep, table
 
+        for site_name, before in gone(fleet.night, fleet.plants).items():
+            site = Site(site_name, folder / f"{site_name}.csv")
+            said = f"its session has gone; it was run on {before}"
+            fleet.plants[site_name] = failed(site, "nosession", said)
         plants = fleet.in_order()
         if options.lint:
             lint_plants(plants, chosen.sites)
         for plant in plants:
             plant.tell()
-        times = Times(begun, _now())
-        keep(fleet.night, plants, fleet.runs, fleet.sums, times)
-        index(fleet.night, plants, times)
+        times, unkept = Times(begun, _now()), list[Exception]()
+        try:
+            keep(fleet.night, plants, fleet.runs, fleet.sums, times)
+            index(fleet.night, plants, times)
+        except (Fault, OSError) as error:  # the disk is full, mostly: what is known is said
+            unkept.append(error)
     write_text("-", table(plants))
-    return _say_all(say, plants, out)
+    status = _say_all(say, plants, None if unkept else out / "index.html")
+    for fault in unkept:
+        raise fault
+    return status
 
 
 def _program(named: str | None, elsewhere: bool) -> Path:
@@ -347,8 +361,8 @@ def _program(named: str | None, elsewhere: bool) -> Path:
     return Path(named)
 
 
-def _say_all(say: Callable[[str], None], plants: list[Plant], out: Path) -> int:
-    """Say which plants need a person and why, and return the status."""
+def _say_all(say: Callable[[str], None], plants: list[Plant], page: Path | None) -> int:
+    """Say which plants need a person and why, and where the page is; return the status."""
     wanting = [plant for plant in plants if plant.needs]
     for plant in wanting:
         for said in plant.says():
@@ -356,5 +370,5 @@ def _say_all(say: Callable[[str], None], plants: list[Plant], out: Path) -> int:
     for plant in plants:
         if warnings := plant.rows[0].warnings:
             say(f"{plant.site}: {warnings}")
-    say(f"{summary(plants)}: {out / 'index.html'}")
+    say(f"{summary(plants)}: {page}" if page else summary(plants))
     return 1 if wanting else 0

@@ -40,6 +40,9 @@ _TOLD = frozenset(
     " design class advise meter".split()
 )
 
+# The rows for which the program ends with 1.
+_FOUND = frozenset(["refused", "no", "unreadable"])
+
 
 @dataclass(frozen=True)
 class Told:
@@ -114,6 +117,8 @@ def gather(night: Night, site: Site, kept: Kept, given: Given) -> Plant:
     except InputFault as fault:
         return failed(site, "unreadable", str(fault), run)
     plant = _of_rows(Told(site, rows))
+    if run.status == 1 and not _FOUND & {row["row"] for row in rows}:
+        plant.why.append("the program ended with status 1, and no row of its output says why")
     plant.rows = [
         replace(row, status=str(run.status), seconds=f"{run.seconds:.3f}") for row in plant.rows
     ]
@@ -129,7 +134,8 @@ def _of_status(said: Path, status: int) -> tuple[str, str]:
     """Return the state of a plant by a status other than 0 and 1, and a sentence."""
     name, remedy = STATUSES.get(status, ("ended", ""))
     if status > 128:
-        remedy = f"signal {status - 128} stopped it; signal 9 often means that memory ran out"
+        remedy = f"signal {status - 128} stopped it"
+        remedy += "; often that means that memory ran out" if status == 128 + 9 else ""
     try:
         lines = said.read_text(encoding="utf-8", errors="replace").split("\n")
     except OSError:
@@ -161,7 +167,7 @@ def _of_rows(told: Told) -> Plant:
         plant.why.append(f"{what} is cut off")
     _of_check(plant, rows)
     if told.refused or not plant.rows:
-        _of_refused(plant, site, len(told.refused))
+        _of_refused(plant, told)
     return plant
 
 
@@ -236,19 +242,25 @@ def _of_check(plant: Plant, rows: list[Values]) -> None:
             plant.why.append(f"the check can't read row {row['at']}: it {about_it}")
 
 
-def _of_refused(plant: Plant, site: Site, count: int) -> None:
+def _of_refused(plant: Plant, told: Told) -> None:
     """Say why the first row is refused, or why there is no report."""
     from plantbal.explain import Explanation, explain
 
+    site, count = told.site, len(told.refused)
     try:
         found = explain(site.path)
     except InputFault:
         found = Explanation([], [], 0)
-    first = next(iter([*found.whole, *found.rows]), None)
+    # That a session asks for nothing isn't why its first row is refused.
+    asks = [each for each in found.whole if not each.sentence.startswith("it asks for nothing")]
+    first = next(iter([*asks, *found.rows, *found.whole]), None)
     said = first.headline if first else ""
     if count:
         rows = "1 row is refused" if count == 1 else f"{count} rows are refused, the first"
         plant.why.insert(0, f"{rows}: {said}" if said else rows.removesuffix(", the first"))
+    if not plant.rows and not count and subjects_of(told.session, told.refused):
+        plant.rows.append(Row(site.name, state="unreadable", refused="0"))
+        plant.why.append("its output has none of the reports that its session asks for")
     if not plant.rows:
         plant.rows.append(Row(site.name, state="none", refused="0"))
         if not count:

@@ -2,9 +2,11 @@
 
 from __future__ import annotations
 
+import errno
 import hashlib
 import os
 import re
+import stat
 import time
 from collections.abc import Collection, Iterable, Iterator
 from dataclasses import dataclass
@@ -48,6 +50,9 @@ class Given:
         """
         now = time.time_ns()
         try:
+            # A pipe isn't opened: that would wait for whoever writes to it.
+            if stat.S_IFMT(path.stat().st_mode) not in (stat.S_IFREG, stat.S_IFDIR):
+                raise OSError(errno.EINVAL, "it is a pipe or a device, and no file")
             with path.open("rb") as file:
                 found = os.fstat(file.fileno())
                 digest = hashlib.file_digest(file, "sha256").hexdigest()

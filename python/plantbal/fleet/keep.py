@@ -6,8 +6,8 @@ import csv
 import io
 import sqlite3
 import subprocess
-from collections.abc import Iterable, Iterator, Mapping, Sequence
-from contextlib import closing, contextmanager
+from collections.abc import Collection, Iterable, Iterator, Mapping, Sequence
+from contextlib import closing, contextmanager, suppress
 from dataclasses import dataclass
 from pathlib import Path
 
@@ -25,6 +25,13 @@ _NUMBERS = {
     "refused": "INTEGER",
     "status": "INTEGER",
     "seconds": "REAL",
+}
+# What to do about a database that is good and can't be written.
+_REMEDIES = {
+    sqlite3.SQLITE_FULL: "make room",
+    sqlite3.SQLITE_IOERR: "make room",
+    sqlite3.SQLITE_BUSY: "close it in the other program that has it open",
+    sqlite3.SQLITE_READONLY: "ask for the right to write there",
 }
 _TABLES = f"""
 CREATE TABLE IF NOT EXISTS nights (
@@ -131,11 +138,31 @@ def database(path: Path) -> Iterator[sqlite3.Connection]:
                 raise sqlite3.DatabaseError("its table has other columns")
             yield base
     except sqlite3.Error as error:
+        code = getattr(error, "sqlite_errorcode", 0) & 0xFF
+        remedy = _REMEDIES.get(code, "move the file away")
         raise InputFault(
             f"the nights can't be kept there: {error}",
             place=Place(file=str(path)),
-            remedy="move the file away, and run the fleet again: no session runs twice",
+            remedy=f"{remedy}, and run the fleet again: no session runs twice",
         ) from error
+
+
+def gone(night: Night, sites: Collection[str]) -> dict[str, str]:
+    """Return the plants of the night before that aren't among these sites, each with that night.
+
+    Those that had no session then either aren't among them: each is told once.
+    """
+    path = night.out / "fleet.sqlite"
+    if not path.exists():
+        return {}
+    with suppress(sqlite3.Error), closing(sqlite3.connect(path)) as base:
+        rows = base.execute(
+            "SELECT DISTINCT site, night FROM plants WHERE state <> 'nosession' AND night ="
+            " (SELECT MAX(night) FROM nights WHERE night < ?)",
+            (night.name,),
+        )
+        return {site: before for site, before in rows if site not in sites}
+    return {}  # it is none: whoever writes to it says so
 
 
 def _insert(base: sqlite3.Connection, night: Night, plants: Sequence[Plant], times: Times) -> None:

@@ -239,11 +239,22 @@ class Night:
             file.write(said)
         sums |= _sums({STATUS: said})
         put(part, self.folder_of(site))
+        newest = self.out / site.name / "latest"
         if came.status in (0, 1):
-            newest = self.out / site.name / "latest"
             if not newest.exists() or os.readlink(newest) <= self.name:
                 link(newest, self.name)
+        elif newest.is_symlink() and os.readlink(newest) == self.name:
+            self._lead_back(newest)
         return Kept(run, output, sums)
+
+    def _lead_back(self, newest: Path) -> None:
+        """Lead a plant's link to the last night with an output, now that this one has lost its own."""
+        nights = (path for path in newest.parent.iterdir() if not path.is_symlink())
+        found = [path.name for path in nights if any(path.glob("output.*"))]
+        if found:
+            link(newest, max(found))
+        else:
+            newest.unlink()
 
 
 def _sums(files: dict[str, bytes]) -> dict[str, str]:

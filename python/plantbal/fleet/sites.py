@@ -4,6 +4,7 @@ from __future__ import annotations
 
 import os
 import re
+from collections import defaultdict
 from collections.abc import Iterator
 from dataclasses import dataclass
 from pathlib import Path
@@ -34,9 +35,20 @@ class Site:
 
 @dataclass(frozen=True, slots=True)
 class Chosen:
-    """The sessions of a folder, and what is said of its other files."""
+    """The sessions of a folder.
+
+    Attributes
+    ----------
+    sites : list of Site
+        Those that are run.
+    wrong : dict of Site to str
+        Those that can't be run under their names, and why.
+    left : list of str
+        What is said of the other files.
+    """
 
     sites: list[Site]
+    wrong: dict[Site, str]
     left: list[str]
 
 
@@ -97,7 +109,7 @@ def sites(folder: Path, *, recursive: bool = False, out: Path | None = None) -> 
     Raises
     ------
     InputFault
-        If it can't be read, has no session, or two that would have the same name.
+        If it can't be read, or has no session.
     """
     left: list[str] = []
     place = Place(file=str(folder))
@@ -111,18 +123,29 @@ def sites(folder: Path, *, recursive: bool = False, out: Path | None = None) -> 
             place=place,
             remedy="; ".join(left) or "put each plant's session there as SITE.csv",
         )
-    found: dict[str, Path] = {}
+    named = defaultdict[str, list[Path]](list)
     for path in paths:
-        name = path.relative_to(folder).as_posix()[: -len(".csv")]
-        for part in name.split("/"):
-            if part in RESERVED or NIGHT.fullmatch(part):
-                said = f"the name {part} is one of the nights' own"
-                raise InputFault(said, place=Place(file=str(path)), remedy="rename it")
-        if not name.isprintable():  # a line feed, or bytes that are no UTF-8
-            said = "its name has other characters than letters, digits, signs and spaces"
-            raise InputFault(said, place=Place(file=repr(str(path))), remedy="rename it")
-        if name in found:
-            said = f"it would be the same plant as {found[name].name}"
-            raise InputFault(said, place=Place(file=str(path)), remedy="rename one of them")
-        found[name] = path
-    return Chosen(sorted(Site(name, path) for name, path in found.items()), left)
+        named[path.relative_to(folder).as_posix()[: -len(".csv")]].append(path)
+    found, wrong = list[Site](), dict[Site, str]()
+    for name, some in sorted(named.items()):
+        if fault := _name_fault(name, some):
+            wrong[Site(name if name.isprintable() else ascii(name)[1:-1], some[0])] = str(fault)
+        else:
+            found.append(Site(name, some[0]))
+    return Chosen(found, wrong, left)
+
+
+def _name_fault(name: str, paths: list[Path]) -> InputFault | None:
+    """Return why no session can be run under a name, if none can."""
+    place = Place(file=str(paths[0]))
+    for part in name.split("/"):
+        if part in RESERVED or NIGHT.fullmatch(part):
+            said = f"the name {part} is one of the nights' own"
+            return InputFault(said, place=place, remedy="rename it")
+    if not name.isprintable():  # a line feed, or bytes that are no UTF-8
+        said = "its name has other characters than letters, digits, signs and spaces"
+        return InputFault(said, place=Place(file=repr(str(paths[0]))), remedy="rename it")
+    if len(paths) > 1:
+        said = f"it would be the same plant as {', '.join(path.name for path in paths[1:])}"
+        return InputFault(f"{said}, and none is run", place=place, remedy="rename one of them")
+    return None
