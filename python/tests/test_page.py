@@ -235,6 +235,10 @@ def test_index_of_periods() -> None:
         ("p1", ""),
         ("p2", " open"),
     ]
+    # and the balance of copper after it: the flows to book are on paper too
+    copper = page_of("flotation_copper.out.csv", "flotation_copper.csv")
+    is_open = re.findall(r'<details class="period" id="p\d+"( open)?', copper)
+    assert is_open == [""] * 10 + [" open"] * 2
 
 
 MONTH = """
