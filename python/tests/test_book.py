@@ -129,6 +129,27 @@ def test_what_is_gone_stays_unless_it_is_struck(book: Type, tmp_path: Path) -> N
     assert "nothing new" in book("add", tmp_path / "april").out
 
 
+@pytest.mark.parametrize("year", ["2024", "2024-2"])
+def test_a_dip_that_closes_the_month_before(book: Type, tmp_path: Path, year: str) -> None:
+    """May's workbook needn't have April's last dip again, and doesn't strike it."""
+    if year == "2024-2":
+        book("next", year)
+    may = month(month="05")
+    del may["dips"][1]
+    said = book("add", folder(tmp_path / "may", may))
+    assert said.out.startswith(f"{year}.csv: new: 1 period, 6 readings, 1 ticket, 1 dip\n")
+    assert "not in may" not in said.out
+    may["readings"][2][1] = ""
+    said = book("add", folder(tmp_path / "may", may), "--strike", "--why", "read wrong")
+    assert "1 fact is booked and not in may: F-1_2024-05-02; struck" in said.out
+    assert rows_of(tmp_path, year)[-1] == "strike,F-1_2024-05-02,read wrong"
+    # Of the book's first month it is the workbook's own.
+    april = month()
+    del april["dips"][1]
+    said = book("add", folder(tmp_path / "april", april), "--strike", "--why", "read wrong")
+    assert "1 fact is booked and not in april: SILO_2024-03-31; struck" in said.out
+
+
 def test_a_part_of_a_workbook_strikes_nothing(book: Type, tmp_path: Path) -> None:
     """Without the word for it: mostly it is the wrong file."""
     path, before = tmp_path / "part.csv", rows_of(tmp_path)

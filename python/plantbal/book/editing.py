@@ -205,7 +205,7 @@ def _close(options: argparse.Namespace) -> int:
         if not output.ok and not options.anyway:
             raise Fault(
                 f"{name} isn't closed: {'; '.join(output.why)}",
-                remedy="mend what it is, or close it with --anyway",
+                remedy="mend the fault, or close it with --anyway",
             )
         action = Action(f"close {name}", who=options.who)
         action.add(ledger)
