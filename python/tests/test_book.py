@@ -178,10 +178,13 @@ def test_one_file_and_an_estimate(book: Type, tmp_path: Path) -> None:
     (tmp_path / "second.csv").write_text("day,P-1\n2024-04-04,1180\n", encoding="utf-8")
     assert "new: 1 reading" in book("add", tmp_path / "second.csv").out
     rows = "tag,day,amount,error\nF-1,2024-04-04,1190,60 t\n"
-    (tmp_path / "estimates.csv").write_text(rows, encoding="utf-8")
-    assert "new: 1 reading" in book("add", tmp_path / "estimates.csv").out
+    (tmp_path / "guessed.csv").write_text(rows, encoding="utf-8")
+    assert "new: 1 reading" in book("add", tmp_path / "guessed.csv").out
     wanted = f"reading,F-1_2024-04-04,FEED,2024-04-04,1190000000,{60_000_000**2}"
     assert rows_of(tmp_path)[-1] == wanted
+    (tmp_path / "other.csv").write_text("checked,by\ncu,FEED\n", encoding="utf-8")
+    said = book("add", tmp_path / "other.csv").out
+    assert "other.csv: line 2: no day stands below this row" in said
 
 
 FAULTY: dict[str, tuple[Sheets, str]] = {
@@ -286,6 +289,24 @@ def test_parts_of_the_plant(book: Type, tmp_path: Path, names: str) -> None:
     said = book("add", folder(tmp_path / "parts", parts | month(last=4)))
     assert said.err == "" and said.out.startswith("2024.csv: new: 2 readings\n9 facts are")
     assert ("the sheet is passed over" in said.out) == ("streams" not in names)
+
+
+def test_more_critical_values(book: Type, tmp_path: Path) -> None:
+    """They need no other sheet, and may come after a close."""
+    book("close", "2024-04", "--anyway")
+    values = [*PLANT["critical"], ["measure", "", "5.7"]]
+    assert "new: 1 row of the plant" in book("add", folder(tmp_path / "m", {"critical": values})).out
+    assert rows_of(tmp_path)[-1] == "critical,measure,5700"
+    assert text_of(tmp_path / "mill" / "plant.csv").splitlines()[-1] == "critical,measure,5700"
+    values[1] = ["global", "1", "6.63"]
+    said = book("add", folder(tmp_path / "m", {"critical": values}))
+    assert said.status == 1 and "critical.csv: line 2, column 3: critical global" in said.err
+
+
+def test_a_sheet_of_another_name(say: Desk, tmp_path: Path) -> None:
+    plant = folder(tmp_path / "plant", PLANT | {"piles": [["pile", "error"], ["ORE", "2 %"]]})
+    said = say("book", "new", "2024", plant, "--book", tmp_path / "mill")
+    assert said.out.endswith(f"{plant / 'piles.csv'}: the sheet is passed over\n")
 
 
 def test_another_error_of_a_meter(book: Type, tmp_path: Path) -> None:
