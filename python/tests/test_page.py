@@ -295,6 +295,8 @@ def test_other_session(book: tuple[list[Values], bytes]) -> None:
         page(rows, session=("day.csv", example("refinery_day.csv").read_bytes()))
     with pytest.raises(Exception, match="isn't the output of book.csv"):
         page(rows, session=("book.csv", data + b"report,p\n"))
+    with pytest.raises(Exception, match="book.csv: p: the value of B is 1,000,500 g, and"):
+        page(rows, session=("book.csv", data.replace(b"1000500", b"1000400")))
 
 
 def test_a_total_beyond_the_limits() -> None:
