@@ -123,6 +123,39 @@ def test_share_that_is_not_known() -> None:
     assert products_of(shares, []) == ["C"]
 
 
+def test_recovery_of_a_mill_in_a_mine(say: Desk, tmp_path: Path) -> None:
+    """Nobody assays what the trucks haul to the stockpile; the feed of the mill is sampled."""
+    session = session_of(
+        "unit,MILL\ntank,PILE,1\nstrap,PILE,0,0\nstrap,PILE,100,100000000\n"
+        "stream,HAULED,env,PILE,metered,1\nstream,FEED,PILE,MILL,metered,1\n"
+        "stream,CONC,MILL,env,metered,1\nstream,TAILS,MILL,env,metered,1\n"
+        "period,d,2024-05-01,2024-05-01"
+    )
+    for name, tonnes in (("HAULED", 100), ("FEED", 100), ("CONC", 3), ("TAILS", 97)):
+        session.reading(name, name, "2024-05-01", tonnes=tonnes, variance=10**8)
+    for name, ppm in (("FEED", 9000), ("CONC", 270000), ("TAILS", 930)):
+        session.assay("cu", name, "d", ppm=ppm, variance=(ppm // 50) ** 2)
+    session.report("d")
+    session.component("cu", "d")
+    output = run(session)
+    balance = Balance(output.blocks_in_order[-1], ["FEED"])
+    shares = {each.stream: each for each in balance.shares()}
+    assert list(shares) == ["FEED", "PILE", "CONC", "TAILS"]
+    carried = {name: balance.grams(name) or 0 for name in ("FEED", "CONC", "TAILS")}
+    assert shares["CONC"].share == carried["CONC"] / carried["FEED"]
+    assert shares["CONC"].share + shares["TAILS"].share == pytest.approx(1)
+    assert shares["CONC"].share_sd == pytest.approx(shares["TAILS"].share_sd)
+    path = tmp_path / "out.csv"
+    output.to_csv(path)
+    said = say("recovery", path)
+    assert "nothing determines the cu of HAULED in d, so no share is known there" in said.err
+    said = say("recovery", path, "--feed", "HAULED", "--product", "FEED", "--form", "json")
+    assert [row["way"] for row in json.loads(said.out)] == ["in", "gain", "within", "out", "out"]
+    said = say("recovery", path, "--feed", "FEED")
+    assert said.err == "" and f"{shares['CONC'].share:.2%}" in said.out
+    assert "there is no stream FED: say one of PILE, HAULED" in say("recovery", path, "--feed", "FED").err
+
+
 def test_recovery_over_a_change_of_the_plant() -> None:
     """A stream that isn't in service in a period carries nothing there."""
     session = Session(version=2)

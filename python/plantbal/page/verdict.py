@@ -151,7 +151,7 @@ def verdict_of(
 
 
 def whither(block: Block) -> list[str]:
-    """Return where a component went, as a sentence; none if what came in isn't known.
+    """Return where a component went, or that what came in isn't known, as a sentence.
 
     Parameters
     ----------
@@ -160,7 +160,10 @@ def whither(block: Block) -> list[str]:
     """
     from plantbal.recovery import Balance
 
-    leaving = [each for each in Balance(block).shares() if each.way != "in"]
+    balance = Balance(block)
+    if balance.unknown:
+        return [f"No recovery: nothing determines what came in by {names_of(balance.unknown)}."]
+    leaving = [each for each in balance.shares() if each.way != "in"]
     known = [each for each in leaving if each.share == each.share]
     parts = [
         f"{100 * each.share:.2f} % ± {100 * each.share_sd:.2f} % went into {each.stream}"
