@@ -280,7 +280,10 @@ def test_from_frames() -> None:
 
 def test_lint(say: Desk) -> None:
     text = text_of(COPPER)
-    assert "[no-balance]" in say("lint", "-", text=text.replace("component,cu,jun03\n", "")).out
+    without = text.replace("component,cu,jun03\n", "")
+    assert "[no-balance]" in say("lint", "-", text=without).out
+    # nor is its report asked for
+    assert "[no-balance]" not in say("lint", "-", text=without.replace("report,jun03\n", "")).out
     late = text + "assay,cu,ROUGHER_CONC,jun03,150000,90000\n"
     assert "ROUGHER_CONC comes after the last balance" in say("lint", "-", text=late).out
     unit = text.replace("assay,cu,FEED,jun05,9300,", "assay,cu,FEED,jun05,9,")

@@ -859,7 +859,7 @@ def test_template(say: Desk, tmp_path: Path, kind: str) -> None:
     assert book.sheetnames == ["about", *KINDS[kind]]
     rules = {rule.formula1 for sheet in book for rule in sheet.data_validations.dataValidation}
     assert {'"metered,batch,plain"', '"global,nodal,measure"'} <= rules
-    assert ("tanks!$A$2:$A$2000" in rules) == (kind == "refinery")
+    assert ("tanks!$A$2:$A$2000" in rules) == (kind != "utility")
     for sheet in read_workbook(path)[1:]:
         assert tuple(sheet.lines[0][1]) == heads(sheet.name) and len(sheet.lines) == 1
     for name, rows in plant().items():
