@@ -141,7 +141,7 @@ def verdict_of(
     if block.taken:
         ended = f": {STOPS[stop]}" if stop in STOPS else ""
         were = "was" if len(block.taken) == 1 else "were"
-        taken = f"The {_measured(block)} of {names_of(block.taken)}"
+        taken = f"The {_measured(block)} of {names_of(_shown(block, block.taken))}"
         reasons.append(f"{taken} {were} taken out{ended}.")
     reasons.append(_tests(block))
     if block.whole is not None and block.whole["verdict"] == "reject":
@@ -197,15 +197,21 @@ def _headline(block: Block, lacking: int, suspects: Sequence[str]) -> tuple[str,
     if lacking:
         return "bad", f"{count_of(lacking, 'row', 'rows')} refused: not to be booked"
     if verdict == "reject":
-        what = f"Look at {suspects[0]}" if suspects else f"Rejected: look at the {_measured(block)}s"
-        return "look", what
+        if suspects:
+            return "look", f"Look at {block.shown(suspects[0])}"
+        return "look", f"Rejected: look at the {_measured(block)}s"
     if verdict == "accept" and block.taken:
-        return "look", f"Accepted without {names_of(block.taken)}"
+        return "look", f"Accepted without {names_of(_shown(block, block.taken))}"
     if verdict == "accept":
         return "good", "Accepted"
     if verdict == "undecided":
         return "look", "The global test is undecided"
     return "plain", "Not tested"
+
+
+def _shown(block: Block, names: Sequence[str]) -> list[str]:
+    """Return streams as they are declared, in place of the codes of a window."""
+    return [block.shown(name) for name in names]
 
 
 def _measured(block: Block) -> str:
@@ -251,7 +257,7 @@ def _suspects(block: Block, lacking: int, suspects: Sequence[str]) -> str:
     critical = {row["stream"]: thousandths(row["critical"]) for row in block.measure}
     first = suspects[0]
     said = (
-        f"The first to look at is {first}: without its measurement the statistic falls by at least "
+        f"The first to look at is {block.shown(first)}: without its measurement the statistic falls by at least "
         f"{low[first]}, where {critical[first]} is critical."
     )
     if len(suspects) > 1:
