@@ -390,3 +390,15 @@ def test_book(say: Desk, tmp_path: Path, program: Path) -> None:
     found = say("book", "add", other, "--book", books)
     assert (found.status, "there is no period may in this book" in found.err) == (1, True)
     assert "there is no period june" in found.err and "2 faults, and nothing" in found.err
+    # what the laboratory still owes
+    (april / "readings.csv").write_text("day,F1,P1\n2024-04-02,100,101\n", encoding="utf-8")
+    (april / "periods.csv").write_text("name,first,last\napr2,2024-04-02,2024-04-02\n")
+    assays.unlink()
+    assert say("book", "add", april, "--book", books).out == "2024.csv: new: 1 period, 2 readings\n"
+    owed = "apr2: no assay of cu in FEED, FINES, which apr1 has: enter it before the close\n"
+    assert owed in say("book", "status", "--book", books).out
+    other.write_text(f"{heads}cu,F1,apr2,0.9 %,2 %\n", encoding="utf-8")
+    assert say("book", "add", other, "--book", books).status == 0
+    for command in ("report", "status"):
+        said = say("book", command, "--book", books).out
+        assert said.count(owed.replace("FEED, ", "")) == 1

@@ -8,7 +8,7 @@ import datetime
 from plantbal.book.ledger import Ledger
 from plantbal.book.meters import Meter, read_meters
 from plantbal.book.reporting import file_of
-from plantbal.book.said import counted, lacks
+from plantbal.book.said import counted, lacks, unassayed
 from plantbal.book.store import METERS, Book, Line
 from plantbal.book.years import Years
 from plantbal.schema import schema
@@ -53,6 +53,9 @@ def year_lines(
         lines.append(f"{name}: {'closed' if period.closed else 'open'}, {behind or 'reported'}")
         if not period.closed:
             lines += lacks(ledger, period, meters)
+            lines += [
+                line for line in unassayed(ledger, period, none=True) if line not in lines
+            ]
     for first, last in dict.fromkeys(windows_of(journal)):
         if first in periods and last in periods:
             behind = window_behind(book, ledger, journal, first, last)
