@@ -364,7 +364,7 @@ REFUSED: dict[str, tuple[Make, dict[str, Any], str]] = {
     "wet tonnes": (
         english(units_below(["", "t", "wmt"], FEED)),
         {},
-        "line 3, column 3 (unit): 'wmt' is no unit: wet tonnes have water in them",
+        "line 2, column 3 (unit): 'wmt' is no unit: wet tonnes have water in them",
     ),
     "a critical value in thousandths": (
         lambda room: xlsx_of(
