@@ -537,6 +537,22 @@ def test_show(book: Type, tmp_path: Path) -> None:
     assert book("show", "F-9").status == 1
 
 
+def test_show_in_the_unit_of_the_meter(say: Desk, tmp_path: Path) -> None:
+    """As the sheet has it, so that a figure is found there."""
+    streams = [["tag", "stream", "from", "to", "error", "unit", "density"]]
+    streams.append(["F-1", "FEED", "env", "MILL", "1 % or 5 t", "klb", ""])
+    streams.append(["P-1", "PRODUCT", "MILL", "env", "2 t", "m3", "0.8 t/m3"])
+    words = ["--book", tmp_path / "mill"]
+    say("book", "new", "2024", folder(tmp_path / "plant", {"streams": streams}), *words)
+    rows = {"readings": [["day", "F-1", "P-1"], ["2024-04-01", "2645.5", "1500"]]}
+    say("book", "add", folder(tmp_path / "april", rows), *words)
+    for name, line in (
+        ("F-1", "F-1_2024-04-01: 1,199.978615 t (2,645.5 klb), error 12 t\n"),
+        ("P-1", "P-1_2024-04-01: 1,200 t (1,500 m3), error 2 t\n"),
+    ):
+        assert say("book", "show", name, *words).out == line
+
+
 def test_a_csv_file_in_the_folder_is_no_year(book: Type, tmp_path: Path) -> None:
     (tmp_path / "mill" / "2024-05.csv").write_text("day,F-1\n", encoding="utf-8")
     assert book("status").status == 0
