@@ -402,3 +402,6 @@ def test_book(say: Desk, tmp_path: Path, program: Path) -> None:
     for command in ("report", "status"):
         said = say("book", command, "--book", books).out
         assert said.count(owed.replace("FEED, ", "")) == 1
+    said = say("book", "close", "apr2", "--book", books)
+    assert "apr2 isn't closed: assays are missing, and can't come after it: mend" in said.err
+    assert say("book", "close", "apr2", "--anyway", "--book", books).status == 0
