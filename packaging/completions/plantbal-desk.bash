@@ -85,6 +85,7 @@ _plantbal_desk() {
         advise:--locale) :; return ;;
         advise:--program) _plantbal_files -f; return ;;
         recovery:--component) :; return ;;
+        recovery:--feed) :; return ;;
         recovery:--product) :; return ;;
         recovery:--form) _plantbal_words 'text csv json'; return ;;
         recovery:--chart) _plantbal_files -f; return ;;
@@ -220,7 +221,7 @@ _plantbal_desk() {
             _plantbal_files -f
             return
         fi
-        _plantbal_words '-h --help --component --product --form --chart --session' ;;
+        _plantbal_words '-h --help --component --feed --product --form --chart --session' ;;
     draw)
         if [[ $here != -* ]]; then
             _plantbal_files -f

@@ -133,6 +133,7 @@ complete -c plantbal-desk -n '__fish_seen_subcommand_from advise' -l program -r 
 complete -c plantbal-desk -n '__fish_seen_subcommand_from advise' -F
 complete -c plantbal-desk -n '__fish_seen_subcommand_from recovery' -s h -l help -d 'show this help message and exit'
 complete -c plantbal-desk -n '__fish_seen_subcommand_from recovery' -l component -x -d 'of this component alone'
+complete -c plantbal-desk -n '__fish_seen_subcommand_from recovery' -l feed -x -d 'shares are of what this stream carries; may be given more than once'
 complete -c plantbal-desk -n '__fish_seen_subcommand_from recovery' -l product -x -d 'chart the recovery of this stream; may be given more than once'
 complete -c plantbal-desk -n '__fish_seen_subcommand_from recovery' -l form -x -a 'text csv json' -d 'the form of the table (default: text)'
 complete -c plantbal-desk -n '__fish_seen_subcommand_from recovery' -l chart -r -F -d 'a .svg, .png or .pdf file'

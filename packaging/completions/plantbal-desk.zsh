@@ -195,6 +195,7 @@ _plantbal_desk() {
             '-h[show this help message and exit]'
             '--help[show this help message and exit]'
             '--component=[of this component alone]:NAME:'
+            '--feed=[shares are of what this stream carries; may be given more than once]:NAME:'
             '--product=[chart the recovery of this stream; may be given more than once]:NAME:'
             '--form=[the form of the table (default\: text)]:FORM:(text csv json)'
             '--chart=[a .svg, .png or .pdf file]:FILE:_files'

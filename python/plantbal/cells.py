@@ -50,6 +50,7 @@ _OTHER_WORDS = {
     "tonne": "t",
     "tonnes": "t",
     "to": "t",
+    "dmt": "t",
     "m³": "m3",
     "cbm": "m3",
     "ltr": "L",
@@ -316,8 +317,10 @@ class Reader:
         found = unit_of(cell.text)
         if found not in kinds:
             remedy = f"write one of {', '.join(kinds)}"
-            if cell.text.casefold() in ("ton", "tons", "st", "lt"):
+            if cell.text.casefold() in ("ton", "tons", "short ton", "short tons", "st", "lt"):
                 remedy = "write t for 1,000 kg; 2,000 lb are 2 klb"
+            elif cell.text.casefold() == "wmt":
+                remedy = "wet tonnes have water in them: write the dry ones, in t or dmt"
             raise self.fault(cell, f"{cell.text!r} is no unit", remedy, "unit")
         return found
 

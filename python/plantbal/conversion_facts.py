@@ -287,8 +287,9 @@ class Converter(Readings):
         """Say what was rounded."""
         for sheet, (count, cell, most) in self.reader.rounded.items():
             where = str(cell.place()).rstrip(":")
+            figures = "figure was" if count == 1 else "figures were"
             self.notes.append(
-                f"{sheet}: {count} figures were rounded to whole grams or other whole units, "
+                f"{sheet}: {count} {figures} rounded to whole grams or other whole units, "
                 f"by at most {rounded_down(most, 3)} of one, the first in {where}"
             )
 

@@ -129,7 +129,7 @@ class Plant(Tables):
             else:
                 self.bad |= {row.text("stream"), row.text("tag")}
         self._check_ends([row for row, _ in ends])
-        self._read_critical()
+        self.read_critical()
 
     def take_tanks(self, rows: Iterable[tuple[str, ...]], tanks: Iterable[Tank]) -> None:
         """Take tanks and tables that are known already, as rows of a session."""
@@ -295,7 +295,9 @@ class Plant(Tables):
             else:
                 self.fault(cell, f"{name} has nothing {lacks}, so its flows would be 0", remedy)
 
-    def _read_critical(self) -> None:
+    def read_critical(self) -> None:
+        """Read critical values; one that the session has already is none more."""
+        there = set(self.session)
         for row in self.rows("critical"):
             with self.kept():
                 test = row.text("test").casefold()
@@ -303,13 +305,19 @@ class Plant(Tables):
                     what = f"{row.text('test')!r} is no test"
                     remedy = "write global, nodal or measure"
                     raise self.reader.fault(row["test"], what, remedy, "test")
-                number = Fraction(self.reader.number(row["value"], "value")) * 1000
-                value = str(self.reader.whole(row["value"], number))
+                number = Fraction(self.reader.number(row["value"], "value"))
                 freedom = []
                 if test == "global":
                     freedom = [f"{self.reader.number(row['dof'], 'dof'):f}"]
+                if number > 100 + 10 * Fraction(freedom[0] if freedom else 1):
+                    what = f"{row.text('value')} is no critical value: no test would reject"
+                    remedy = f"is it in thousandths? Then write {float(number / 1000):g}"
+                    raise self.reader.fault(row["value"], what, remedy, "value")
+                value = str(self.reader.whole(row["value"], number * 1000))
                 cells = {"value": row["value"], "dof": row["dof"]}
-                self.put(["critical", test, *freedom, value], cells)
+                fields = "critical", test, *freedom, value
+                if fields not in there:
+                    self.put(fields, cells)
 
     def named(self, cell: Cell, head: str) -> Stream | None:
         """Return the stream of a tag or a name, or None if its own row is at fault."""

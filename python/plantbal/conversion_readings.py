@@ -236,6 +236,8 @@ class Readings(Plant):
                     self.fault(cell, "this column has no head", "write its tag over it")
             for column, cell in figures.items():
                 self.reading(columns[column], cell, day, units.get(column, ""))
+        if not seen:
+            self.notes.append(f"{heads[0].sheet.place(heads[0].line)} no day stands below this row")
         names = {stream.name for stream in columns.values()}
         self.listed |= names
         return names | {stream.tag for stream in columns.values()}

@@ -36,7 +36,7 @@ SHEETS: dict[str, tuple[tuple[str, ...], tuple[str, ...]]] = {
     "rows": ((), ()),
 }
 _PASSED = ("about", "lists")
-_OTHER_HEADS = {"date": "day", "datum": "day", "volume (m3)": "volume", "level (mm)": "level"}
+OTHER_HEADS = {"date": "day", "datum": "day", "volume (m3)": "volume", "level (mm)": "level"}
 TOTALS = frozenset(
     "total totals sum summe summen gesamt somme totale suma σ average mean mittelwert mittel "
     "min max minimum maximum count anzahl mtd ytd".split()
@@ -165,7 +165,7 @@ class Tables:
             found: dict[str, int] = {}
             for column, cell in enumerate(cells):
                 head = cell.text.casefold()
-                head = _OTHER_HEADS.get(head, head)
+                head = OTHER_HEADS.get(head, head)
                 if head in (*needed, *others):
                     found.setdefault(head, column)
             if len(found) > len(best[1]):
@@ -182,7 +182,7 @@ class Tables:
                 place = sheet.place(lines[at][0].line)
                 raise InputFault(f"there is no column {head!r}", place=place, remedy=remedy)
         for column, cell in enumerate(lines[at]):
-            head = _OTHER_HEADS.get(cell.text.casefold(), cell.text.casefold())
+            head = OTHER_HEADS.get(cell.text.casefold(), cell.text.casefold())
             if heads.get(head, column) != column:
                 self.fault(cell, f"there are two columns {head!r}", "take one of both out")
             near = difflib.get_close_matches(cell.text.casefold(), others, n=1, cutoff=0.75)

@@ -8,7 +8,7 @@ import os
 import sys
 from collections.abc import Sequence
 from dataclasses import dataclass
-from typing import NoReturn, Protocol, cast
+from typing import Any, NoReturn, Protocol, cast
 
 from plantbal.faults import Fault
 
@@ -103,10 +103,27 @@ class Version(argparse.Action):
         parser.exit()
 
 
+class Parser(argparse.ArgumentParser):
+    """A parser whose options may stand between its other words, as argparse's own may not."""
+
+    _is_within = False
+
+    def parse_known_args(self, args: Any = None, namespace: Any = None) -> Any:
+        """Read the words, of which some may be none of its own."""
+        below = any(isinstance(each, argparse._SubParsersAction) for each in self._actions)
+        if below or self._is_within:
+            return super().parse_known_args(args, namespace)
+        self._is_within = True
+        try:
+            return self.parse_known_intermixed_args(args, namespace)
+        finally:
+            self._is_within = False
+
+
 def parser_of(command: Command, prog: str) -> argparse.ArgumentParser:
     """Return the parser of a subcommand that is called by itself."""
     handler = command.handler()
-    parser = argparse.ArgumentParser(
+    parser = Parser(
         prog=prog,
         description=handler.__doc__,
         epilog=handler.HELP,
@@ -119,7 +136,7 @@ def parser_of(command: Command, prog: str) -> argparse.ArgumentParser:
 
 def desk_parser() -> argparse.ArgumentParser:
     """Return the parser of the whole command, with all subcommands."""
-    parser = argparse.ArgumentParser(
+    parser = Parser(
         prog="plantbal-desk",
         description=__doc__,
         epilog=EPILOG,

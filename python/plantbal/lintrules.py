@@ -777,7 +777,9 @@ def _assays(book: Book) -> Iterator[Finding]:
         remedy = f"add `component,{component},{period}`"
         if asked is None:
             text = f"{count} of {component} in {period}, and no balance is asked for"
-            yield Finding("no-balance", text, remedy, _place(book, min(lines)), period=period)
+            # without its report either, the period isn't what this session is run for
+            if period in book.reported or not book.reported:
+                yield Finding("no-balance", text, remedy, _place(book, min(lines)), period=period)
         elif max(lines) > asked:
             late = [name for name, line in zip(names, lines) if line > asked]
             verb = "comes" if len(late) == 1 else "come"

@@ -153,12 +153,13 @@ class Output:
                 "isn't converged",
                 [b for b in blocks if b.solved and b.solved["state"] != "converged"],
             ),
-            (
-                "is rejected by the global test",
-                [b for b in blocks if b.whole and b.whole["verdict"] == "reject"],
-            ),
         ):
             said += [f"{block.title} {what}" for block in some]
+        for block, later in zip(blocks, [*blocks[1:], None]):
+            if block.whole and block.whole["verdict"] == "reject":
+                taken = later.taken[len(block.taken) :] if later and later.round else []
+                before = f" before {block.taken_said(taken)}" if taken else ""
+                said.append(f"{block.title} is rejected by the global test{before}")
         wrong = self._of_kind("no") + self._of_kind("unreadable")
         if wrong:
             said.append(f"a check finds fault with {len(wrong)} blocks or rows")

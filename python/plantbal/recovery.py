@@ -5,7 +5,7 @@ from __future__ import annotations
 import argparse
 import json
 import sys
-from collections.abc import Iterable, Sequence
+from collections.abc import Iterable, Iterator, Sequence
 from dataclasses import dataclass
 from pathlib import Path
 from typing import TYPE_CHECKING, Any
@@ -31,6 +31,9 @@ much of the component it carries in tonnes, with its standard deviation, and wha
 what came in. The share of a product is its recovery. At the end come the same rows for all periods
 together. A stream that nothing determines has no figure.
 
+With --feed the shares are of what that stream carries, such as the feed of a mill that has a
+stockpile before it. A stream that --product names is in the table too, wherever it flows.
+
 The standard deviations come only from the grades: the flows of a balance count as exact.
 
   text   tonnes and percent, as a table to be read
@@ -44,11 +47,21 @@ went. A product is what --product names, or else the leaving stream that carries
 examples:
   plantbal-desk recovery shifts.out.csv
   plantbal-desk recovery shifts.out.csv --product CONCENTRATE --chart recovery.svg
+  plantbal-desk recovery mine.out.csv --feed MILL_FEED --product CONCENTRATE
 """
 ENV = "env"
 _NAN = float("nan")
 # The colours of streams that leave, below the recovery; each has a hatch of its own too.
-_LOOKS = (("#0b3d6b", ""), ("#d3d6d9", ""), ("#a9cbe8", "///"), ("#8c6d46", "..."))
+_LOOKS = (
+    ("#0b3d6b", ""),
+    ("#d3d6d9", ""),
+    ("#a9cbe8", "///"),
+    ("#8c6d46", "..."),
+    ("#7fa67a", "xxx"),
+    ("#efe3b8", "---"),
+    ("#b08fc7", "ooo"),
+    ("#e0a58a", "+++"),
+)
 
 
 @dataclass(frozen=True, slots=True)
@@ -60,7 +73,7 @@ class Share:
     component, period, stream : str
         Of what, when and where. The period is empty if it is of all periods together.
     way : str
-        ``in``, ``out``, or ``gain`` of a tank.
+        ``in``, ``out``, ``gain`` of a tank, or ``within`` of a product that stays in the plant.
     grams : int or None
         How much, in grams; None if nothing determines it.
     sd : float
@@ -89,24 +102,39 @@ class Balance:
     ----------
     block : Block
         A round of it.
+    feeds : sequence of str
+        The streams that count as what came in; without one, those that enter the plant.
+    products : sequence of str
+        Streams that are wanted too, wherever they flow.
 
     Attributes
     ----------
     ways : dict of str to str
-        How each stream crosses the plant's border: ``in``, ``out``, or ``gain`` of a tank.
+        How each stream crosses the plant's border: ``in``, ``out``, or ``gain`` of a tank; and of
+        products ``within``.
     fed, fed_raw : float
         What came in, in grams, reconciled and by the assays alone; NaN if it isn't known.
     """
 
-    def __init__(self, block: Block) -> None:
+    def __init__(
+        self, block: Block, feeds: Sequence[str] = (), products: Sequence[str] = ()
+    ) -> None:
         self.block = block
         self.rows = {row["name"]: row for row in block.streams}
         ways = {name: _way(row["from"], row["to"], name) for name, row in self.rows.items()}
+        ways = {name: "" if feeds and way == "in" else way for name, way in ways.items()}
+        ways |= {name: ways[name] or "within" for name in products if name in ways}
+        ways |= {name: "in" for name in feeds if name in ways}
         self.ways = {name: way for name, way in ways.items() if way}
         self._columns, self._answers, self._variance = answers_of(block)
         self._feeds = [name for name, way in self.ways.items() if way == "in"]
         self.fed = self._sum("flow", all(name in self._columns for name in self._feeds))
         self.fed_raw = self._sum("value", all(self.rows[name]["value"] for name in self._feeds))
+
+    @property
+    def unknown(self) -> list[str]:
+        """The streams that came in and that nothing determines."""
+        return [name for name in self._feeds if name not in self._columns]
 
     def _sum(self, column: str, is_known: bool) -> float:
         """Return a column of the feeds together; NaN if it isn't known, or is 0."""
@@ -217,7 +245,7 @@ def _lines(shares: Iterable[Share]) -> list[dict[str, str]]:
                 "component": each.component,
                 "period": each.period or "all",
                 "stream": f"gain of {each.stream}" if each.way == "gain" else each.stream,
-                "way": "in" if each.way == "in" else "out",
+                "way": each.way if each.way in ("in", "within") else "out",
                 "t": "" if each.grams is None else tonnes_text(each.grams),
                 "± t": "" if each.sd != each.sd else f"{each.sd / 1e6:,.3f}",
                 "share": "" if each.share != each.share else f"{each.share:.2%}",
@@ -292,7 +320,7 @@ def write_chart(
     )
     for axes, product in zip(panels[:, 0], products):
         _recovery(axes, trend, [each for each in shares if each.stream == product])
-    leaving = [each for each in shares if each.way != "in"]
+    leaving = [each for each in shares if each.way in ("out", "gain")]
     _whither(panels[-1, 0], trend, sorted(leaving, key=lambda each: each.stream not in products))
     for axes in panels[:, 0]:
         _look(axes, trend)
@@ -331,6 +359,10 @@ def _over(trend: Trend, shares: Sequence[Share], what: str, scale: float) -> Any
 def _recovery(axes: Any, trend: Trend, shares: Sequence[Share]) -> None:
     """Draw the recovery of a product in its band, and what the assays alone say."""
     share, sd = (_over(trend, shares, what, 100.0) for what in ("share", "share_sd"))
+    if (share != share).all():
+        no = "nothing determines what came in"
+        axes.text(0.5, 0.5, no, transform=axes.transAxes, ha="center", fontsize="small")
+        axes.set_yticks([])
     across, low, high, middle = trend.stairs(share - 2 * sd, share + 2 * sd, share)
     axes.fill_between(across, low, high, color=BAND, linewidth=0, label="± 2 standard deviations")
     name = shares[0].stream if shares else ""
@@ -376,6 +408,13 @@ def add_arguments(parser: argparse.ArgumentParser) -> None:
     parser.add_argument("output", metavar="OUTPUT", nargs="?", default="-")
     parser.add_argument("--component", metavar="NAME", default="", help="of this component alone")
     parser.add_argument(
+        "--feed",
+        metavar="NAME",
+        action="append",
+        default=[],
+        help="shares are of what this stream carries; may be given more than once",
+    )
+    parser.add_argument(
         "--product",
         metavar="NAME",
         action="append",
@@ -387,6 +426,33 @@ def add_arguments(parser: argparse.ArgumentParser) -> None:
     parser.add_argument("--chart", metavar="FILE", help="a .svg, .png or .pdf file")
     session = "the session, which has the days of the periods"
     parser.add_argument("--session", metavar="SESSION", help=session)
+
+
+def _check_names(blocks: Sequence[Block], names: Sequence[str]) -> None:
+    """Raise a fault if a stream is in no balance.
+
+    Raises
+    ------
+    Fault
+        If one isn't.
+    """
+    there = list(dict.fromkeys(row["name"] for block in blocks for row in block.streams))
+    for name in names:
+        if name not in there:
+            raise Fault(
+                f"there is no stream {name}", text=name, remedy=f"say one of {', '.join(there)}"
+            )
+
+
+def _not_known(balances: Sequence[Balance]) -> Iterator[str]:
+    """Give the components of which nothing determines what came in, with the periods."""
+    for component in dict.fromkeys(balance.block.component for balance in balances):
+        own = [b for b in balances if b.block.component == component and b.unknown]
+        if own:
+            names = ", ".join(dict.fromkeys(name for balance in own for name in balance.unknown))
+            periods = ", ".join(balance.block.period for balance in own)
+            what = f"nothing determines the {component} of {names} in {periods}, so no share is"
+            yield f"{what} known there: assay it, or say --feed STREAM, such as a mill's feed"
 
 
 def _chart(options: argparse.Namespace, output: Output, shares: Sequence[Share]) -> None:
@@ -411,7 +477,10 @@ def _chart(options: argparse.Namespace, output: Output, shares: Sequence[Share])
 def run(options: argparse.Namespace) -> int:
     """Write the table, and the chart."""
     output = read_whole(options.output, "component")
-    balances = [Balance(each) for each in balances_of(output, options.component) if each.ended]
+    blocks = [each for each in balances_of(output, options.component) if each.ended]
+    _check_names(blocks, [*options.feed, *(options.product if options.feed else ())])
+    within = options.product if options.feed else ()
+    balances = [Balance(each, options.feed, within) for each in blocks]
     shares = [share for balance in balances for share in balance.shares()]
     if options.product:
         products_of(shares, options.product)
@@ -433,4 +502,6 @@ def run(options: argparse.Namespace) -> int:
             left = {"component", "period", "stream", "way"}
             text = text_of(pandas.DataFrame(_lines(rows)), left)
     sys.stdout.write(text)
+    for line in _not_known(balances):
+        print(f"{options.prog}: {line}", file=sys.stderr)
     return 0

@@ -29,7 +29,7 @@ _GLOBAL = {
     "accept": "accepted by the global test",
     "reject": "rejected by the global test",
     "undecided": "the global test is undecided",
-    "nocritical": "no global test: no critical value for its degrees of freedom",
+    "nocritical": "no global test: no critical value for {dof} of freedom",
     "notest": "no global test: nothing tests it",
 }
 
@@ -465,8 +465,17 @@ class Block:
             return "cut off"
         said = self.solved["state"]
         if self.taken:
-            said += f" after {', '.join(self.taken)} was taken out"
-        return said if self.whole is None else f"{said}, {_GLOBAL[self.whole['verdict']]}"
+            said += f" after {self.taken_said(self.taken)}"
+        if self.whole is None:
+            return said
+        dof = self.solved["dof"]
+        degrees = f"{dof} degree{'' if dof == '1' else 's'}"
+        return f"{said}, {_GLOBAL[self.whole['verdict']].format(dof=degrees)}"
+
+    def taken_said(self, names: Sequence[str]) -> str:
+        """Return that streams were taken out, as a clause."""
+        were = "was" if len(names) == 1 else "were"
+        return f"{', '.join(map(self.shown, names))} {were} taken out"
 
     def suspects(self) -> list[str]:
         """Return the streams whose measurement test rejects, the greatest statistic first."""

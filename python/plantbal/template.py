@@ -15,7 +15,7 @@ from plantbal.files import replacing
 HELP = """
 KIND is the plant:
   refinery      tanks with tables and dips, tickets of batches, daily readings
-  concentrator  daily readings, estimates, tickets
+  concentrator  daily readings, estimates, tickets, stockpiles
   utility       daily readings and estimates of steam, gas and water, in tonnes or by a density
 
 FILE is an xlsx file. Its sheets have their heads, a note at each head, lists to choose from, and
@@ -44,13 +44,17 @@ KINDS: dict[str, tuple[str, ...]] = {
     ),
     "concentrator": (
         "units",
+        "tanks",
+        "straps",
         "streams",
         "readings",
+        "dips",
         "estimates",
         "tickets",
         "assays",
         "critical",
         "periods",
+        "windows",
     ),
     "utility": ("units", "streams", "readings", "estimates", "critical", "periods"),
 }
@@ -58,8 +62,9 @@ KINDS: dict[str, tuple[str, ...]] = {
 ABOUT = {
     "boundaries": "further names of env, such as a jetty, a rail head and a pipeline",
     "units": "the units of the plant; without a row they are the ends of the streams",
-    "tanks": "the tanks, with the error of their gauges",
-    "straps": "the strapping tables, from the bottom of each tank to its top",
+    "tanks": "the tanks and stockpiles, with the error of their gauges or surveys",
+    "straps": "the strapping tables, from the bottom of each tank to its top; a stockpile's has two "
+    "points, such as level 0 and volume 0, level 100000 and volume 1000000: 1 is 10 m3 then",
     "streams": "the streams, from one unit or tank to another; env is the world outside",
     "readings": "the days down, and a column for each tag of the sheet streams, the tag over it",
     "dips": "the levels of the tanks at the end of a day, that of the day before a period too",
@@ -92,16 +97,27 @@ _HEADS = {
     "last": "the last day, counted too; if it is empty, the first",
     "amount": "in the unit beside it",
     "test": "global, nodal or measure",
-    "value": "the critical value, such as 3.841",
+    "value": "the critical value, such as 3.841; plantbal-desk critical gives thousandths",
     "dof": "the degrees of freedom, of the global test",
     "component": "such as cu",
     "period": "the name of a period: of a calendar month such as 2024-04",
     "grade": "with its unit: 0.9 %, 120 g/t, 9000 ppm; or alone, with the unit beside it",
 }
-_OF_WINDOWS = {
-    "first": "the name of the first period: of a calendar month such as 2024-04",
-    "last": "the name of the last period, counted too",
+# What is otherwise in a sheet.
+_HEADS_OF = {
+    ("windows", "first"): "the name of the first period: of a calendar month such as 2024-04",
+    ("windows", "last"): "the name of the last period, counted too",
+    ("tanks", "error"): "the standard deviation of the gauge: 3 mm, or 8 t; not in percent",
+    ("straps", "unit"): "of the volumes: m3 without it",
+    ("dips", "error"): "the standard deviation: 3 mm, or 8 t; the tank's without it",
+    ("assays", "error"): "the standard deviation: 2 % of the grade, 180 ppm, or 2 % or 20 ppm",
+    ("assays", "unit"): "of the grades: %, ppm or g/t; empty if it stands after them",
 }
+
+
+def note_of(sheet: str, head: str) -> str:
+    """Return what is said at a head of a sheet."""
+    return _HEADS_OF.get((sheet, head), _HEADS[head])
 
 
 @dataclass(frozen=True)
@@ -205,14 +221,14 @@ def _write_sheet(sheet: Any, name: str, lists: dict[tuple[str, str], Choice]) ->
     _head(sheet, names)
     for column, head in enumerate(names, 1):
         cell = sheet.cell(1, column)
-        cell.comment = Comment(_OF_WINDOWS[head] if is_windows else _HEADS[head], "plantbal")
+        cell.comment = Comment(note_of(name, head), "plantbal")
         letter = cell.column_letter
         if head in ("day", "first", "last", "since", "until") and not is_windows:
             sheet.column_dimensions[letter].number_format = "yyyy-mm-dd"
         choice = lists.get((name, head))
         if choice is not None:
             rule = DataValidation("list", formula1=choice.formula, allow_blank=True)
-            rule.error = _HEADS[head]
+            rule.error = note_of(name, head)
             rule.add(f"{letter}2:{letter}{_LAST}")
             sheet.add_data_validation(rule)
 

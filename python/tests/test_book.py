@@ -129,6 +129,27 @@ def test_what_is_gone_stays_unless_it_is_struck(book: Type, tmp_path: Path) -> N
     assert "nothing new" in book("add", tmp_path / "april").out
 
 
+@pytest.mark.parametrize("year", ["2024", "2024-2"])
+def test_a_dip_that_closes_the_month_before(book: Type, tmp_path: Path, year: str) -> None:
+    """May's workbook needn't have April's last dip again, and doesn't strike it."""
+    if year == "2024-2":
+        book("next", year)
+    may = month(month="05")
+    del may["dips"][1]
+    said = book("add", folder(tmp_path / "may", may))
+    assert said.out.startswith(f"{year}.csv: new: 1 period, 6 readings, 1 ticket, 1 dip\n")
+    assert "not in may" not in said.out
+    may["readings"][2][1] = ""
+    said = book("add", folder(tmp_path / "may", may), "--strike", "--why", "read wrong")
+    assert "1 fact is booked and not in may: F-1_2024-05-02; struck" in said.out
+    assert rows_of(tmp_path, year)[-1] == "strike,F-1_2024-05-02,read wrong"
+    # Of the book's first month it is the workbook's own.
+    april = month()
+    del april["dips"][1]
+    said = book("add", folder(tmp_path / "april", april), "--strike", "--why", "read wrong")
+    assert "1 fact is booked and not in april: SILO_2024-03-31; struck" in said.out
+
+
 def test_a_part_of_a_workbook_strikes_nothing(book: Type, tmp_path: Path) -> None:
     """Without the word for it: mostly it is the wrong file."""
     path, before = tmp_path / "part.csv", rows_of(tmp_path)
@@ -157,10 +178,13 @@ def test_one_file_and_an_estimate(book: Type, tmp_path: Path) -> None:
     (tmp_path / "second.csv").write_text("day,P-1\n2024-04-04,1180\n", encoding="utf-8")
     assert "new: 1 reading" in book("add", tmp_path / "second.csv").out
     rows = "tag,day,amount,error\nF-1,2024-04-04,1190,60 t\n"
-    (tmp_path / "estimates.csv").write_text(rows, encoding="utf-8")
-    assert "new: 1 reading" in book("add", tmp_path / "estimates.csv").out
+    (tmp_path / "guessed.csv").write_text(rows, encoding="utf-8")
+    assert "new: 1 reading" in book("add", tmp_path / "guessed.csv").out
     wanted = f"reading,F-1_2024-04-04,FEED,2024-04-04,1190000000,{60_000_000**2}"
     assert rows_of(tmp_path)[-1] == wanted
+    (tmp_path / "other.csv").write_text("checked,by\ncu,FEED\n", encoding="utf-8")
+    said = book("add", tmp_path / "other.csv").out
+    assert "other.csv: line 2: no day stands below this row" in said
 
 
 FAULTY: dict[str, tuple[Sheets, str]] = {
@@ -265,6 +289,24 @@ def test_parts_of_the_plant(book: Type, tmp_path: Path, names: str) -> None:
     said = book("add", folder(tmp_path / "parts", parts | month(last=4)))
     assert said.err == "" and said.out.startswith("2024.csv: new: 2 readings\n9 facts are")
     assert ("the sheet is passed over" in said.out) == ("streams" not in names)
+
+
+def test_more_critical_values(book: Type, tmp_path: Path) -> None:
+    """They need no other sheet, and may come after a close."""
+    book("close", "2024-04", "--anyway")
+    values = [*PLANT["critical"], ["measure", "", "5.7"]]
+    assert "new: 1 row of the plant" in book("add", folder(tmp_path / "m", {"critical": values})).out
+    assert rows_of(tmp_path)[-1] == "critical,measure,5700"
+    assert text_of(tmp_path / "mill" / "plant.csv").splitlines()[-1] == "critical,measure,5700"
+    values[1] = ["global", "1", "6.63"]
+    said = book("add", folder(tmp_path / "m", {"critical": values}))
+    assert said.status == 1 and "critical.csv: line 2, column 3: critical global" in said.err
+
+
+def test_a_sheet_of_another_name(say: Desk, tmp_path: Path) -> None:
+    plant = folder(tmp_path / "plant", PLANT | {"piles": [["pile", "error"], ["ORE", "2 %"]]})
+    said = say("book", "new", "2024", plant, "--book", tmp_path / "mill")
+    assert said.out.endswith(f"{plant / 'piles.csv'}: the sheet is passed over\n")
 
 
 def test_another_error_of_a_meter(book: Type, tmp_path: Path) -> None:
@@ -493,6 +535,22 @@ def test_show(book: Type, tmp_path: Path) -> None:
         "SILO_2024-03-31: 8,000 mm at 1,250 kg/m3, error 0.883 t"
     )
     assert book("show", "F-9").status == 1
+
+
+def test_show_in_the_unit_of_the_meter(say: Desk, tmp_path: Path) -> None:
+    """As the sheet has it, so that a figure is found there."""
+    streams = [["tag", "stream", "from", "to", "error", "unit", "density"]]
+    streams.append(["F-1", "FEED", "env", "MILL", "1 % or 5 t", "klb", ""])
+    streams.append(["P-1", "PRODUCT", "MILL", "env", "2 t", "m3", "0.8 t/m3"])
+    words = ["--book", tmp_path / "mill"]
+    say("book", "new", "2024", folder(tmp_path / "plant", {"streams": streams}), *words)
+    rows = {"readings": [["day", "F-1", "P-1"], ["2024-04-01", "2645.5", "1500"]]}
+    say("book", "add", folder(tmp_path / "april", rows), *words)
+    for name, line in (
+        ("F-1", "F-1_2024-04-01: 1,199.978615 t (2,645.5 klb), error 12 t\n"),
+        ("P-1", "P-1_2024-04-01: 1,200 t (1,500 m3), error 2 t\n"),
+    ):
+        assert say("book", "show", name, *words).out == line
 
 
 def test_a_csv_file_in_the_folder_is_no_year(book: Type, tmp_path: Path) -> None:

@@ -123,6 +123,39 @@ def test_share_that_is_not_known() -> None:
     assert products_of(shares, []) == ["C"]
 
 
+def test_recovery_of_a_mill_in_a_mine(say: Desk, tmp_path: Path) -> None:
+    """Nobody assays what the trucks haul to the stockpile; the feed of the mill is sampled."""
+    session = session_of(
+        "unit,MILL\ntank,PILE,1\nstrap,PILE,0,0\nstrap,PILE,100,100000000\n"
+        "stream,HAULED,env,PILE,metered,1\nstream,FEED,PILE,MILL,metered,1\n"
+        "stream,CONC,MILL,env,metered,1\nstream,TAILS,MILL,env,metered,1\n"
+        "period,d,2024-05-01,2024-05-01"
+    )
+    for name, tonnes in (("HAULED", 100), ("FEED", 100), ("CONC", 3), ("TAILS", 97)):
+        session.reading(name, name, "2024-05-01", tonnes=tonnes, variance=10**8)
+    for name, ppm in (("FEED", 9000), ("CONC", 270000), ("TAILS", 930)):
+        session.assay("cu", name, "d", ppm=ppm, variance=(ppm // 50) ** 2)
+    session.report("d")
+    session.component("cu", "d")
+    output = run(session)
+    balance = Balance(output.blocks_in_order[-1], ["FEED"])
+    shares = {each.stream: each for each in balance.shares()}
+    assert list(shares) == ["FEED", "PILE", "CONC", "TAILS"]
+    carried = {name: balance.grams(name) or 0 for name in ("FEED", "CONC", "TAILS")}
+    assert shares["CONC"].share == carried["CONC"] / carried["FEED"]
+    assert shares["CONC"].share + shares["TAILS"].share == pytest.approx(1)
+    assert shares["CONC"].share_sd == pytest.approx(shares["TAILS"].share_sd)
+    path = tmp_path / "out.csv"
+    output.to_csv(path)
+    said = say("recovery", path)
+    assert "nothing determines the cu of HAULED in d, so no share is known there" in said.err
+    said = say("recovery", path, "--feed", "HAULED", "--product", "FEED", "--form", "json")
+    assert [row["way"] for row in json.loads(said.out)] == ["in", "gain", "within", "out", "out"]
+    said = say("recovery", path, "--feed", "FEED")
+    assert said.err == "" and f"{shares['CONC'].share:.2%}" in said.out
+    assert "there is no stream FED: say one of PILE, HAULED" in say("recovery", path, "--feed", "FED").err
+
+
 def test_recovery_over_a_change_of_the_plant() -> None:
     """A stream that isn't in service in a period carries nothing there."""
     session = Session(version=2)
@@ -247,7 +280,10 @@ def test_from_frames() -> None:
 
 def test_lint(say: Desk) -> None:
     text = text_of(COPPER)
-    assert "[no-balance]" in say("lint", "-", text=text.replace("component,cu,jun03\n", "")).out
+    without = text.replace("component,cu,jun03\n", "")
+    assert "[no-balance]" in say("lint", "-", text=without).out
+    # nor is its report asked for
+    assert "[no-balance]" not in say("lint", "-", text=without.replace("report,jun03\n", "")).out
     late = text + "assay,cu,ROUGHER_CONC,jun03,150000,90000\n"
     assert "ROUGHER_CONC comes after the last balance" in say("lint", "-", text=late).out
     unit = text.replace("assay,cu,FEED,jun05,9300,", "assay,cu,FEED,jun05,9,")
@@ -354,3 +390,18 @@ def test_book(say: Desk, tmp_path: Path, program: Path) -> None:
     found = say("book", "add", other, "--book", books)
     assert (found.status, "there is no period may in this book" in found.err) == (1, True)
     assert "there is no period june" in found.err and "2 faults, and nothing" in found.err
+    # what the laboratory still owes
+    (april / "readings.csv").write_text("day,F1,P1\n2024-04-02,100,101\n", encoding="utf-8")
+    (april / "periods.csv").write_text("name,first,last\napr2,2024-04-02,2024-04-02\n")
+    assays.unlink()
+    assert say("book", "add", april, "--book", books).out == "2024.csv: new: 1 period, 2 readings\n"
+    owed = "apr2: no assay of cu in FEED, FINES, which apr1 has: enter it before the close\n"
+    assert owed in say("book", "status", "--book", books).out
+    other.write_text(f"{heads}cu,F1,apr2,0.9 %,2 %\n", encoding="utf-8")
+    assert say("book", "add", other, "--book", books).status == 0
+    for command in ("report", "status"):
+        said = say("book", command, "--book", books).out
+        assert said.count(owed.replace("FEED, ", "")) == 1
+    said = say("book", "close", "apr2", "--book", books)
+    assert "apr2 isn't closed: assays are missing, and can't come after it: mend" in said.err
+    assert say("book", "close", "apr2", "--anyway", "--book", books).status == 0

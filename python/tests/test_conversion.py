@@ -202,7 +202,7 @@ RIGHT: dict[str, tuple[Make, dict[str, Any]]] = {
         english([["Mill, daily report"], ["printed", "2024-05-02"], [], *PLAIN]),
         {},
     ),
-    "a row of units below": (english(units_below(["", "t", "t"], FEED)), {}),
+    "a row of units below": (english(units_below(["", "t", "dmt"], FEED)), {}),
     "a row of other units": (english(units_below(["unit", "[kg]", "t"], KILOS)), {}),
     "units after the figures": (
         english(wide(days("%Y-%m-%d"), [f"{text} kg" for text in KILOS], PRODUCT)),
@@ -360,6 +360,19 @@ REFUSED: dict[str, tuple[Make, dict[str, Any], str]] = {
         ),
         {},
         "plant.xlsx!streams!E2: '5' is no error with its unit: write `1.5 %`",
+    ),
+    "wet tonnes": (
+        english(units_below(["", "t", "wmt"], FEED)),
+        {},
+        "line 2, column 3 (unit): 'wmt' is no unit: wet tonnes have water in them",
+    ),
+    "a critical value in thousandths": (
+        lambda room: xlsx_of(
+            room, sheet_with([["test", "dof", "value"], ["global", 1, 3841]], "critical")
+        ),
+        {},
+        "plant.xlsx!critical!C2: 3841 is no critical value: no test would reject: is it in "
+        "thousandths? Then write 3.841",
     ),
     "an unknown unit": (
         english(units_below(["", "t", "tons"], FEED)),
@@ -521,7 +534,7 @@ def test_float_noise_is_rounded_and_said(tmp_path: Path) -> None:
     found = convert(german(rows)(tmp_path), locale="de")
     assert readings_of(found.session)[0][4] == "12408500000"
     assert found.notes == [
-        "readings: 1 figures were rounded to whole grams or other whole units, by at most "
+        "readings: 1 figure was rounded to whole grams or other whole units, by at most "
         f"0.000 of one, the first in {tmp_path}/readings.csv: line 2, column 2"
     ]
 
@@ -711,7 +724,7 @@ def test_refinery_with_a_fault(
 ) -> None:
     found = convert(refinery(tmp_path, sheet, line, old, new))
     if said == "was rounded":
-        assert any("dips: 1 figures were rounded" in note for note in found.notes)
+        assert any("dips: 1 figure was rounded" in note for note in found.notes)
         return
     assert not found.ok
     assert any(said in text for text in found.said()), found.said()
@@ -846,7 +859,7 @@ def test_template(say: Desk, tmp_path: Path, kind: str) -> None:
     assert book.sheetnames == ["about", *KINDS[kind]]
     rules = {rule.formula1 for sheet in book for rule in sheet.data_validations.dataValidation}
     assert {'"metered,batch,plain"', '"global,nodal,measure"'} <= rules
-    assert ("tanks!$A$2:$A$2000" in rules) == (kind == "refinery")
+    assert ("tanks!$A$2:$A$2000" in rules) == (kind != "utility")
     for sheet in read_workbook(path)[1:]:
         assert tuple(sheet.lines[0][1]) == heads(sheet.name) and len(sheet.lines) == 1
     for name, rows in plant().items():

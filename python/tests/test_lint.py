@@ -558,10 +558,10 @@ def test_the_guide_shows_it(say: Desk, monkeypatch: pytest.MonkeyPatch) -> None:
         assert said.replace("session:", "    may.csv:", 1) in guide
 
 
-def test_page(say: Desk, tmp_path: Path) -> None:
+def test_page(say: Desk, program: Path, tmp_path: Path) -> None:
     path = tmp_path / "may.csv"
     path.write_text(changed("2000,1250000", "2000,1250"), encoding="ascii")
-    page = say("page", "--session", path, example("two_meters.out.csv")).out
+    page = say("page", "--run", path, "--program", program).out
     assert '>21</td><td class="text wide">dip s0 of SILO has a density of 1,250 g' in page
     page = say("page", "--session", example("two_meters.csv"), example("two_meters.out.csv")).out
     assert "What looks wrong" not in page

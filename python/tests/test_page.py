@@ -235,6 +235,10 @@ def test_index_of_periods() -> None:
         ("p1", ""),
         ("p2", " open"),
     ]
+    # and the balance of copper after it: the flows to book are on paper too
+    copper = page_of("flotation_copper.out.csv", "flotation_copper.csv")
+    is_open = re.findall(r'<details class="period" id="p\d+"( open)?', copper)
+    assert is_open == [""] * 10 + [" open"] * 2
 
 
 MONTH = """
@@ -291,6 +295,8 @@ def test_other_session(book: tuple[list[Values], bytes]) -> None:
         page(rows, session=("day.csv", example("refinery_day.csv").read_bytes()))
     with pytest.raises(Exception, match="isn't the output of book.csv"):
         page(rows, session=("book.csv", data + b"report,p\n"))
+    with pytest.raises(Exception, match="book.csv: p: the value of B is 1,000,500 g, and"):
+        page(rows, session=("book.csv", data.replace(b"1000500", b"1000400")))
 
 
 def test_a_total_beyond_the_limits() -> None:

@@ -14,6 +14,7 @@ from plantbal import Session, run, solve
 from plantbal.book.window import undipped
 from plantbal.faults import Refusal
 from plantbal.output import Output, read_report
+from plantbal.page.command import page
 from plantbal.report import blocks_of, last_blocks, parse_rows, reports_of
 from plantbal.schema import schema
 
@@ -90,9 +91,15 @@ def test_rounds_of_a_window() -> None:
     text = text_of(OUT)
     window = text[text.index("window,may2") : text.index("window,may1")]
     later = window[window.index("report") :].replace(",may2,0", ",may2,1", 1)
-    blocks = blocks_of(parse_rows("out", window + "taken,may2,1,s1.2,60\n" + later))
+    rows = parse_rows("out", window + "taken,may2,1,s1.2,60\n" + later)
+    blocks = blocks_of(rows)
     assert [block.title for block in blocks] == ["may2 to may3", "may2 to may3, round 1"]
     assert [block.taken for block in blocks] == [[], ["s1.2"]]
+    # a person reads the declared name
+    assert "after RUNDOWN in may2 was taken out" in blocks[1].verdict
+    made = page(rows, seconds=0)
+    assert "Accepted without RUNDOWN in may2" in made and "of RUNDOWN in may2 was taken" in made
+    assert "before RUNDOWN in may2 was taken out" in made and ">s1.2" not in made
 
 
 def test_tables_of_an_output() -> None:
@@ -116,6 +123,7 @@ def test_tables(say: Desk) -> None:
     assert reports.startswith("stream,may2,may2 ±,may3,may3 ±\nTK_RUN,381.52118,")
     contents = say("tables", "contents", OUT).out
     assert contents.startswith("tank,before may1,before may1 ±,after may1,")
+    assert say("tables", "flows", "--window", OUT).out == flows
     assert "TK_RUN,5000.473011," in contents
     none = say("tables", "contents", example("two_meters.out.csv"))
     assert (none.status, "there is no window in what was read" in none.err) == (1, True)

@@ -233,7 +233,7 @@ def put_plant(ledger: Ledger, work: Converter) -> int:
     Fault
         If something of it is otherwise in the book, or a period is closed already.
     """
-    if not work.sheets["streams"] and not work.sheets["rows"]:
+    if not any(work.sheets[kind] for kind in ("streams", "rows", "critical")):
         return 0
     there = set(ledger.plant)
     others = ("version", "strap", "critical")

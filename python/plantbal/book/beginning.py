@@ -33,7 +33,7 @@ def add_arguments(parser: argparse.ArgumentParser) -> None:
 def run(options: argparse.Namespace) -> int:
     """Make the book."""
     check_year(options.year)
-    rows, meters = plant_of(options, options.workbook)
+    rows, meters, notes = plant_of(options, options.workbook)
     book = Book(options.book)
     with book.opened(new=True):
         if book.years:
@@ -47,7 +47,8 @@ def run(options: argparse.Namespace) -> int:
         action.rows = [f"{options.year}: 1 to {len(rows)}"]
         classes = classes_of(rows, options.program)
         book.do(action)
-    print("\n".join([f"{options.year}.csv: {counted(len(rows), 'row')} of the plant", *classes]))
+    lines = [f"{options.year}.csv: {counted(len(rows), 'row')} of the plant", *classes, *notes]
+    print("\n".join(lines))
     return 0
 
 
@@ -67,8 +68,8 @@ def check_year(name: str) -> None:
 
 def plant_of(
     options: argparse.Namespace, workbook: str
-) -> tuple[list[tuple[str, ...]], list[Meter]]:
-    """Return the rows and the meters of the plant that a workbook has.
+) -> tuple[list[tuple[str, ...]], list[Meter], list[str]]:
+    """Return the rows and the meters of the plant that a workbook has, and what is passed over.
 
     Raises
     ------
@@ -83,7 +84,7 @@ def plant_of(
     work.faults += work.session.refused
     found = Conversion(work.session, work.faults, work.notes)
     say_faults(options.prog, found, "nothing is made")
-    return [row for row in work.session if row[0] in PLANT_KINDS], meters_of(work)
+    return [row for row in work.session if row[0] in PLANT_KINDS], meters_of(work), work.notes
 
 
 def classes_of(rows: Iterable[tuple[str, ...]], program: str | None) -> list[str]:

@@ -18,6 +18,7 @@ from plantbal.book.reporting import (
     state_of,
     suspects_of,
 )
+from plantbal.book.said import lacks, unassayed
 from plantbal.book.store import METERS, Action, Book
 from plantbal.book.years import Years
 from plantbal.cells import Reader, check_locale
@@ -196,16 +197,19 @@ def _close(options: argparse.Namespace) -> int:
         if ledger.periods[name].closed:
             print(f"{name} is closed already")
             return 0
+        missing = lacks(ledger, ledger.periods[name], read_meters(book.path(METERS)))
+        owed = unassayed(ledger, ledger.periods[name])
         ledger.put("close", name)
         text = book.text(f"{ledger.name}.csv") + ledger.added_text()
         report, output = report_of(options, text, name, ledger.session.components_in(name))
         said = [state_of(output, name), *suspects_of(output), *balances_said(output)]
-        for line in said:
+        for line in [*said, *missing]:
             print(line)
-        if not output.ok and not options.anyway:
+        why = output.why + (["assays are missing, and can't come after it"] if owed else [])
+        if why and not options.anyway:
             raise Fault(
-                f"{name} isn't closed: {'; '.join(output.why)}",
-                remedy="mend what it is, or close it with --anyway",
+                f"{name} isn't closed: {'; '.join(why)}",
+                remedy="mend the fault, or close it with --anyway",
             )
         action = Action(f"close {name}", who=options.who)
         action.add(ledger)

@@ -50,7 +50,7 @@ def run(options: argparse.Namespace) -> int:
             raise Fault(what, text=options.year, remedy="say a later one")
         first = first_day(options, book.text(f"{old.name}.csv"), old)
         action = Action(f"next {options.year}", who=options.who)
-        new = begun(options, book, action, first)
+        new, notes = begun(options, book, action, first)
         contents = carry(old, new, first - _DAY, options.program)
         classes = classes_of(new.plant, options.program) if options.plant else []
         action.written[f"{new.name}.csv"] = rows_text(new.session)
@@ -67,7 +67,7 @@ def run(options: argparse.Namespace) -> int:
         for name, kind in new.session.nodes.items()
         if kind == "tank" and name not in contents
     ]
-    print("\n".join(lines))
+    print("\n".join([*lines, *notes]))
     return 0
 
 
@@ -96,8 +96,10 @@ def first_day(options: argparse.Namespace, text: str, old: Ledger) -> datetime.d
 
 def begun(
     options: argparse.Namespace, book: Book, action: Action, first: datetime.date
-) -> Ledger:
-    """Return the next year with its plant alone, and have an action write another plant.
+) -> tuple[Ledger, list[str]]:
+    """Return the next year with its plant alone, and what is passed over of another plant.
+
+    An action has that other plant written.
 
     Raises
     ------
@@ -105,8 +107,9 @@ def begun(
         If a row of the plant is refused, or is none.
     """
     file, text = str(book.path(PLANT)), book.text(PLANT)
+    notes: list[str] = []
     if options.plant:
-        rows, meters = plant_of(options, options.plant)
+        rows, meters, notes = plant_of(options, options.plant)
         kept = read_meters(book.path(METERS)) | {meter.name: meter for meter in meters}
         file, text = options.plant, rows_text(rows)
         action.what += f" {Path(options.plant).name}"
@@ -116,7 +119,7 @@ def begun(
         if record.fields not in new.plant:
             place = Place(file=file, line=record.line)
             raise InputFault(f"a row {record.fields[0]} is none of a plant", place=place)
-    return new
+    return new, notes
 
 
 def carry(old: Ledger, new: Ledger, eve: datetime.date, program: str | None) -> dict[str, int]:

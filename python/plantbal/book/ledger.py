@@ -357,11 +357,18 @@ class Ledger:
             end = f".{number}"
             yield identity[: 32 - len(end)] + end
 
-    def touched(self, period: Period) -> int:
+    def touched(self, period: Period, assays: bool = True) -> int:
         """Return the number of the last row that a report of a period depends on.
 
         Of the plant these are the streams and tanks in service on its days, of dips those of its
         ends and of the ends of such services.
+
+        Parameters
+        ----------
+        period : Period
+            The period.
+        assays : bool
+            Whether the balances of its components count too.
         """
         first, last = period_days(period)
         days = period.first, period.last
@@ -374,5 +381,5 @@ class Ledger:
         while day <= last:
             numbers.append(self._latest.get(day, 0))
             day += _DAY
-        return max([*numbers, self._latest_assay.get(period.name, 0)])
+        return max([*numbers, self._latest_assay.get(period.name, 0) if assays else 0])
 

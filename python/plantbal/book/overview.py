@@ -8,7 +8,7 @@ import datetime
 from plantbal.book.ledger import Ledger
 from plantbal.book.meters import Meter, read_meters
 from plantbal.book.reporting import file_of
-from plantbal.book.said import counted, lacks
+from plantbal.book.said import counted, lacks, unassayed
 from plantbal.book.store import METERS, Book, Line
 from plantbal.book.years import Years
 from plantbal.schema import schema
@@ -53,7 +53,37 @@ def year_lines(
         lines.append(f"{name}: {'closed' if period.closed else 'open'}, {behind or 'reported'}")
         if not period.closed:
             lines += lacks(ledger, period, meters)
+            lines += [
+                line for line in unassayed(ledger, period, none=True) if line not in lines
+            ]
+    for first, last in dict.fromkeys(windows_of(journal)):
+        if first in periods and last in periods:
+            behind = window_behind(book, ledger, journal, first, last)
+            lines += [f"{first} to {last}: {behind}"] if behind else []
     return lines
+
+
+def windows_of(journal: list[Line]) -> list[tuple[str, str]]:
+    """Return the first and the last period of each window that was asked for."""
+    words = [line.what.split(" ") for line in journal]
+    return [(each[1], each[2]) for each in words if each[0] == "window" and len(each) == 3]
+
+
+def window_behind(
+    book: Book, ledger: Ledger, journal: list[Line], first: str, last: str
+) -> str:
+    """Return what is to be said of a window, or nothing if it has all that is booked."""
+    if not book.path(file_of(f"{first}_to_{last}")).is_file():
+        return ""
+    before = 0
+    for line in journal:
+        if line.what == f"window {first} {last}":
+            before = int(line.rows.rsplit(" ", 1)[1])
+    ends = ledger.periods[first].first, ledger.periods[last].last
+    inside = [each for each in ledger.periods.values() if ends[0] <= each.first <= ends[1]]
+    if max(ledger.touched(period, assays=False) for period in inside) > before:
+        return f"changed since its report: plantbal-desk book window {first} {last}"
+    return ""
 
 
 def report_behind(book: Book, ledger: Ledger, journal: list[Line], name: str) -> str:

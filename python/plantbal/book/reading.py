@@ -7,29 +7,43 @@ import argparse
 import sys
 from collections.abc import Iterator, Sequence
 from dataclasses import replace
+from itertools import islice
 from pathlib import Path
 
 from plantbal.book.meters import Meter, taken
 from plantbal.cells import MISSING, Reader, check_locale
 from plantbal.conversion import Conversion
 from plantbal.conversion_facts import Converter
-from plantbal.conversion_tables import SHEETS
+from plantbal.conversion_tables import OTHER_HEADS, SHEETS
 from plantbal.faults import Fault, InputFault
 from plantbal.memory import uncollected
 from plantbal.workbook import Sheet, read_workbook
 
-_PLANT = ("boundaries", "units", "tanks", "straps", "critical")
+_PLANT = ("boundaries", "units", "tanks", "straps")
 _FIRST = 12  # faults that are said; the others are counted
+_HEADS_WITHIN = 40  # rows of a sheet
+_HEADS_THAT_TELL = 3  # with fewer columns a sheet of readings might be meant
 
 
 def sheets_of(path: str) -> list[Sheet]:
-    """Return the sheets of a workbook; a CSV file of another name is one of readings."""
+    """Return the sheets of a workbook; a CSV file of another name is what its heads say."""
     sheets = read_workbook(path)
     if len(sheets) == 1 and sheets[0].is_csv and not Path(path).is_dir():
         name = sheets[0].name.strip().casefold()
         if not any(name.startswith(kind) for kind in SHEETS):
-            sheets[0].name = "readings"
+            sheets[0].name = _kind_of(sheets[0])
     return sheets
+
+
+def _kind_of(sheet: Sheet) -> str:
+    """Return the kind of a sheet that has the heads of one; without them it is one of readings."""
+    for cells in islice(sheet.rows(), _HEADS_WITHIN):
+        texts = [cell.text.casefold() for cell in cells]
+        heads = {OTHER_HEADS.get(text, text) for text in texts}
+        for kind, (needed, _) in SHEETS.items():
+            if len(needed) >= _HEADS_THAT_TELL and heads.issuperset(needed):
+                return kind
+    return "readings"
 
 
 def reader_of(options: argparse.Namespace) -> Reader:
@@ -103,13 +117,17 @@ def converted(
 def _read_plant(
     work: Converter, plant: list[tuple[str, ...]], meters: dict[str, Meter]
 ) -> None:
-    """Have a workbook's plant read, or take the book's; without tanks or tables these are its."""
+    """Have a workbook's plant read, or take the book's with more critical values.
+
+    Without tanks or tables these are the book's.
+    """
     streams, tanks = taken(plant, meters)
     if not work.sheets["streams"]:
         work.take_plant(plant, streams, tanks)
         for sheet in [each for kind in _PLANT for each in work.sheets[kind]]:
             what = "the sheet is passed over: without a sheet streams the plant is the book's"
             work.notes.append(f"{sheet.place()} {what}")
+        work.read_critical()
         return
     work.begin(plant)
     if not work.sheets["tanks"]:

@@ -89,9 +89,9 @@ def state_of(output: Output, period: str) -> str:
 
 
 def balances_said(output: Output) -> list[str]:
-    """Return what the balances of components say as a whole, a line each."""
-    last = last_blocks(output.blocks_in_order).values()
-    return [state_of_block(block) for block in last if block.component]
+    """Return what the balances of components say as a whole, and their suspects, in lines."""
+    last = [block for block in last_blocks(output.blocks_in_order).values() if block.component]
+    return [line for block in last for line in (state_of_block(block), *suspects_of_block(block))]
 
 
 def state_of_block(block: Block) -> str:
@@ -106,15 +106,23 @@ def state_of_block(block: Block) -> str:
 
 def suspects_of(output: Output) -> list[str]:
     """Return the suspects of a report that is rejected, in a line."""
-    block = output.reports[-1] if output.reports else None
-    if block is None or block.whole is None or block.whole["verdict"] != "reject":
+    return suspects_of_block(output.reports[-1]) if output.reports else []
+
+
+def suspects_of_block(block: Block) -> list[str]:
+    """Return the suspects of a round that is rejected, or why nothing is tested for them."""
+    if block.whole is None or block.whole["verdict"] != "reject":
         return []
+    if not block.measure:
+        count = sum(row["class"] == "redundant" for row in block.streams)
+        what = f"{block.subject}: suspects aren't tested for: there is no critical value measure"
+        return [f"{what}; plantbal-desk critical 0.05 --measure {count} gives one"]
     low = {row["stream"]: Decimal(row["low"]) / 1000 for row in block.measure}
-    names = [f"{name} {plain(low[name])}" for name in block.suspects()]
+    names = [f"{block.shown(name)} {plain(low[name])}" for name in block.suspects()]
     if not names:
         return []
     more = f" and {len(names) - _MOST:,} more" if len(names) > _MOST else ""
-    return [f"{block.period}: suspects: {', '.join(names[:_MOST])}{more}"]
+    return [f"{block.subject}: suspects: {', '.join(names[:_MOST])}{more}"]
 
 
 def file_of(period: str) -> str:

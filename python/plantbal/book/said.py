@@ -132,10 +132,43 @@ def lacks(ledger: Ledger, period: Period, meters: dict[str, Meter]) -> list[str]
             if missing:
                 when = spans(missing) + _by_window(ledger, name, period, missing)
                 groups.setdefault(("dip", when), []).append(name)
-    return [
+    lines = [
         f"{period.name}: no {kind} of {listed(names)} on {when}"
         for (kind, when), names in groups.items()
     ]
+    return lines + unassayed(ledger, period)
+
+
+def unassayed(ledger: Ledger, period: Period, none: bool = False) -> list[str]:
+    """Return which streams the period before has assays of and an open period hasn't, in lines.
+
+    Parameters
+    ----------
+    ledger : Ledger
+        The year.
+    period : Period
+        The period.
+    none : bool
+        Whether that is said of a component too of which the period has no assay at all.
+    """
+    before = [each for each in ledger.periods.values() if each.last < period.first]
+    if ledger.periods[period.name].closed or not before:
+        return []
+    last = max(before, key=lambda each: each.last)
+    lines = []
+    for component in dict.fromkeys(of for of, _, when in ledger.assays if when == last.name):
+        here = {name for of, name, when in ledger.assays if (of, when) == (component, period.name)}
+        names = [
+            name
+            for of, name, when in ledger.assays
+            if (of, when) == (component, last.name)
+            and name not in here
+            and is_served(ledger.session.service(name), period.first, period.last)
+        ]
+        if names and (here or none):
+            what = f"{period.name}: no assay of {component} in {listed(names)}, which {last.name}"
+            lines.append(f"{what} has: enter it before the close")
+    return lines
 
 
 def _by_window(

@@ -4,12 +4,14 @@ from __future__ import annotations
 
 import argparse
 import datetime
+from decimal import Decimal
 
-from plantbal.book.ledger import Fact, Ledger
-from plantbal.book.meters import read_meters
+from plantbal.book.ledger import Fact, Ledger, plain
+from plantbal.book.meters import Meter, read_meters
 from plantbal.book.naming import Names, day_of
 from plantbal.book.store import METERS, Book
 from plantbal.book.years import Years
+from plantbal.cells import GRAMS, VOLUMES
 from plantbal.faults import Fault
 
 
@@ -29,10 +31,11 @@ def run(options: argparse.Namespace) -> int:
     book = Book(options.book)
     with book.opened():
         years = Years(book)
-        place = Names(years, read_meters(book.path(METERS))).place(options.name)
+        meters = read_meters(book.path(METERS))
+        place = Names(years, meters).place(options.name)
         ledgers = [years[span.name] for span in years.spans if span.last >= first]
     found = {
-        (fact.first, fact.last, fact.id): line_of(ledger, fact)
+        (fact.first, fact.last, fact.id): line_of(ledger, fact, meters.get(place))
         for ledger in ledgers
         for fact in [*ledger.facts.values(), *ledger.struck.values()]
         if fact.place == place and fact.first <= last and fact.last >= first
@@ -44,12 +47,24 @@ def run(options: argparse.Namespace) -> int:
     return 0
 
 
-def line_of(ledger: Ledger, fact: Fact) -> str:
-    """Return what is booked of a fact."""
-    line = f"{fact.id}: {fact.said()}, error {fact.error()}"
+def line_of(ledger: Ledger, fact: Fact, meter: Meter | None = None) -> str:
+    """Return what is booked of a fact, also in the unit of its meter."""
+    line = f"{fact.id}: {fact.said()}{in_unit(fact, meter)}, error {fact.error()}"
     if fact.kind == "transfer" and fact.first != fact.last:
         line += f", from {fact.first} to {fact.last}"
     if fact.id in ledger.struck:
         return f"{line}; struck"
     before = [was.said() for _, was in ledger.edits.get(fact.id, [])]
     return f"{line}; before {', '.join(before)}" if before else line
+
+
+def in_unit(fact: Fact, meter: Meter | None) -> str:
+    """Return a reading in the unit of its meter, in brackets; nothing if that is tonnes."""
+    if meter is None or fact.kind != "reading" or meter.unit in ("", "t"):
+        return ""
+    unit = GRAMS.get(meter.unit) or VOLUMES[meter.unit] * (meter.density or 0)
+    if not unit:
+        return ""
+    number = fact.values[0] / unit
+    found = round(Decimal(number.numerator) / Decimal(number.denominator), 3)
+    return f" ({plain(found)} {meter.unit})"

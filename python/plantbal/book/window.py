@@ -7,7 +7,14 @@ import argparse
 from collections.abc import Iterator
 
 from plantbal.amounts import tonnes_text
-from plantbal.book.reporting import file_of, keep, state_of_block, written_of
+from plantbal.book.overview import window_behind
+from plantbal.book.reporting import (
+    file_of,
+    keep,
+    state_of_block,
+    suspects_of_block,
+    written_of,
+)
 from plantbal.book.store import Action, Book
 from plantbal.book.years import Years
 from plantbal.faults import Fault, Refusal
@@ -46,11 +53,12 @@ def run(options: argparse.Namespace) -> int:
         text, output = written_of(options, asked, f"{first} to {last}")
         action = Action(f"window {first} {last}", who=options.who)
         new = keep(book, action, ledger, name, text, closed=False)
-        if new:
+        if not new and window_behind(book, ledger, book.journal(), first, last):
+            action.rows.append(f"{ledger.name}: up to {ledger.count}")
+        if action.rows:
             book.do(action)
         for block in output.blocks_in_order[-1:]:
-            print(state_of_block(block))
-            for line in undipped(block):
+            for line in (state_of_block(block), *suspects_of_block(block), *undipped(block)):
                 print(line)
         print(f"{first} to {last}: {book.path(file_of(name))}" + ("" if new else ", as it was"))
         if options.session:

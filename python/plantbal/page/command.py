@@ -16,7 +16,7 @@ from plantbal.page.ledger import Ledger
 from plantbal.page.reading import check_rows
 from plantbal.page.render import render
 from plantbal.page.statement import Prepared, Refused, Worth
-from plantbal.report import Values, blocks_of, last_blocks, read_rows
+from plantbal.report import Values, blocks_of, csv_of, last_blocks, read_rows
 from plantbal.schema import schema
 
 if TYPE_CHECKING:
@@ -59,11 +59,14 @@ class Source:
         What the output is called.
     session : tuple of str and bytes, or None
         What the session is called, and its bytes.
+    is_run : bool
+        Whether the output is the session's for certain, since it was run here.
     """
 
     rows: list[Values]
     name: str = "output"
     session: tuple[str, bytes] | None = None
+    is_run: bool = False
 
 
 def worth_of(rows: list[Values]) -> tuple[dict[tuple[int, str], Worth], str]:
@@ -133,6 +136,8 @@ def prepare(source: Source) -> Prepared:
         same_refusals(explanation, source.rows, source.name, name)
         told = [*explanation.whole, *explanation.rows]
     ledger.check_output(source.rows, source.name)
+    if not source.is_run:
+        _check_facts(name, data, source)
     findings = sorted(
         (each for each in find(ledger) if each.code != "refused"),
         key=lambda each: (SEVERITIES.index(each.severity), each.place.line or 0),
@@ -141,6 +146,28 @@ def prepare(source: Source) -> Prepared:
         source.rows, ledger=ledger, refused=refused, findings=findings, worth=worth
     )
     return Prepared(account, told, why)
+
+
+def _check_facts(name: str, data: bytes, source: Source) -> None:
+    """Raise a fault if the facts of a session aren't those of an output.
+
+    Raises
+    ------
+    InputFault
+        If it is so: edits and dips of the session would stand beside flows that don't have them.
+    """
+    from plantbal.held import Ledger as Held
+    from plantbal.held import answers_of, pairs_of
+
+    answers = answers_of(csv_of(source.rows).encode("utf-8"))
+    for pair in pairs_of(Held(name, data).seen, answers):
+        differs = next(pair.differ(), None)
+        if differs is not None:
+            raise InputFault(
+                f"this isn't the output of {name}: {pair.seen.subject}: {differs.text}",
+                place=Place(file=source.name),
+                remedy="run the session again",
+            )
 
 
 def page(
@@ -206,7 +233,8 @@ def _source(options: argparse.Namespace) -> tuple[Source, Output | None, Path | 
     session = read_bytes(options.output)
     program = find_program(options.program)
     output = run_program(session[1], eliminate=options.eliminate, program=program)
-    return Source(output.rows, f"the output of {session[0]}", session), output, program
+    source = Source(output.rows, f"the output of {session[0]}", session, is_run=True)
+    return source, output, program
 
 
 def run(options: argparse.Namespace) -> int:

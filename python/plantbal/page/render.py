@@ -266,6 +266,7 @@ def render(
             why_no_worth=prepared.why_no_worth,
             refused=account.refused,
             statements=account.statements,
+            unfolded=account.unfolded,
             drawings=drawings,
             designs=[(lines, draftsman.draw(lines)) for lines in designs],
             is_advised=account.is_advised,

@@ -272,6 +272,11 @@ class Account:
         return [each for each in self.statements if each.is_of_period] or self.statements
 
     @property
+    def unfolded(self) -> int:
+        """The number of the last period's statement: it and those after it aren't folded."""
+        return self.periods[-1].number if self.statements else 0
+
+    @property
     def meters(self) -> list[Line]:
         """The streams to meter."""
         return [line for design in self.designs[-1:] for line in design if line.mark == "meter"]

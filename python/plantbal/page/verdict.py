@@ -141,7 +141,7 @@ def verdict_of(
     if block.taken:
         ended = f": {STOPS[stop]}" if stop in STOPS else ""
         were = "was" if len(block.taken) == 1 else "were"
-        taken = f"The {_measured(block)} of {names_of(block.taken)}"
+        taken = f"The {_measured(block)} of {names_of(_shown(block, block.taken))}"
         reasons.append(f"{taken} {were} taken out{ended}.")
     reasons.append(_tests(block))
     if block.whole is not None and block.whole["verdict"] == "reject":
@@ -151,7 +151,7 @@ def verdict_of(
 
 
 def whither(block: Block) -> list[str]:
-    """Return where a component went, as a sentence; none if what came in isn't known.
+    """Return where a component went, or that what came in isn't known, as a sentence.
 
     Parameters
     ----------
@@ -160,7 +160,10 @@ def whither(block: Block) -> list[str]:
     """
     from plantbal.recovery import Balance
 
-    leaving = [each for each in Balance(block).shares() if each.way != "in"]
+    balance = Balance(block)
+    if balance.unknown:
+        return [f"No recovery: nothing determines what came in by {names_of(balance.unknown)}."]
+    leaving = [each for each in balance.shares() if each.way != "in"]
     known = [each for each in leaving if each.share == each.share]
     parts = [
         f"{100 * each.share:.2f} % ± {100 * each.share_sd:.2f} % went into {each.stream}"
@@ -194,15 +197,21 @@ def _headline(block: Block, lacking: int, suspects: Sequence[str]) -> tuple[str,
     if lacking:
         return "bad", f"{count_of(lacking, 'row', 'rows')} refused: not to be booked"
     if verdict == "reject":
-        what = f"Look at {suspects[0]}" if suspects else f"Rejected: look at the {_measured(block)}s"
-        return "look", what
+        if suspects:
+            return "look", f"Look at {block.shown(suspects[0])}"
+        return "look", f"Rejected: look at the {_measured(block)}s"
     if verdict == "accept" and block.taken:
-        return "look", f"Accepted without {names_of(block.taken)}"
+        return "look", f"Accepted without {names_of(_shown(block, block.taken))}"
     if verdict == "accept":
         return "good", "Accepted"
     if verdict == "undecided":
         return "look", "The global test is undecided"
     return "plain", "Not tested"
+
+
+def _shown(block: Block, names: Sequence[str]) -> list[str]:
+    """Return streams as they are declared, in place of the codes of a window."""
+    return [block.shown(name) for name in names]
 
 
 def _measured(block: Block) -> str:
@@ -248,7 +257,7 @@ def _suspects(block: Block, lacking: int, suspects: Sequence[str]) -> str:
     critical = {row["stream"]: thousandths(row["critical"]) for row in block.measure}
     first = suspects[0]
     said = (
-        f"The first to look at is {first}: without its measurement the statistic falls by at least "
+        f"The first to look at is {block.shown(first)}: without its measurement the statistic falls by at least "
         f"{low[first]}, where {critical[first]} is critical."
     )
     if len(suspects) > 1:
