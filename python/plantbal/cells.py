@@ -455,10 +455,12 @@ def _date(year: int, month: int, day: int) -> datetime.date | None:
 
 def check_locale(locale: str) -> str:
     """Return a locale, or say that there is none of this name."""
+    if not locale:
+        return ""
     from babel import Locale, UnknownLocaleError
 
     try:
-        return str(Locale.parse(locale.replace("-", "_"))) if locale else ""
+        return str(Locale.parse(locale.replace("-", "_")))
     except (ValueError, UnknownLocaleError):
         raise Fault(
             f"there is no locale {locale!r}", text=locale, remedy="say de, en_GB, fr or another"

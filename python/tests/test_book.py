@@ -129,6 +129,23 @@ def test_what_is_gone_stays_unless_it_is_struck(book: Type, tmp_path: Path) -> N
     assert "nothing new" in book("add", tmp_path / "april").out
 
 
+def test_what_began_in_the_month_before_is_not_gone(book: Type, tmp_path: Path) -> None:
+    """The dip that opens May stands in April's workbook, as does a ticket that lasts into May."""
+    april, may = month(), month(month="05")
+    april["tickets"] = [["id", "stream", "first", "last", "amount"]]
+    april["tickets"] += [["truck-9", "TRUCKS", "2024-04-30", "2024-05-01", "10"]]
+    book("add", folder(tmp_path / "april", april))
+    del may["dips"][1]
+    for last in (4, 3):
+        may["readings"] = month(last=last, month="05")["readings"]
+        said = book("add", folder(tmp_path / "may", may), "--strike", "--why", "frozen")
+    assert "2 facts are booked and not in may: F-1_2024-05-04, P-1_2024-05-04; struck" in said.out
+    assert [row for row in rows_of(tmp_path) if row.startswith("strike")] == [
+        "strike,F-1_2024-05-04,frozen",
+        "strike,P-1_2024-05-04,frozen",
+    ]
+
+
 def test_a_part_of_a_workbook_strikes_nothing(book: Type, tmp_path: Path) -> None:
     """Without the word for it: mostly it is the wrong file."""
     path, before = tmp_path / "part.csv", rows_of(tmp_path)
