@@ -129,7 +129,7 @@ class Plant(Tables):
             else:
                 self.bad |= {row.text("stream"), row.text("tag")}
         self._check_ends([row for row, _ in ends])
-        self._read_critical()
+        self.read_critical()
 
     def take_tanks(self, rows: Iterable[tuple[str, ...]], tanks: Iterable[Tank]) -> None:
         """Take tanks and tables that are known already, as rows of a session."""
@@ -289,13 +289,16 @@ class Plant(Tables):
             others = [*(other for other in self.session.nodes if other != name), ENV]
             others += self.session.boundaries
             near = difflib.get_close_matches(name, others, n=1, cutoff=0.75)
-            remedy = f"did you mean {near[0]}?" if near else "`env` is the world outside"
+            remedy = "write `env`, the world outside, or name it in a sheet boundaries"
+            if near:
+                remedy = f"did you mean {near[0]}?"
             if cell is None:
                 self.notes.append(f"the unit {name} stands in no stream")
             else:
                 self.fault(cell, f"{name} has nothing {lacks}, so its flows would be 0", remedy)
 
-    def _read_critical(self) -> None:
+    def read_critical(self) -> None:
+        """Read the critical values of the tests."""
         for row in self.rows("critical"):
             with self.kept():
                 test = row.text("test").casefold()

@@ -5,7 +5,7 @@ from __future__ import annotations
 
 import argparse
 import subprocess
-from collections.abc import Callable, Iterable
+from collections.abc import Callable, Iterable, Mapping
 
 from plantbal.amounts import tonnes_text
 from plantbal.faults import Fault, ToolMissing
@@ -81,6 +81,8 @@ class Picture:
         The rows of the streams to meter.
     shown : callable
         Gives what a person reads in place of a name.
+    outside : mapping of str to str
+        The boundary of the session at which a stream crosses into `env`, or out of it.
     """
 
     def __init__(
@@ -92,8 +94,10 @@ class Picture:
         prefix: str = "",
         meters: Iterable[Values] = (),
         shown: Callable[[str], str] = str,
+        outside: Mapping[str, str] | None = None,
     ) -> None:
         self.title, self.streams, self.prefix, self.shown = title, streams, prefix, shown
+        self.outside = outside or {}
         self.meters = {meter["stream"]: meter for meter in meters}
         self.suspects = list(dict.fromkeys(suspects))
         names = list(nodes) + [end for stream in streams for end in (stream["from"], stream["to"])]
@@ -172,18 +176,20 @@ class Picture:
         return f"  {quoted(name)} {said}"
 
     def edge(self, number: int, stream: Values) -> list[str]:
-        """Return the lines of a stream; its end in `env` is a point of its own."""
+        """Return the lines of a stream; its end in `env` is a point or a boundary of its own."""
         lines, ends = [], []
         for place in ("from", "to"):
             if stream[place] == "env":
                 ends.append(f"env-{place}-{number}")
                 filled = "env" in self.side
-                look = (
-                    {"width": 0.12, "color": "#c09000"}
-                    if filled
-                    else ({"width": 0.04, "color": "#a0a0a0"})
-                )
-                lines.append(f"  {quoted(ends[-1])} {attributes(shape='point', **look)}")
+                look: dict[str, object] = {"width": 0.04, "color": "#a0a0a0"}
+                if filled:
+                    look = {"width": 0.12, "color": "#c09000"}
+                look = {"shape": "point", **look}
+                if stream["name"] in self.outside:
+                    look = {"shape": "plaintext", "label": self.outside[stream["name"]]}
+                    look |= {"style": "filled", "fillcolor": "#fff0b0"} if filled else {}
+                lines.append(f"  {quoted(ends[-1])} {attributes(**look)}")
             else:
                 ends.append(stream[place])
         style = STYLES.get(stream["class"])
@@ -233,8 +239,15 @@ def picture_of(block: Block, prefix: str = "") -> Picture:
     return Picture(block.title, block.streams, nodes, taken, prefix, shown=block.shown)
 
 
-def advised(rows: list[Values]) -> Picture:
+def advised(rows: list[Values], outside: Mapping[str, str] | None = None) -> Picture:
     """Return the picture of the last design with the streams that the last advice says to meter.
+
+    Parameters
+    ----------
+    rows : list of dict
+        The rows of an output, which has `env` in place of boundaries.
+    outside : mapping of str to str, optional
+        The boundaries of streams.
 
     Raises
     ------
@@ -250,7 +263,7 @@ def advised(rows: list[Values]) -> Picture:
         )
     total = sum(int(meter["cost"]) for meter in meters)
     count = "1 meter" if len(meters) == 1 else f"{len(meters)} meters"
-    return Picture(f"{count} to buy, for {total:,}", designs[-1], meters=meters)
+    return Picture(f"{count} to buy, for {total:,}", designs[-1], meters=meters, outside=outside)
 
 
 def chosen(

@@ -284,6 +284,32 @@ def test_parts_of_the_plant(book: Type, tmp_path: Path, names: str) -> None:
     assert ("the sheet is passed over" in said.out) == ("streams" not in names)
 
 
+def test_a_sheet_with_only_what_is_new(book: Type, tmp_path: Path) -> None:
+    """What it lacks is said before what follows from that."""
+    streams = [PLANT["streams"][0], ["W-1", "WASTE", "MILL", "env", "", "1 t"]]
+    tanks = [PLANT["tanks"][0], ["SILO2", "3 mm", "1250"]]
+    sheets = {"streams": streams, "tanks": tanks, **month()}
+    lines = book("add", folder(tmp_path / "part", sheets)).err.splitlines()
+    what = "of the book {} here: {}: write the whole plant into this sheet, with what is new"
+    assert lines[0].endswith("3 streams " + what.format("aren't", "FEED, PRODUCT, TRUCKS"))
+    assert lines[1].endswith("1 tank " + what.format("isn't", "SILO"))
+    assert "MILL has nothing coming in" in lines[2]
+
+
+def test_critical_values_come_alone(book: Type, tmp_path: Path) -> None:
+    """After a close too; one that is there already stays."""
+    book("close", "2024-04", "--anyway")
+    path = tmp_path / "critical.csv"
+    path.write_text("test,dof,value\nglobal,1,3.84\nglobal,3,7.815\n", encoding="utf-8")
+    said = book("add", path, "--locale", "en")
+    assert said.out == "2024.csv: new: 1 row of the plant\n"
+    assert rows_of(tmp_path)[-1] == "critical,global,3,7815"
+    assert text_of(tmp_path / "mill" / "plant.csv").splitlines()[-1] == "critical,global,3,7815"
+    assert book("add", path, "--locale", "en").out == "2024.csv: nothing new\n"
+    path.write_text("test,dof,value\nglobal,3,11.3\n", encoding="utf-8")
+    assert "what is declared stays to the end of a year" in book("add", path).err
+
+
 def test_another_error_of_a_meter(book: Type, tmp_path: Path) -> None:
     streams = [row[:] for row in PLANT["streams"]]
     streams[2][5] = "1.5 t"

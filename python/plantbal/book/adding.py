@@ -233,7 +233,7 @@ def put_plant(ledger: Ledger, work: Converter) -> int:
     Fault
         If something of it is otherwise in the book, or a period is closed already.
     """
-    if not work.sheets["streams"] and not work.sheets["rows"]:
+    if not any(work.sheets[kind] for kind in ("streams", "critical", "rows")):
         return 0
     there = set(ledger.plant)
     others = ("version", "strap", "critical")
@@ -264,6 +264,8 @@ def _instead(row: tuple[str, ...], refusal: Refusal) -> str:
     then = "plantbal-desk book next YEAR --plant WORKBOOK"
     if row[0] == "version":
         return f"dates of service and boundaries come with the next year: {then}"
+    if row[0] == "critical":
+        return f"what is declared stays to the end of a year; another value comes with {then}"
     if refusal.code == _SEALED and "SINCE" in refusal.remedy:
         return "write a day after the closed periods into its column since"
     return f"what is new of the plant comes before the first close, or with the next year: {then}"

@@ -10,15 +10,17 @@ from dataclasses import replace
 from pathlib import Path
 
 from plantbal.book.meters import Meter, taken
+from plantbal.book.said import counted, listed
 from plantbal.cells import MISSING, Reader, check_locale
 from plantbal.conversion import Conversion
 from plantbal.conversion_facts import Converter
+from plantbal.conversion_plant import Stream, Tank
 from plantbal.conversion_tables import SHEETS
 from plantbal.faults import Fault, InputFault
 from plantbal.memory import uncollected
 from plantbal.workbook import Sheet, read_workbook
 
-_PLANT = ("boundaries", "units", "tanks", "straps", "critical")
+_PLANT = ("boundaries", "units", "tanks", "straps")
 _FIRST = 12  # faults that are said; the others are counted
 
 
@@ -95,6 +97,8 @@ def converted(
             what = "the sheet is passed over: plantbal-desk book window asks for a window"
             work.notes.append(f"{sheet.place()} {what}")
     work.faults += [*work.session.refused, *edits]
+    if work.faults:
+        work.faults = [*_left_out(work, *taken(plant, meters)), *work.faults]
     found = Conversion(work.session, work.faults, work.notes)
     say_faults(options.prog, found, "nothing is booked")
     return work
@@ -106,7 +110,10 @@ def _read_plant(
     """Have a workbook's plant read, or take the book's; without tanks or tables these are its."""
     streams, tanks = taken(plant, meters)
     if not work.sheets["streams"]:
-        work.take_plant(plant, streams, tanks)
+        # critical values may come alone: nothing that is booked changes by them
+        new = bool(work.sheets["critical"])
+        work.take_plant([row for row in plant if not new or row[0] != "critical"], streams, tanks)
+        work.read_critical()
         for sheet in [each for kind in _PLANT for each in work.sheets[kind]]:
             what = "the sheet is passed over: without a sheet streams the plant is the book's"
             work.notes.append(f"{sheet.place()} {what}")
@@ -118,6 +125,24 @@ def _read_plant(
     work.read_plant()
     if not work.sheets["straps"]:
         work.take_straps(row for row in plant if row[0] == "strap")
+
+
+def _left_out(work: Converter, streams: list[Stream], tanks: list[Tank]) -> Iterator[Fault]:
+    """Give what is to be said of sheets that have a part of the plant only, such as what is new."""
+    tables = [tank.name for tank in tanks if tank.points and tank.name in work.tanks]
+    for kind, what, booked, there in (
+        ("streams", "stream", [each.name for each in streams], list(work.streams)),
+        ("tanks", "tank", [each.name for each in tanks], list(work.tanks)),
+        ("straps", "table", tables, [tank.name for tank in work.tanks.values() if tank.points]),
+    ):
+        names = [name for name in booked if name not in there and name not in work.bad]
+        if names and work.sheets[kind]:
+            are = "isn't" if len(names) == 1 else "aren't"
+            yield InputFault(
+                f"{counted(len(names), what)} of the book {are} here: {listed(names)}",
+                place=work.sheets[kind][0].place(),
+                remedy="write the whole plant into this sheet, with what is new",
+            )
 
 
 def _edits(work: Converter) -> Iterator[Fault]:
