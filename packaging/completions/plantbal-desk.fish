@@ -63,6 +63,7 @@ complete -c plantbal-desk -n '__fish_seen_subcommand_from audit' -l no-program -
 complete -c plantbal-desk -n '__fish_seen_subcommand_from audit' -l strict -d 'status 1 on notes too'
 complete -c plantbal-desk -n '__fish_seen_subcommand_from audit' -l program -r -F -d 'the program (default: that of PLANTBAL, of the path, or of this checkout)'
 complete -c plantbal-desk -n '__fish_seen_subcommand_from audit' -F
+complete -c plantbal-desk -n '__fish_seen_subcommand_from audit' -F
 complete -c plantbal-desk -n '__fish_seen_subcommand_from report' -s h -l help -d 'show this help message and exit'
 complete -c plantbal-desk -n '__fish_seen_subcommand_from report' -l out -r -F -d 'a .csv, .sqlite or .xlsx file'
 complete -c plantbal-desk -n '__fish_seen_subcommand_from report' -F
@@ -130,6 +131,7 @@ complete -c plantbal-desk -n '__fish_seen_subcommand_from advise' -l form -x -a 
 complete -c plantbal-desk -n '__fish_seen_subcommand_from advise' -l draw -r -F -d 'a drawing of the plant, as SVG'
 complete -c plantbal-desk -n '__fish_seen_subcommand_from advise' -l locale -x -d 'how numbers are written, such as de'
 complete -c plantbal-desk -n '__fish_seen_subcommand_from advise' -l program -r -F -d 'the program (default: that of PLANTBAL, of the path, or of this checkout)'
+complete -c plantbal-desk -n '__fish_seen_subcommand_from advise' -F
 complete -c plantbal-desk -n '__fish_seen_subcommand_from advise' -F
 complete -c plantbal-desk -n '__fish_seen_subcommand_from recovery' -s h -l help -d 'show this help message and exit'
 complete -c plantbal-desk -n '__fish_seen_subcommand_from recovery' -l component -x -d 'of this component alone'

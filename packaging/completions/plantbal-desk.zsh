@@ -73,7 +73,7 @@ _plantbal_desk() {
             '--strict[status 1 on notes too]'
             '--program=[the program (default\: that of PLANTBAL, of the path, or of this checkout)]:PATH:_files'
             '1:word:(audit)'
-            '2:BUNDLE|REPORT:'
+            '2:BUNDLE|REPORT:_files'
             '*:SESSION:_files'
         ) ;;
     report)
@@ -188,7 +188,7 @@ _plantbal_desk() {
             '--program=[the program (default\: that of PLANTBAL, of the path, or of this checkout)]:PATH:_files'
             '1:word:(advise)'
             '2:SESSION:_files'
-            '*:COSTS:'
+            '*:COSTS:_files'
         ) ;;
     recovery)
         specifications=(
