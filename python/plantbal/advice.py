@@ -198,15 +198,6 @@ def advise(
     return Advice(rows, meters, {name: (costs or {}).get(name, 1) for name in plain})
 
 
-def outside_of(plant: Session) -> dict[str, str]:
-    """Return the boundary of each stream that has one."""
-    found = {}
-    for kind, *fields in plant:
-        if kind == "stream":
-            found |= {fields[0]: end for end in fields[1:3] if end in plant.boundaries}
-    return found
-
-
 def add_arguments(parser: argparse.ArgumentParser) -> None:
     """Add the words of the command."""
     parser.add_argument("session", metavar="SESSION", nargs="?", default="-")
@@ -235,5 +226,5 @@ def run(options: argparse.Namespace) -> int:
         lines = [",".join(row) for row in [("stream", "cost", "cycle"), *rows]]
     write_text("-", "".join(f"{line}\n" for line in lines))
     if options.draw:
-        write_bytes(options.draw, svg(advised(found.rows, outside_of(plant)).dot()))
+        write_bytes(options.draw, svg(advised(found.rows, plant.crossings()).dot()))
     return 0

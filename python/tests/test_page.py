@@ -291,6 +291,10 @@ def test_other_session(book: tuple[list[Values], bytes]) -> None:
         page(rows, session=("day.csv", example("refinery_day.csv").read_bytes()))
     with pytest.raises(Exception, match="isn't the output of book.csv"):
         page(rows, session=("book.csv", data + b"report,p\n"))
+    silent = b"unit,U\nstream,A,env,U,plain,0\nstream,B,U,env,plain,0\n"
+    plain = [row for row in rows if row["row"] != "refused"]
+    with pytest.raises(Exception, match="asks for none: name the one that asks"):
+        page(plain, session=("2024.csv", silent))
 
 
 def test_a_total_beyond_the_limits() -> None:

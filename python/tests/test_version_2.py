@@ -274,6 +274,8 @@ def test_page() -> None:
     february = made[made.index('id="p0"') : made.index('id="p1"')]
     assert "TK2" in march and "TK2" not in february
     assert "3,672.850" in march
+    assert "JETTY → MANIFOLD" in march and "TK1 → RAIL" in march and "env → MANIFOLD" not in made
+    assert "env → MANIFOLD" in page(rows)  # which has no session
 
 
 def test_uncertainty() -> None:
