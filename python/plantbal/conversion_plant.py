@@ -6,6 +6,7 @@ import difflib
 import re
 from collections.abc import Iterable
 from dataclasses import dataclass, field
+from decimal import Decimal
 from fractions import Fraction
 
 from plantbal.cells import GRAMS, VOLUMES, Error, Reader
@@ -308,9 +309,14 @@ class Plant(Tables):
                     raise self.reader.fault(row["test"], what, remedy, "test")
                 number = Fraction(self.reader.number(row["value"], "value")) * 1000
                 value = str(self.reader.whole(row["value"], number))
-                freedom = []
+                freedom, count = [], Decimal(1)
                 if test == "global":
-                    freedom = [f"{self.reader.number(row['dof'], 'dof'):f}"]
+                    count = self.reader.number(row["dof"], "dof")
+                    freedom = [f"{count:f}"]
+                if number > 1000 * (100 + 10 * Fraction(count)):  # which no level comes near to
+                    what = f"{row.text('value')} is too high for a critical value: no test rejects"
+                    remedy = "write 3.841, not 3841 as rows of a session have it"
+                    raise self.reader.fault(row["value"], what, remedy, "value")
                 cells = {"value": row["value"], "dof": row["dof"]}
                 self.put(["critical", test, *freedom, value], cells)
 

@@ -295,6 +295,13 @@ REFUSED: dict[str, tuple[Make, dict[str, Any], str]] = {
         {"locale": "en_GB"},
         "'04/13/2024' is no day: --locale en_GB has the day first: write it as 2024-06-30",
     ),
+    "a critical value in thousandths": (
+        lambda room: folder_of(
+            room, sheet_with([["test", "dof", "value"], ["global", "1", "3841"]], "critical")
+        ),
+        {},
+        "line 2, column 3 (value): 3841 is too high for a critical value: no test rejects: write",
+    ),
     "a boundary that isn't named": (
         lambda room: folder_of(
             room, sheet_with([*plant()["streams"], ["", "WASTE", "MILL", "RAIL", ""]], "streams")
