@@ -87,6 +87,7 @@ _plantbal_desk() {
         draw:--round) :; return ;;
         draw:--component) :; return ;;
         draw:--mark) :; return ;;
+        draw:--session) _plantbal_files -f; return ;;
         draw:--out) _plantbal_files -f; return ;;
         chart:--most) :; return ;;
         chart:--stream) :; return ;;
@@ -229,7 +230,7 @@ _plantbal_desk() {
             _plantbal_files -f
             return
         fi
-        _plantbal_words '-h --help --period --round --component --window --advice --mark --dot --out' ;;
+        _plantbal_words '-h --help --period --round --component --window --advice --mark --session --dot --out' ;;
     chart)
         if [[ $here != -* ]]; then
             _plantbal_files -f

@@ -147,6 +147,7 @@ complete -c plantbal-desk -n '__fish_seen_subcommand_from draw' -l component -x 
 complete -c plantbal-desk -n '__fish_seen_subcommand_from draw' -l window -d 'draw a window of several periods'
 complete -c plantbal-desk -n '__fish_seen_subcommand_from draw' -l advice -d 'draw which streams to meter'
 complete -c plantbal-desk -n '__fish_seen_subcommand_from draw' -l mark -x -d 'the stream whose cut or cycle is marked'
+complete -c plantbal-desk -n '__fish_seen_subcommand_from draw' -l session -r -F -d 'the session, which has the boundaries that streams come from and go to'
 complete -c plantbal-desk -n '__fish_seen_subcommand_from draw' -l dot -d 'write the text for Graphviz in place of SVG'
 complete -c plantbal-desk -n '__fish_seen_subcommand_from draw' -l out -r -F -d 'the picture'
 complete -c plantbal-desk -n '__fish_seen_subcommand_from draw' -F

@@ -212,6 +212,7 @@ _plantbal_desk() {
             '--window[draw a window of several periods]'
             '--advice[draw which streams to meter]'
             '--mark=[the stream whose cut or cycle is marked]:STREAM:'
+            '--session=[the session, which has the boundaries that streams come from and go to]:SESSION:_files'
             '--dot[write the text for Graphviz in place of SVG]'
             '--out=[the picture]:FILE:_files'
             '1:word:(draw)'

@@ -11,19 +11,21 @@ from plantbal.amounts import tonnes_text
 from plantbal.faults import Fault, ToolMissing
 from plantbal.files import write_bytes
 from plantbal.report import Block, Values, advice_of, blocks_of, designs_of, read_rows
+from plantbal.session import Session
 
 HELP = """
 OUTPUT is what plantbal wrote, as CSV or as JSON lines; without it standard input is read. The last
 report is drawn, or, if there is none, the last design. The picture is SVG, and goes to standard
 output, or to the file of --out.
 
-Units are boxes, tanks are cylinders with what they gained, `env` is left open. Arrows are as wide
-as their tonnes. Streams: redundant green, with a full dot; nonredundant brown and dashed, with a
-ring; observable blue and dashed, with a triangle; unobservable grey and dotted, with a question
-mark, and without a figure; red with a `!` is a suspect (its measurement test rejects, and so does
-the global test), or what was taken. With --mark the certificate of a stream is shown: the parts of
-its cut or cycle are drawn thick, and the units of the cut's side are filled. A plant of 300 streams
-takes a second or two, one of 2,000 some minutes.
+Units are boxes, tanks are cylinders with what they gained, `env` is left open; with --session its
+boundaries are named, such as a jetty. Arrows are as wide as their tonnes. Streams: redundant green,
+with a full dot; nonredundant brown and dashed, with a ring; observable blue and dashed, with a
+triangle; unobservable grey and dotted, with a question mark, and without a figure; red with a `!`
+is a suspect (its measurement test rejects, and so does the global test), or what was taken. With
+--mark the certificate of a stream is shown: the parts of its cut or cycle are drawn thick, and the
+units of the cut's side are filled. A plant of 300 streams takes a second or two, one of 2,000 some
+minutes.
 
 With --advice the last design is drawn with the last advice: the streams to meter are violet, with a
 `+` and what the meter costs; --mark shows the cycle for which one of them is metered.
@@ -31,6 +33,7 @@ With --advice the last design is drawn with the last advice: the streams to mete
 examples:
   plantbal run < day.csv | plantbal-desk draw --mark KEROSENE > day.svg
   plantbal run < plant.csv | plantbal-desk draw --advice --mark RES > meters.svg
+  plantbal run < terminal.csv | plantbal-desk draw --session terminal.csv --out terminal.svg
 """
 # Each has at least 4.5 to 1 on white, and a sign, so that none is known by its colour alone.
 COLOURS = {
@@ -97,7 +100,7 @@ class Picture:
         outside: Mapping[str, str] | None = None,
     ) -> None:
         self.title, self.streams, self.prefix, self.shown = title, streams, prefix, shown
-        self.outside = outside or {}
+        self.outside: Mapping[str, str] = outside or {}
         self.meters = {meter["stream"]: meter for meter in meters}
         self.suspects = list(dict.fromkeys(suspects))
         names = list(nodes) + [end for stream in streams for end in (stream["from"], stream["to"])]
@@ -335,6 +338,8 @@ def add_arguments(parser: argparse.ArgumentParser) -> None:
     parser.add_argument("--window", action="store_true", help="draw a window of several periods")
     parser.add_argument("--advice", action="store_true", help="draw which streams to meter")
     parser.add_argument("--mark", metavar="STREAM", help="the stream whose cut or cycle is marked")
+    session = "the session, which has the boundaries that streams come from and go to"
+    parser.add_argument("--session", metavar="SESSION", help=session)
     parser.add_argument(
         "--dot", action="store_true", help="write the text for Graphviz in place of SVG"
     )
@@ -352,6 +357,8 @@ def run(options: argparse.Namespace) -> int:
         raise Fault(what, remedy="leave the words that choose a report out")
     asked = options.period, options.round, options.component, options.window
     picture = advised(rows) if options.advice else chosen(rows, *asked)
+    if options.session is not None:
+        picture.outside = Session.read(options.session).crossings()
     if options.mark is not None:
         picture.mark(options.mark)
     dot = picture.dot()
