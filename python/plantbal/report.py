@@ -29,7 +29,7 @@ _GLOBAL = {
     "accept": "accepted by the global test",
     "reject": "rejected by the global test",
     "undecided": "the global test is undecided",
-    "nocritical": "no global test: no critical value for its degrees of freedom",
+    "nocritical": "no global test: no critical value for {} of freedom",
     "notest": "no global test: nothing tests it",
 }
 
@@ -457,7 +457,11 @@ class Block:
         said = self.solved["state"]
         if self.taken:
             said += f" after {', '.join(self.taken)} was taken out"
-        return said if self.whole is None else f"{said}, {_GLOBAL[self.whole['verdict']]}"
+        if self.whole is None:
+            return said
+        dof = self.solved["dof"]
+        degrees = "1 degree" if dof == "1" else f"{dof} degrees"
+        return f"{said}, {_GLOBAL[self.whole['verdict']].format(degrees)}"
 
     def suspects(self) -> list[str]:
         """Return the streams whose measurement test rejects, the greatest statistic first."""
