@@ -96,6 +96,18 @@ def test_completions_are_read_by_their_shells(command: str) -> None:
 
 
 @pytest.mark.parametrize(
+    ("prefix", "folder"), [("/usr", "vendor-completions"), ("/usr/local", "site-functions")]
+)
+def test_completions_are_where_zsh_looks(prefix: str, folder: str) -> None:
+    words = ["make", "-n", "-C", str(TOP), "install-desk", f"PREFIX={prefix}"]
+    done = subprocess.run(words, stdout=subprocess.PIPE, check=True, text=True)
+    assert f"{prefix}/share/zsh/{folder}/_plantbal-desk" in done.stdout
+    looks = [needed("zsh"), "-f", "-c", "print -l $fpath"]
+    done = subprocess.run(looks, stdout=subprocess.PIPE, check=True, text=True)
+    assert f"{prefix}/share/zsh/{folder}" in done.stdout.splitlines()
+
+
+@pytest.mark.parametrize(
     ("typed", "wanted"),
     [
         ("plantbal c", {"check"}),
