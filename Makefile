@@ -42,7 +42,9 @@ install-program: $(PROGRAM)
 	install -D -m 644 packaging/completions/plantbal.fish $(SHARE)/fish/vendor_completions.d/plantbal.fish
 	install -D -m 644 -t $(SHARE)/doc/plantbal $(PROGRAM_DOCUMENTS)
 	install -D -m 644 -t $(SHARE)/doc/plantbal/pictures docs/pictures/*
-	install -D -m 644 -t $(SHARE)/doc/plantbal/examples examples/*.csv
+	install -D -m 644 -t $(SHARE)/doc/plantbal/examples examples/*.csv examples/*.jq
+	install -D -m 644 -t $(SHARE)/doc/plantbal/examples/concentrator examples/concentrator/*
+	install -D -m 644 -t $(SHARE)/doc/plantbal/examples/meters examples/meters/*
 	install -D -m 644 -t $(SHARE)/doc/plantbal/examples/conformance examples/conformance/*
 	packaging/build_record $(BUILT) $(BIN)/plantbal >$(BIN)/BUILD
 	install -D -m 644 $(BIN)/BUILD $(SHARE)/plantbal/BUILD
