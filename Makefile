@@ -19,6 +19,8 @@ UNITS = $(PREFIX)/lib/systemd/system
 # Debian's python3 looks into /usr/lib/python3/dist-packages, and for /usr/local into a folder with its version.
 PYTHON_FOLDER = $(if $(filter /usr/local,$(PREFIX)),$(shell $(PYTHON) -c 'import sys; print("python%d.%d" % sys.version_info[:2])'),python3)
 LIBRARY = lib/$(PYTHON_FOLDER)/dist-packages
+# zsh looks into /usr/share/zsh/vendor-completions and, for what no package has, into /usr/local/share/zsh/site-functions.
+ZSH = $(SHARE)/zsh/$(if $(filter /usr,$(PREFIX)),vendor-completions,site-functions)
 
 PROGRAM_DOCUMENTS = README.md CHANGELOG.md docs/GUIDE.md docs/FORMAT.md docs/DEFINITIONS.md docs/STATEMENT.md docs/ASSURANCE.md docs/DECISIONS.md
 DESK_DOCUMENTS = docs/MONTH_END.md docs/PYTHON.md docs/OPERATIONS.md
@@ -36,11 +38,13 @@ install-program: $(PROGRAM)
 	install -D -m 644 -t $(SHARE)/man/man1 docs/plantbal.1
 	install -D -m 644 -t $(SHARE)/man/man5 docs/plantbal-session.5 docs/plantbal-report.5
 	install -D -m 644 packaging/completions/plantbal.bash $(SHARE)/bash-completion/completions/plantbal
-	install -D -m 644 packaging/completions/plantbal.zsh $(SHARE)/zsh/vendor-completions/_plantbal
+	install -D -m 644 packaging/completions/plantbal.zsh $(ZSH)/_plantbal
 	install -D -m 644 packaging/completions/plantbal.fish $(SHARE)/fish/vendor_completions.d/plantbal.fish
 	install -D -m 644 -t $(SHARE)/doc/plantbal $(PROGRAM_DOCUMENTS)
 	install -D -m 644 -t $(SHARE)/doc/plantbal/pictures docs/pictures/*
-	install -D -m 644 -t $(SHARE)/doc/plantbal/examples examples/*.csv
+	install -D -m 644 -t $(SHARE)/doc/plantbal/examples examples/*.csv examples/*.jq
+	install -D -m 644 -t $(SHARE)/doc/plantbal/examples/concentrator examples/concentrator/*
+	install -D -m 644 -t $(SHARE)/doc/plantbal/examples/meters examples/meters/*
 	install -D -m 644 -t $(SHARE)/doc/plantbal/examples/conformance examples/conformance/*
 	packaging/build_record $(BUILT) $(BIN)/plantbal >$(BIN)/BUILD
 	install -D -m 644 $(BIN)/BUILD $(SHARE)/plantbal/BUILD
@@ -53,7 +57,7 @@ install-desk:
 	chmod 755 $(BIN)/plantbal-desk
 	install -D -m 644 -t $(SHARE)/man/man1 docs/plantbal-desk.1
 	install -D -m 644 packaging/completions/plantbal-desk.bash $(SHARE)/bash-completion/completions/plantbal-desk
-	install -D -m 644 packaging/completions/plantbal-desk.zsh $(SHARE)/zsh/vendor-completions/_plantbal-desk
+	install -D -m 644 packaging/completions/plantbal-desk.zsh $(ZSH)/_plantbal-desk
 	install -D -m 644 packaging/completions/plantbal-desk.fish $(SHARE)/fish/vendor_completions.d/plantbal-desk.fish
 	install -D -m 644 -t $(SHARE)/doc/python3-plantbal $(DESK_DOCUMENTS) examples/heat_exchanger.ipynb
 	find $(WORKBOOKS) -type f | sort | while read -r file; do \

@@ -61,12 +61,6 @@ def bash(command: Command) -> str:
         '    mapfile -t COMPREPLY < <(compgen "$1" -- "$here")',
         "}",
         "",
-        "_plantbal_more() { # WORDS: those of them too that begin as the word at hand",
-        "    local -a more",
-        '    mapfile -t more < <(compgen -W "$1" -- "$here")',
-        '    COMPREPLY+=("${more[@]}")',
-        "}",
-        "",
         f"{name}() {{",
         "    local here=${COMP_WORDS[COMP_CWORD]} before=${COMP_WORDS[COMP_CWORD - 1]} word= at",
         "    COMPREPLY=()",
@@ -92,8 +86,12 @@ def bash(command: Command) -> str:
         lines.append(f"    {inner.word})")
         if files or choices:
             lines.append("        if [[ $here != -* ]]; then")
+            if choices:  # they come first, and what stands after them may be a file
+                typed = '" ${COMP_WORDS[*]:at + 1:COMP_CWORD - at - 1} "'
+                lines.append(f"            if [[ ! {typed} =~ ' '({'|'.join(choices)})' ' ]]; then")
+                lines.append(f"                _plantbal_words {quoted(' '.join(choices))}")
+                lines += ["                return", "            fi"]
             lines += [f"            _plantbal_files {files[0]}"] if files else []
-            lines += [f"            _plantbal_more {quoted(' '.join(choices))}"] if choices else []
             lines += ["            return", "        fi"]
         lines.append(f"        _plantbal_words {quoted(' '.join(longs(inner.options)))} ;;")
     # A mode may come after its options.

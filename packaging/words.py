@@ -21,7 +21,9 @@ MODES = {
     "make": "make a session from a number",
 }
 FOLDERS = {"FOLDER", "OUT"}
-FILES = {"FILE", "OUTPUT", "PATH", "READINGS", "REPORT", "ROWS", "SESSION", "TAGS", "WORKBOOK"}
+FILES = set(
+    "BUNDLE|REPORT COSTS FILE OUTPUT PATH READINGS REPORT ROWS SESSION TAGS WORKBOOK".split()
+)
 
 
 @dataclass(frozen=True)

@@ -9,12 +9,6 @@ _plantbal_files() { # -f or -d: files, or folders, that begin so
     mapfile -t COMPREPLY < <(compgen "$1" -- "$here")
 }
 
-_plantbal_more() { # WORDS: those of them too that begin as the word at hand
-    local -a more
-    mapfile -t more < <(compgen -W "$1" -- "$here")
-    COMPREPLY+=("${more[@]}")
-}
-
 _plantbal_desk() {
     local here=${COMP_WORDS[COMP_CWORD]} before=${COMP_WORDS[COMP_CWORD - 1]} word= at
     COMPREPLY=()
@@ -94,6 +88,7 @@ _plantbal_desk() {
         draw:--round) :; return ;;
         draw:--component) :; return ;;
         draw:--mark) :; return ;;
+        draw:--session) _plantbal_files -f; return ;;
         draw:--out) _plantbal_files -f; return ;;
         chart:--most) :; return ;;
         chart:--stream) :; return ;;
@@ -179,15 +174,21 @@ _plantbal_desk() {
         _plantbal_words '-h --help --out --locale --missing --skip --limits --design' ;;
     book)
         if [[ $here != -* ]]; then
+            if [[ ! " ${COMP_WORDS[*]:at + 1:COMP_CWORD - at - 1} " =~ ' '(new|add|show|amend|strike|report|window|close|status|next)' ' ]]; then
+                _plantbal_words 'new add show amend strike report window close status next'
+                return
+            fi
             _plantbal_files -f
-            _plantbal_more 'new add show amend strike report window close status next'
             return
         fi
         _plantbal_words '-h --help --program --locale --missing --skip --limits --book --who --why --strike --anyway --year --dry-run --density --error --session --gap --sweeps --no-tests --eliminate --all --plant --first' ;;
     template)
         if [[ $here != -* ]]; then
+            if [[ ! " ${COMP_WORDS[*]:at + 1:COMP_CWORD - at - 1} " =~ ' '(refinery|concentrator|utility)' ' ]]; then
+                _plantbal_words 'refinery concentrator utility'
+                return
+            fi
             _plantbal_files -f
-            _plantbal_more 'refinery concentrator utility'
             return
         fi
         _plantbal_words '-h --help' ;;
@@ -199,8 +200,11 @@ _plantbal_desk() {
         _plantbal_words '-h --help --decimal --date --limits --missing --skip --before' ;;
     tables)
         if [[ $here != -* ]]; then
+            if [[ ! " ${COMP_WORDS[*]:at + 1:COMP_CWORD - at - 1} " =~ ' '(flows|classes|count|contents|suspects|imbalance)' ' ]]; then
+                _plantbal_words 'flows classes count contents suspects imbalance'
+                return
+            fi
             _plantbal_files -f
-            _plantbal_more 'flows classes count contents suspects imbalance'
             return
         fi
         _plantbal_words '-h --help --component --window' ;;
@@ -227,7 +231,7 @@ _plantbal_desk() {
             _plantbal_files -f
             return
         fi
-        _plantbal_words '-h --help --period --round --component --window --advice --mark --dot --out' ;;
+        _plantbal_words '-h --help --period --round --component --window --advice --mark --session --dot --out' ;;
     chart)
         if [[ $here != -* ]]; then
             _plantbal_files -f

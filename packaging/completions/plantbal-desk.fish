@@ -63,6 +63,7 @@ complete -c plantbal-desk -n '__fish_seen_subcommand_from audit' -l no-program -
 complete -c plantbal-desk -n '__fish_seen_subcommand_from audit' -l strict -d 'status 1 on notes too'
 complete -c plantbal-desk -n '__fish_seen_subcommand_from audit' -l program -r -F -d 'the program (default: that of PLANTBAL, of the path, or of this checkout)'
 complete -c plantbal-desk -n '__fish_seen_subcommand_from audit' -F
+complete -c plantbal-desk -n '__fish_seen_subcommand_from audit' -F
 complete -c plantbal-desk -n '__fish_seen_subcommand_from report' -s h -l help -d 'show this help message and exit'
 complete -c plantbal-desk -n '__fish_seen_subcommand_from report' -l out -r -F -d 'a .csv, .sqlite or .xlsx file'
 complete -c plantbal-desk -n '__fish_seen_subcommand_from report' -F
@@ -131,6 +132,7 @@ complete -c plantbal-desk -n '__fish_seen_subcommand_from advise' -l draw -r -F 
 complete -c plantbal-desk -n '__fish_seen_subcommand_from advise' -l locale -x -d 'how numbers are written, such as de'
 complete -c plantbal-desk -n '__fish_seen_subcommand_from advise' -l program -r -F -d 'the program (default: that of PLANTBAL, of the path, or of this checkout)'
 complete -c plantbal-desk -n '__fish_seen_subcommand_from advise' -F
+complete -c plantbal-desk -n '__fish_seen_subcommand_from advise' -F
 complete -c plantbal-desk -n '__fish_seen_subcommand_from recovery' -s h -l help -d 'show this help message and exit'
 complete -c plantbal-desk -n '__fish_seen_subcommand_from recovery' -l component -x -d 'of this component alone'
 complete -c plantbal-desk -n '__fish_seen_subcommand_from recovery' -l feed -x -d 'shares are of what this stream carries; may be given more than once'
@@ -146,6 +148,7 @@ complete -c plantbal-desk -n '__fish_seen_subcommand_from draw' -l component -x 
 complete -c plantbal-desk -n '__fish_seen_subcommand_from draw' -l window -d 'draw a window of several periods'
 complete -c plantbal-desk -n '__fish_seen_subcommand_from draw' -l advice -d 'draw which streams to meter'
 complete -c plantbal-desk -n '__fish_seen_subcommand_from draw' -l mark -x -d 'the stream whose cut or cycle is marked'
+complete -c plantbal-desk -n '__fish_seen_subcommand_from draw' -l session -r -F -d 'the session, which has the boundaries that streams come from and go to'
 complete -c plantbal-desk -n '__fish_seen_subcommand_from draw' -l dot -d 'write the text for Graphviz in place of SVG'
 complete -c plantbal-desk -n '__fish_seen_subcommand_from draw' -l out -r -F -d 'the picture'
 complete -c plantbal-desk -n '__fish_seen_subcommand_from draw' -F

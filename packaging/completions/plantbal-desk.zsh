@@ -73,7 +73,7 @@ _plantbal_desk() {
             '--strict[status 1 on notes too]'
             '--program=[the program (default\: that of PLANTBAL, of the path, or of this checkout)]:PATH:_files'
             '1:word:(audit)'
-            '2:BUNDLE|REPORT:'
+            '2:BUNDLE|REPORT:_files'
             '*:SESSION:_files'
         ) ;;
     report)
@@ -188,7 +188,7 @@ _plantbal_desk() {
             '--program=[the program (default\: that of PLANTBAL, of the path, or of this checkout)]:PATH:_files'
             '1:word:(advise)'
             '2:SESSION:_files'
-            '*:COSTS:'
+            '*:COSTS:_files'
         ) ;;
     recovery)
         specifications=(
@@ -213,6 +213,7 @@ _plantbal_desk() {
             '--window[draw a window of several periods]'
             '--advice[draw which streams to meter]'
             '--mark=[the stream whose cut or cycle is marked]:STREAM:'
+            '--session=[the session, which has the boundaries that streams come from and go to]:SESSION:_files'
             '--dot[write the text for Graphviz in place of SVG]'
             '--out=[the picture]:FILE:_files'
             '1:word:(draw)'

@@ -9,12 +9,6 @@ _plantbal_files() { # -f or -d: files, or folders, that begin so
     mapfile -t COMPREPLY < <(compgen "$1" -- "$here")
 }
 
-_plantbal_more() { # WORDS: those of them too that begin as the word at hand
-    local -a more
-    mapfile -t more < <(compgen -W "$1" -- "$here")
-    COMPREPLY+=("${more[@]}")
-}
-
 _plantbal() {
     local here=${COMP_WORDS[COMP_CWORD]} before=${COMP_WORDS[COMP_CWORD - 1]} word= at
     COMPREPLY=()

@@ -225,5 +225,5 @@ def run(options: argparse.Namespace) -> int:
         lines = [",".join(row) for row in [("stream", "cost", "cycle"), *rows]]
     write_text("-", "".join(f"{line}\n" for line in lines))
     if options.draw:
-        write_bytes(options.draw, svg(advised(found.rows).dot()))
+        write_bytes(options.draw, svg(advised(found.rows, plant.crossings()).dot()))
     return 0

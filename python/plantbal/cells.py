@@ -78,6 +78,7 @@ _DAY = re.compile(r"([0-9]{1,4})([./-])\s?([0-9]{1,2})\2\s?([0-9]{1,4})\.?")
 _TIME = re.compile(r"(.*?)[ T]+([0-9]{1,2}:[0-9]{2}(?::[0-9]{2}(?:[.,][0-9]+)?)?)")
 _NAMED = re.compile(r"([0-9]{1,2})\.?[ -]([^\W\d]+)\.?[ -]([0-9]{4})")
 _GRADE = re.compile(r"(.*?[0-9])\s*(%|[^\W\d_]+(?:/[^\W\d_]+)?)")
+_RATE = re.compile(r"[\[(]?([^\W\d_][\w³]*)/(?:hr?|hours?|d|day|min|s)[\])]?", re.IGNORECASE)
 _EXACT = Context(prec=400, traps=[Inexact])
 # Days that Excel's numbers stand for: 1954 to 2119.
 _FIRST_SERIAL, _LAST_SERIAL = 20_000, 80_000
@@ -237,6 +238,8 @@ class Reader:
                 own = f", and --locale is {self.locale}" if self.locale else ""
                 return f"{text!r} has {mark}{own}", f"say --locale {locale}, or write it otherwise"
         what = f"{text!r} is no figure"
+        if _of_rate(text.rpartition(" ")[2]):
+            return what, _of_rate(text.rpartition(" ")[2])
         if text.startswith("#"):
             return f"{text} stands here: its formula fails", "mend it, or empty the cell"
         return what, f"mend it, or say --missing {text!r} if it means that there is none"
@@ -258,13 +261,28 @@ class Reader:
             time = split.group(2) if split else None
             found = self._day_of(cell, split.group(1) if split else value, head)
         if found is None:
-            remedy = "open the workbook and save it" if isinstance(value, NoValue) else ""
+            remedy = self._of_order(cell.text)
+            if isinstance(value, NoValue):
+                remedy = "open the workbook and save it"
             what = f"{cell.text!r} is no day" if cell.text else "there is no day"
             raise self.fault(cell, what, remedy or "write it as 2024-06-30", head)
         if time is not None and not re.fullmatch(r"0?0:00(:00([.,]0+)?)?", str(time)):
             remedy = "a figure is a day's: add the hours of a day up, and write the day alone"
             raise self.fault(cell, f"{cell.text} has a time of the day, {time}", remedy, head)
         return found
+
+    def _of_order(self, text: str) -> str:
+        """Return what to do if a text is a day once its day and month are exchanged."""
+        match = _DAY.fullmatch(text)
+        if not self.locale or match is None or match.group(2) == "." or len(match.group(1)) == 4:
+            return ""
+        order = day_order(self.locale)
+        months = [part for part in match.group(1, 3) if int(part) <= 12]
+        if order == "ymd" or len(months) != 1:
+            return ""
+        first = "month" if order == "mdy" else "day"
+        remedy = "say --locale en_GB" if order == "mdy" else "write it as 2024-06-30"
+        return f"--locale {self.locale} has the {first} first: {remedy}"
 
     def _serial(self, cell: Cell, number: Decimal) -> datetime.date | None:
         """Return the day of one of Excel's numbers."""
@@ -316,7 +334,7 @@ class Reader:
             return default
         found = unit_of(cell.text)
         if found not in kinds:
-            remedy = f"write one of {', '.join(kinds)}"
+            remedy = _of_rate(cell.text) or f"write one of {', '.join(kinds)}"
             if cell.text.casefold() in ("ton", "tons", "short ton", "short tons", "st", "lt"):
                 remedy = "write t for 1,000 kg; 2,000 lb are 2 klb"
             elif cell.text.casefold() == "wmt":
@@ -449,6 +467,19 @@ def unit_of(text: str) -> str:
     return known.get(plain.casefold(), plain)
 
 
+def is_rate(text: str) -> bool:
+    """Say whether a text is a unit of what flows in a time, such as `kg/h`."""
+    return bool(_RATE.fullmatch(text))
+
+
+def _of_rate(text: str) -> str:
+    """Return what to do with a figure in such a unit, or nothing if a text is another."""
+    match = _RATE.fullmatch(text)
+    if match is None:
+        return ""
+    return f"a figure is what flowed in all of its day, not a rate: write it in {match.group(1)}"
+
+
 def _date(year: int, month: int, day: int) -> datetime.date | None:
     try:
         return datetime.date(year, month, day)
@@ -458,10 +489,12 @@ def _date(year: int, month: int, day: int) -> datetime.date | None:
 
 def check_locale(locale: str) -> str:
     """Return a locale, or say that there is none of this name."""
+    if not locale:
+        return ""
     from babel import Locale, UnknownLocaleError
 
     try:
-        return str(Locale.parse(locale.replace("-", "_"))) if locale else ""
+        return str(Locale.parse(locale.replace("-", "_")))
     except (ValueError, UnknownLocaleError):
         raise Fault(
             f"there is no locale {locale!r}", text=locale, remedy="say de, en_GB, fr or another"

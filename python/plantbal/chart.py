@@ -154,6 +154,9 @@ class Chart:
         axes.plot(across, total, color=INK, linewidth=1.2, gid=f"sum-{line.name}")
         axes.axhline(0, color="black", linewidth=0.8)
         axes.margins(y=0.15)
+        low, high = axes.get_ylim()
+        if high - low < 0.002:  # what nothing checks isn't adjusted: the ticks are of kilograms
+            axes.set_ylim(-0.001, 0.001)
 
     def _same_scale(self, column: list[Any]) -> None:
         """Give panels the same scale, with 0 in the middle."""

@@ -136,9 +136,10 @@ def convert(
         work.put_assays()
         work.read_rows()
         work.ask()
-        work.check_days()
-        work.check_whole()
-        work.say_rounded()
+        work.check_whole(design)
+        if not work.faults:  # what is missing would mostly follow from these
+            work.check_days()
+            work.say_rounded()
     work.faults += work.session.refused
     return Conversion(work.session, work.faults, work.notes)
 

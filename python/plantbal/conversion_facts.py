@@ -273,12 +273,14 @@ class Converter(Readings):
             what = f"{len(outside)} figures stand in no period, the first in {first_cell}"
             self.notes.append(what)
 
-    def check_whole(self) -> None:
-        """Keep a fault if there is nothing to report."""
-        if self.sheets["rows"] or self.faults or (self.session.periods and self.streams):
+    def check_whole(self, design: bool = False) -> None:
+        """Keep a fault if there is nothing to report; a design needs streams alone."""
+        asked = self.streams and (self.session.periods or design)
+        if self.sheets["rows"] or self.faults or asked:
             return
         place = Place(file=next((s.file for k in self.sheets.values() for s in k), ""))
-        what, remedy = "there is no period", "write readings, or a sheet periods"
+        what = "there is no period"
+        remedy = "write readings, or a sheet periods; --design asks for the design alone"
         if not self.streams:
             what, remedy = "there is no stream", "write the rows of the sheet streams"
         self.faults.append(InputFault(what, place=place, remedy=remedy))

@@ -289,7 +289,9 @@ class Plant(Tables):
             others = [*(other for other in self.session.nodes if other != name), ENV]
             others += self.session.boundaries
             near = difflib.get_close_matches(name, others, n=1, cutoff=0.75)
-            remedy = f"did you mean {near[0]}?" if near else "`env` is the world outside"
+            remedy = "write `env`, the world outside, or name it in a sheet boundaries"
+            if near:
+                remedy = f"did you mean {near[0]}?"
             if cell is None:
                 self.notes.append(f"the unit {name} stands in no stream")
             else:

@@ -5,7 +5,7 @@ from __future__ import annotations
 import datetime
 import re
 
-from plantbal.cells import GRAMS, VOLUMES, Error, Reader, day_order, unit_of
+from plantbal.cells import GRAMS, VOLUMES, Error, Reader, day_order, is_rate, unit_of
 from plantbal.conversion_plant import Plant, Stream
 from plantbal.conversion_tables import TOTALS
 from plantbal.faults import Fault, InputFault
@@ -180,7 +180,7 @@ class Readings(Plant):
             for cell in units.values()
         ):
             return None
-        if not any(unit_of(cell.text) in known for cell in units.values()):
+        if not any(unit_of(cell.text) in known or is_rate(cell.text) for cell in units.values()):
             return None
         found = {}
         for column, cell in units.items():

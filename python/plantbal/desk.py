@@ -10,7 +10,12 @@ from collections.abc import Sequence
 from dataclasses import dataclass
 from typing import Any, NoReturn, Protocol, cast
 
-from plantbal.faults import Fault
+from plantbal.faults import Fault, ToolMissing
+
+# Each is imported by the calls that need it, and is Debian's package python3-NAME.
+LIBRARIES = frozenset(
+    "babel distributed graphviz jinja2 matplotlib networkx numpy openpyxl pandas scipy tqdm".split()
+)
 
 
 class Handler(Protocol):
@@ -182,6 +187,13 @@ def call(parser: argparse.ArgumentParser, words: Sequence[str]) -> int:
         return status
     except Fault as fault:
         print(f"{options.prog}: {fault}", file=sys.stderr)
+        return 1
+    except ModuleNotFoundError as error:
+        library = (error.name or "").partition(".")[0]
+        if library not in LIBRARIES:
+            raise
+        missing = ToolMissing(library, f"python3-{library}")
+        print(f"{options.prog}: {missing}", file=sys.stderr)
         return 1
     except BrokenPipeError:
         # The reader has gone: nothing more can be written, not even at the end of the process.

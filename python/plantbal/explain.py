@@ -13,7 +13,7 @@ from pathlib import Path
 
 from plantbal.faults import InputFault, Place, Refusal, read_bytes
 from plantbal.files import write_text
-from plantbal.meant import number_meant
+from plantbal.meant import day_meant, number_meant
 from plantbal.records import Record, read_records, without_empty_end
 from plantbal.report import Values, read_rows
 from plantbal.schema import Column, Row, schema
@@ -287,6 +287,11 @@ def picture(
     return number, front + middle + rest, (width(front), width(middle))
 
 
+def _is_like(column: Column, text: str) -> bool:
+    """Say whether a field is of the form of its column, or a day that is written otherwise."""
+    return field_fits(column, text) or (column.type == "date" and bool(day_meant(text)))
+
+
 def _row_of(record: tuple[str, ...]) -> Row | None:
     """Return the row that a record is meant to be, or None."""
     rows = (rows_of_word(record) or rows_of_kind(record[0])[:1]) if record else []
@@ -294,7 +299,7 @@ def _row_of(record: tuple[str, ...]) -> Row | None:
 
     def unlike(row: Row) -> tuple[bool, int, int]:
         """Return how far a record is from a row: by its count of fields, then by their forms."""
-        fit = sum(map(field_fits, row.columns, record[1:]))
+        fit = sum(map(_is_like, row.columns, record[1:]))
         return not row.takes(count), abs(len(row.columns) - count), -fit
 
     return min(rows, key=unlike) if rows else None
@@ -394,7 +399,7 @@ def _too_few(row: Row, fields: tuple[str, ...], lacks: int) -> _Count:
     if lacks == 1:
         for place in range(count):
             others = (*row.columns[:place], *row.columns[place + 1 :])
-            if all(map(field_fits, others, fields)):
+            if all(map(_is_like, others, fields)):
                 found.append(row.columns[place])
     if found:
         names = _labels(found)

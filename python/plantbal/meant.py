@@ -113,6 +113,9 @@ def number_meant(
     counted = _with_unit(plain, units or {})
     if counted is not None and counted == int(counted) and low <= counted <= high:
         return f"write {int(counted)}, without the unit"
+    unit = (_UNIT.search(plain) or [""])[0].strip().casefold()
+    if "kg" in (units or {}) and unit in ("m3", "l", "ml", "bbl"):
+        return "an amount is in grams: multiply this volume by its density"
     if re.fullmatch(r"-?[0-9][0-9.,]* ?(kg|t|g|mm|cm|m3|m|l|ml)", plain):
         return "take the unit of measure out"
     return ""

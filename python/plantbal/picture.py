@@ -5,25 +5,27 @@ from __future__ import annotations
 
 import argparse
 import subprocess
-from collections.abc import Callable, Iterable
+from collections.abc import Callable, Iterable, Mapping
 
 from plantbal.amounts import tonnes_text
 from plantbal.faults import Fault, ToolMissing
 from plantbal.files import write_bytes
 from plantbal.report import Block, Values, advice_of, blocks_of, designs_of, read_rows
+from plantbal.session import Session
 
 HELP = """
 OUTPUT is what plantbal wrote, as CSV or as JSON lines; without it standard input is read. The last
 report is drawn, or, if there is none, the last design. The picture is SVG, and goes to standard
 output, or to the file of --out.
 
-Units are boxes, tanks are cylinders with what they gained, `env` is left open. The width of an
-arrow shows its tonnes. Streams: redundant green, with a full dot; nonredundant brown and dashed,
-with a ring; observable blue and dashed, with a triangle; unobservable grey and dotted, with a
-question mark, and without a figure; red with a `!` is a suspect (its measurement test rejects, and
-so does the global test), or was taken out. With --mark the certificate of a stream is shown: the
-parts of its cut or cycle are drawn thick, and the units on the cut's side are filled. A plant of
-300 streams takes a second or two, a plant of 2,000 some minutes.
+Units are boxes, tanks are cylinders with what they gained, `env` is left open; --session names the
+boundaries in its place, such as a jetty. The width of an arrow shows its tonnes. Streams: redundant
+green, with a full dot; nonredundant brown and dashed, with a ring; observable blue and dashed, with
+a triangle; unobservable grey and dotted, with a question mark, and without a figure; red with a `!`
+is a suspect (its measurement test rejects, and so does the global test), or was taken out. With
+--mark the certificate of a stream is shown: the parts of its cut or cycle are drawn thick, and the
+units on the cut's side are filled. A plant of 300 streams takes a second or two, a plant of 2,000
+some minutes.
 
 With --advice the last design is drawn with the last advice: the streams to meter are violet, with a
 `+` and what the meter costs; --mark shows the cycle for which one of them is metered.
@@ -31,6 +33,7 @@ With --advice the last design is drawn with the last advice: the streams to mete
 examples:
   plantbal run < day.csv | plantbal-desk draw --mark KEROSENE > day.svg
   plantbal run < plant.csv | plantbal-desk draw --advice --mark RES > meters.svg
+  plantbal run < terminal.csv | plantbal-desk draw --session terminal.csv --out terminal.svg
 """
 # Each has at least 4.5 to 1 on white, and a sign, so that none is known by its colour alone.
 COLOURS = {
@@ -81,6 +84,8 @@ class Picture:
         The rows of the streams to meter.
     shown : callable
         Gives what a person reads in place of a name.
+    outside : mapping of str to str
+        The boundary of the session at which a stream crosses into `env`, or out of it.
     """
 
     def __init__(
@@ -92,8 +97,10 @@ class Picture:
         prefix: str = "",
         meters: Iterable[Values] = (),
         shown: Callable[[str], str] = str,
+        outside: Mapping[str, str] | None = None,
     ) -> None:
         self.title, self.streams, self.prefix, self.shown = title, streams, prefix, shown
+        self.outside: Mapping[str, str] = outside or {}
         self.meters = {meter["stream"]: meter for meter in meters}
         self.suspects = list(dict.fromkeys(suspects))
         names = list(nodes) + [end for stream in streams for end in (stream["from"], stream["to"])]
@@ -172,18 +179,20 @@ class Picture:
         return f"  {quoted(name)} {said}"
 
     def edge(self, number: int, stream: Values) -> list[str]:
-        """Return the lines of a stream; its end in `env` is a point of its own."""
+        """Return the lines of a stream; its end in `env` is a point or a boundary of its own."""
         lines, ends = [], []
         for place in ("from", "to"):
             if stream[place] == "env":
                 ends.append(f"env-{place}-{number}")
                 filled = "env" in self.side
-                look = (
-                    {"width": 0.12, "color": "#c09000"}
-                    if filled
-                    else ({"width": 0.04, "color": "#a0a0a0"})
-                )
-                lines.append(f"  {quoted(ends[-1])} {attributes(shape='point', **look)}")
+                look: dict[str, object] = {"width": 0.04, "color": "#a0a0a0"}
+                if filled:
+                    look = {"width": 0.12, "color": "#c09000"}
+                look = {"shape": "point", **look}
+                if stream["name"] in self.outside:
+                    look = {"shape": "plaintext", "label": self.outside[stream["name"]]}
+                    look |= {"style": "filled", "fillcolor": "#fff0b0"} if filled else {}
+                lines.append(f"  {quoted(ends[-1])} {attributes(**look)}")
             else:
                 ends.append(stream[place])
         style = STYLES.get(stream["class"])
@@ -233,8 +242,15 @@ def picture_of(block: Block, prefix: str = "") -> Picture:
     return Picture(block.title, block.streams, nodes, taken, prefix, shown=block.shown)
 
 
-def advised(rows: list[Values]) -> Picture:
+def advised(rows: list[Values], outside: Mapping[str, str] | None = None) -> Picture:
     """Return the picture of the last design with the streams that the last advice says to meter.
+
+    Parameters
+    ----------
+    rows : list of dict
+        The rows of an output, which has `env` in place of boundaries.
+    outside : mapping of str to str, optional
+        The boundaries of streams.
 
     Raises
     ------
@@ -250,7 +266,7 @@ def advised(rows: list[Values]) -> Picture:
         )
     total = sum(int(meter["cost"]) for meter in meters)
     count = "1 meter" if len(meters) == 1 else f"{len(meters)} meters"
-    return Picture(f"{count} to buy, for {total:,}", designs[-1], meters=meters)
+    return Picture(f"{count} to buy, for {total:,}", designs[-1], meters=meters, outside=outside)
 
 
 def chosen(
@@ -322,6 +338,8 @@ def add_arguments(parser: argparse.ArgumentParser) -> None:
     parser.add_argument("--window", action="store_true", help="draw a window of several periods")
     parser.add_argument("--advice", action="store_true", help="draw which streams to meter")
     parser.add_argument("--mark", metavar="STREAM", help="the stream whose cut or cycle is marked")
+    session = "the session, which has the boundaries that streams come from and go to"
+    parser.add_argument("--session", metavar="SESSION", help=session)
     parser.add_argument(
         "--dot", action="store_true", help="write the text for Graphviz in place of SVG"
     )
@@ -339,6 +357,8 @@ def run(options: argparse.Namespace) -> int:
         raise Fault(what, remedy="leave the words that choose a report out")
     asked = options.period, options.round, options.component, options.window
     picture = advised(rows) if options.advice else chosen(rows, *asked)
+    if options.session is not None:
+        picture.outside = Session.read(options.session).crossings()
     if options.mark is not None:
         picture.mark(options.mark)
     dot = picture.dot()

@@ -383,6 +383,14 @@ class Session:
         """The boundaries, which are further names of ``env``, in order."""
         return tuple(self._boundaries)
 
+    def crossings(self) -> dict[str, str]:
+        """Return the boundary of each stream that has one, where it comes in or goes out."""
+        found: dict[str, str] = {}
+        for kind, *fields in self._rows if self._boundaries else ():
+            if kind == "stream":
+                found |= {fields[0]: end for end in fields[1:3] if end in self._boundaries}
+        return found
+
     @property
     def assays(self) -> tuple[tuple[str, str, str], ...]:
         """The component, the stream or tank, and the period of each assay, in order."""

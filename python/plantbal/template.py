@@ -71,7 +71,7 @@ ABOUT = {
     "tickets": "the batches of ships, trains and trucks",
     "estimates": "a figure with a wide error for a day without a reading",
     "assays": "the grades of components, each of a period, entered before it is closed",
-    "critical": "critical values of the tests; plantbal-desk critical gives them",
+    "critical": "critical values of the tests, such as 3.841, which rows of a session have as 3841",
     "periods": "the periods; without a row each calendar month with a reading is one",
     "windows": "periods to reconcile at once too, if a dip between them is missing",
 }

@@ -130,3 +130,6 @@ def test_command(program: Path, say: Desk, tmp_path: Path) -> None:
     assert (found.status, found.err) == (0, "")
     assert found.out.splitlines()[:2] == ["stream,cost,cycle", "RES,9000,+RES +CRUDE"]
     assert "meter: 4,000" in (tmp_path / "m.svg").read_text(encoding="utf-8")
+    say("advise", "--draw", tmp_path / "m.svg", example("terminal.csv"))
+    for name in ("JETTY", "RAIL", "PIPELINE"):
+        assert f">{name}</text>" in (tmp_path / "m.svg").read_text(encoding="utf-8")

@@ -150,6 +150,23 @@ def test_a_dip_that_closes_the_month_before(book: Type, tmp_path: Path, year: st
     assert "1 fact is booked and not in april: SILO_2024-03-31; struck" in said.out
 
 
+def test_what_began_in_the_month_before_is_not_gone(book: Type, tmp_path: Path) -> None:
+    """The dip that opens May stands in April's workbook, as does a ticket that lasts into May."""
+    april, may = month(), month(month="05")
+    april["tickets"] = [["id", "stream", "first", "last", "amount"]]
+    april["tickets"] += [["truck-9", "TRUCKS", "2024-04-30", "2024-05-01", "10"]]
+    book("add", folder(tmp_path / "april", april))
+    del may["dips"][1]
+    for last in (4, 3):
+        may["readings"] = month(last=last, month="05")["readings"]
+        said = book("add", folder(tmp_path / "may", may), "--strike", "--why", "frozen")
+    assert "2 facts are booked and not in may: F-1_2024-05-04, P-1_2024-05-04; struck" in said.out
+    assert [row for row in rows_of(tmp_path) if row.startswith("strike")] == [
+        "strike,F-1_2024-05-04,frozen",
+        "strike,P-1_2024-05-04,frozen",
+    ]
+
+
 def test_a_part_of_a_workbook_strikes_nothing(book: Type, tmp_path: Path) -> None:
     """Without the word for it: mostly it is the wrong file."""
     path, before = tmp_path / "part.csv", rows_of(tmp_path)
@@ -307,6 +324,32 @@ def test_a_sheet_of_another_name(say: Desk, tmp_path: Path) -> None:
     plant = folder(tmp_path / "plant", PLANT | {"piles": [["pile", "error"], ["ORE", "2 %"]]})
     said = say("book", "new", "2024", plant, "--book", tmp_path / "mill")
     assert said.out.endswith(f"{plant / 'piles.csv'}: the sheet is passed over\n")
+
+
+def test_a_sheet_with_only_what_is_new(book: Type, tmp_path: Path) -> None:
+    """What it lacks is said before what follows from that."""
+    streams = [PLANT["streams"][0], ["W-1", "WASTE", "MILL", "env", "", "1 t"]]
+    tanks = [PLANT["tanks"][0], ["SILO2", "3 mm", "1250"]]
+    sheets = {"streams": streams, "tanks": tanks, **month()}
+    lines = book("add", folder(tmp_path / "part", sheets)).err.splitlines()
+    what = "of the book {} here: {}: write the whole plant into this sheet, with what is new"
+    assert lines[0].endswith("3 streams " + what.format("aren't", "FEED, PRODUCT, TRUCKS"))
+    assert lines[1].endswith("1 tank " + what.format("isn't", "SILO"))
+    assert "MILL has nothing coming in" in lines[2]
+
+
+def test_critical_values_come_alone(book: Type, tmp_path: Path) -> None:
+    """After a close too; one that is there already stays."""
+    book("close", "2024-04", "--anyway")
+    path = tmp_path / "critical.csv"
+    path.write_text("test,dof,value\nglobal,1,3.84\nglobal,3,7.815\n", encoding="utf-8")
+    said = book("add", path, "--locale", "en")
+    assert said.out == "2024.csv: new: 1 row of the plant\n"
+    assert rows_of(tmp_path)[-1] == "critical,global,3,7815"
+    assert text_of(tmp_path / "mill" / "plant.csv").splitlines()[-1] == "critical,global,3,7815"
+    assert book("add", path, "--locale", "en").out == "2024.csv: nothing new\n"
+    path.write_text("test,dof,value\nglobal,3,11.3\n", encoding="utf-8")
+    assert "what is declared stays to the end of a year" in book("add", path).err
 
 
 def test_another_error_of_a_meter(book: Type, tmp_path: Path) -> None:

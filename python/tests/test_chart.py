@@ -2,6 +2,7 @@
 
 from __future__ import annotations
 
+import dataclasses
 import datetime
 import itertools
 import re
@@ -100,6 +101,15 @@ def test_chart(say: Desk) -> None:
     found = say("chart", "--stream", "OVERFLOW", TESTED)
     assert 'id="band-OVERFLOW"' in found.out and "meter-TAILS" not in found.out
     assert 'id="critical-day2"' in say("chart", example("heat_exchanger_suspect.jsonl")).out
+
+
+def test_a_sum_of_nothing(concentrator: Trend, tmp_path: Path) -> None:
+    """What nothing checks isn't adjusted: its ticks are of kilograms, not of a float's last bit."""
+    write_chart(concentrator, [], tmp_path / "chart.svg", "svg")  # which chooses what draws
+    none = numpy.array([0.0, -1e-16, -1e-16])
+    chart = Chart(concentrator, [dataclasses.replace(concentrator.lines["ORE"], sum=none)])
+    chart.draw()
+    assert (-0.001, 0.001) in [axes.get_ylim() for axes in chart.figure.axes]
 
 
 def test_files(say: Desk, tmp_path: Path) -> None:

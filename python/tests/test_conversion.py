@@ -274,6 +274,42 @@ REFUSED: dict[str, tuple[Make, dict[str, Any], str]] = {
         GERMAN,
         "'12408.5' has a decimal point, and --locale is de: say --locale en",
     ),
+    "a rate in the row of units": (
+        english([PLAIN[0], ["", "kg/h", "m3/h"], *PLAIN[1:]]),
+        {},
+        "line 2, column 2 (unit): 'kg/h' is no unit: a figure is what flowed in all of its day, "
+        "not a rate: write it in kg",
+    ),
+    "a rate after a figure": (
+        english(wide(days("%Y-%m-%d"), ["517 t/h", *FEED[1:]], PRODUCT)),
+        {},
+        "line 2, column 2 (F-1): '517 t/h' is no figure: a figure is what flowed in all of its",
+    ),
+    "the day first where the month is": (
+        english(wide([*days("%m/%d/%Y")[:2], "13/04/2024"], FEED, PRODUCT)),
+        {"locale": "en"},
+        "'13/04/2024' is no day: --locale en has the month first: say --locale en_GB",
+    ),
+    "the month first where the day is": (
+        english(wide([*days("%d/%m/%Y")[:2], "04/13/2024"], FEED, PRODUCT)),
+        {"locale": "en_GB"},
+        "'04/13/2024' is no day: --locale en_GB has the day first: write it as 2024-06-30",
+    ),
+    "a critical value in thousandths, in a folder": (
+        lambda room: folder_of(
+            room, sheet_with([["test", "dof", "value"], ["global", "1", "3841"]], "critical")
+        ),
+        {},
+        "line 2, column 3 (value): 3841 is no critical value: no test would reject: is it in",
+    ),
+    "a boundary that isn't named": (
+        lambda room: folder_of(
+            room, sheet_with([*plant()["streams"], ["", "WASTE", "MILL", "RAIL", ""]], "streams")
+        ),
+        {},
+        "line 4, column 4: RAIL has nothing going out, so its flows would be 0: write `env`, the "
+        "world outside, or name it in a sheet boundaries",
+    ),
     "a letter in a figure": (
         excel(wide(DAYS, ["1169O.5", 1, 1], numbers(PRODUCT))),
         {},
@@ -454,6 +490,7 @@ def test_all_faults_at_once(say: Desk, tmp_path: Path) -> None:
     for cell in ("B2", "A3", "C3", "B4"):
         assert f"readings!{cell}: " in said.err
     assert said.err.endswith("4 faults, and no session is written\n")
+    assert "no reading of" not in said.err  # which would follow from them
 
 
 def test_many_alike_are_counted(tmp_path: Path) -> None:
@@ -874,6 +911,14 @@ def test_template(say: Desk, tmp_path: Path, kind: str) -> None:
     found = convert(path)
     assert (found.said(), found.notes) == ([], [])
     assert len(readings_of(found.session)) == 6
+
+
+def test_a_plant_alone(tmp_path: Path) -> None:
+    """It is enough for a design, and for `advise`."""
+    path = folder_of(tmp_path, {"streams": plant()["streams"]})
+    assert "; --design asks for the design alone" in str(convert(path).faults[0])
+    found = convert(path, design=True)
+    assert found.ok and list(found.session)[-1] == ("design",)
 
 
 def test_empty_template(say: Desk, tmp_path: Path) -> None:

@@ -332,6 +332,11 @@ TOOLS = [
     (("critical", "0.05", "4"), "scipy", "there is no scipy: install python3-scipy"),
     (("solve", DAY), "scipy", "there is no scipy: install python3-scipy"),
     (("tables", "flows", OUTPUT), "pandas", "there is no pandas: install python3-pandas"),
+    (("run", DAY, "--out", "OUT.xlsx"), "pandas", "there is no pandas: install python3-pandas"),
+    (("check", OUTPUT), "pandas", "there is no pandas: install python3-pandas"),
+    (("uncertainty", OUTPUT), "pandas", "there is no pandas: install python3-pandas"),
+    (("page", OUTPUT), "pandas", "there is no pandas: install python3-pandas"),
+    (("convert", "--locale", "de", "x.xlsx"), "babel", "there is no babel: install python3-babel"),
     (("report", OUTPUT, "--out", "OUT.xlsx"), "openpyxl", "no openpyxl: install python3-openpyxl"),
     (("template", "refinery", "OUT.xlsx"), "openpyxl", "no openpyxl: install python3-openpyxl"),
 ]

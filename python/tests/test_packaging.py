@@ -69,13 +69,19 @@ def test_bash_completes_plantbal(typed: list[str], wanted: list[str]) -> None:
     assert said_by_bash("plantbal", *typed) == wanted
 
 
+BOOK = set("new add show amend strike report window close status next".split())
+
+
 def test_bash_completes_plantbal_desk() -> None:
     assert said_by_bash("plantbal-desk", "--ver") == ["--version"]
     assert said_by_bash("plantbal-desk", "fl") == ["fleet"]
     assert said_by_bash("plantbal-desk", "fleet", "--engine", "") == ["dask", "parallel"]
     assert said_by_bash("plantbal-desk", "fleet", "--j") == ["--jobs"]
-    assert "flows" in said_by_bash("plantbal-desk", "tables", "fl")
+    assert said_by_bash("plantbal-desk", "tables", "fl") == ["flows"]
     assert said_by_bash("plantbal-desk", "book", "am") == ["amend"]
+    assert {"add", "status"} < set(said_by_bash("plantbal-desk", "book", "")) <= BOOK
+    assert "/etc/hostname" in said_by_bash("plantbal-desk", "book", "add", "/etc/host")
+    assert "/etc/hostname" in said_by_bash("plantbal-desk", "advise", "plant.csv", "/etc/host")
     assert said_by_bash("plantbal-desk", "book", "close", "--any") == ["--anyway"]
     assert "/etc/hostname" in said_by_bash("plantbal-desk", "run", "/etc/host")
 
@@ -87,6 +93,18 @@ def test_completions_are_read_by_their_shells(command: str) -> None:
         subprocess.run(["zsh", "-n", COMPLETIONS / f"{command}.zsh"], check=True)
     if shutil.which("fish"):
         subprocess.run(["fish", "-n", COMPLETIONS / f"{command}.fish"], check=True)
+
+
+@pytest.mark.parametrize(
+    ("prefix", "folder"), [("/usr", "vendor-completions"), ("/usr/local", "site-functions")]
+)
+def test_completions_are_where_zsh_looks(prefix: str, folder: str) -> None:
+    words = ["make", "-n", "-C", str(TOP), "install-desk", f"PREFIX={prefix}"]
+    done = subprocess.run(words, stdout=subprocess.PIPE, check=True, text=True)
+    assert f"{prefix}/share/zsh/{folder}/_plantbal-desk" in done.stdout
+    looks = [needed("zsh"), "-f", "-c", "print -l $fpath"]
+    done = subprocess.run(looks, stdout=subprocess.PIPE, check=True, text=True)
+    assert f"{prefix}/share/zsh/{folder}" in done.stdout.splitlines()
 
 
 @pytest.mark.parametrize(

@@ -297,6 +297,10 @@ def test_other_session(book: tuple[list[Values], bytes]) -> None:
         page(rows, session=("book.csv", data + b"report,p\n"))
     with pytest.raises(Exception, match="book.csv: p: the value of B is 1,000,500 g, and"):
         page(rows, session=("book.csv", data.replace(b"1000500", b"1000400")))
+    silent = b"unit,U\nstream,A,env,U,plain,0\nstream,B,U,env,plain,0\n"
+    plain = [row for row in rows if row["row"] != "refused"]
+    with pytest.raises(Exception, match="asks for none: name the one that asks"):
+        page(plain, session=("2024.csv", silent))
 
 
 def test_a_total_beyond_the_limits() -> None:

@@ -23,6 +23,14 @@ def test_dot(say: Desk) -> None:
     assert '"HEADER" -> "TURBINE"' in found.out and "74.913 t" in found.out
 
 
+def test_boundaries_are_named(say: Desk) -> None:
+    words = ("draw", "--dot", example("terminal.out.csv"), "--session", example("terminal.csv"))
+    assert 'shape="plaintext", label="JETTY"' in say(*words).out
+    marked = say(*words, "--mark", "SHIPS").out
+    assert 'label="PIPELINE", style="filled", fillcolor="#fff0b0"' in marked
+    assert "JETTY" not in say(*words[:-2]).out
+
+
 def test_svg(say: Desk) -> None:
     found = say("draw", "--mark", "KEROSENE", REFINERY)
     xml.dom.minidom.parseString(found.out)

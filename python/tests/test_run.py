@@ -50,6 +50,12 @@ CASES: list[tuple[str, list[str], int, list[str]]] = [
         ["may: a report, converged, rejected by the global test"],
     ),
     (
+        GOOD.replace("global,1,", "global,2,") + "report,may\n",
+        [],
+        0,
+        ["may: a report, converged, no global test: no critical value for 1 degree of freedom"],
+    ),
+    (
         GOOD + "report,may\n",
         ["--sweeps", "0"],
         1,

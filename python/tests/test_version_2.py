@@ -274,6 +274,8 @@ def test_page() -> None:
     february = made[made.index('id="p0"') : made.index('id="p1"')]
     assert "TK2" in march and "TK2" not in february
     assert "3,672.850" in march
+    assert "JETTY → MANIFOLD" in march and "TK1 → RAIL" in march and "env → MANIFOLD" not in made
+    assert "env → MANIFOLD" in page(rows)  # which has no session
 
 
 def test_uncertainty() -> None:
@@ -402,6 +404,9 @@ def test_book_takes_a_tank_after_a_close(program: Path, dated: Type, tmp_path: P
     assert "reports/2024-04.csv, with 1 edit, as it was" in said.out
     report = text_of(tmp_path / "mill" / "reports" / "2024-05.csv")
     assert "stream,HOPPER,HOPPER,env" in report
+    dips = {"dips": [["tank", "day", "level"], ["HOPPER", "2024-05-31", "900"]]}
+    said = dated("add", folder(tmp_path / "dips", dips))
+    assert "no dip of HOPPER on 2024-04-30, the evening before it is in service" in said.out
 
 
 def test_book_refuses_a_tank_without_a_date(program: Path, dated: Type, tmp_path: Path) -> None:

@@ -12,7 +12,7 @@ from pathlib import Path
 from plantbal.book.changes import Changes, compare, gone, strayed
 from plantbal.book.ledger import FACT_KINDS, PLANT_KINDS, Fact, Ledger, rows_text
 from plantbal.book.meters import meters_of, meters_text, read_meters
-from plantbal.book.reading import converted, raise_all
+from plantbal.book.reading import ANOTHER_VALUE, converted, raise_all
 from plantbal.book.said import FIRST, added, changed, counted, doubts, lacking
 from plantbal.book.store import METERS, PLANT, Action, Book
 from plantbal.book.years import Years
@@ -264,6 +264,8 @@ def _instead(row: tuple[str, ...], refusal: Refusal) -> str:
     then = "plantbal-desk book next YEAR --plant WORKBOOK"
     if row[0] == "version":
         return f"dates of service and boundaries come with the next year: {then}"
+    if row[0] == "critical":
+        return ANOTHER_VALUE
     if refusal.code == _SEALED and "SINCE" in refusal.remedy:
         return "write a day after the closed periods into its column since"
     return f"what is new of the plant comes before the first close, or with the next year: {then}"

@@ -171,8 +171,9 @@ def gone(years: Years, work: Converter, facts: list[Fact]) -> list[tuple[Ledger,
 
     These are, in the periods of which the workbook has readings (or, if it has none, other facts):
     the readings of the streams that have a column in it, the dips if it has a sheet of dips, and
-    the tickets if it has a sheet of these. The dips that close the period before aren't: they are
-    of its own workbook. One that is booked in two years is given for both.
+    the tickets if it has a sheet of these. A fact that begins in another period, such as the dip
+    that closes the period before, isn't one of them: it is of the workbook of its own period. One
+    that is booked in two years is given for both.
     """
     scope = scope_of(years, facts)
     own = frozenset(fact.id for fact in facts)
@@ -184,23 +185,20 @@ def gone(years: Years, work: Converter, facts: list[Fact]) -> list[tuple[Ledger,
             there = fact.id in kept or (fact.place, fact.first) in slots
             if there or not _in_sheets(work, fact):
                 continue
-            if _is_of(ledger, fact, [period for _, period in scope]):
+            touches = any(_touches(fact, period) for _, period in scope)
+            if touches and not _begins_elsewhere(ledger, fact, scope):
                 for twin, same in years.twins(ledger, fact):
                     found[twin.name, same.id] = twin, same
     return list(found.values())
 
 
-def _is_of(ledger: Ledger, fact: Fact, periods: list[Period]) -> bool:
-    """Say whether a fact is of some periods; a dip of their eve is, if it closes no other one."""
-    if not any(_touches(fact, period) for period in periods):
-        return False
+def _begins_elsewhere(
+    ledger: Ledger, fact: Fact, scope: list[tuple[Ledger, Period]]
+) -> bool:
+    """Say whether the first day of a fact is one of another year, or of a period out of scope."""
     day = fact.first.toordinal()
-    own = any(period.first <= day <= period.last for period in periods)
-    if fact.kind != "dip" or own:
-        return True
-    others = ledger.periods.values()
-    is_last_year = fact.first < ledger.first
-    return not is_last_year and not any(each.first <= day <= each.last for each in others)
+    within = (each for each in ledger.periods.values() if each.first <= day <= each.last)
+    return fact.first < ledger.first or any((ledger, each) not in scope for each in within)
 
 
 def _in_sheets(work: Converter, fact: Fact) -> bool:

@@ -11,16 +11,23 @@ from itertools import islice
 from pathlib import Path
 
 from plantbal.book.meters import Meter, taken
+from plantbal.book.said import counted, listed
 from plantbal.cells import MISSING, Reader, check_locale
 from plantbal.conversion import Conversion
 from plantbal.conversion_facts import Converter
+from plantbal.conversion_plant import Stream, Tank
 from plantbal.conversion_tables import OTHER_HEADS, SHEETS
-from plantbal.faults import Fault, InputFault
+from plantbal.faults import Fault, InputFault, Refusal
 from plantbal.memory import uncollected
 from plantbal.workbook import Sheet, read_workbook
 
 _PLANT = ("boundaries", "units", "tanks", "straps")
 _FIRST = 12  # faults that are said; the others are counted
+# What is said of another critical value than that of the book.
+ANOTHER_VALUE = (
+    "what is declared stays to the end of a year; another value comes with "
+    "plantbal-desk book next YEAR --plant WORKBOOK"
+)
 _HEADS_WITHIN = 40  # rows of a sheet
 _HEADS_THAT_TELL = 3  # with fewer columns a sheet of readings might be meant
 
@@ -109,6 +116,8 @@ def converted(
             what = "the sheet is passed over: plantbal-desk book window asks for a window"
             work.notes.append(f"{sheet.place()} {what}")
     work.faults += [*work.session.refused, *edits]
+    if work.faults:
+        work.faults = [*_left_out(work, *taken(plant, meters)), *work.faults]
     found = Conversion(work.session, work.faults, work.notes)
     say_faults(options.prog, found, "nothing is booked")
     return work
@@ -128,6 +137,10 @@ def _read_plant(
             what = "the sheet is passed over: without a sheet streams the plant is the book's"
             work.notes.append(f"{sheet.place()} {what}")
         work.read_critical()
+        booked = {row[:-1] for row in plant if row[0] == "critical"}
+        for fault in work.faults:
+            if isinstance(fault, Refusal) and fault.row[:-1] in booked:
+                fault.remedy = ANOTHER_VALUE
         return
     work.begin(plant)
     if not work.sheets["tanks"]:
@@ -136,6 +149,24 @@ def _read_plant(
     work.read_plant()
     if not work.sheets["straps"]:
         work.take_straps(row for row in plant if row[0] == "strap")
+
+
+def _left_out(work: Converter, streams: list[Stream], tanks: list[Tank]) -> Iterator[Fault]:
+    """Give what is to be said of sheets that have a part of the plant only, such as what is new."""
+    tables = [tank.name for tank in tanks if tank.points and tank.name in work.tanks]
+    for kind, what, booked, there in (
+        ("streams", "stream", [each.name for each in streams], list(work.streams)),
+        ("tanks", "tank", [each.name for each in tanks], list(work.tanks)),
+        ("straps", "table", tables, [tank.name for tank in work.tanks.values() if tank.points]),
+    ):
+        names = [name for name in booked if name not in there and name not in work.bad]
+        if names and work.sheets[kind]:
+            are = "isn't" if len(names) == 1 else "aren't"
+            yield InputFault(
+                f"{counted(len(names), what)} of the book {are} here: {listed(names)}",
+                place=work.sheets[kind][0].place(),
+                remedy="write the whole plant into this sheet, with what is new",
+            )
 
 
 def _edits(work: Converter) -> Iterator[Fault]:

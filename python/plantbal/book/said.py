@@ -127,10 +127,12 @@ def lacks(ledger: Ledger, period: Period, meters: dict[str, Meter]) -> list[str]
                 groups.setdefault(("reading", spans(missing)), []).append(said)
     for name, kind in ledger.session.nodes.items():
         if kind == "tank":
-            ends = tank_days(ledger.session.service(name), first, last)
-            missing = [day for day in ends if ledger.on(name, day) is None]
+            service = ledger.session.service(name)
+            missing = [d for d in tank_days(service, first, last) if ledger.on(name, d) is None]
             if missing:
                 when = spans(missing) + _by_window(ledger, name, period, missing)
+                if service is not None and missing == [day_of_number(service[0] - 1)]:
+                    when += ", the evening before it is in service"
                 groups.setdefault(("dip", when), []).append(name)
     lines = [
         f"{period.name}: no {kind} of {listed(names)} on {when}"

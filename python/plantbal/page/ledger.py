@@ -145,15 +145,19 @@ class Ledger(Book):
         if heads == wanted:
             return
         if len(heads) != len(wanted):
-            why = f"it has {len(heads)} reports, and the session asks for {len(wanted)}"
+            many = "1 report" if len(heads) == 1 else f"{len(heads)} reports"
+            why = f"it has {many}, and the session asks for {len(wanted) or 'none'}"
         else:
             pairs = enumerate(zip(heads, wanted), 1)
             number, (found, asked) = next((n, pair) for n, pair in pairs if pair[0] != pair[1])
             why = f"report {number} is of {found}, and the session asks for {asked} there"
+        remedy = "run the session again"
+        if not wanted:  # such as a year of a book
+            remedy = "name the one that asks, as plantbal-desk book report --session writes it"
         raise InputFault(
             f"this isn't the output of {self.source}: {why}",
             place=Place(file=output),
-            remedy="run the session again",
+            remedy=remedy,
         )
 
     # ---- rows

@@ -3,7 +3,7 @@
 from __future__ import annotations
 
 import re
-from collections.abc import Iterable, Sequence
+from collections.abc import Iterable, Mapping, Sequence
 from math import log10, sqrt
 from typing import TYPE_CHECKING, Any
 
@@ -73,6 +73,15 @@ def soft(name: str) -> Any:
         return escape(name)
     pieces = re.findall(rf"[^-_.\u00a0]{{1,{LONGEST}}}[-_.\u00a0]*|[-_.\u00a0]+", name)
     return Markup("<wbr>").join(escape(piece) for piece in pieces)
+
+
+def way_of(line: Line, crossings: Mapping[str, str]) -> Any:
+    """Return the ends of a line, in place of `env` the boundary that the session has for it."""
+    from markupsafe import Markup
+
+    outside = crossings.get(line.name, "env")
+    ends = (outside if end == "env" else end for end in (line.from_, line.to))
+    return Markup(" → ").join(map(soft, ends))
 
 
 def day_spans(days: tuple[str, str] | None) -> Any:
@@ -256,9 +265,11 @@ def render(
         for each in account.statements
     }
     designs = account.designs[-1:] if account.is_advised or not rounds else []
+    made = environment()
+    crossings = account.ledger.session.crossings() if account.ledger is not None else {}
+    made.filters["way"] = lambda line: way_of(line, crossings)
     return (
-        environment()
-        .get_template("page.html.j2")
+        made.get_template("page.html.j2")
         .render(
             title=title or default_title(account, origin),
             head=head_of(account, origin),
