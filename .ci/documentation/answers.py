@@ -37,8 +37,11 @@ WRITTEN = {
 # Answers after which alone the program writes a row of some form: by the call and the name of the
 # answer. A check says yes to a block that is read; a stream of a window has a name of its own; a
 # report as objects is no row of a block that is checked, and a made session begins with its units.
+# The answers to the cases of a book have the word of the refusal in front.
 REPORT = r'\{.*"row":"report"'
 WRITTEN_AFTER = {
+    ("pb_facts::Assays::grades", "Ok"): r"component,",
+    ("pb_facts::Assays::push", "Ok"): r"component,",
     ("pb_blocks::Known::add", "Ok"): r"yes,",
     ("pb_blocks::Known::list", "Ok"): r"yes,",
     ("pb_blocks::result_of", "Ok"): r"yes,",
@@ -61,6 +64,17 @@ WRITTEN_AFTER = {
     ("pb_period::assemble_window", "Over"): r"over,[^,]*,s\d+\.\d+$",
     ("pb_period::names", "Ok"): REPORT,
     ("pb_period::names_of_periods", "Ok"): r"place,",
+    ("pb_periods::Periods::close", "Ok"): r"edit,\d+,close,",
+    ("pb_periods::Periods::push", "Ok"): REPORT,
+    ("pb_periods::judge_window", "Gap"): r"mismatch window,",
+    ("pb_periods::judge_window", "None"): r"window,",
+    ("pb_periods::judge_window", "Order"): r"order window,",
+    ("pb_periods::judge_window", "TooGreat"): r"full window,",
+    ("pb_periods::judge_window", "TooLong"): r"range window,",
+    ("pb_periods::places_between", "None"): r"mismatch window,",
+    ("pb_periods::places_between", "Some"): r"window,",
+    ("pb_periods::window_over", "Ok"): r"window,",
+    ("pb_periods::window_over", "TooGreat"): r"full window,",
     ("pb_report::write_component", "Ok"): r"component,",
     ("pb_report::write_row", "Ok"): r"report,",
     ("pb_report::write_window", "Ok"): r"window,",

@@ -141,7 +141,7 @@ def limits(sources: Sources) -> dict[str, int]:
     values, found = Values(sources), {}
     for module, names in (
         ("pb_limits.specs.Limits", None),
-        ("pb_kinds.specs.Ranges", ["most_assays"]),
+        ("pb_facts.specs.Assays", ["most_assays"]),
         ("pb_rows.specs.Reason", ["most_reason"]),
         ("pb_rows.specs.Date", ["first_year", "last_year"]),
     ):

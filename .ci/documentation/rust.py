@@ -77,7 +77,7 @@ class Function:
     @property
     def gives(self) -> str:
         """The type of its answer, empty if it has none."""
-        found = re.search(r"\) *-> *(.*)$", self.head, re.S)
+        found = re.search(r"\) *-> *(.*?)(?:\s+where\b.*)?$", self.head, re.S)
         return re.sub(r"\s+", " ", found[1]).strip() if found else ""
 
 

@@ -226,7 +226,7 @@ _plantbal_desk() {
             '--most=[show the N meters that are adjusted most (default\: 12)]:N:'
             '--stream=[show this stream, measured or observable; may be given more than once]:NAME:'
             '--component=[chart the balances of a component in place of the reports of mass]:NAME:'
-            '--session=[the session, which has the days of the periods]:SESSION:_files'
+            '--session=[the session, which has the days of the periods; may be given more than once]:SESSION:_files'
             '--out=[a .svg, .png or .pdf file]:FILE:_files'
             '1:word:(chart)'
             '*:OUTPUT:_files'
@@ -298,7 +298,7 @@ _plantbal_desk() {
             '-h[show this help message and exit]'
             '--help[show this help message and exit]'
             '--version[write the version and end]'
-            "1:word:((run\:'run a session, and say what has to be looked at' lint\:'say what in a session is accepted but looks wrong' explain\:'say for each refused row what is wrong with it' check\:'check a report, in CSV or as JSON lines' archive\:'put a month into a bundle with digests' audit\:'say whether a bundle, or a report and its session, holds' report\:'turn a report into CSV, SQLite or a workbook' solve\:'reconcile with scipy if sweeps don'\''t come near' convert\:'a session from a plant'\''s workbook' book\:'keep a plant'\''s book, a session for each year' template\:'an empty workbook for convert' from-spreadsheet\:'a session from daily readings and tags' tables\:'tables of flows, classes, suspects, imbalances' uncertainty\:'how good each flow is, and which meters it rests on' advise\:'which streams to meter so that each is observable, at least cost' recovery\:'where a component goes, its recovery, and a chart of it' draw\:'draw a report, a design, or which streams to meter' chart\:'chart the periods of a session' page\:'the month'\''s statement\: a page, a workbook, a PDF' fleet\:'run a folder of sessions' critical\:'critical values as rows of a session' from-scipy\:'another program'\''s figures in the form of a report' schema\:'the rows of sessions and outputs as data'))"
+            "1:word:((run\:'run a session, and say what has to be looked at' lint\:'say what in a session is accepted but looks wrong' explain\:'say for each refused row what is wrong with it' check\:'check a report, in CSV or as JSON lines' archive\:'put a month into a bundle with digests' audit\:'say whether a bundle, or a report and its session, holds' report\:'turn a report into CSV, SQLite or a workbook' solve\:'reconcile with scipy if sweeps don'\''t come near' convert\:'a session from a plant'\''s workbook' book\:'keep a plant'\''s book, a session for each year' template\:'an empty workbook for convert' from-spreadsheet\:'a session from daily readings and tags' tables\:'tables of flows, classes, suspects, imbalances' uncertainty\:'how good each flow is, and which meters it rests on' advise\:'which streams to meter so that each is observable, at least cost' recovery\:'where a component goes, its recovery, and a chart of it' draw\:'draw a report, a design, or which streams to meter' chart\:'chart the periods of one or more reports' page\:'the month'\''s statement\: a page, a workbook, a PDF' fleet\:'run a folder of sessions' critical\:'critical values as rows of a session' from-scipy\:'another program'\''s figures in the form of a report' schema\:'the rows of sessions and outputs as data'))"
         ) ;;
     esac
     _arguments -s : $specifications

@@ -131,7 +131,7 @@ def read_costs(path: str | Path, plant: Session, locale: str = "") -> dict[str, 
             what = f"there is no stream {name}" if name else "there is no name of a stream"
             if name in plant.nodes:
                 what = f"{name} is a {plant.nodes[name]}, not a stream"
-            raise reader.fault(stream, what, "mend the name, or take the row out", "stream")
+            raise reader.fault(stream, what, "correct the name, or remove the row", "stream")
         if kind != "plain":
             what = f"{name} is a {kind} stream: it is measured already"
             raise reader.fault(stream, what, "take the row out", "stream")

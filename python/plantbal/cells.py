@@ -241,8 +241,8 @@ class Reader:
         if _of_rate(text.rpartition(" ")[2]):
             return what, _of_rate(text.rpartition(" ")[2])
         if text.startswith("#"):
-            return f"{text} stands here: its formula fails", "mend it, or empty the cell"
-        return what, f"mend it, or say --missing {text!r} if it means that there is none"
+            return f"{text} stands here: its formula fails", "correct it, or clear the cell"
+        return what, f"correct it, or say --missing {text!r} if it means that there is none"
 
     # ---- days
 

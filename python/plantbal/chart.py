@@ -1,4 +1,4 @@
-"""Charts a session's periods: flows and how good they are, adjustments, the statistic."""
+"""Charts periods: flows and how good they are, adjustments, the statistic."""
 
 from __future__ import annotations
 
@@ -10,12 +10,14 @@ from typing import Any, BinaryIO
 
 from plantbal.faults import Fault, ToolMissing, read_bytes
 from plantbal.files import replacing
-from plantbal.output import read_whole
+from plantbal.output import read_all
 from plantbal.trend import Line, Trend, trend_of
 
 HELP = """
-OUTPUT is what plantbal wrote, as CSV or as JSON lines; without it standard input is read. The
-picture goes to standard output as SVG, or to the file of --out as SVG, PNG or PDF by its ending.
+OUTPUT is what plantbal wrote, as CSV or as JSON lines; without it standard input is read. Several
+are charted as one, such as the reports of a book; if two have the same period, the later counts.
+The picture goes to standard output as SVG, or to the file of --out as SVG, PNG or PDF by its
+ending.
 
 A row for each meter:
 
@@ -30,12 +32,13 @@ with --tests. Periods that the global test rejects are hatched everywhere, and h
 
 Flows to book are from the last round of each period's last report; meters, adjustments and
 statistic are from its first round, before any meter was taken out. Periods are placed at their
-days if --session names the session, or if their names are days (2024, 2024-Q2, 2024-05,
-2024-05-17); otherwise they come one after another.
+days if --session names the session (of several years each session), or if their names are days
+(2024, 2024-Q2, 2024-05, 2024-05-17); otherwise they come in the order of the outputs.
 
 examples:
   plantbal run --tests < year.csv | plantbal-desk chart --session year.csv > year.svg
   plantbal-desk chart --stream FILTERED --stream TAILS --out tails.pdf year.out.csv
+  plantbal-desk chart --out year.svg book/reports/2024-*.csv
 """
 
 ENDINGS = ("svg", "png", "pdf")
@@ -251,7 +254,8 @@ def chosen(trend: Trend, most: int, names: list[str]) -> list[Line]:
         return trend.greatest(most)
     for name in names:
         if name not in trend.lines:
-            raise Fault(f"there is no flow of {name} to chart", text=name, remedy="mend --stream")
+            said = f"there is no flow of {name} to chart"
+            raise Fault(said, text=name, remedy="correct --stream")
     return [trend.lines[name] for name in dict.fromkeys(names)]
 
 
@@ -306,7 +310,7 @@ def write_chart(trend: Trend, lines: list[Line], out: BinaryIO | Path, form: str
 
 def add_arguments(parser: argparse.ArgumentParser) -> None:
     """Add the words of the command."""
-    parser.add_argument("output", metavar="OUTPUT", nargs="?", default="-")
+    parser.add_argument("outputs", metavar="OUTPUT", nargs="*")
     parser.add_argument(
         "--most",
         metavar="N",
@@ -323,9 +327,8 @@ def add_arguments(parser: argparse.ArgumentParser) -> None:
     )
     component = "chart the balances of a component in place of the reports of mass"
     parser.add_argument("--component", metavar="NAME", default="", help=component)
-    parser.add_argument(
-        "--session", metavar="SESSION", help="the session, which has the days of the periods"
-    )
+    days = "the session, which has the days of the periods; may be given more than once"
+    parser.add_argument("--session", metavar="SESSION", action="append", default=[], help=days)
     parser.add_argument("--out", metavar="FILE", help="a .svg, .png or .pdf file")
 
 
@@ -336,8 +339,9 @@ def run(options: argparse.Namespace) -> int:
         raise Fault(
             f"{options.out} ends with {form!r}", text=options.out, remedy="say .svg, .png or .pdf"
         )
-    session = read_bytes(options.session)[1] if options.session else b""
-    trend = trend_of(read_whole(options.output, "report"), session, options.component)
+    session = b"\n".join(read_bytes(path)[1] for path in options.session)
+    output = read_all(options.outputs or ["-"], "report")
+    trend = trend_of(output, session, options.component)
     lines = chosen(trend, options.most, options.stream)
     if options.out:
         with replacing(options.out) as made:

@@ -33,7 +33,7 @@ OUTPUT_HELP = """
 The report goes to standard output, or to the file of --out by its ending: .csv, .sqlite or .xlsx.
 The file is written whole or not at all. If somebody has to look at a report before it is booked
 (refused rows, no report, not converged, a global test that rejects), standard error says why, and
-the status is 1.
+the status is 1. It also says which streams carry more of a component than there is of them.
 """
 RUN_HELP = """
 Standard error says how many rows are refused, with the first five in sentences with their lines.
@@ -45,8 +45,8 @@ FIRST = 5
 
 
 def say(options: argparse.Namespace, output: Output) -> int:
-    """Say why an output isn't ok, and return the status."""
-    for line in output.why:
+    """Say why an output isn't ok, and what in it can't be, and return the status."""
+    for line in [*output.why, *output.impossible]:
         print(f"{options.prog}: {line}", file=sys.stderr)
     return 0 if output.ok else 1
 
@@ -206,6 +206,14 @@ def _subjects(source: str, text: str, periods: list[str]) -> list[str]:
     return found[: len(periods)] if len(found) >= len(periods) else periods
 
 
+def _impossible(source: str, text: str) -> list[str]:
+    """Return what can't be in a report whose rows are the program's."""
+    try:
+        return parse_report(text, source).impossible
+    except (InputFault, ValueError):  # the check has said so
+        return []
+
+
 def _check(options: argparse.Namespace) -> int:
     _say_reading(options.report)
     source, data = read_bytes(options.report)
@@ -229,6 +237,8 @@ def _check(options: argparse.Namespace) -> int:
             print(f"no: {subject}, round {row.round}: {row.word}{where}{numbers}: {row.about}")
         else:
             print(f"unreadable: row {row.at}: {row.word}: it {row.about}")
+    for line in _impossible(source, text):
+        print(f"{options.prog}: {line}", file=sys.stderr)
     if (verdicts["verdict"] == "yes").all():
         return 0
     named = "FILE" if source == "standard input" else source
@@ -287,7 +297,8 @@ CHECK = SimpleNamespace(
     __doc__="Checks a report, in CSV or as JSON lines, and says in a sentence what is wrong.",
     HELP="""
 REPORT is a file; without it standard input is read. The status is 0 if each block gets a yes, and
-1 otherwise; a file without a block is a fault.
+1 otherwise; a file without a block is a fault. Standard error says which streams carry more of a
+component than there is of them, which no block is refused for.
 
 examples:
   plantbal-desk check report.jsonl

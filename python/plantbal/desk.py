@@ -76,7 +76,7 @@ COMMANDS: tuple[Command, ...] = (
     Command("advise", "advice", "which streams to meter so that each is observable, at least cost"),
     Command("recovery", "recovery", "where a component goes, its recovery, and a chart of it"),
     Command("draw", "picture", "draw a report, a design, or which streams to meter"),
-    Command("chart", "chart", "chart the periods of a session"),
+    Command("chart", "chart", "chart the periods of one or more reports"),
     Command("page", "page.command", "the month's statement: a page, a workbook, a PDF"),
     Command("fleet", "fleet.command", "run a folder of sessions", takes_words=True),
     Command("critical", "critical", "critical values as rows of a session"),

@@ -9,9 +9,9 @@ from pathlib import Path
 
 # What to do about a file that can't be read, by the system's number of the fault.
 _UNREAD = {
-    errno.ENOENT: "mend its name, or make it",
+    errno.ENOENT: "check its name, or create it",
     errno.EISDIR: "name a file in this folder",
-    errno.ENOTDIR: "mend its name",
+    errno.ENOTDIR: "check its name",
     errno.EACCES: "ask for the right to read it",
 }
 

@@ -16,7 +16,7 @@ from plantbal.faults import InputFault, Place
 # What to do about a file that can't be written, by the system's number of the fault.
 _UNWRITTEN = {
     errno.ENOENT: "make its folder first",
-    errno.ENOTDIR: "mend its name",
+    errno.ENOTDIR: "check its name",
     errno.EISDIR: "name a file in this folder",
     errno.EACCES: "ask for the right to write there, or write elsewhere",
     errno.EROFS: "write elsewhere",

@@ -55,7 +55,7 @@ def run(options: argparse.Namespace) -> int:
     if options.change:
         name, grams = options.change
         if name not in [stream["name"] for stream in block.streams]:
-            raise Fault(f"there is no stream {name} in the report", remedy="mend its name")
+            raise Fault(f"there is no stream {name} in the report", remedy="correct its name")
         if not re.fullmatch(r"-?[0-9]+", grams):
             raise Fault(f"{grams!r} is no whole number of grams", remedy="write 1500000")
         change = name, int(grams)

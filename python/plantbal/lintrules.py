@@ -334,7 +334,7 @@ def _in_no_period(book: Book) -> Iterator[Finding]:
             (
                 fact,
                 f"{_called(fact)} is of {day_text(fact.first)}, which is in no period",
-                _other_year(book, fact) or "mend its date, or declare a period of it",
+                _other_year(book, fact) or "correct its date, or declare a period that includes it",
             )
             for fact in outside
         ),
@@ -445,9 +445,9 @@ def _one_sided(book: Book) -> Iterator[Finding]:
         if number >= MOST_GUESSES:
             others = []
         near = difflib.get_close_matches(unit, others, n=1, cutoff=0.8)
-        remedy = "mend the end of a stream, or add one"
+        remedy = "correct the end of a stream, or add one"
         if not into[unit] and not out_of[unit]:
-            remedy = "mend the end of a stream, add one, or leave the unit out"
+            remedy = "correct the end of a stream, add one, or leave the unit out"
         if near:
             remedy = f"did you mean {near[0]}?"
         yield Finding("one-sided", text, remedy, _place(book, book.lines.get(unit)), unit)
@@ -460,7 +460,7 @@ def _never_served(book: Book) -> Iterator[Finding]:
         if not any(stream.is_in(period) for period in book.periods.values()):
             since, until = map(day_text, stream.service)
             text = f"{name} is in service from {since} to {until}, on no day of a period"
-            remedy = "mend its dates of service, or declare a period of them"
+            remedy = "correct its dates of service, or declare a period that has one of them"
             yield Finding("never-served", text, remedy, _place(book, stream.line), name)
 
 
@@ -552,7 +552,7 @@ def _near_names(book: Book) -> Iterator[Finding]:
         for one, other in near_pairs(names):
             first, second = sorted((one, other), key=lambda name: lines[name])
             text = f"the {what} {first} and {second} have nearly the same name"
-            remedy = "mend one of them, if they are one; or choose names that can't be mistaken"
+            remedy = "correct one of them if they are the same; if not, choose names less alike"
             yield Finding("near-names", text, remedy, _place(book, lines[second]), second)
 
 

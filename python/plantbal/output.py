@@ -174,6 +174,16 @@ class Output:
         """
         return not self.why
 
+    @cached_property
+    def impossible(self) -> list[str]:
+        """Which streams carry more of a component than there is of them, a sentence each.
+
+        The output may be ok all the same: a balance of a component is one of its assays alone.
+        """
+        from plantbal.carried import impossible
+
+        return impossible(self.blocks_in_order)
+
     def require(self) -> Output:
         """Return the output itself if it is ok.
 
@@ -623,8 +633,27 @@ def read_whole(path: str | Path, *wanted: str) -> Output:
     InputFault
         If it can't be read, is empty or cut off, is what a check said, or has no such row.
     """
-    source = "standard input" if str(path) == "-" else str(path)
-    return Output(read_rows(path, *wanted), source=source)
+    return read_all([path], *wanted)
+
+
+def read_all(paths: Sequence[str | Path], *wanted: str) -> Output:
+    """Return several outputs, each of them whole, as one: one after another.
+
+    Parameters
+    ----------
+    paths : sequence of str or Path
+        The files; ``-`` is standard input.
+    *wanted : str
+        Kinds of rows of which each has to have one at least.
+
+    Raises
+    ------
+    InputFault
+        If one can't be read, is empty or cut off, is what a check said, or has no such row.
+    """
+    names = ["standard input" if str(path) == "-" else str(path) for path in paths]
+    rows = [row for path in paths for row in read_rows(path, *wanted)]
+    return Output(rows, source=", ".join(names))
 
 
 def parse_report(text: str, source: str = "output", status: int | None = None) -> Output:

@@ -34,7 +34,8 @@ together. A stream that nothing determines has no figure.
 With --feed the shares are of what that stream carries, such as the feed of a mill that has a
 stockpile before it. A stream that --product names is in the table too, wherever it flows.
 
-The standard deviations come only from the grades: the flows of a balance count as exact.
+The standard deviations come only from the grades: the flows of a balance count as exact. Standard
+error says which streams carry more of a component than there is of them.
 
   text   tonnes and percent, as a table to be read
   csv    grams, and shares as fractions, with all digits
@@ -502,6 +503,6 @@ def run(options: argparse.Namespace) -> int:
             left = {"component", "period", "stream", "way"}
             text = text_of(pandas.DataFrame(_lines(rows)), left)
     sys.stdout.write(text)
-    for line in _not_known(balances):
+    for line in [*_not_known(balances), *output.impossible]:
         print(f"{options.prog}: {line}", file=sys.stderr)
     return 0

@@ -218,7 +218,7 @@ def _near(name: str, names: Iterable[str]) -> str:
     return f"did you mean {near}?" if near else ""
 
 
-_DECLARE = "declare it in a row before this one, or mend the name"
+_DECLARE = "declare it in a row before this one, or correct the name"
 _STREAM_AT = "name a stream that leads to it or from it"
 _ANOTHER = "begin another session, with the plant's rows again"
 # What to write for a date of service that isn't known.
@@ -997,7 +997,7 @@ class Session:
         key = component, name, period.name
         if key in self._assays:
             what = f"{name} has an assay of {component} in {period.name} already"
-            remedy = "leave one of the two out: an assay can't be amended, so mend it in the file"
+            remedy = "leave one of the two out: an assay can't be amended; correct it in the file"
             self._refuse(7, record, what, "stream", name, remedy)
         if period.closed:
             what = f"period {period.name} is closed"
@@ -1008,7 +1008,7 @@ class Session:
             assert service is not None
             days = " to ".join(day_of_number(day).isoformat() for day in service)
             what = f"{name} is in service on no day of {period.name}: it is from {days}"
-            remedy = "mend the period, or leave the row out"
+            remedy = "correct the period, or leave the row out"
             self._refuse(12, record, what, "stream", name, remedy)
         if len(self._assays) >= LIMITS["most_assays"]:
             what = f"{len(self._assays):,} assays are there, and no more may be"
@@ -1163,7 +1163,7 @@ class Session:
         at = "last" if outside != first else column
         said = day_of_number(outside).isoformat()
         what = f"{name} isn't in service on {said}: it is from {days}"
-        remedy = "mend the date, or leave the row out"
+        remedy = "correct the date, or leave the row out"
         if name in self._tables and outside < service[0]:
             eve = day_of_number(service[0] - 1)
             remedy += f"; the first dip may be of {eve}, the day before"
@@ -1186,9 +1186,9 @@ class Session:
         fact = self._facts.get(identity)
         if fact is None:
             remedy = _near(identity, self._facts) if len(self._facts) < 5000 else ""
-            remedy = remedy or "mend the id, or book the fact in a row before this one"
+            remedy = remedy or "correct the id, or book the fact in a row before this one"
             if any(component == identity for component, _, _ in self._assays):
-                remedy = "if an assay is meant: it can't be amended or struck, so mend its own row"
+                remedy = "if an assay is meant: it can't be amended or struck; correct its own row"
             elif self._what_is(identity):
                 remedy = f"{identity} is {self._what_is(identity)}: name a fact by its id"
             self._refuse(6, record, f"there is no fact {identity}", "id", identity, remedy)

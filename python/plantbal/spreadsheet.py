@@ -496,7 +496,7 @@ def run(options: argparse.Namespace) -> int:
         raise InputFault(
             "a unit's flows would be 0, and no session is written",
             place=Place(file=options.tags),
-            remedy="mend the ends of its streams",
+            remedy="correct the ends of its streams",
         )
     looks_wrong = brief(findings)
     if looks_wrong:

@@ -211,11 +211,11 @@ FAULTY: dict[str, tuple[Sheets, str]] = {
     ),
     "a year too early": (
         {"readings": [["day", "F-1"], ["2023-04-05", "1"]]},
-        "F-1_2023-04-05: 2023-04-05 is before 2024, the book's first year: mend the day",
+        "F-1_2023-04-05: 2023-04-05 is before 2024, the book's first year: correct the day",
     ),
     "the next year": (
         {"readings": [["day", "F-1"], ["2025-01-05", "1"]]},
-        "2025-01-05 comes after 2024: mend the day, or begin the next year: plantbal-desk book",
+        "2025-01-05 comes after 2024: correct the day, or begin the next year: plantbal-desk book",
     ),
     "an edit": (
         {"rows": [["strike", "F-1_2024-04-01", "why"]]},
@@ -230,7 +230,7 @@ FAULTY: dict[str, tuple[Sheets, str]] = {
             "periods": [["name", "first", "last"], ["2024-04", "2024-04-01", "2024-04-29"]],
             "readings": [["day", "F-1"], ["2024-04-05", "1"]],
         },
-        "and from 2024-04-01 to 2024-04-30 in the book: mend the sheet periods",
+        "and from 2024-04-01 to 2024-04-30 in the book: correct the sheet periods",
     ),
     "a level above the table": (
         {"dips": [["tank", "day", "level"], ["SILO", "2024-04-05", "20001"]]},
@@ -450,9 +450,9 @@ def test_what_a_command_has_changed_stays(book: Type, tmp_path: Path) -> None:
     assert rows_of(tmp_path) == before
     sheets = month()
     sheets["readings"][2][1], sheets["readings"][3][2] = "1302", "1191"
-    book("add", folder(tmp_path / "april", sheets), "--why", "mended")
+    book("add", folder(tmp_path / "april", sheets), "--why", "corrected")
     assert [row.split(",")[1:5] for row in rows_of(tmp_path)[-2:]] == [
-        ["F-1_2024-04-02", "1302000000", "169520400000000", "mended"],
+        ["F-1_2024-04-02", "1302000000", "169520400000000", "corrected"],
         ["P-1_2024-04-03.2", "PRODUCT", "2024-04-03", "1191000000"],
     ]
 

@@ -56,14 +56,14 @@ def fixture_moments(tmp_path: Path) -> dict[str, list[str]]:
     changed = month(last=30)
     changed["readings"][2][1] = ""
     changed["readings"][3][1] = "1210"
-    for name, sheets in {"plant": PLANT, "april": month(last=30), "mended": changed}.items():
+    for name, sheets in {"plant": PLANT, "april": month(last=30), "corrected": changed}.items():
         folder(tmp_path / name, sheets)
     why = ["--why", "a look at the log"]
     return {
         "new": ["new", "2024", str(tmp_path / "plant")],
         "add": ["add", str(tmp_path / "april")],
         "amend": ["amend", "truck-04", "32000 t", *why, "--error", "500 t"],
-        "add again": ["add", str(tmp_path / "mended"), "--strike", *why],
+        "add again": ["add", str(tmp_path / "corrected"), "--strike", *why],
         "strike": ["strike", "P-1", "2024-04-03", *why],
         "report": ["report", "--no-tests"],
         "close": ["close", "2024-04", "--anyway"],

@@ -199,7 +199,7 @@ def test_months_from_the_26th_to_the_25th(say: Desk, tmp_path: Path) -> None:
     typed("new", "2024", folder(tmp_path / "plant", PLANT))
     assert "new: 1 period, 72 readings" in typed("add", december("2024-12-31")).out
     assert "isn't within a year of this book" in typed("add", december("2024-12-31", january)).err
-    assert "comes after 2024: mend the day, or begin" in typed("add", december("2025-01-02")).err
+    assert "comes after 2024: correct the day, or begin" in typed("add", december("2025-01-02")).err
     assert "or say --first 2024-12-26" in typed("next", "2025").err
     assert typed("next", "2025", "--first", "2024-12-26").status == 0
     assert sum(row.startswith("reading") for row in rows_of(tmp_path, "2025")) == 12

@@ -103,6 +103,33 @@ def test_chart(say: Desk) -> None:
     assert 'id="critical-day2"' in say("chart", example("heat_exchanger_suspect.jsonl")).out
 
 
+def test_several_reports(say: Desk, tmp_path: Path) -> None:
+    """Reports of a period each make the chart of the one that has all; of two the later counts."""
+    parts = re.split("(?<=^end,2024-0[456],0\n)", text_of(TESTED), flags=re.MULTILINE)
+    names = ["june.csv", "april.csv", "may.csv"]
+    for name, text in zip(names, [parts[2], parts[0], parts[1]]):
+        (tmp_path / name).write_text(text)
+    (tmp_path / "earlier.csv").write_text(parts[2].replace("FILTERED", "LATER"))
+    found = say("chart", *(tmp_path / name for name in ["earlier.csv", *names]))
+    assert (found.status, found.out) == (0, say("chart", TESTED).out)
+    (tmp_path / "cut.csv").write_text(parts[2][:200])
+    found = say("chart", tmp_path / "may.csv", tmp_path / "cut.csv")
+    assert found.status == 1 and f"{tmp_path / 'cut.csv'}: " in found.err
+
+
+def test_days_of_several_sessions(say: Desk, tmp_path: Path) -> None:
+    """Each year's session has the days of its own periods."""
+    parts = re.split("(?<=^end,2024-0[456],0\n)", text_of(TESTED), flags=re.MULTILINE)
+    for name, days in (("last", "2023-12-01,2023-12-31"), ("first", "2024-01-01,2024-01-31")):
+        (tmp_path / f"{name}.out.csv").write_text(parts[0].replace("2024-04", name))
+        (tmp_path / f"{name}.csv").write_text(f"period,{name},{days}")
+    words = ["chart", tmp_path / "first.out.csv", tmp_path / "last.out.csv", "--session"]
+    found = say(*words, tmp_path / "first.csv", "--session", tmp_path / "last.csv")
+    assert found.status == 0 and "first</text>" not in found.out
+    assert found.out.index("statistic-last") < found.out.index("statistic-first")
+    assert "first</text>" in say(*words, tmp_path / "first.csv").out
+
+
 def test_a_sum_of_nothing(concentrator: Trend, tmp_path: Path) -> None:
     """What nothing checks isn't adjusted: its ticks are of kilograms, not of a float's last bit."""
     write_chart(concentrator, [], tmp_path / "chart.svg", "svg")  # which chooses what draws
@@ -125,7 +152,7 @@ def test_files(say: Desk, tmp_path: Path) -> None:
 FAULTY = [
     ([], "", "it is empty: run a session that asks for a report"),
     (["--out", "chart.doc", TESTED], "", "chart.doc ends with 'doc': say .svg, .png or .pdf"),
-    (["--stream", "TAIL", TESTED], "", "there is no flow of TAIL to chart: mend --stream"),
+    (["--stream", "TAIL", TESTED], "", "there is no flow of TAIL to chart: correct --stream"),
 ]
 
 

@@ -3,12 +3,14 @@
 from __future__ import annotations
 
 import json
+import re
+import shutil
 from decimal import Decimal
 from pathlib import Path
 
 import pandas
 import pytest
-from conftest import Desk, assert_refused, example, session_of, text_of
+from conftest import Desk, Said, assert_refused, example, session_of, text_of
 
 from plantbal import Session, run, solve
 from plantbal.cells import Reader
@@ -403,5 +405,64 @@ def test_book(say: Desk, tmp_path: Path, program: Path) -> None:
         said = say("book", command, "--book", books).out
         assert said.count(owed.replace("FEED, ", "")) == 1
     said = say("book", "close", "apr2", "--book", books)
-    assert "apr2 isn't closed: assays are missing, and can't come after it: mend" in said.err
+    assert "apr2 isn't closed: assays are missing, and can't come after it: put that" in said.err
     assert say("book", "close", "apr2", "--anyway", "--book", books).status == 0
+
+
+FLOWS = ["96340887,96340885,96340890", "342960413,342960232,342960593"]  # of copper, of all
+IMPOSSIBLE = [
+    (FLOWS[0], "342960594,342960593,342960595", ""),
+    (FLOWS[0], "342970887,342960594,342970890", "342.971 t of cu in 342.960 t, more than there is"),
+    (FLOWS[0], "-5000000,-5000002,-1", "-5.000 t of cu in 342.960 t, the other way than the stream"),
+    (FLOWS[1], "-342960413,-342960593,-342960232", "96.341 t of cu in -342.960 t, the other way"),
+    (FLOWS[1], "100,-100,96340900", ""),
+]
+
+
+@pytest.mark.parametrize("old, new, said", IMPOSSIBLE, ids=[case[1] for case in IMPOSSIBLE])
+def test_what_cannot_be(say: Desk, tmp_path: Path, old: str, new: str, said: str) -> None:
+    """A stream can't carry more of a component than there is of it, nor the other way."""
+    head = r"(stream,CONCENTRATE,THICKENER,env,\d+,\d+,redundant),"
+    text, count = re.subn(head + old, rf"\1,{new}", text_of(OUT), count=1)
+    assert count == 1
+    (tmp_path / "out.csv").write_text(text)
+    found = read_report(tmp_path / "out.csv")
+    assert found.ok == read_report(OUT).ok and not read_report(OUT).impossible
+    assert len(found.impossible) == (1 if said else 0)
+    err = say("recovery", tmp_path / "out.csv").err
+    assert "look at the assays and meters around it" in err if said else not err
+    if said:
+        assert found.impossible[0].startswith(f"cu in jun03: CONCENTRATE carries {said}")
+        assert found.impossible[0] in err
+
+
+def test_a_mistyped_grade_in_a_book(say: Desk, tmp_path: Path, program: Path) -> None:
+    """A book from before it takes the right one; after the close it stays, and so it is said."""
+    month, books = tmp_path / "month", tmp_path / "books"
+    month.mkdir()
+    for name, text in {
+        "streams": "tag,stream,from,to,error\nF1,FEED,env,MILL,1 %\nP1,FINES,MILL,env,1 %\n",
+        "readings": "day,F1,P1\n2024-04-01,100,101\n",
+        "periods": "name,first,last\napr1,2024-04-01,2024-04-01\n",
+    }.items():
+        (month / f"{name}.csv").write_text(text, encoding="utf-8")
+    assays = tmp_path / "assays.csv"
+
+    def add(grade: str) -> Said:
+        text = f"component,stream,period,grade,error\ncu,F1,apr1,{grade} %,2 %\n"
+        assays.write_text(text, encoding="utf-8")
+        return say("book", "add", assays, "--book", books)
+
+    assert say("book", "new", "2024", month, "--book", books).status == 0
+    assert say("book", "add", month, "--book", books).status == 0
+    shutil.copytree(books, tmp_path / "before")
+    assert add("9").status == 0
+    said = add("0.9")
+    assert said.status == 1 and "90,000 ppm of cu in apr1 in the book, and 9,000 ppm" in said.err
+    assert "or if the book is wrong, put back its folder from before that assay" in said.err
+    shutil.rmtree(books)
+    shutil.copytree(tmp_path / "before", books)
+    assert add("0.9").status == 0
+    assert say("book", "close", "apr1", "--anyway", "--book", books).status == 0
+    said = add("0.8")
+    assert (said.status, "apr1 is closed, so its assays stay as they are" in said.err) == (1, True)

@@ -313,7 +313,7 @@ REFUSED: dict[str, tuple[Make, dict[str, Any], str]] = {
     "a letter in a figure": (
         excel(wide(DAYS, ["1169O.5", 1, 1], numbers(PRODUCT))),
         {},
-        "plant.xlsx!readings!B2: '1169O.5' is no figure: mend it, or say --missing",
+        "plant.xlsx!readings!B2: '1169O.5' is no figure: correct it, or say --missing",
     ),
     "a formula without a value": (
         excel(wide(DAYS, [1, "=B2+1", 1], numbers(PRODUCT))),

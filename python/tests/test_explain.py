@@ -381,7 +381,7 @@ LATER += [
     (SMALL_3, 6, "component,cu,x", "PERIOD", "there is no period x"),
     (SMALL_3, 6, "component,n,cu", "PERIOD", "n is one; exchange the two fields"),
     (SMALL_3, 6, "component,au,n", "COMPONENT", "there is no assay of au in n"),
-    (SMALL_3, 6, "amend,cu,1,1,wrong", "ID", "it can't be amended or struck, so mend its own row"),
+    (SMALL_3, 6, "amend,cu,1,1,wrong", "ID", "it can't be amended or struck; correct its own row"),
     (SMALL_3, 6, "strike,S,wrong", "ID", "S is a metered stream: name a fact by its id"),
 ]
 

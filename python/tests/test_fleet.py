@@ -267,6 +267,36 @@ def test_outputs(tmp_path: Path, say: Desk, monkeypatch: pytest.MonkeyPatch, eng
     assert f"{len(OUTPUTS) + 1} plants, of which {len(OUTPUTS)} need" in found.err
 
 
+def test_sessions_share_a_job(tmp_path: Path, say: Desk, monkeypatch: pytest.MonkeyPatch) -> None:
+    """Small sessions do: how each ends is its own, whatever becomes of those before it."""
+    monkeypatch.setenv("CANNED", str(example("refinery_day.out.csv")))
+    ends = {name: case for name, case in OUTPUTS.items() if name != "late"}
+    cases = "".join(f"'{name}') {made} ;;\n" for name, (made, _, _) in ends.items())
+    program = tmp_path / "stub"
+    program.write_text(f'#!/bin/sh\nread case\ncase $case in\n{cases}*) cat "$CANNED";;\nesac\n')
+    program.chmod(0o755)
+    good = [f"good {number}" for number in range(40)]
+    texts = {name: f"{name}\nreport,may1\n" for name in [*ends, *good]}
+    sessions = {f"{name}.csv": text.encode() for name, text in texts.items()}
+    folder, out = folder_of(tmp_path / "sessions", sessions), tmp_path / "out"
+    words = ["fleet", "--program", program, "--jobs", "2", "--date", NIGHT, "--out", out, folder]
+    found = say(*words)
+    assert all(row_of(found.out, name)["look"] == "" for name in good)
+    for name, (_, state, said) in ends.items():
+        row = row_of(found.out, name)
+        assert (row["state"], said in row["look"]) == (state, True), row
+    log = out / "nights" / NIGHT / "joblog"
+    assert 5 < len(text_of(log).splitlines()) - 1 < len(texts)
+    for name in good:
+        kept = json.loads(text_of(out / name / NIGHT / "run.json"))
+        assert kept["status"] == 0 and kept["begun"] > 0 and kept["seconds"] >= 0
+    assert not list(out.rglob("*.part"))
+    # With these words each has a job of its own.
+    for before, after in ((["--timeout", "60"], []), ([], ["--", "run", "--tests"])):
+        assert say("fleet", "--again", *before, *words[1:], *after).status == 1
+        assert len(text_of(log).splitlines()) - 1 == len(texts)
+
+
 @pytest.mark.parametrize("engine", ["parallel", "dask"])
 def test_a_plant_that_cannot_begin(tmp_path: Path, say: Desk, engine: str) -> None:
     """It has its row, and the one after it that the time limit stops is still known by its name."""

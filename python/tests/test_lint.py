@@ -145,7 +145,7 @@ CASES = [
     (
         "no-period",
         changed("b1,BAGS,2024-03-01,2024-03-02", "b1,BAGS,2024-04-01,2024-04-02"),
-        "transfer b1 of BAGS is of 2024-04-01, which is in no period: mend its date",
+        "transfer b1 of BAGS is of 2024-04-01, which is in no period: correct its date",
     ),
     (
         "no-period",

@@ -38,7 +38,7 @@ class Input:
 
 UTF16 = 'this is UTF-16[:;] save it as "CSV UTF-8"'
 ABSENT = {
-    "not there": (NONE, "No such file or directory: mend its name"),
+    "not there": (NONE, "No such file or directory: check its name"),
     "folder": (FOLDER, "Is a directory: name a file in this folder"),
 }
 OF_SESSIONS = {
@@ -172,9 +172,9 @@ OF_COSTS = {
     "empty": (b"", NO_HEADS),
     "garbage": (GARBAGE, 'this is no text: save it as "CSV UTF-8" or as xlsx'),
     "a session": (SESSION, NO_HEADS),
-    "no such stream": (b"stream,cost\nRESI,9000\n", "there is no stream RESI: mend the name"),
-    "no name": (b"stream,cost\n,9000\n", "there is no name of a stream: mend the name"),
-    "a tank": (b"stream,cost\nTK1,9000\n", "TK1 is a tank, not a stream: mend the name"),
+    "no such stream": (b"stream,cost\nRESI,9000\n", "there is no stream RESI: correct the name"),
+    "no name": (b"stream,cost\n,9000\n", "there is no name of a stream: correct the name"),
+    "a tank": (b"stream,cost\nTK1,9000\n", "TK1 is a tank, not a stream: correct the name"),
     "a meter": (b"stream,cost\nSHIP,9000\n", "SHIP is a batch stream: it is measured already"),
     "twice": (b"stream,cost\nRES,1\nRES,2\n", "RES stands above too: leave one of both out"),
     "decimals": (b"stream,cost\nRES,9.50\n", "9.50 is no cost: write a whole number from 0 to"),
@@ -259,7 +259,7 @@ OUTPUTS = [
 WHERE = {
     "no folder": ("nowhere/OUT", "No such file or directory: make its folder first"),
     "a folder": ("folder", "Is a directory: name a file in this folder"),
-    "in a file": ("file/OUT", "make its folder first|mend its name"),
+    "in a file": ("file/OUT", "make its folder first|check its name"),
 }
 
 

@@ -16,7 +16,7 @@ BEFORE = ["--before", FOLDER / "critical.csv"]
 MISSING = "no reading of WIC-401 (FILTERED) on 2024-05-17\n"
 
 
-def mended(room: Path, name: str, line: int, old: str, new: str) -> Path:
+def corrected(room: Path, name: str, line: int, old: str, new: str) -> Path:
     """A sheet of the concentrator with one line changed."""
     lines = text_of(FOLDER / name).splitlines(keepends=True)
     if old:
@@ -71,7 +71,7 @@ READINGS = [
 def test_wrong_readings(
     say: Desk, tmp_path: Path, line: int, old: str, new: str, said: str
 ) -> None:
-    path = mended(tmp_path, "readings.csv", line, old, new)
+    path = corrected(tmp_path, "readings.csv", line, old, new)
     found = say("from-spreadsheet", *WORDS, *BEFORE, FOLDER / "tags.csv", path)
     assert (found.status, found.out) == (1, "")
     assert f"readings.csv: {said}" in found.err
@@ -89,22 +89,22 @@ TAGS = [
 
 @pytest.mark.parametrize("line, old, new, said", TAGS, ids=[case[3] for case in TAGS])
 def test_wrong_tags(say: Desk, tmp_path: Path, line: int, old: str, new: str, said: str) -> None:
-    path = mended(tmp_path, "tags.csv", line, old, new)
+    path = corrected(tmp_path, "tags.csv", line, old, new)
     found = say("from-spreadsheet", *WORDS, *BEFORE, path, FOLDER / "readings.csv")
     assert (found.status, found.out) == (1, "")
     assert f"tags.csv: {said}" in found.err
 
 
 def test_reading_of_nothing(say: Desk, tmp_path: Path) -> None:
-    tags = mended(tmp_path, "tags.csv", 2, " or 5 t", "")
-    readings = mended(tmp_path, "readings.csv", 3, "11697,5", "0")
+    tags = corrected(tmp_path, "tags.csv", 2, " or 5 t", "")
+    readings = corrected(tmp_path, "readings.csv", 3, "11697,5", "0")
     found = say("from-spreadsheet", *WORDS, tags, readings)
     assert found.status == 1
     assert "line 3, column 2 (WIC-101): a reading of 0 has no error" in found.err
 
 
 def test_missing(say: Desk, tmp_path: Path) -> None:
-    readings = mended(tmp_path, "readings.csv", 3, "346,97", "Bad")
+    readings = corrected(tmp_path, "readings.csv", 3, "346,97", "Bad")
     words = [*WORDS, *BEFORE, "--missing", "Bad"]
     found = say("from-spreadsheet", *words, FOLDER / "tags.csv", readings)
     session = text_of(FOLDER / "session.csv")
@@ -140,7 +140,7 @@ OWN = {
     "an end mistyped": (
         TWO.replace("B,MILL", "B,MLIL"),
         "day,FI1,FI2\n2024-04-01,1,1\n",
-        "a unit's flows would be 0, and no session is written: mend the ends of its streams",
+        "a unit's flows would be 0, and no session is written: correct the ends of its streams",
     ),
 }
 

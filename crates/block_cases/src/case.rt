@@ -1,6 +1,7 @@
 // A case: a report, and the lines that ask for its faults.
 
 use crate::checked::append_checked;
+use cases::{field, row_of};
 use pb_rows::{Row, Rows, read_whole};
 use std::alloc::{AllocError, Global};
 
@@ -39,7 +40,7 @@ impl Case {
     /// another record in place of record N; `add,N,RECORD` with a record before record N; `drop,N` without record N; `swap,N` with record N
     /// after the one that follows it; `cut,N` of its first N records. Any other line is a record of the report.
     pub fn line(&mut self, line: &[u8], text: &mut Vec<u8>) -> Result<(), AllocError> {
-        let row = fields_of(self.alloc, line)?;
+        let row = row_of(self.alloc, line)?;
         self.row(row, text)?;
         text.extend_from_slice(line)?;
         text.push(b'\n')?;
@@ -176,42 +177,16 @@ fn append_fields(row: &Row, from: usize, bytes: &mut Vec<u8>) -> Result<(), Allo
     Ok(())
 }
 
-// The fields of a line, between commas.
-fn fields_of(alloc: Global, line: &[u8]) -> Result<Row, AllocError> {
-    let mut row = Row::new(alloc);
-    for field in line.split(|byte| *byte == b',') {
-        row.push(field)?;
-    }
-    Ok(row)
-}
-
-// The field at a place, or an empty one.
-fn field(row: &Row, i: usize) -> &[u8] {
-    if i < row.len() { row.field(i) } else { b"" }
-}
-
 fn word_of(field: &[u8]) -> Word {
-    if is(field, b"case") {
-        Word::Case
-    } else if is(field, b"whole") {
-        Word::Whole
-    } else if is(field, b"field") {
-        Word::Field
-    } else if is(field, b"put") {
-        Word::Put
-    } else if is(field, b"add") {
-        Word::Add
-    } else if is(field, b"drop") {
-        Word::Drop
-    } else if is(field, b"swap") {
-        Word::Swap
-    } else if is(field, b"cut") {
-        Word::Cut
-    } else {
-        Word::Record
+    match field {
+        b"case" => Word::Case,
+        b"whole" => Word::Whole,
+        b"field" => Word::Field,
+        b"put" => Word::Put,
+        b"add" => Word::Add,
+        b"drop" => Word::Drop,
+        b"swap" => Word::Swap,
+        b"cut" => Word::Cut,
+        _ => Word::Record,
     }
-}
-
-fn is(field: &[u8], word: &[u8]) -> bool {
-    field == word
 }

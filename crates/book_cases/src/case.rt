@@ -3,6 +3,7 @@
 ghost use Rattle.std.specs.Prelude.{◌<◌, length, IfSome};
 ghost use Rattle.pb_book.specs.Rows.{periods_of};
 
+use cases::{append_word, field, fields_from, row_of};
 use pb_book::{Accepted, Book, NotAccepted, Refused, StoredRow};
 use pb_kinds::{Edit, Effect};
 use pb_rows::{Name, Row, Rows};
@@ -41,7 +42,7 @@ impl Case {
     /// ones, which stay as they are; `plain` asks for the plain rows; `edits,PERIOD` asks for the edits that touch a period;
     /// `touched,PERIOD` asks whether the row stored last takes it out. Any other line is a record that the book takes.
     pub fn line(&mut self, line: &[u8], text: &mut Vec<u8>) -> Result<(), AllocError> {
-        let row = fields_of(self.alloc, line)?;
+        let row = row_of(self.alloc, line)?;
         self.row(&row, text)?;
         text.extend_from_slice(line)?;
         text.push(b'\n')?;
@@ -72,14 +73,14 @@ impl Case {
         if told == Ok(Accepted::Stored) {
             self.stored.push(fields_from(self.alloc, row, 0)?)?;
         }
-        tell(text, answer(told))
+        append_word(text, answer(told))
     }
 
     // A book that has stored the same records takes the record after the first field.
     fn try_after(&self, row: &Row, text: &mut Vec<u8>) -> Result<(), AllocError> {
         let record = fields_from(self.alloc, row, 1)?;
         let mut book = self.same_book()?;
-        tell(text, answer(book.accept(1, &record)))
+        append_word(text, answer(book.accept(1, &record)))
     }
 
     // A book that has stored the same records.
@@ -96,7 +97,7 @@ impl Case {
 
     fn edits(&self, period: &[u8], text: &mut Vec<u8>) -> Result<(), AllocError> {
         let Some(period) = self.period(period) else {
-            return tell(text, b"unknown");
+            return append_word(text, b"unknown");
         };
         for e in 0..self.book.edits() {
             if self.book.touches(e, period) {
@@ -108,9 +109,9 @@ impl Case {
 
     fn touched(&self, period: &[u8], text: &mut Vec<u8>) -> Result<(), AllocError> {
         match self.period(period) {
-            Some(period) if self.book.touched(period) => tell(text, b"yes"),
-            Some(_) => tell(text, b"no"),
-            None => tell(text, b"unknown"),
+            Some(period) if self.book.touched(period) => append_word(text, b"yes"),
+            Some(_) => append_word(text, b"no"),
+            None => append_word(text, b"unknown"),
         }
     }
 
@@ -147,62 +148,23 @@ fn write_rows(records: &Rows, text: &mut Vec<u8>) -> Result<(), AllocError> {
 }
 
 fn word_of(field: &[u8]) -> Word {
-    if is(field, b"case") {
-        Word::Case
-    } else if is(field, b"try") {
-        Word::Try
-    } else if is(field, b"plain") {
-        Word::Plain
-    } else if is(field, b"edits") {
-        Word::Edits
-    } else if is(field, b"touched") {
-        Word::Touched
-    } else {
-        Word::Record
+    match field {
+        b"case" => Word::Case,
+        b"try" => Word::Try,
+        b"plain" => Word::Plain,
+        b"edits" => Word::Edits,
+        b"touched" => Word::Touched,
+        _ => Word::Record,
     }
-}
-
-// The fields of a line, between commas.
-fn fields_of(alloc: Global, line: &[u8]) -> Result<Row, AllocError> {
-    let mut row = Row::new(alloc);
-    for field in line.split(|byte| *byte == b',') {
-        row.push(field)?;
-    }
-    Ok(row)
-}
-
-// The fields of a row from a place on.
-fn fields_from(alloc: Global, row: &Row, from: usize) -> Result<Row, AllocError> {
-    let mut fields = Row::new(alloc);
-    for i in from..row.len() {
-        fields.push(row.field(i))?;
-    }
-    Ok(fields)
-}
-
-// The field at a place, or an empty one.
-fn field(row: &Row, i: usize) -> &[u8] {
-    if i < row.len() { row.field(i) } else { b"" }
-}
-
-fn is(field: &[u8], word: &[u8]) -> bool {
-    field == word
-}
-
-// Appends a word and a space.
-fn tell(text: &mut Vec<u8>, word: &[u8]) -> Result<(), AllocError> {
-    text.extend_from_slice(word)?;
-    text.push(b' ')?;
-    Ok(())
 }
 
 fn tell_edit(text: &mut Vec<u8>, edit: Option<StoredRow>) -> Result<(), AllocError> {
     let Some(edit) = edit else {
         return Ok(());
     };
-    tell(text, edit_word(&edit.effect))?;
+    append_word(text, edit_word(&edit.effect))?;
     match edit_id(&edit.effect) {
-        Some(id) => tell(text, id.bytes()),
+        Some(id) => append_word(text, id.bytes()),
         None => Ok(()),
     }
 }

@@ -6,22 +6,10 @@
 mod case;
 
 use case::Case;
-use pb_io::{StdSink, write_all};
+use cases::answer_lines;
 use std::io;
 
 fn main(rt: HostRuntime) -> io::Result<()> {
     let mut case = Case::new(rt.alloc())?;
-    answer_lines(&rt, &mut case)
-}
-
-// Answers each line of standard input.
-fn answer_lines(rt: &HostRuntime, case: &mut Case) -> io::Result<()> {
-    let mut text = Vec::new(rt.alloc());
-    for line in rt.lines(rt.alloc()) {
-        case.line(line?.as_str().as_bytes(), &mut text)?;
-    }
-    match write_all(&mut StdSink::new(rt.stdout()), &text) {
-        Ok(()) => Ok(()),
-        Err(_) => Err(io::Error::from(io::ErrorKind::Other)),
-    }
+    answer_lines(&rt, |line, text| case.line(line, text))
 }

@@ -1,7 +1,7 @@
 // Values from outside that no session shows: the places of facts, names that a stream and a tank share, and shares.
 
 ghost use Rattle.std.specs.Prelude.{IfSome};
-ghost use Rattle.pb_facts.specs.Fact.{IsInRange};
+ghost use Rattle.pb_facts.specs.Fact.{IsFactInRange};
 
 use pb_facts::{Fact, FactFault, Facts, share};
 use pb_rows::Name;
@@ -9,7 +9,7 @@ use std::alloc::Global;
 use std::test::Fail;
 
 fn reading(id: &[u8], stream: &[u8]) -> Option<Fact>
-    ensures { IfSome result IsInRange }
+    ensures { IfSome result IsFactInRange }
 {
     Some(Fact::Reading {
         id: Name::read(id)?,
@@ -21,7 +21,7 @@ fn reading(id: &[u8], stream: &[u8]) -> Option<Fact>
 }
 
 fn dip(id: &[u8], tank: &[u8]) -> Option<Fact>
-    ensures { IfSome result IsInRange }
+    ensures { IfSome result IsFactInRange }
 {
     Some(Fact::Dip {
         id: Name::read(id)?,
@@ -34,7 +34,7 @@ fn dip(id: &[u8], tank: &[u8]) -> Option<Fact>
 }
 
 fn transfer(id: &[u8], stream: &[u8]) -> Option<Fact>
-    ensures { IfSome result IsInRange }
+    ensures { IfSome result IsFactInRange }
 {
     Some(Fact::Transfer {
         id: Name::read(id)?,
@@ -48,7 +48,7 @@ fn transfer(id: &[u8], stream: &[u8]) -> Option<Fact>
 
 // Adds a fact that has no fault.
 fn add(facts: &mut Facts, fact: Option<Fact>) -> Result<(), Fail>
-    requires { IfSome fact IsInRange }
+    requires { IfSome fact IsFactInRange }
 {
     let fact = fact.ok_or("a name")?;
     if facts.judge(&fact).is_some() {

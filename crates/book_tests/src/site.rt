@@ -1,7 +1,7 @@
 // Values from outside that no session shows: what a site says of its rows as a whole, and days in service.
 
 ghost use Rattle.std.specs.Prelude.{IfSome};
-ghost use Rattle.pb_site.specs.Row.{IsInRange};
+ghost use Rattle.pb_site.specs.Row.{IsDeclaredInRange};
 ghost use Rattle.pb_site.specs.Service.{IsService};
 
 use pb_rows::Name;
@@ -14,7 +14,7 @@ use std::test::Fail;
 
 // The row of a version, and then those of a tank with two points.
 fn row(place: u8) -> Option<Declared>
-    ensures { IfSome result IsInRange }
+    ensures { IfSome result IsDeclaredInRange }
 {
     let tank = Name::read(b"K")?;
     Some(match place {
@@ -35,7 +35,7 @@ fn row(place: u8) -> Option<Declared>
 
 // Adds a declaration that has no fault.
 fn add(site: &mut Site, row: Option<Declared>) -> Result<(), Fail>
-    requires { IfSome row IsInRange }
+    requires { IfSome row IsDeclaredInRange }
 {
     let row = row.ok_or("a name")?;
     if site.judge(&row).is_some() {

@@ -1,11 +1,11 @@
 // Advice held against all choices of small graphs. The advice of plants that were worked by hand is data, in examples/worked.
 
-use crate::graphs::{METER, graph_of, stream};
 use pb_advise::{Advice, MOST_COST, advise};
 use pb_classify::classify;
 use pb_graph::{Class, Graph, Stream};
 use std::alloc::{AllocError, Global};
 use std::process::Abort;
+use test_graphs::{METER, graph_of, stream};
 
 // The advice for a graph at these costs.
 fn advice_for(

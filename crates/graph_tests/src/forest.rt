@@ -3,11 +3,11 @@ ghost use Rattle.pb_limits.specs.Limits.{most_nodes};
 ghost use Rattle.pb_graph.specs.Neighbours.{IsNeighbours};
 ghost use Rattle.pb_forest.specs.Flows.{IsGivenFlow};
 
-use crate::graphs::{METER, graph_of, stream};
 use pb_forest::Forest;
 use pb_graph::{Graph, Neighbours, Step, Stream};
 use std::alloc::{AllocError, Global};
 use std::process::Abort;
+use test_graphs::{METER, graph_of, stream};
 
 // For each stream of the graph, whether the forest holds it.
 fn marks_of(alloc: Global, g: &Graph, forest: &Forest) -> Result<Vec<bool>, AllocError>

@@ -1,13 +1,15 @@
 // Each public call at a small graph.
 
-use crate::graphs::{graph_of, stream};
 use pb_graph::{
-    Bounds, Class, Classified, GlobalTest, Graph, List, Meas, Member, Neighbours, NodalTest, Parts,
-    Solved, Stage, Step, Stream, StreamResult, Study, Taken, Tests, Verdict, Witness, boundary,
-    path, reach,
+    Class, Classified, Graph, List, Meas, Member, Neighbours, Parts, Step, Stream, Witness,
+    boundary, path, reach,
+};
+use pb_study::{
+    Bounds, GlobalTest, NodalTest, Solved, Stage, StreamResult, Study, Taken, Tests, Verdict,
 };
 use std::alloc::{AllocError, Global};
 use std::process::Abort;
+use test_graphs::{graph_of, stream};
 
 const METER: Option<Meas> = Some(Meas {
     value: 0,

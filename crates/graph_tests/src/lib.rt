@@ -8,8 +8,6 @@ mod forest;
 #[cfg(test)]
 mod graph;
 #[cfg(test)]
-mod graphs;
-#[cfg(test)]
 mod merge;
 #[cfg(test)]
 mod points;

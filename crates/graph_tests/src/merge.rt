@@ -3,11 +3,10 @@
 ghost use Rattle.std.specs.Prelude.{◌≤◌};
 ghost use Rattle.pb_limits.specs.Limits.{most_nodes};
 
-use crate::graphs::{graph_of, stream};
-use pb_graph::{Meas, Stream};
-use pb_merge::Groups;
+use pb_graph::{Groups, Meas, Stream};
 use std::alloc::{AllocError, Global};
 use std::process::Abort;
+use test_graphs::{graph_of, stream};
 
 fn plain(from: u32, to: u32) -> Stream {
     stream(from, to, None)

@@ -1,16 +1,16 @@
 ghost use Rattle.std.specs.Prelude.{◌≡◌, ◌<◌, ◌≤◌, length, IfOk};
 ghost use Rattle.pb_limits.specs.Limits.{most_streams};
 ghost use Rattle.pb_graph.specs.Neighbours.{IsNeighbours};
-ghost use Rattle.pb_points.specs.Points.{ArePoints};
-ghost use Rattle.pb_points.specs.Tables.{points_of};
-ghost use Rattle.pb_points.specs.Cuts.{AreCuts};
+ghost use Rattle.pb_classify.specs.Points.{ArePoints};
+ghost use Rattle.pb_classify.specs.Tables.{points_of};
+ghost use Rattle.pb_classify.specs.Cuts.{AreCuts};
 
-use crate::graphs::{METER, graph_of, stream};
+use pb_classify::{Cuts, Points};
 use pb_forest::Forest;
 use pb_graph::{Graph, Neighbours, Stream, boundary, reach};
-use pb_points::{Cuts, Points};
 use std::alloc::{AllocError, Global};
 use std::process::Abort;
+use test_graphs::{METER, graph_of, stream};
 
 // Marks the unmeasured streams except the j-th.
 fn others(alloc: Global, streams: &[Stream], j: u32) -> Result<Vec<bool>, AllocError>
@@ -122,13 +122,11 @@ fn as_searched(rt: HostRuntime) -> Result<(), AllocError> {
 
 // A line of 1,000 plain streams from the environment.
 fn line(rt: &impl Abort, alloc: Global) -> Result<Graph, AllocError> {
-    let mut g = Graph::new(alloc, 1_001);
+    let mut streams = Vec::new(alloc);
     for n in 0..1_000 {
-        let s = stream(n, n + 1, None);
-        assert!(rt; g.fits(&s), "{s:?}");
-        g.push(s)?;
+        streams.push(stream(n, n + 1, None))?;
     }
-    Ok(g)
+    graph_of(rt, alloc, 1_001, &streams)
 }
 
 /// Each stream of a line is a bridge, and what it cuts off is the units after it.
@@ -140,15 +138,13 @@ fn line_of_plain_streams(rt: HostRuntime) -> Result<(), AllocError> {
 
 // 120 streams between 40 nodes, every fourth one plain.
 fn trees(rt: &impl Abort, alloc: Global) -> Result<Graph, AllocError> {
-    let mut g = Graph::new(alloc, 40);
+    let mut streams = Vec::new(alloc);
     for n in 0..120 {
         let from = n * 7 % 40;
         let to = (from + 1 + n % 39) % 40;
-        let s = stream(from, to, if n % 4 == 0 { None } else { METER });
-        assert!(rt; g.fits(&s), "{s:?}");
-        g.push(s)?;
+        streams.push(stream(from, to, if n % 4 == 0 { None } else { METER }))?;
     }
-    Ok(g)
+    graph_of(rt, alloc, 40, &streams)
 }
 
 /// Some of the meters lead from tree to tree, others stay within one.

@@ -2,12 +2,14 @@
 
 ghost use Rattle.std.specs.Prelude.{◌≤◌, ◌<◌, length, IfOk};
 
+use cases::fields_of;
 use pb_check::check;
 use pb_elim::study;
 use pb_gap::Solver;
-use pb_graph::{Critical, Graph, List, Meas, Options, Solved, Stream};
+use pb_graph::{Graph, List, Meas, Stream};
 use pb_limits::MOST_STREAMS;
 use pb_rows::{read_whole, whole_bytes};
+use pb_study::{Critical, Options, Solved};
 use std::alloc::{AllocError, Global};
 
 /// The gap that is asked for, in thousandths of a standard deviation, and the sweeps that are allowed.
@@ -36,15 +38,6 @@ fn append_streams(alloc: Global, line: &[u8], turn: &mut Vec<Stream>) -> Result<
         }
     }
     Ok(true)
-}
-
-// The fields of a line, between commas.
-fn fields_of<'a>(alloc: Global, line: &'a [u8]) -> Result<Vec<&'a [u8]>, AllocError> {
-    let mut fields = Vec::new(alloc);
-    for field in line.split(|byte| *byte == b',') {
-        fields.push(field)?;
-    }
-    Ok(fields)
 }
 
 // A graph with these streams in turn. `None` if there are none or one is beyond the limits.

@@ -6,23 +6,10 @@
 
 mod extremes;
 
+use cases::answer_lines;
 use extremes::append_outcome;
-use pb_io::{StdSink, write_all};
 use std::io;
 
 fn main(rt: HostRuntime) -> io::Result<()> {
-    let mut text = Vec::new(rt.alloc());
-    append_outcomes(&rt, &mut text)?;
-    match write_all(&mut StdSink::new(rt.stdout()), &text) {
-        Ok(()) => Ok(()),
-        Err(_) => Err(io::Error::from(io::ErrorKind::Other)),
-    }
-}
-
-// Appends a row for each line of standard input.
-fn append_outcomes(rt: &HostRuntime, text: &mut Vec<u8>) -> io::Result<()> {
-    for line in rt.lines(rt.alloc()) {
-        append_outcome(rt.alloc(), line?.as_str().as_bytes(), text)?;
-    }
-    Ok(())
+    answer_lines(&rt, |line, text| append_outcome(rt.alloc(), line, text))
 }

@@ -2,13 +2,15 @@
 
 ghost use Rattle.std.specs.Prelude.{◌≡◌, ◌<◌, ◌↔◌, length, Contains, IfSome, IsTrue};
 ghost use Rattle.pb_book.specs.Rows.{periods_of};
-ghost use Rattle.pb_elim.specs.Options.{AreOptions};
+ghost use Rattle.pb_study.specs.Options.{AreOptions};
 
+use cases::{append_word, field, fields_from, row_of};
 use pb_book::Book;
-use pb_graph::{Class, Options, Study};
+use pb_graph::Class;
 use pb_report::Form;
 use pb_rows::{Name, Row, Rows, whole_bytes};
 use pb_session::Session;
+use pb_study::{Options, Study};
 use std::alloc::{AllocError, Global};
 
 /// A session, with the records that it has taken.
@@ -55,7 +57,7 @@ impl Case {
     /// flows of the study that is kept for a period; `classes` asks for the kept classes of the streams. Any other line is a record that
     /// the session takes.
     pub fn line(&mut self, line: &[u8], text: &mut Vec<u8>) -> Result<(), AllocError> {
-        let row = fields_of(self.alloc, line)?;
+        let row = row_of(self.alloc, line)?;
         self.row(&row, text)?;
         text.extend_from_slice(line)?;
         text.push(b'\n')?;
@@ -105,7 +107,7 @@ impl Case {
     // Whether a report has the text of the report after only the plain rows.
     fn tell_same(&self, added: &[u8], report: &Row, text: &mut Vec<u8>) -> Result<(), AllocError> {
         let plain = self.plain_report(report)?;
-        tell(
+        append_word(
             text,
             if added == plain.as_slice() {
                 b"plain"
@@ -136,11 +138,11 @@ impl Case {
 
     fn tell_study(&self, period: &[u8], text: &mut Vec<u8>) -> Result<(), AllocError> {
         let Some(place) = place_of(self.session.book(), period) else {
-            return tell(text, b"unknown");
+            return append_word(text, b"unknown");
         };
         match self.session.kept(place) {
             Some(study) => self.tell_flows(study, text),
-            None => tell(text, b"none"),
+            None => append_word(text, b"none"),
         }
     }
 
@@ -156,18 +158,18 @@ impl Case {
     }
 
     fn tell_number(&self, number: i128, text: &mut Vec<u8>) -> Result<(), AllocError> {
-        tell(text, whole_bytes(self.alloc, number)?.as_slice())
+        append_word(text, whole_bytes(self.alloc, number)?.as_slice())
     }
 
     fn tell_classes(&self, text: &mut Vec<u8>) -> Result<(), AllocError> {
         match self.session.classes() {
             Some(stage) => {
                 for result in stage.streams.as_slice() {
-                    tell(text, class_word(result.classified.class))?;
+                    append_word(text, class_word(result.classified.class))?;
                 }
                 Ok(())
             }
-            None => tell(text, b"none"),
+            None => append_word(text, b"none"),
         }
     }
 }
@@ -190,7 +192,7 @@ fn take_record(alloc: Global, session: &mut Session, row: &Row) -> Result<Answer
 
 // Whether a record of this kind asks for a report, or for the balance of a component, which has one.
 fn asks_for_report(kind: &[u8]) -> bool {
-    is(kind, b"report") || is(kind, b"component")
+    matches!(kind, b"report" | b"component")
 }
 
 // A session takes records.
@@ -218,37 +220,14 @@ fn try_record(
 }
 
 fn word_of(field: &[u8]) -> Word {
-    if is(field, b"case") {
-        Word::Case
-    } else if is(field, b"rounds") {
-        Word::Rounds
-    } else if is(field, b"try") {
-        Word::Try
-    } else if is(field, b"study") {
-        Word::Study
-    } else if is(field, b"classes") {
-        Word::Classes
-    } else {
-        Word::Record
+    match field {
+        b"case" => Word::Case,
+        b"rounds" => Word::Rounds,
+        b"try" => Word::Try,
+        b"study" => Word::Study,
+        b"classes" => Word::Classes,
+        _ => Word::Record,
     }
-}
-
-// The fields of a line, between commas.
-fn fields_of(alloc: Global, line: &[u8]) -> Result<Row, AllocError> {
-    let mut row = Row::new(alloc);
-    for field in line.split(|byte| *byte == b',') {
-        row.push(field)?;
-    }
-    Ok(row)
-}
-
-// The fields of a row from a place on.
-fn fields_from(alloc: Global, row: &Row, from: usize) -> Result<Row, AllocError> {
-    let mut fields = Row::new(alloc);
-    for i in from..row.len() {
-        fields.push(row.field(i))?;
-    }
-    Ok(fields)
 }
 
 // What the studies are asked for.
@@ -286,30 +265,14 @@ fn is_kept(session: &Session, place: u32) -> bool
 // Whether the record was refused, and the names of the kept periods in their order of declaration.
 fn tell_kept(text: &mut Vec<u8>, session: &Session, refused: bool) -> Result<(), AllocError> {
     if refused {
-        tell(text, b"refused")?;
+        append_word(text, b"refused")?;
     }
     for place in 0..session.book().periods() {
         if is_kept(session, place) {
-            tell(text, session.book().period(place).name.bytes())?;
+            append_word(text, session.book().period(place).name.bytes())?;
         }
     }
-    tell(text, b":")
-}
-
-// The field at a place, or an empty one.
-fn field(row: &Row, i: usize) -> &[u8] {
-    if i < row.len() { row.field(i) } else { b"" }
-}
-
-fn is(field: &[u8], word: &[u8]) -> bool {
-    field == word
-}
-
-// Appends a word and a space.
-fn tell(text: &mut Vec<u8>, word: &[u8]) -> Result<(), AllocError> {
-    text.extend_from_slice(word)?;
-    text.push(b' ')?;
-    Ok(())
+    append_word(text, b":")
 }
 
 fn class_word(class: Class) -> &'static [u8] {

@@ -1,16 +1,17 @@
 //! Answers of calls with ample memory that no study needs.
 
-use crate::common::{graph_of, metered, plain};
 use crate::elim::no_critical;
 use crate::statistics::solved_ends;
 use pb_classify::classify_in;
-use pb_elim::{stage, sum_for};
+use pb_elim::stage;
 use pb_forest::Forest;
 use pb_gap::{Solver, standard_deviations};
-use pb_graph::{Class, Classified, Graph, List, Member, Options, Solved, Verdict, Witness};
-use pb_tests::measure_tests;
+use pb_graph::{Class, Classified, Graph, List, Member, Witness};
+use pb_stage::{measure_tests, sum_for};
+use pb_study::{Options, Solved, Verdict};
 use std::alloc::{AllocError, Global};
 use std::process::Abort;
+use test_graphs::{graph_of, metered, plain};
 
 /// Two meters that disagree, and a plain stream between them.
 fn line(rt: &impl Abort, alloc: Global) -> Result<Graph, AllocError> {

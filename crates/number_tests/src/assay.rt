@@ -1,15 +1,17 @@
 //! What flows carry of a component, worked by hand. The component balances of small plants are data, in examples/worked.
 
 ghost use Rattle.std.specs.Prelude.{◌↔◌, IfSome, IsTrue};
-ghost use Rattle.pb_assay.specs.Grade.{IsGrade};
+ghost use Rattle.pb_facts.specs.Grade.{IsGrade};
 
-use crate::common::{metered, plain};
 use crate::elim::study_of;
-use pb_assay::{ComponentFault, Grade, carried_by, component_graph};
-use pb_graph::{Graph, Stage, Stream, Study};
+use pb_assay::{ComponentFault, carried_by, component_graph};
+use pb_facts::Grade;
+use pb_graph::{Graph, Stream};
 use pb_limits::{MOST_GRADE, MOST_GRADE_VARIANCE};
+use pb_study::{Stage, Study};
 use std::alloc::{AllocError, Global};
 use std::process::Abort;
+use test_graphs::{metered, plain};
 
 /// A flow with the grade and the variance of an assay, and what it carries: grams with their variance.
 type Carried = (i128, (i64, i64), Option<(i128, i128)>);

@@ -1,14 +1,15 @@
 //! What no clause says: that a stage is judged if memory is ample. Each test fails in many reports of `block_cases`.
 
 ghost use Rattle.std.specs.Prelude.{IfOk};
-ghost use Rattle.pb_elim.specs.Criticals.{AreCritical};
+ghost use Rattle.pb_study.specs.Criticals.{AreCritical};
 
-use crate::common::{graph_of, metered};
 use pb_check::{CheckFault, Place, Test, check};
 use pb_elim::study;
-use pb_graph::{Critical, CriticalRow, List, Options, Stage, Study};
+use pb_graph::List;
+use pb_study::{Critical, CriticalRow, Options, Stage, Study};
 use std::alloc::{AllocError, Global};
 use std::process::Abort;
+use test_graphs::{graph_of, metered};
 
 /// The critical value of the global test for one degree of freedom, and no other.
 fn critical_of(alloc: Global) -> Result<Critical, AllocError>

@@ -1,42 +1,7 @@
-//! Streams, graphs and comparisons that the tests share.
+//! Comparisons that the tests share.
 
-use pb_graph::{Bounds, Graph, Meas, Solved, Stream};
-use std::alloc::{AllocError, Global};
+use pb_study::{Bounds, Solved};
 use std::process::Abort;
-
-/// An unmeasured stream.
-pub const fn plain(from: u32, to: u32) -> Stream {
-    Stream {
-        from,
-        to,
-        meas: None,
-    }
-}
-
-/// A measured stream: its reading in grams, and the variance in squared grams.
-pub const fn metered(from: u32, to: u32, value: i128, variance: i128) -> Stream {
-    Stream {
-        from,
-        to,
-        meas: Some(Meas { value, variance }),
-    }
-}
-
-/// The graph with these streams.
-pub fn graph_of(
-    rt: &impl Abort,
-    alloc: Global,
-    nodes: u32,
-    streams: &[Stream],
-) -> Result<Graph, AllocError> {
-    assert!(rt; nodes >= 1 && nodes <= 1_001);
-    let mut g = Graph::new(alloc, nodes);
-    for s in streams {
-        assert!(rt; g.fits(s), "{s:?}");
-        g.push(*s)?;
-    }
-    Ok(g)
-}
 
 /// What a solution should say: how the sweeps ended, the gap, the degrees of freedom, and the statistic.
 #[derive(Clone, Copy)]

@@ -1,11 +1,11 @@
 //! Prices of small graphs, worked by hand. Those of other plants are data, in examples/worked.
 
-use crate::common::{assert_count, assert_listed, graph_of, metered, plain};
+use crate::common::{assert_count, assert_listed};
 use pb_dual::Dual;
-use pb_graph::Stream;
-use pb_merge::Groups;
+use pb_graph::{Groups, Stream};
 use std::alloc::{AllocError, Global};
 use std::process::Abort;
+use test_graphs::{graph_of, metered, plain};
 
 /// There are as many groups as prices, and they have these.
 fn check_prices(rt: &impl Abort, name: &str, dual: &Dual, prices: &[i128]) {

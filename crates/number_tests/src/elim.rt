@@ -1,14 +1,16 @@
 //! Studies. Those of small plants, worked by hand, are data, in examples/worked.
 
-ghost use Rattle.pb_elim.specs.Criticals.{AreCritical};
-ghost use Rattle.pb_elim.specs.Options.{AreOptions};
+ghost use Rattle.pb_study.specs.Criticals.{AreCritical};
+ghost use Rattle.pb_study.specs.Options.{AreOptions};
 
-use crate::common::{assert_at, graph_of, metered};
+use crate::common::assert_at;
 use pb_classify::classify;
 use pb_elim::{study, study_classed};
-use pb_graph::{Critical, Graph, List, Options, Stage, Stream, StreamResult, Study};
+use pb_graph::{Graph, List, Stream};
+use pb_study::{Critical, Options, Stage, StreamResult, Study};
 use std::alloc::{AllocError, Global};
 use std::process::Abort;
+use test_graphs::{graph_of, metered};
 
 /// No critical value.
 pub fn no_critical(alloc: Global) -> Critical

@@ -2,13 +2,13 @@
 
 ghost use Rattle.std.specs.Prelude.{◌≡◌};
 
-use crate::common::{
-    Numbers, assert_bounds, assert_count, assert_listed, assert_numbers, graph_of, metered, within,
-};
+use crate::common::{Numbers, assert_bounds, assert_count, assert_listed, assert_numbers, within};
 use pb_gap::Solver;
-use pb_graph::{Bounds, Graph, Member, Solved};
+use pb_graph::{Graph, Member};
+use pb_study::{Bounds, Solved};
 use std::alloc::AllocError;
 use std::process::Abort;
+use test_graphs::{graph_of, metered};
 
 /// What a solver should answer at a gap with at most this many sweeps.
 #[derive(Clone, Copy)]

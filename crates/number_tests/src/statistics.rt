@@ -4,12 +4,13 @@ ghost use Rattle.std.specs.Prelude.{◌≤◌, IfOk, IfSome};
 ghost use Rattle.pb_limits.specs.Ranges.{IsCriticalValue};
 ghost use Rattle.pb_gap.specs.Solution.{IsSolvedStatistic};
 
-use crate::common::{graph_of, metered, plain};
 use pb_gap::Solver;
-use pb_graph::{CriticalRow, GlobalTest, Graph, MeasureTest, NodalTest, Stream, Verdict};
-use pb_tests::{global, global_test, measure, nodal_tests};
+use pb_graph::{Graph, Stream};
+use pb_stage::{global, global_test, measure, nodal_tests};
+use pb_study::{CriticalRow, GlobalTest, MeasureTest, NodalTest, Verdict};
 use std::alloc::{AllocError, Global};
 use std::process::Abort;
+use test_graphs::{graph_of, metered, plain};
 
 /// The ends of the statistic of a graph, solved at a gap of 10 thousandths with up to 5,000 sweeps.
 pub fn solved_ends(alloc: Global, g: &Graph) -> Result<(i128, Option<i128>), AllocError>

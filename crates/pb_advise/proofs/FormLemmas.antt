@@ -7,7 +7,7 @@ use Rattle.pb_graph.specs.declared.records.Class.TheVariants.{Unobservable}
 use Rattle.pb_graph.specs.declared.records.Witness.TheVariants.{Cycle}
 use Rattle.pb_graph.specs.ProcessGraph.{ProcessGraph}
 use Rattle.pb_graph.proofs.CertificateLemmas.{witness_within}
-use Rattle.pb_balance.proofs.BalanceLaws.{no_meas}
+use Rattle.pb_graph.proofs.BalanceLaws.{no_meas}
 use Rattle.pb_advise.specs.declared.advice.Meter.{Meter}
 use Rattle.pb_advise.specs.Choice.{AreCosts, IsCost, cost_of, most_cost}
 use Rattle.pb_advise.specs.Advice.{IsAdvisedChoice, IsMeter, IsMeterWithin}

@@ -9,8 +9,8 @@ use Rattle.pb_graph.specs.ProcessGraph.{ProcessGraph, IsProcessGraph, IsStream, 
 use Rattle.pb_graph.specs.Walk.{along, ends_at, ends_of, any_stream, unmeasured, unmeasured_but, is_in, IsReach, Walks, Reaches}
 use Rattle.pb_graph.proofs.WalkLemmas.{some_same, ends_is, stream_of}
 use Rattle.pb_graph.proofs.ReachLemmas.{some_reach}
-use Rattle.pb_balance.specs.Laws.{IsDecidedBy}
-use Rattle.pb_balance.proofs.BalanceLaws.{reach_decides, no_meas}
+use Rattle.pb_graph.specs.BalanceLaws.{IsDecidedBy}
+use Rattle.pb_graph.proofs.BalanceLaws.{reach_decides, no_meas}
 use Rattle.pb_forest.specs.Laws.{except}
 use Rattle.pb_advise.specs.Choice.{metered, with_meters, metered_graph, stays_unmeasured}
 use Rattle.pb_advise.specs.Laws.{SufficesLaw}

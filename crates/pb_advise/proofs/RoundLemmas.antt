@@ -10,7 +10,7 @@ use Rattle.pb_graph.specs.Cycle.{is_distinct, begin_of}
 use Rattle.pb_graph.specs.Path.{IsPath}
 use Rattle.pb_graph.specs.Certificates.{GoesRound}
 use Rattle.pb_graph.proofs.WalkLemmas.{ends_is, walk_more}
-use Rattle.pb_balance.proofs.BalanceLaws.{others_walk}
+use Rattle.pb_graph.proofs.BalanceLaws.{others_walk}
 use Rattle.pb_forest.proofs.ForestLaws.{begin_is, streams_once}
 
 abbrev pub round_of : ℕ → List Step → List Step

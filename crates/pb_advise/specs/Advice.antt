@@ -2,7 +2,7 @@
 use Rattle.std.specs.Prelude.{◌≡◌, ◌≢◌, ◌↔◌, ℕ, ◌+◌, ◌*◌, ◌<◌, ℤ, pos, ◌≤ℤ◌, int_le, int_lt, nat_lt, Bool, true, false, ◌&&◌, ◌||◌, List, [], ◌∷◌, length, map, Some, slice_get, get_or, All}
 use Rattle.std.specs.List.{AllByRecursion}
 use Rattle.pb_limits.specs.Limits.{most_streams}
-use Rattle.pb_integers.specs.Sums.{item}
+use Rattle.pb_fixed.specs.Sums.{item}
 use Rattle.pb_graph.specs.declared.records.Stream.{Stream}
 use Rattle.pb_graph.specs.declared.records.Step.{Step}
 use Rattle.pb_graph.specs.ProcessGraph.{ProcessGraph, is_measured}

@@ -1,7 +1,7 @@
 -- Inside. The order in which the code takes streams, and what it knows about the first ones.
 use Rattle.std.specs.Prelude.{◌≡◌, ◌≢◌, ℕ, ◌<◌, ℤ, ◌-ℤ◌, ◌==◌, Bool, true, false, List, length, take, Option, None, ◌*◌, ◌≤ℤ◌, Some, slice_get, get_or, pos, unsigned_abs}
 use Rattle.std.specs.List.{AllByRecursion, list_any}
-use Rattle.pb_integers.specs.Sums.{item}
+use Rattle.pb_fixed.specs.Sums.{item}
 use Rattle.pb_graph.specs.declared.records.Stream.{Stream}
 use Rattle.pb_graph.specs.declared.records.Step.{Step}
 use Rattle.pb_graph.specs.ProcessGraph.{ProcessGraph}

@@ -6,12 +6,13 @@ use Rattle.std.proofs.lemmas.Bool.{or_parts, ltb-false}
 use Rattle.std.proofs.lemmas.Int.{unsigned_abs-mul, fits_signed_from_abs, fits_signed_mul, ints}
 use mir.Syntax.{w128}
 use Rattle.pb_limits.specs.Limits.{most_value, most_variance}
-use Rattle.pb_integers.proofs.Order.{mul_nonneg, square_pos}
+use Rattle.pb_fixed.proofs.Order.{mul_nonneg, square_pos}
 use Rattle.pb_fixed.specs.Quotients.{IsCeiling, floor_div, ceil_div}
 use Rattle.pb_fixed.proofs.QuotientLaws.{floor_is, floor_from, floor_to, ceiling_is, ceiling_from}
 use Rattle.pb_graph.specs.ProcessGraph.{IsMeasurement}
-use Rattle.pb_assay.specs.declared.grade.Grade.{Grade}
-use Rattle.pb_assay.specs.Grade.{IsCarried, IsGrade, carried, carried_variance, carries_too_much}
+use Rattle.pb_facts.specs.declared.grade.Grade.{Grade}
+use Rattle.pb_assay.specs.Grade.{IsCarried, carried, carried_variance, carries_too_much}
+use Rattle.pb_facts.specs.Grade.{IsGrade}
 
 nat_product : (a b m n : ℕ) → a ≤ m → b ≤ n → a * b ≤ m * n
 nat_product a b m n p q = let x = mul-le-mul_right b p in let y = mul-le-mul_left m q in omega (arith, x, y)

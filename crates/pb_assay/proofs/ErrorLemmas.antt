@@ -1,8 +1,8 @@
 -- What the variance of the grams covers.
 use Rattle.std.proofs.Common.{◌≡◌, ◌+◌, ◌^◌, ℤ, pos, ◌+ℤ◌, ◌-ℤ◌, ◌*ℤ◌, ◌≤ℤ◌, [], ◌∷◌, refl, sym, subst, arith}
 use Rattle.std.proofs.lemmas.Int.{ints}
-use Rattle.pb_integers.proofs.Order.{le_by_eq, le_trans, mul_mono_both, mul_mono_left, mul_nonneg, root_mono, square_mono, square_pos}
-use Rattle.pb_integers.proofs.Ring.{var, lit, plus, times, square, less, ring}
+use Rattle.pb_fixed.proofs.Order.{le_by_eq, le_trans, mul_mono_both, mul_mono_left, mul_nonneg, root_mono, square_mono, square_pos}
+use Rattle.pb_fixed.proofs.Ring.{var, lit, plus, times, square, less, ring}
 use Rattle.pb_assay.specs.Grade.{IsCarried, carried, carried_grams, carried_variance, grams_error}
 use Rattle.pb_assay.specs.Laws.{ErrorLaw}
 use Rattle.pb_assay.proofs.CarriedLemmas.{carried_is}

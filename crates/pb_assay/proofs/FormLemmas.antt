@@ -5,10 +5,11 @@ use Rattle.std.specs.Option.{option_map_or}
 use Rattle.pb_graph.specs.declared.records.Stream.{Stream}
 use Rattle.pb_graph.specs.declared.records.Class.{Class}
 use Rattle.pb_graph.specs.declared.records.Class.TheVariants.{Observable, Unobservable, Redundant, Nonredundant}
-use Rattle.pb_graph.specs.declared.results.StreamResult.{StreamResult}
+use Rattle.pb_study.specs.declared.results.StreamResult.{StreamResult}
 use Rattle.pb_graph.specs.ProcessGraph.{IsMeasurement, IsProcessGraph, IsStream, IsWithinLimits}
-use Rattle.pb_assay.specs.declared.grade.Grade.{Grade}
-use Rattle.pb_assay.specs.Grade.{IsGrade, carried, carries_too_much}
+use Rattle.pb_facts.specs.declared.grade.Grade.{Grade}
+use Rattle.pb_facts.specs.Grade.{IsGrade}
+use Rattle.pb_assay.specs.Grade.{carried, carries_too_much}
 use Rattle.pb_assay.specs.Component.{component_overs, component_stream, component_streams, counted_grade, is_component_over}
 use Rattle.pb_assay.specs.Laws.{ComponentFormLaw}
 use Rattle.pb_assay.proofs.CarriedLemmas.{carried_within}

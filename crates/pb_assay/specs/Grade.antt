@@ -1,16 +1,9 @@
--- Statement. Grades of a component, as assays give them, and what a flow carries of the component by its grade.
+-- Statement. What a flow carries of a component by its grade.
 use Rattle.std.specs.Prelude.{ℕ, ◌^◌, ℤ, pos, ◌+ℤ◌, ◌-ℤ◌, ◌*ℤ◌, ◌≤ℤ◌, int_lt, nat_lt, unsigned_abs, Bool, ◌||◌}
-use Rattle.pb_limits.specs.Limits.{most_grade, most_grade_variance, most_value, most_variance}
+use Rattle.pb_limits.specs.Limits.{most_value, most_variance}
 use Rattle.pb_fixed.specs.Quotients.{IsFloor, IsCeiling, floor_div, ceil_div}
 use Rattle.pb_graph.specs.declared.records.Meas.{Meas}
-use Rattle.pb_assay.specs.declared.grade.Grade.{Grade}
-
--- a grade within its limits
-pub record IsGrade (grade : Grade) : Type 0 where
-  pub least : pos 0 ≤ℤ grade.ppm
-  pub most : grade.ppm ≤ℤ pos most_grade
-  pub exact : pos 0 ≤ℤ grade.variance
-  pub widest : grade.variance ≤ℤ pos most_grade_variance
+use Rattle.pb_facts.specs.declared.grade.Grade.{Grade}
 
 -- The grams of a component in a flow: the flow times its grade, rounded down (metal content; Wills and Finch, "Mineral Processing
 -- Technology", on metallurgical accounting).

@@ -1,10 +1,11 @@
 -- Statement. What is proved of component graphs, law by law.
 use Rattle.std.specs.Prelude.{◌≡◌, ℕ, ◌+◌, ◌^◌, pos, ◌-ℤ◌, ◌*ℤ◌, ◌≤ℤ◌, ℤ, List, length, All, Option, IfSome, Ok, Err}
-use Rattle.pb_graph.specs.declared.results.StreamResult.{StreamResult}
+use Rattle.pb_study.specs.declared.results.StreamResult.{StreamResult}
 use Rattle.pb_graph.specs.ProcessGraph.{ProcessGraph, IsProcessGraph}
-use Rattle.pb_assay.specs.declared.grade.Grade.{Grade}
+use Rattle.pb_facts.specs.declared.grade.Grade.{Grade}
 use Rattle.pb_assay.specs.declared.component.ComponentFault.TheVariants.{Over}
-use Rattle.pb_assay.specs.Grade.{IsGrade, carried_variance, grams_error, squared}
+use Rattle.pb_facts.specs.Grade.{IsGrade}
+use Rattle.pb_assay.specs.Grade.{carried_variance, grams_error, squared}
 use Rattle.pb_assay.specs.Component.{IsComponentGraph, IsFirstOver, component_of}
 
 -- the component graph is what its meaning says

@@ -3,9 +3,10 @@
 ghost use Rattle.std.specs.Prelude.{◌≡◌, ◌≤◌, ◌^◌, ◌*ℤ◌, ◌≤ℤ◌, pos, unsigned_abs, true, false, IfNone, IfSome};
 ghost use Rattle.pb_limits.specs.Limits.{most_value};
 ghost use Rattle.pb_graph.specs.ProcessGraph.{IsMeasurement};
-ghost use Rattle.pb_assay.specs.Grade.{IsGrade, carried, carried_grams, carried_variance, carries_too_much};
+ghost use Rattle.pb_facts.specs.Grade.{IsGrade};
+ghost use Rattle.pb_assay.specs.Grade.{carried, carried_grams, carried_variance, carries_too_much};
 
-use crate::grade::Grade;
+use pb_facts::Grade;
 use pb_fixed::{div_ceil, div_floor};
 use pb_graph::Meas;
 use pb_limits::{MOST_VALUE, MOST_VARIANCE};

@@ -4,12 +4,14 @@ ghost use Rattle.std.specs.Prelude.{◌≡◌, ◌≢◌, ◌<◌, length, optio
 ghost use Rattle.std.specs.Option.{option_map_or};
 ghost use Rattle.pb_graph.specs.ProcessGraph.{IsMeasurement, IsStream, IsWithinLimits};
 ghost use Rattle.pb_assay.specs.declared.component.ComponentFault.TheVariants.{NoMemory, Over};
-ghost use Rattle.pb_assay.specs.Grade.{IsGrade, carried, carries_too_much};
+ghost use Rattle.pb_facts.specs.Grade.{IsGrade};
+ghost use Rattle.pb_assay.specs.Grade.{carried, carries_too_much};
 ghost use Rattle.pb_assay.specs.Component.{NamesAStreamOf, component_of, component_stream, counted_grade, is_component_over};
 
 use crate::carried::carried_by;
-use crate::grade::Grade;
-use pb_graph::{Class, Graph, Meas, Stream, StreamResult};
+use pb_facts::Grade;
+use pb_graph::{Class, Graph, Meas, Stream};
+use pb_study::StreamResult;
 use std::alloc::{AllocError, Global};
 
 /// Why there is no component graph.

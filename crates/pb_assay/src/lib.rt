@@ -9,10 +9,8 @@
 
 mod carried;
 mod component;
-mod grade;
 mod laws;
 
 pub use carried::carried_by;
 pub use component::{ComponentFault, component_graph};
-pub use grade::Grade;
 pub use laws::{component_form_law, component_law, error_law, first_over_law};

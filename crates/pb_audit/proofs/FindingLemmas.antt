@@ -3,7 +3,7 @@ use Rattle.std.proofs.Common.{◌≡◌, ◌∙◌, ◌⊎◌, inl, inr, ℕ, �
 use Rattle.std.proofs.lemmas.List.Elements.{All-cons, All-head, All-nil, All-tail}
 use Rattle.pb_readback.specs.declared.block.Block.{Block}
 use Rattle.pb_blocks.specs.declared.fault.RowFault.{RowFault}
-use Rattle.pb_readback.specs.Laws.{FormedLaw, NextLaw}
+use Rattle.pb_readback.specs.Laws.{FormedBlockLaw, NextLaw}
 use Rattle.pb_readback.specs.Next.{AreBlocks, Found, IsFound, IsNext, Next, NoBlock, Refused}
 use Rattle.pb_check.specs.declared.faults.Place.{Place}
 use Rattle.pb_check.specs.declared.faults.Test.{Test}
@@ -41,7 +41,7 @@ with_block at records rest block found (inl passes) (findings, are) = (passed bl
 with_block at records rest block found (inr fault) (findings, are) =
     (failed block fault.test fault.place fault.stated fault.found ∷ findings, (rest, (found, fault.is), are))
 
-some_of : NextLaw → FormedLaw → SomeVerdictLaw → (n at : ℕ) (records : List Record) → length records ≤ n → (findings : List Finding) × AreFindings at records findings
+some_of : NextLaw → FormedBlockLaw → SomeVerdictLaw → (n at : ℕ) (records : List Record) → length records ≤ n → (findings : List Finding) × AreFindings at records findings
 some_of next formed verdict zero at [] le = ([], refl)
 some_of next formed verdict zero at (r ∷ records) le = absurd (omega (arith, le))
 some_of next formed verdict (suc n) at records le =
@@ -56,7 +56,7 @@ some_of next formed verdict (suc n) at records le =
         with_block at records rest block is (verdict block.stage block.gap block.sweeps fine.graph fine.formed) (behind rest (fewer_found records rest block is))
     by (Refused number fault left, is) behind = (unreadable number fault ∷ [], ([], ((left, is), refl), refl))
 
-pub some_findings : NextLaw → FormedLaw → SomeVerdictLaw → (at : ℕ) (records : List Record) → (findings : List Finding) × AreFindings at records findings
+pub some_findings : NextLaw → FormedBlockLaw → SomeVerdictLaw → (at : ℕ) (records : List Record) → (findings : List Finding) × AreFindings at records findings
 some_findings next formed verdict at records = some_of next formed verdict (length records) at records (omega arith)
 
 -- ---- nothing else is found
@@ -64,7 +64,7 @@ some_findings next formed verdict at records = some_of next formed verdict (leng
 -- What the laws say of blocks, and of what comes next.
 pub record AreSettled : Type 0 where
   pub next : NextLaw
-  pub formed : FormedLaw
+  pub formed : FormedBlockLaw
   pub apart : NotBothLaw
   pub only : OneFaultLaw
 
@@ -139,7 +139,7 @@ one_findings law at records (f ∷ fs) (g ∷ gs) (behind, is, more) (left, has,
 
 -- ---- each block that passes is certified
 
-pub certified_findings : FormedLaw → SoundLaw → (at : ℕ) (records : List Record) (findings : List Finding) → AreFindings at records findings → All IsCertifiedFinding findings
+pub certified_findings : FormedBlockLaw → SoundLaw → (at : ℕ) (records : List Record) (findings : List Finding) → AreFindings at records findings → All IsCertifiedFinding findings
 certified_findings formed sound at records [] are = All-nil IsCertifiedFinding
 certified_findings formed sound at records (passed block ∷ findings) (behind, found, more) =
     let fine = formed records behind block found.0 in

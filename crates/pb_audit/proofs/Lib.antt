@@ -1,2 +1,3 @@
 mod FindingLemmas
 mod NextLemmas
+pub mod AuditLaws

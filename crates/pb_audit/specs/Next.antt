@@ -33,12 +33,12 @@ pub record IsNextFinding (old new : RecordsLeft) (judged : Judged) (text : List 
   pub no_more : TakesNoMore old new finding
 
 -- what is found next, if there is something
-abbrev pub Tells : RecordsLeft → RecordsLeft → Option Judged → List ℕ → Type 0
-Tells old new None text = FindsNothing old.taken old.left × (text ≡ [])
-Tells old new (Some judged) text = IsNextFinding old new judged text
+abbrev pub FindsNext : RecordsLeft → RecordsLeft → Option Judged → List ℕ → Type 0
+FindsNext old new None text = FindsNothing old.taken old.left × (text ≡ [])
+FindsNext old new (Some judged) text = IsNextFinding old new judged text
 
 -- a text gains its row
 pub record AppendsFinding (old new : RecordsLeft) (judged : Option Judged) (before after : List ℕ) : Type 0 where
   pub text : List ℕ
-  pub tells : Tells old new judged text
+  pub tells : FindsNext old new judged text
   pub appended : after ≡ before ++ text

@@ -6,11 +6,11 @@ use Rattle.pb_form.specs.Value.{Value, Missing, Name, Number, Word}
 use Rattle.pb_form.specs.declared.output.OutputKind.TheVariants as kind
 use Rattle.pb_readback.specs.declared.block.Block.{Block}
 use Rattle.pb_blocks.specs.declared.fault.RowFault.{RowFault}
-use Rattle.pb_blocks.specs.Codes as codes_of_faults
+use Rattle.pb_blocks.specs.Codes.{row_fault_code}
 use Rattle.pb_check.specs.declared.faults.Test.{Test}
 use Rattle.pb_check.specs.declared.faults.Place.{Place}
 use Rattle.pb_check.specs.declared.faults.Place.TheVariants.{Node, Stream, Whole}
-use Rattle.pb_check.specs.Verdict as tests
+use Rattle.pb_check.specs.Verdict.{test_code}
 use Rattle.pb_report.specs.Names.{name_at}
 use Rattle.pb_report.specs.Row.{OutputRow, row_of}
 
@@ -29,11 +29,11 @@ yes_row block = row_of kind.Yes (Name block.period ∷ Number (pos block.round) 
 abbrev pub no_row : Block → Test → Place → ℤ → ℤ → OutputRow
 no_row block test place stated found =
     row_of kind.No
-    (Name block.period ∷ Number (pos block.round) ∷ Number (pos (tests.code_of test)) ∷ Word (tests.code_of test - 1)
+    (Name block.period ∷ Number (pos block.round) ∷ Number (pos (test_code test)) ∷ Word (test_code test - 1)
     ∷ place_name block.names place ∷ Number stated ∷ Number found ∷ [])
 
 -- the row of a record that can't be read: its number, and why
 abbrev pub unreadable_row : ℕ → RowFault → OutputRow
 unreadable_row at why =
     row_of kind.Unreadable
-    (Number (pos at) ∷ Number (pos (codes_of_faults.code_of why)) ∷ Word (codes_of_faults.code_of why - 1) ∷ [])
+    (Number (pos at) ∷ Number (pos (row_fault_code why)) ∷ Word (row_fault_code why - 1) ∷ [])

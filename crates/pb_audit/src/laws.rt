@@ -2,9 +2,6 @@
 
 ghost use Rattle.pb_audit.specs.Laws.{CertifiedFindingsLaw, FewerLaw, NothingLaw, OneFindingsLaw, PassedLaw, SomeFindingsLaw};
 
-use pb_check::{one_verdict_law, some_verdict_law, sound_law};
-use pb_readback::{formed_law, next_law};
-
 /// The law that the findings in records exist and are unique, so the judgement of a report is settled. After a finding fewer records are
 /// left, and if none is left nothing is found.
 pub fn findings_law()
@@ -12,20 +9,12 @@ pub fn findings_law()
     ensures one { OneFindingsLaw }
     ensures fewer { FewerLaw }
     ensures nothing { NothingLaw }
-{
-    next_law();
-    formed_law();
-    some_verdict_law();
-    one_verdict_law();
-}
+{}
 
 /// The law that each block that passes is certified, wherever it came from, and that its state is converged exactly when its gap is met.
 pub fn certified_law()
     ensures { CertifiedFindingsLaw }
-{
-    formed_law();
-    sound_law();
-}
+{}
 
 /// The law that if records are blocks that pass, and rows between them, nothing else is found.
 pub fn passed_law()

@@ -3,8 +3,8 @@
 ghost use Rattle.std.specs.Prelude.{◌≡◌, ◌-◌, ◌∷◌, [], OnOk, OnErr};
 ghost use Rattle.pb_form.specs.Given.{value_as};
 ghost use Rattle.pb_form.specs.Holds as holds;
-ghost use Rattle.pb_blocks.specs.Codes as codes_of_faults;
-ghost use Rattle.pb_check.specs.Verdict as tests;
+ghost use Rattle.pb_blocks.specs.Codes.{row_fault_code};
+ghost use Rattle.pb_check.specs.Verdict.{test_code};
 ghost use Rattle.pb_report.specs.Form.{AppendsRows};
 ghost use Rattle.pb_report.specs.Given.{given_row};
 ghost use Rattle.pb_report.specs.declared.form.Form.TheVariants.{Csv};
@@ -119,14 +119,14 @@ fn place_name<'a>(names: &'a Names, place: Place) -> Value<'a>
 
 // The place of a test's word among the words of tests.
 fn test_place(test: Test) -> usize
-    ensures { result ≡ tests.code_of test - 1 }
+    ensures { result ≡ test_code test - 1 }
 {
     test as usize
 }
 
 // The place of a fault's word among the words of faults.
 fn fault_place(fault: RowFault) -> usize
-    ensures { result ≡ codes_of_faults.code_of fault - 1 }
+    ensures { result ≡ row_fault_code fault - 1 }
 {
     fault as usize
 }

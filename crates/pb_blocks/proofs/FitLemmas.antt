@@ -10,7 +10,7 @@ use Rattle.pb_form.specs.Holds.{Number as NumberColumn}
 use Rattle.pb_form.specs.OutputRows.{output_columns}
 use Rattle.pb_form.specs.Value.{Value, Missing, Word, Name, Reason, Number, Date, Items}
 use Rattle.pb_form.specs.Values.{number_in}
-use Rattle.pb_form.specs.Writing.{FitEach, Fits, FitsIn}
+use Rattle.pb_form.specs.Writing.{FitEach, FitsColumn, FitsIn}
 use Rattle.pb_form.specs.declared.output.OutputKind.{OutputKind}
 use Rattle.pb_form.specs.declared.output.OutputKind.TheVariants.{Stream, StreamBefore}
 use Rattle.pb_blocks.specs.Counts.{AreCounts, IsCountAt, IsStreamKind}
@@ -19,7 +19,7 @@ use Rattle.pb_blocks.specs.Values.{both_meas, optional_at}
 
 -- each column has a value that fits it
 fit_at : (columns : List Column) (values : List Value) (place : ℕ) (column : Column) → FitEach columns values → slice_get columns place ≡ Some column
-    → (value : Value) × (slice_get values place ≡ Some value) × Fits column value
+    → (value : Value) × (slice_get values place ≡ Some value) × FitsColumn column value
 fit_at [] values place column fit at = cc at
 fit_at (first ∷ columns) [] place column fit at = absurd fit
 fit_at (first ∷ columns) (value ∷ values) zero column fit at =

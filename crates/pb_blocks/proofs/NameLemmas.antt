@@ -7,9 +7,8 @@ use Rattle.std.proofs.lemmas.Bool.{and_parts, cases_Bool, lt-ltb, or_parts}
 use Rattle.std.proofs.lemmas.List.Sums.{prefix_len-drop_no, prefix_len-drop_yes, prefix_len-le-length}
 use Rattle.pb_limits.specs.Limits.{most_streams}
 use Rattle.pb_rows.specs.Name.{is_name, same_name}
-use Rattle.pb_blocks.specs.Held.{AreKnown}
+use Rattle.pb_blocks.specs.Held.{AreKnown, side_of}
 use Rattle.pb_blocks.specs.Lists.{differ, is_among, place_of}
-use Rattle.pb_blocks.specs.Held.{side_of}
 use Rattle.pb_blocks.proofs.ItemLemmas.{place_found}
 
 pub same_self : (name : List ℕ) → same_name name name ≡ true

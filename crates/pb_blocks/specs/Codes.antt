@@ -6,18 +6,18 @@ use Rattle.pb_blocks.specs.declared.fault.RowFault.{RowFault}
 use Rattle.pb_blocks.specs.declared.fault.RowFault.TheVariants.{Kind, Fields, Name, Number, Unknown, Duplicate, Word, Shape, Count, Env, Ended}
 
 -- the number of a fault
-abbrev pub code_of : RowFault → ℕ
-code_of Kind = 1
-code_of Fields = 2
-code_of Name = 3
-code_of Number = 4
-code_of Unknown = 5
-code_of Duplicate = 6
-code_of Word = 7
-code_of Shape = 8
-code_of Count = 9
-code_of Env = 10
-code_of Ended = 11
+abbrev pub row_fault_code : RowFault → ℕ
+row_fault_code Kind = 1
+row_fault_code Fields = 2
+row_fault_code Name = 3
+row_fault_code Number = 4
+row_fault_code Unknown = 5
+row_fault_code Duplicate = 6
+row_fault_code Word = 7
+row_fault_code Shape = 8
+row_fault_code Count = 9
+row_fault_code Env = 10
+row_fault_code Ended = 11
 
 -- the fault of a row of a block for a fault of its form; no row of a block has a date
 abbrev pub fault_by : FormFault → RowFault
@@ -31,4 +31,4 @@ fault_by fault = Number
 abbrev pub lowest : Option RowFault → Option RowFault → Option RowFault
 lowest None other = other
 lowest (Some one) None = Some one
-lowest (Some one) (Some other) = Some (if nat_lt (code_of other) (code_of one) then other else one)
+lowest (Some one) (Some other) = Some (if nat_lt (row_fault_code other) (row_fault_code one) then other else one)

@@ -1,7 +1,7 @@
 // Why a row of a block can't be read.
 
 ghost use Rattle.std.specs.Prelude.{◌≡◌, nat_lt, if◌then◌else◌};
-ghost use Rattle.pb_blocks.specs.Codes.{code_of, lowest};
+ghost use Rattle.pb_blocks.specs.Codes.{lowest, row_fault_code};
 
 use pb_form::FormFault;
 
@@ -35,7 +35,7 @@ pub enum RowFault {
 impl RowFault {
     /// The number of the fault; the lowest is reported.
     pub fn code(self) -> u32
-        ensures value { result ≡ code_of self }
+        ensures value { result ≡ row_fault_code self }
     {
         match self {
             RowFault::Kind => 1,
@@ -82,7 +82,7 @@ pub fn lowest(one: Option<RowFault>, other: Option<RowFault>) -> Option<RowFault
 
 // The lower of two faults.
 fn lower(one: RowFault, other: RowFault) -> RowFault
-    ensures { result ≡ if nat_lt (code_of other) (code_of one) then other else one }
+    ensures { result ≡ if nat_lt (row_fault_code other) (row_fault_code one) then other else one }
 {
     if other.code() < one.code() {
         other

@@ -2,9 +2,8 @@
 
 ghost use Rattle.std.specs.Prelude.{◌≡◌, map, [], IfOk, IfNone, IfSome};
 ghost use Rattle.std.specs.List.{list_all, list_any};
-ghost use Rattle.pb_blocks.specs.Held.{AreKnown, IsNextPart};
+ghost use Rattle.pb_blocks.specs.Held.{AreKnown, IsNextPart, is_unknown_item, side_of};
 ghost use Rattle.pb_blocks.specs.Lists.{is_part, is_plus, is_side, items, member_of, step_of};
-ghost use Rattle.pb_blocks.specs.Held.{is_unknown_item, side_of};
 
 use crate::items::{Items, is_name, is_plus, part_name};
 use crate::known::Known;

@@ -7,7 +7,8 @@ use crate::known::Known;
 use crate::lists::{members_of, steps_of};
 use crate::rows::StreamRow;
 use pb_choices::Shape;
-use pb_graph::{Classified, StreamResult, Witness};
+use pb_graph::{Classified, Witness};
+use pb_study::StreamResult;
 use std::alloc::{AllocError, Global};
 
 /// A stream's result by its row. A stream of the certificate that isn't one of these gets their number as its place.

@@ -1,8 +1,9 @@
 // What the rows of a block say.
 
 use pb_choices::Shape;
-use pb_graph::{Bounds, Class, List, Solved};
+use pb_graph::{Class, List};
 use pb_rows::Name;
+use pb_study::{Bounds, Solved};
 
 /// What the row that opens a block says: the period and the round, how many nodes and streams the block has, the gap in
 /// thousandths and the greatest number of sweeps.

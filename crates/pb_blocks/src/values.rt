@@ -4,7 +4,7 @@ ghost use Rattle.std.specs.Prelude.{◌≡◌, false, IfOk, if◌then◌else◌}
 ghost use Rattle.pb_graph.specs.ProcessGraph.{IsWithinLimits};
 ghost use Rattle.pb_form.specs.OutputRows.{output_columns};
 ghost use Rattle.pb_form.specs.Writing.{FitEach};
-ghost use Rattle.pb_form.specs.declared.output.OutputKind.TheVariants.{Solved as SolvedKind, Global as GlobalKind, Nodal, Measure};
+ghost use Rattle.pb_form.specs.declared.output.OutputKind.TheVariants.{Nodal, Measure};
 ghost use Rattle.pb_blocks.specs.Counts.{IsCountAt, IsStreamKind};
 ghost use Rattle.pb_choices.specs.Places.{placed_class, placed_shape, placed_truth, placed_verdict};
 ghost use Rattle.pb_blocks.specs.Values.{said_arc, both_bounds, chosen_at, said_global, both_meas, said_measure, natural_at, said_nodal, number_at, optional_at, said_solution, said_stream};
@@ -15,9 +15,8 @@ use crate::rows::{Solution, StreamRow};
 use crate::texts::{from_field, name_field, parts_field, place_after, side_field, to_field};
 use pb_choices::{Shape, placed_class, placed_shape, placed_truth, placed_verdict};
 use pb_form::{Fields, OutputKind, Values};
-use pb_graph::{
-    Bounds, Class, GlobalTest, List, Meas, MeasureTest, NodalTest, Solved, Stream, Verdict,
-};
+use pb_graph::{Class, List, Meas, Stream};
+use pb_study::{Bounds, GlobalTest, MeasureTest, NodalTest, Solved, Verdict};
 use std::alloc::{AllocError, Global};
 
 /// The ends of a stream, by their places among the nodes, and what was measured of it.
@@ -77,7 +76,7 @@ fn both_bounds(lo: Option<i128>, hi: Option<i128>) -> Option<Bounds>
 
 /// How the stage was solved.
 pub fn said_solution(values: &Values) -> Solution
-    requires { FitEach (output_columns SolvedKind) values.now }
+    requires { FitEach (output_columns OutputKind.Solved) values.now }
     ensures { result ≡ said_solution values.now }
 {
     Solution {
@@ -92,7 +91,7 @@ pub fn said_solution(values: &Values) -> Solution
 
 /// The global test.
 pub fn said_global(values: &Values) -> GlobalTest
-    requires { FitEach (output_columns GlobalKind) values.now }
+    requires { FitEach (output_columns OutputKind.Global) values.now }
     ensures { result ≡ said_global values.now }
 {
     GlobalTest {

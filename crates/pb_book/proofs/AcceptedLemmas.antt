@@ -7,7 +7,7 @@ use Rattle.std.proofs.lemmas.List.{append-nil, take-append-le}
 use Rattle.std.proofs.lemmas.Option.{get_or_from_slice_get, slice_get-get_or, slice_get_within}
 use Rattle.std.proofs.Math.ListN.{get_or-append}
 use Rattle.std.proofs.Math.Seq.{get_or-append_seam, take-append_seam}
-use Rattle.pb_book.specs.declared.answer.Refused.{Refused as Refusal}
+use Rattle.pb_book.specs.declared.answer.Refused.{Refused}
 use Rattle.pb_kinds.specs.declared.rows.Effect.{Effect}
 use Rattle.pb_form.specs.declared.fault.FormFault.{FormFault}
 use Rattle.pb_kinds.specs.declared.rows.Request.{Request}
@@ -25,7 +25,7 @@ use Rattle.pb_kinds.specs.Versions.{may_ask, may_do}
 use Rattle.pb_kinds.specs.declared.costs.NamedCost.{NamedCost}
 use Rattle.pb_book.specs.declared.answer.Accepted.{Accepted}
 use Rattle.pb_book.specs.declared.answer.NotAccepted.{NotAccepted}
-use Rattle.pb_book.specs.declared.answer.NotAccepted.TheVariants.{NoMemory, Refused as RefusedFor}
+use Rattle.pb_book.specs.declared.answer.NotAccepted.TheVariants.{NoMemory}
 use Rattle.pb_book.specs.declared.rows.StoredRow.{StoredRow}
 use Rattle.pb_book.specs.Rows.{declared_of, period_place, version_at}
 use Rattle.pb_book.proofs.WindowAnswerLemmas.{by_window}
@@ -53,7 +53,7 @@ accepted_more rows stored right fine i row is = elim (cases_lt i (length rows)) 
 ]
 
 -- the rows after a request
-stored_then : (rows : List StoredRow) (at : ℕ) (effect : Effect) → AreAccepted rows → IsEffectInRange effect → may_do (version_at rows) effect ≡ true → (cause : Option Refusal)
+stored_then : (rows : List StoredRow) (at : ℕ) (effect : Effect) → AreAccepted rows → IsEffectInRange effect → may_do (version_at rows) effect ≡ true → (cause : Option Refused)
     → refusal_of rows effect ≡ cause → AreAccepted (after_answer rows at (stored_or_refused effect cause))
 stored_then rows at effect right range may (Some cause) is = right
 stored_then rows at effect right range may None is =
@@ -67,7 +67,7 @@ told : (rows : List StoredRow) (at : ℕ) → AreAccepted rows → (place : Opti
 told rows at right (Some place) = right
 told rows at right None = right
 
-advised : (rows : List StoredRow) (at : ℕ) → AreAccepted rows → (cause : Option Refusal) → AreAccepted (after_answer rows at (advise_or_refused cause))
+advised : (rows : List StoredRow) (at : ℕ) → AreAccepted rows → (cause : Option Refused) → AreAccepted (after_answer rows at (advise_or_refused cause))
 advised rows at right (Some cause) = right
 advised rows at right None = right
 
@@ -107,7 +107,7 @@ accepted_after law rows at fields right = by (request_in (version_at rows) field
 -- so are those of a book that is out of memory, which stay the same
 memory : (result : Result Accepted NotAccepted) → (result ≡ Err NoMemory) ⊎ (result ≢ Err NoMemory)
 memory (Ok accepted) = inr (λ is. cc is)
-memory (Err (RefusedFor cause)) = inr (λ is. cc is)
+memory (Err (NotAccepted.Refused cause)) = inr (λ is. cc is)
 memory (Err NoMemory) = inl refl
 
 pub accepted_answer : (rows new : List StoredRow) (at : ℕ) (costs : List NamedCost) (request : Request) (result : Result Accepted NotAccepted) → AreAccepted rows

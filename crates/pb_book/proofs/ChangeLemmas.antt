@@ -21,7 +21,7 @@ use Rattle.pb_book.specs.declared.answer.Refused.{Refused}
 use Rattle.pb_book.specs.declared.answer.Refused.TheVariants.{Unknown}
 use Rattle.pb_book.specs.Causes.{cause_of_change, cause_of_edit}
 use Rattle.pb_book.specs.Refusals.{is_misfit, is_moved_outside, is_outside_table, refusal_behind}
-use Rattle.pb_book.proofs.PeriodLemmas.{none_at_first, position_at_first}
+use Rattle.pb_periods.proofs.PeriodLemmas.{none_at_first, position_at_first}
 
 -- a live fact of an id repeats each kept fact of the id
 repeats : (id : List ℕ) (a b : KeptFact) → is_live_with id a ≡ true → is_live_with id b ≡ true → is_repeat b.fact a ≡ true

@@ -14,37 +14,38 @@ use Rattle.pb_strap.specs.declared.strap.Point.{Point}
 use Rattle.pb_strap.specs.Table.{rises, volume_of}
 use Rattle.pb_strap.proofs.VolumeLemmas.{table_grows}
 use Rattle.pb_site.specs.declared.declared.Declared.{Declared}
-use Rattle.pb_site.specs.declared.declared.Declared.TheVariants.{Version2, Unit as UnitRow, Boundary, Tank, Strap, Stream, CritGlobal, CritNodal, CritMeasure}
+use Rattle.pb_site.specs.declared.declared.Declared.TheVariants.{Version2, Boundary, Tank, Strap, Stream, CritGlobal, CritNodal, CritMeasure}
 use Rattle.pb_site.specs.declared.declared.Version.{Version}
 use Rattle.pb_site.specs.Row.{declares_tank, point_of}
-use Rattle.pb_site.specs.Site.{is_tank, points_of, table_of, version_of}
-use Rattle.pb_site.specs.Faults.{is_out_of_order as is_out_of_order_declared}
+use Rattle.pb_site.specs.Site.{is_tank, points_of_tank, table_of, version_of}
+use Rattle.pb_site.specs.Faults.{is_declaration_out_of_order}
 use Rattle.pb_facts.specs.declared.fact.Fact.{Fact}
 use Rattle.pb_facts.specs.declared.fact.Fact.TheVariants.{Reading, Transfer, Dip}
 use Rattle.pb_facts.specs.declared.facts.KeptFact.{KeptFact}
 use Rattle.pb_facts.specs.declared.fact.Change.{Change}
 use Rattle.pb_facts.specs.declared.fact.Change.TheVariants.{Amount, Level}
 use Rattle.pb_facts.specs.Changes.{IsChangeInRange, amended, changed, struck}
-use Rattle.pb_facts.specs.Fact.{IsInRange, is_too_long}
+use Rattle.pb_facts.specs.Fact.{IsFactInRange, is_too_long}
 use Rattle.pb_facts.specs.Facts.{has_id, is_live_with}
 use Rattle.pb_book.specs.declared.answer.Refused.TheVariants.{Unknown, Duplicate, Order, Mismatch, Sealed, Closed, Range, Full}
-use Rattle.pb_kinds.specs.declared.rows.Assay.{Assay}
+use Rattle.pb_facts.specs.declared.assays.Assay.{Assay}
 use Rattle.pb_kinds.specs.declared.rows.Effect.{Effect}
 use Rattle.pb_kinds.specs.declared.rows.Edit.TheVariants as edits
 use Rattle.pb_kinds.specs.declared.rows.Effect.TheVariants.{Declares, Opens, Books, Edits, Closes, Assays}
-use Rattle.pb_book.specs.declared.rows.Period.{Period}
+use Rattle.pb_periods.specs.declared.period.Period.{Period}
 use Rattle.pb_book.specs.Accepted.{AreAccepted, AreConsistent, IsAcceptable}
-use Rattle.pb_book.specs.Apart.{IsApart, is_named, shares_a_day}
+use Rattle.pb_periods.specs.Apart.{IsApartFrom, is_named, shares_a_day}
 use Rattle.pb_kinds.specs.Ranges.{IsEffectInRange}
-use Rattle.pb_book.specs.Ranges.{IsPeriod}
+use Rattle.pb_periods.specs.Ranges.{IsPeriod}
 use Rattle.pb_book.specs.Assays.{assays_of}
-use Rattle.pb_book.specs.Refusals.{is_closed, is_duplicate, is_full, is_mismatch, is_moved_outside, is_out_of_order, is_out_of_range, is_out_of_service, is_outside_table, is_sealed, is_unknown, refusal_behind}
-use Rattle.pb_book.specs.Touching.{service_of}
+use Rattle.pb_book.specs.Refusals.{is_book_full, is_closed, is_duplicate, is_mismatch, is_moved_outside, is_out_of_order, is_out_of_range, is_out_of_service, is_outside_table, is_sealed, is_unknown, refusal_behind}
+use Rattle.pb_periods.specs.Touching.{service_of}
 use Rattle.pb_book.specs.declared.rows.StoredRow.{StoredRow}
-use Rattle.pb_book.specs.Rows.{closed_if_named, declared_of, facts_after, facts_of, live, open_period, periods_after, periods_of}
+use Rattle.pb_periods.specs.Closing.{closed_if_named}
+use Rattle.pb_book.specs.Rows.{declared_of, facts_after, facts_of, live, open_period, periods_after, periods_of}
 use Rattle.pb_book.proofs.AcceptedLemmas.{by_accepted}
 use Rattle.pb_book.proofs.KeptLemmas.{declared_more, declared_same, facts_more, periods_more_of}
-use Rattle.pb_book.proofs.PeriodLemmas.{closed_apart, closed_days, fails_at}
+use Rattle.pb_periods.proofs.PeriodLemmas.{closed_apart, closed_days, fails_at}
 
 -- no cause holds for a row
 pub record IsFine (version : Version) (declared : List Declared) (kept : List KeptFact) (periods : List Period) (assays : List Assay) (effect : Effect) : Type 0 where
@@ -55,17 +56,17 @@ pub record IsFine (version : Version) (declared : List Declared) (kept : List Ke
   pub sealed : is_sealed version periods effect ≡ false
   pub opened : is_closed version declared periods effect ≡ false
   pub range : is_out_of_range version declared kept periods effect ≡ false
-  pub room : is_full version declared kept periods assays effect ≡ false
+  pub room : is_book_full version declared kept periods assays effect ≡ false
 
 pub fine : (version : Version) (declared : List Declared) (kept : List KeptFact) (periods : List Period) (assays : List Assay) (effect : Effect) → refusal_behind version declared kept periods assays effect ≡ None
     → IsFine version declared kept periods assays effect
 fine version declared kept periods assays effect none =
     by (is_unknown declared kept periods effect) (is_duplicate declared kept periods assays effect) (is_out_of_order declared effect) (is_mismatch declared kept periods effect) (is_sealed version periods effect)
-    (is_closed version declared periods effect) (is_out_of_range version declared kept periods effect) (is_full version declared kept periods assays effect) refl refl refl refl refl refl refl refl none
+    (is_closed version declared periods effect) (is_out_of_range version declared kept periods effect) (is_book_full version declared kept periods assays effect) refl refl refl refl refl refl refl refl none
   where
     by : (a b c d e f g h : Bool) → is_unknown declared kept periods effect ≡ a → is_duplicate declared kept periods assays effect ≡ b → is_out_of_order declared effect ≡ c
         → is_mismatch declared kept periods effect ≡ d → is_sealed version periods effect ≡ e → is_closed version declared periods effect ≡ f → is_out_of_range version declared kept periods effect ≡ g
-        → is_full version declared kept periods assays effect ≡ h
+        → is_book_full version declared kept periods assays effect ≡ h
         → (if a then Some Unknown else if b then Some Duplicate else if c then Some Order else if d then Some Mismatch else if e then Some Sealed else if f then Some Closed
         else if g then Some Range else if h then Some Full else None) ≡ None → IsFine version declared kept periods assays effect
     by true b c d e f g h known new order matching sealed opened range room none = cc none
@@ -96,45 +97,45 @@ range_parts version declared kept periods fact late range =
 
 -- a tank's table with one more declaration
 table_more : (declared : List Declared) (row : Declared) (tank : List ℕ) → is_tank declared tank ≡ true
-    → table_of (declared ++ row ∷ []) tank ≡ Some (points_of declared tank ++ filter_map (point_of tank) (row ∷ []))
+    → table_of (declared ++ row ∷ []) tank ≡ Some (points_of_tank declared tank ++ filter_map (point_of tank) (row ∷ []))
 table_more declared row tank is =
     let there : is_tank (declared ++ row ∷ []) tank ≡ true = list_any-append (declares_tank tank) declared (row ∷ []) ∙ rw is refl in
     rw there (ap (λ (points : List Point). Some points) (filter_map-append (point_of tank) declared (row ∷ [])))
 
 -- a volume by the old table is a volume by the table with one more declaration
-volume_more : (declared : List Declared) (row : Declared) (tank : List ℕ) (level volume : ℤ) → is_out_of_order_declared declared row ≡ false
-    → volume_of (points_of declared tank) level ≡ Some volume → volume_of (points_of declared tank ++ filter_map (point_of tank) (row ∷ [])) level ≡ Some volume
+volume_more : (declared : List Declared) (row : Declared) (tank : List ℕ) (level volume : ℤ) → is_declaration_out_of_order declared row ≡ false
+    → volume_of (points_of_tank declared tank) level ≡ Some volume → volume_of (points_of_tank declared tank ++ filter_map (point_of tank) (row ∷ [])) level ≡ Some volume
 volume_more declared (Strap name mm ml) tank level volume order at = elim (cases_Bool (same_name name tank)) [
   | inl same ↦
       let is : name ≡ tank = (bytes_decides name tank).0 same in
-      let rising : rises (points_of declared tank) mm ml ≡ true = up (rises (points_of declared tank) mm ml) (subst (λ (t : List ℕ). not (rises (points_of declared t) mm ml) ≡ false) is order) in
-      rw same (table_grows (points_of declared tank) mm ml level volume rising at)
-  | inr other ↦ rw (other, append-nil (points_of declared tank)) at
+      let rising : rises (points_of_tank declared tank) mm ml ≡ true = up (rises (points_of_tank declared tank) mm ml) (subst (λ (t : List ℕ). not (rises (points_of_tank declared t) mm ml) ≡ false) is order) in
+      rw same (table_grows (points_of_tank declared tank) mm ml level volume rising at)
+  | inr other ↦ rw (other, append-nil (points_of_tank declared tank)) at
 ]
   where
     up : (b : Bool) → not b ≡ false → b ≡ true
     up true e = refl
     up false e = cc e
-volume_more declared Version2 tank level volume order at = rw (append-nil (points_of declared tank)) at
-volume_more declared (Boundary name) tank level volume order at = rw (append-nil (points_of declared tank)) at
-volume_more declared (UnitRow name) tank level volume order at = rw (append-nil (points_of declared tank)) at
-volume_more declared (Tank name base service) tank level volume order at = rw (append-nil (points_of declared tank)) at
-volume_more declared (Stream name from to kind base service) tank level volume order at = rw (append-nil (points_of declared tank)) at
-volume_more declared (CritGlobal dof value) tank level volume order at = rw (append-nil (points_of declared tank)) at
-volume_more declared (CritNodal value) tank level volume order at = rw (append-nil (points_of declared tank)) at
-volume_more declared (CritMeasure value) tank level volume order at = rw (append-nil (points_of declared tank)) at
+volume_more declared Version2 tank level volume order at = rw (append-nil (points_of_tank declared tank)) at
+volume_more declared (Boundary name) tank level volume order at = rw (append-nil (points_of_tank declared tank)) at
+volume_more declared (Declared.Unit name) tank level volume order at = rw (append-nil (points_of_tank declared tank)) at
+volume_more declared (Tank name base service) tank level volume order at = rw (append-nil (points_of_tank declared tank)) at
+volume_more declared (Stream name from to kind base service) tank level volume order at = rw (append-nil (points_of_tank declared tank)) at
+volume_more declared (CritGlobal dof value) tank level volume order at = rw (append-nil (points_of_tank declared tank)) at
+volume_more declared (CritNodal value) tank level volume order at = rw (append-nil (points_of_tank declared tank)) at
+volume_more declared (CritMeasure value) tank level volume order at = rw (append-nil (points_of_tank declared tank)) at
 
 -- a dip that lies in its table stays there
-stays_in_table : (declared : List Declared) (row : Declared) (fact : Fact) → is_out_of_order_declared declared row ≡ false → is_outside_table declared fact ≡ false
+stays_in_table : (declared : List Declared) (row : Declared) (fact : Fact) → is_declaration_out_of_order declared row ≡ false → is_outside_table declared fact ≡ false
     → is_outside_table (declared ++ row ∷ []) fact ≡ false
 stays_in_table declared row (Reading id stream day grams variance) order inside = refl
 stays_in_table declared row (Transfer id stream first last grams variance) order inside = refl
 stays_in_table declared row (Dip id tank day mm density variance) order inside = elim (cases_Bool (is_tank declared tank)) [
-  | inl is ↦ by is (volume_of (points_of declared tank) mm) refl (rw is at inside)
+  | inl is ↦ by is (volume_of (points_of_tank declared tank) mm) refl (rw is at inside)
   | inr none ↦ cc (rw none at inside)
 ]
   where
-    by : is_tank declared tank ≡ true → (o : Option ℤ) → volume_of (points_of declared tank) mm ≡ o → is_none o ≡ false → is_outside_table (declared ++ row ∷ []) (Dip id tank day mm density variance) ≡ false
+    by : is_tank declared tank ≡ true → (o : Option ℤ) → volume_of (points_of_tank declared tank) mm ≡ o → is_none o ≡ false → is_outside_table (declared ++ row ∷ []) (Dip id tank day mm density variance) ≡ false
     by is None at inside = cc inside
     by is (Some volume) at inside = rw (table_more declared row tank is, volume_more declared row tank mm volume order at) refl
 
@@ -163,7 +164,7 @@ more_periods version declared kept periods assays name first last right good ran
     let period = open_period name first last in
     let days : IsPeriod period = record { begins = range.0; ends = range.1; rises = omega (arith, ints, good.order); few = omega (arith, ints, good.range) } in record {
       days = All-push IsPeriod periods period right.days days;
-      apart = all_pairs_push IsApart periods period right.apart
+      apart = all_pairs_push IsApartFrom periods period right.apart
           (λ k d lt. record { names = fails_at (is_named name) periods k d good.new lt; days = fails_at (shares_a_day first last) periods k d good.matching lt });
       ranges = right.ranges;
       in_tables = right.in_tables;
@@ -171,11 +172,11 @@ more_periods version declared kept periods assays name first last right good ran
 
 -- one more fact that is in order, with a level that lies in its table
 more_facts : (declared : List Declared) (kept : List KeptFact) (periods : List Period) (fact : Fact) → AreConsistent declared kept periods
-    → IsInRange fact → is_outside_table declared fact ≡ false → AreConsistent declared (kept ++ live fact ∷ []) periods
+    → IsFactInRange fact → is_outside_table declared fact ≡ false → AreConsistent declared (kept ++ live fact ∷ []) periods
 more_facts declared kept periods fact right range good = record {
   days = right.days;
   apart = right.apart;
-  ranges = All-push (λ (k : KeptFact). IsInRange k.fact) kept (live fact) right.ranges range;
+  ranges = All-push (λ (k : KeptFact). IsFactInRange k.fact) kept (live fact) right.ranges range;
   in_tables = All-push (λ (k : KeptFact). is_outside_table declared k.fact ≡ false) kept (live fact) right.in_tables
       good;
 }
@@ -189,7 +190,7 @@ all_images P Q f (x ∷ xs) all step = λ i e lt.
     subst Q (sym (get_or-map f (x ∷ xs) i x e within)) (step i x within (all i x within))
 
 -- a fact with other values in their ranges
-changed_in_range : (change : Change) (fact : Fact) → IsChangeInRange change → IsInRange fact → IsInRange (changed change fact)
+changed_in_range : (change : Change) (fact : Fact) → IsChangeInRange change → IsFactInRange fact → IsFactInRange (changed change fact)
 changed_in_range (Amount grams variance) (Reading id stream day old_grams old_variance) new old = (old.0, new.0, new.1)
 changed_in_range (Amount grams variance) (Transfer id stream first last old_grams old_variance) new old = (old.0, old.1, new.0, new.1)
 changed_in_range (Amount grams variance) (Dip id tank day mm density old_variance) new old = old
@@ -203,12 +204,12 @@ amended_facts : (declared : List Declared) (kept : List KeptFact) (periods : Lis
 amended_facts declared kept periods id change right range good = record {
   days = right.days;
   apart = right.apart;
-  ranges = all_images (λ (k : KeptFact). IsInRange k.fact) (λ (k : KeptFact). IsInRange k.fact) (amended_one id change) kept right.ranges (λ k d lt old. in_range (get_or kept k d) old);
+  ranges = all_images (λ (k : KeptFact). IsFactInRange k.fact) (λ (k : KeptFact). IsFactInRange k.fact) (amended_one id change) kept right.ranges (λ k d lt old. in_range (get_or kept k d) old);
   in_tables = all_images (λ (k : KeptFact). is_outside_table declared k.fact ≡ false) (λ (k : KeptFact). is_outside_table declared k.fact ≡ false) (amended_one id change) kept right.in_tables
       (λ k d lt old. in_table (get_or kept k d) (fails_at (is_moved_outside declared id change) kept k d good lt) old);
 }
   where
-    in_range : (k : KeptFact) → IsInRange k.fact → IsInRange (amended_one id change k).fact
+    in_range : (k : KeptFact) → IsFactInRange k.fact → IsFactInRange (amended_one id change k).fact
     in_range k old = elim (cases_Bool (is_live_with id k)) [
       | inl is ↦ rw is (changed_in_range change k.fact range old)
       | inr other ↦ rw other old
@@ -225,8 +226,8 @@ struck_facts : (declared : List Declared) (kept : List KeptFact) (periods : List
 struck_facts declared kept periods id right = record {
   days = right.days;
   apart = right.apart;
-  ranges = all_images (λ (k : KeptFact). IsInRange k.fact) (λ (k : KeptFact). IsInRange k.fact) (struck_one id) kept right.ranges
-      (λ k d lt old. subst IsInRange (sym (same_fact (get_or kept k d))) old);
+  ranges = all_images (λ (k : KeptFact). IsFactInRange k.fact) (λ (k : KeptFact). IsFactInRange k.fact) (struck_one id) kept right.ranges
+      (λ k d lt old. subst IsFactInRange (sym (same_fact (get_or kept k d))) old);
   in_tables = all_images (λ (k : KeptFact). is_outside_table declared k.fact ≡ false) (λ (k : KeptFact). is_outside_table declared k.fact ≡ false) (struck_one id) kept right.in_tables
       (λ k d lt old. ap (is_outside_table declared) (same_fact (get_or kept k d)) ∙ old);
 }

@@ -20,7 +20,7 @@ use Rattle.pb_kinds.specs.Costs.{IsMeterCost, named_costs}
 use Rattle.pb_kinds.specs.Laws.{NamedCostsLaw}
 use Rattle.pb_kinds.specs.Requests.{request_in}
 use Rattle.pb_book.specs.declared.answer.Accepted.TheVariants.{Advise}
-use Rattle.pb_book.specs.declared.answer.Refused.{Refused as Refusal}
+use Rattle.pb_book.specs.declared.answer.Refused.{Refused}
 use Rattle.pb_book.specs.declared.rows.StoredRow.{StoredRow}
 use Rattle.pb_book.specs.Answer.{Answer, Says, answer_if, component_or_refused, history_or_refused, report_or_refused, stored_or_refused}
 use Rattle.pb_book.specs.Assays.{has_assay}
@@ -32,7 +32,7 @@ use Rattle.pb_book.proofs.WindowAnswerLemmas.{by_window}
 
 -- ---- a record that is accepted as one that asks for advice asks for it
 
-no_store : (effect : Effect) (cause : Option Refusal) → stored_or_refused effect cause ≡ Says Advise → ⊥
+no_store : (effect : Effect) (cause : Option Refused) → stored_or_refused effect cause ≡ Says Advise → ⊥
 no_store effect (Some cause) is = cc is
 no_store effect None is = cc is
 

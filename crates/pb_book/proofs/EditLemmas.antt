@@ -6,15 +6,15 @@ use Rattle.std.proofs.Common.{◌≡◌, ◌∙◌, ◌<◌, ◌≤◌, ℕ, zer
 use Rattle.pb_facts.specs.declared.facts.KeptFact.{KeptFact}
 use Rattle.pb_site.specs.declared.declared.Declared.{Declared}
 use Rattle.pb_site.specs.Site.{version_of}
-use Rattle.pb_kinds.specs.declared.rows.Assay.{Assay}
-use Rattle.pb_book.specs.declared.rows.Period.{Period}
+use Rattle.pb_facts.specs.declared.assays.Assay.{Assay}
+use Rattle.pb_periods.specs.declared.period.Period.{Period}
 use Rattle.pb_book.specs.declared.rows.Place.{Place}
 use Rattle.pb_book.specs.declared.rows.StoredRow.{StoredRow}
 use Rattle.pb_book.specs.Edits.{edit_touches, edits_of, row_touches, touches_at}
 use Rattle.pb_book.specs.Kept.{AreOf, ArePlaced, IsKept, Shelves, row_at, rows_at}
 use Rattle.pb_book.specs.Rows.{declared_of, facts_of, version_at}
 use Rattle.pb_book.specs.TakenOut.{touching_of}
-use Rattle.pb_book.specs.Touching.{touches_in}
+use Rattle.pb_periods.specs.Touching.{touches_in}
 
 -- places that have rows have as many rows
 pub placed_length : (shelves : Shelves) (places : List Place) → ArePlaced shelves places → length (rows_at shelves places) ≡ length places

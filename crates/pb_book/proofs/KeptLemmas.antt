@@ -14,23 +14,24 @@ use Rattle.std.proofs.Math.Seq.{get_or-append_seam}
 use Rattle.pb_site.specs.declared.declared.Declared.{Declared}
 use Rattle.pb_facts.specs.declared.fact.Fact.{Fact}
 use Rattle.pb_facts.specs.declared.facts.KeptFact.{KeptFact}
-use Rattle.pb_kinds.specs.declared.rows.Assay.{Assay}
+use Rattle.pb_facts.specs.declared.assays.Assay.{Assay}
 use Rattle.pb_kinds.specs.declared.rows.Effect.{Effect}
 use Rattle.pb_kinds.specs.declared.rows.Effect.TheVariants.{Declares, Opens, Books, Closes, Assays}
 use Rattle.pb_book.specs.declared.rows.Edited.{Edited}
 use Rattle.pb_book.specs.declared.rows.Part.{Part}
 use Rattle.pb_book.specs.declared.rows.Part.TheVariants as part
-use Rattle.pb_book.specs.declared.rows.Period.{Period}
+use Rattle.pb_periods.specs.declared.period.Period.{Period}
 use Rattle.pb_book.specs.declared.rows.Place.{Place}
 use Rattle.pb_book.specs.declared.rows.StoredRow.{StoredRow}
 use Rattle.pb_book.specs.Accepted.{AreAccepted, IsAcceptable}
-use Rattle.pb_book.specs.Apart.{is_named}
+use Rattle.pb_periods.specs.Apart.{is_named}
 use Rattle.pb_book.specs.Assays.{assay_by, assays_of}
 use Rattle.pb_book.specs.Edits.{edits_of, is_edit}
 use Rattle.pb_book.specs.Kept.{AreOf, ArePlaced, IsKept, Shelves, closing, editing, effect_in, opening, row_at, rows_at, shelves_of}
-use Rattle.pb_book.specs.Rows.{closed, closed_if_named, declaration_in, declared_of, facts_after, facts_of, live, open_period, periods_after, periods_of}
+use Rattle.pb_periods.specs.Closing.{closed, closed_if_named}
+use Rattle.pb_book.specs.Rows.{declaration_in, declared_of, facts_after, facts_of, live, open_period, periods_after, periods_of}
 use Rattle.pb_book.proofs.AcceptedLemmas.{accepted_more}
-use Rattle.pb_book.proofs.PeriodLemmas.{position_at_first}
+use Rattle.pb_periods.proofs.PeriodLemmas.{position_at_first}
 use Rattle.pb_book.proofs.OriginalLemmas.{Joins, TellsAll, tells_as, tells_itself, tells_same}
 
 -- ---- the parts of the rows, with one more row

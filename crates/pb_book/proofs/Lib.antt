@@ -1,20 +1,17 @@
 mod AcceptedLemmas
-mod AssayLemmas
 mod ChangeLemmas
 mod ConsistentLemmas
 mod EditLemmas
 mod FactLemmas
 mod KeptLemmas
 mod LiveLemmas
-mod NameLemmas
 mod NamedLemmas
 mod OriginalLemmas
-mod PeriodLemmas
 mod CostLemmas
 mod PlainLemmas
 mod RecordLemmas
 mod TakenOutLemmas
 mod VersionOneLemmas
 mod WindowAnswerLemmas
-mod WindowLemmas
 mod WindowPlantLemmas
+pub mod BookLaws

@@ -17,7 +17,7 @@ use Rattle.pb_facts.specs.declared.fact.Fact.TheVariants.{Reading, Transfer, Dip
 use Rattle.pb_facts.specs.declared.facts.KeptFact.{KeptFact}
 use Rattle.pb_facts.specs.Changes.{changed, fits}
 use Rattle.pb_facts.specs.Fact.{id_of}
-use Rattle.pb_facts.specs.Facts.{NoRepeats, has_id, is_duplicate, is_live_with, is_repeat, is_repeat_by_day, live_facts}
+use Rattle.pb_facts.specs.Facts.{NoRepeats, has_id, is_duplicate_fact, is_live_with, is_repeat, is_repeat_by_day, live_facts}
 use Rattle.pb_kinds.specs.declared.rows.Effect.{Effect}
 use Rattle.pb_kinds.specs.declared.rows.Edit.TheVariants as edits
 use Rattle.pb_kinds.specs.declared.rows.Effect.TheVariants.{Declares, Opens, Books, Edits, Closes, Assays}
@@ -30,8 +30,8 @@ use Rattle.pb_book.specs.Rows.{declared_of, facts_after, facts_of, live, periods
 use Rattle.pb_book.proofs.AcceptedLemmas.{by_accepted}
 use Rattle.pb_book.proofs.ConsistentLemmas.{amended_one, fine, struck_one}
 use Rattle.pb_book.proofs.KeptLemmas.{facts_more}
-use Rattle.pb_book.proofs.NameLemmas.{any_map}
-use Rattle.pb_book.proofs.PeriodLemmas.{fails_at, none_at_first, position_at_first}
+use Rattle.pb_periods.proofs.NameLemmas.{any_map}
+use Rattle.pb_periods.proofs.PeriodLemmas.{fails_at, none_at_first, position_at_first}
 use Rattle.pb_book.proofs.PlainLemmas.{AreWellIn, none_well, well_step}
 
 -- a fact that came with a row, as the rows leave it
@@ -226,7 +226,7 @@ meant_same rows stored well_now unchanged none spared same right = record {
 -- a row with a new fact
 meant_fact : (rows : List StoredRow) (stored : StoredRow) (fact : Fact) → AreWellIn (rows ++ stored ∷ []) → facts_after (facts_of rows) stored.effect ≡ facts_of rows ++ live fact ∷ []
     → kept_in (rows ++ stored ∷ []) stored.effect ≡ Some (kept_of (rows ++ stored ∷ []) fact) → ((id : List ℕ) → strikes id stored.effect ≡ false) → ((id : List ℕ) → change_in id stored.effect ≡ None)
-    → is_duplicate (facts_of rows) fact ≡ false → IsMeant rows → IsMeant (rows ++ stored ∷ [])
+    → is_duplicate_fact (facts_of rows) fact ≡ false → IsMeant rows → IsMeant (rows ++ stored ∷ [])
 meant_fact rows stored fact well_now added here spared same new right = record {
   well = well_now;
   facts = facts_now ∙ ap (λ (ks : List KeptFact). ks ++ live fact ∷ []) right.facts

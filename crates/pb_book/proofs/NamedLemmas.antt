@@ -6,15 +6,15 @@ use Rattle.std.specs.Option.{option_map}
 use Rattle.std.proofs.Common.{◌≡◌, ℕ, List, [], ◌∷◌, map, suc, slice_get, Bool, true, false, Option, Some, None, Result, Ok, Err, refl, subst, inl, inr}
 use Rattle.std.proofs.lemmas.Bool.{and_parts, cases_Bool}
 use Rattle.std.proofs.lemmas.List.Elements.{All-cons, All-head, All-map, All-nil, All-push, All-tail, All-weaker}
-use Rattle.pb_assay.specs.Grade.{IsGrade}
+use Rattle.pb_facts.specs.Grade.{IsGrade}
 use Rattle.pb_rows.specs.Name.{is_name, same_name}
 use Rattle.pb_form.specs.declared.fault.FormFault.{FormFault}
 use Rattle.pb_site.specs.declared.declared.Arc.{Arc}
 use Rattle.pb_site.specs.declared.declared.Declared.{Declared}
-use Rattle.pb_site.specs.declared.declared.Declared.TheVariants.{Version2, Unit as UnitDeclared, Boundary as BoundaryDeclared, Tank as TankDeclared, Strap as StrapDeclared, Stream as StreamDeclared, CritGlobal, CritNodal, CritMeasure}
-use Rattle.pb_site.specs.Row.{IsInRange, arc_in, node_name}
+use Rattle.pb_site.specs.declared.declared.Declared.TheVariants.{Version2, CritGlobal, CritNodal, CritMeasure}
+use Rattle.pb_site.specs.Row.{IsDeclaredInRange, arc_in, node_name}
 use Rattle.pb_site.specs.Site.{boundary_names, node_names}
-use Rattle.pb_kinds.specs.declared.rows.Assay.{Assay}
+use Rattle.pb_facts.specs.declared.assays.Assay.{Assay}
 use Rattle.pb_kinds.specs.declared.rows.Effect.{Effect}
 use Rattle.pb_kinds.specs.declared.rows.Effect.TheVariants.{Declares, Opens, Books, Edits, Closes, Assays}
 use Rattle.pb_kinds.specs.declared.rows.Request.{Request}
@@ -26,16 +26,17 @@ use Rattle.pb_kinds.specs.Ranges.{IsEffectInRange}
 use Rattle.pb_kinds.specs.Requests.{request_in}
 use Rattle.pb_book.specs.declared.answer.Accepted.TheVariants.{Component}
 use Rattle.pb_book.specs.declared.answer.Refused.{Refused}
-use Rattle.pb_book.specs.declared.rows.Period.{Period}
+use Rattle.pb_periods.specs.declared.period.Period.{Period}
 use Rattle.pb_book.specs.declared.rows.StoredRow.{StoredRow}
 use Rattle.pb_book.specs.Answer.{Answer, Says, advise_or_refused, after, after_answer, answer_if, answer_of, component_or_refused, history_or_refused, report_or_refused, stored_or_refused}
-use Rattle.pb_book.specs.Apart.{is_named}
-use Rattle.pb_book.specs.Assays.{assay_by, assays_of, has_assay, is_assay_of, is_assay_over}
+use Rattle.pb_periods.specs.Apart.{is_named}
+use Rattle.pb_book.specs.Assays.{assay_by, assays_of, has_assay}
+use Rattle.pb_facts.specs.Assays.{is_assay_of, is_assay_over}
 use Rattle.pb_book.specs.Costs.{refusal_of_costs}
-use Rattle.pb_book.specs.Named.{AreNamed, GradesLaw, HaveNames, NamedLaw, RangesLaw}
+use Rattle.pb_book.specs.Named.{AreNamed, GradesLaw, HaveWellFormedNames, NamedLaw, RangesLaw}
 use Rattle.pb_book.specs.Refusals.{refusal_of}
-use Rattle.pb_book.specs.Rows.{closed, closed_if_named, open_period, declaration_in, declared_of, period_place, periods_after, version_at}
-use Rattle.pb_book.proofs.AssayLemmas.{found_of}
+use Rattle.pb_periods.specs.Closing.{closed, closed_if_named}
+use Rattle.pb_book.specs.Rows.{open_period, declaration_in, declared_of, period_place, periods_after, version_at}
 use Rattle.pb_book.proofs.WindowAnswerLemmas.{by_window}
 
 -- ---- one more record
@@ -43,32 +44,32 @@ use Rattle.pb_book.proofs.WindowAnswerLemmas.{by_window}
 abbrev IsNamedRow : StoredRow → Type 0
 IsNamedRow stored = list_all is_name (effect_names stored.effect) ≡ true
 
-after_named : StoredLaw → (rows : List StoredRow) (at : ℕ) (fields : List (List ℕ)) → HaveNames rows → HaveNames (after rows at fields)
+after_named : StoredLaw → (rows : List StoredRow) (at : ℕ) (fields : List (List ℕ)) → HaveWellFormedNames rows → HaveWellFormedNames (after rows at fields)
 after_named law rows at fields named = by (request_in (version_at rows) fields) (λ effect is. law.named (version_at rows) fields effect is)
   where
-    stored_then : (effect : Effect) → list_all is_name (effect_names effect) ≡ true → (cause : Option Refused) → HaveNames (after_answer rows at (stored_or_refused effect cause))
+    stored_then : (effect : Effect) → list_all is_name (effect_names effect) ≡ true → (cause : Option Refused) → HaveWellFormedNames (after_answer rows at (stored_or_refused effect cause))
     stored_then effect is (Some cause) = named
     stored_then effect is None = All-push IsNamedRow rows (record { at = at; effect = effect }) named is
 
-    reported : (place : Option ℕ) → HaveNames (after_answer rows at (report_or_refused place))
+    reported : (place : Option ℕ) → HaveWellFormedNames (after_answer rows at (report_or_refused place))
     reported (Some place) = named
     reported None = named
 
-    told : (place : Option ℕ) → HaveNames (after_answer rows at (history_or_refused place))
+    told : (place : Option ℕ) → HaveWellFormedNames (after_answer rows at (history_or_refused place))
     told (Some place) = named
     told None = named
 
-    advised : (cause : Option Refused) → HaveNames (after_answer rows at (advise_or_refused cause))
+    advised : (cause : Option Refused) → HaveWellFormedNames (after_answer rows at (advise_or_refused cause))
     advised (Some cause) = named
     advised None = named
 
-    balanced : (component : List ℕ) (assayed : Bool) (place : Option ℕ) → HaveNames (after_answer rows at (component_or_refused component assayed place))
+    balanced : (component : List ℕ) (assayed : Bool) (place : Option ℕ) → HaveWellFormedNames (after_answer rows at (component_or_refused component assayed place))
     balanced component true (Some place) = named
     balanced component true None = named
     balanced component false place = named
 
     by : (request : Result Request FormFault) → ((effect : Effect) → request ≡ Ok (asked.Store effect) → list_all is_name (effect_names effect) ≡ true)
-        → HaveNames (after_answer rows at (answer_if rows (named_costs fields) request))
+        → HaveWellFormedNames (after_answer rows at (answer_if rows (named_costs fields) request))
     by (Err fault) is = named
     by (Ok asked.Blank) is = named
     by (Ok (asked.Store effect)) is = stored_then effect (is effect refl) (refusal_of rows effect)
@@ -77,7 +78,7 @@ after_named law rows at fields named = by (request_in (version_at rows) fields) 
     by (Ok (asked.History name)) is = told (period_place rows name)
     by (Ok asked.Advise) is = advised (refusal_of_costs (declared_of rows) (named_costs fields))
     by (Ok (asked.Window first last)) is =
-        by_window (λ (answer : Answer). HaveNames (after_answer rows at answer)) (λ cause. named) (λ i k. named) rows (period_place rows first) (period_place rows last)
+        by_window (λ (answer : Answer). HaveWellFormedNames (after_answer rows at answer)) (λ cause. named) (λ i k. named) rows (period_place rows first) (period_place rows last)
     by (Ok (asked.Component component period)) is = balanced component (has_assay rows component period) (period_place rows period)
 
 -- ---- what follows
@@ -95,7 +96,7 @@ first_named : (name : List ℕ) (rest : List (List ℕ)) → list_all is_name (n
 first_named name rest is = (and_parts (is_name name) (list_all is_name rest) is).0
 
 -- the declarations among named rows
-declared_named : (rows : List StoredRow) → HaveNames rows → list_all is_declared_named (declared_of rows) ≡ true
+declared_named : (rows : List StoredRow) → HaveWellFormedNames rows → list_all is_declared_named (declared_of rows) ≡ true
 declared_named [] named = refl
 declared_named (stored ∷ rows) named =
     by stored.effect (All-head IsNamedRow stored rows named) (declared_named rows (All-tail IsNamedRow stored rows named))
@@ -119,11 +120,11 @@ nodes_named (d ∷ declared) all =
     by : (d : Declared) → is_declared_named d ≡ true → list_all is_name (filter_map node_name declared) ≡ true
         → list_all is_name (cons_option (node_name d) (filter_map node_name declared)) ≡ true
     by Version2 is rest = rest
-    by (UnitDeclared name) is rest = both (is_name name) _ (first_named name [] is) rest
-    by (BoundaryDeclared name) is rest = rest
-    by (TankDeclared name base service) is rest = both (is_name name) _ (first_named name [] is) rest
-    by (StrapDeclared tank mm ml) is rest = rest
-    by (StreamDeclared name from to kind base service) is rest = rest
+    by (Declared.Unit name) is rest = both (is_name name) _ (first_named name [] is) rest
+    by (Declared.Boundary name) is rest = rest
+    by (Declared.Tank name base service) is rest = both (is_name name) _ (first_named name [] is) rest
+    by (Declared.Strap tank mm ml) is rest = rest
+    by (Declared.Stream name from to kind base service) is rest = rest
     by (CritGlobal dof value) is rest = rest
     by (CritNodal value) is rest = rest
     by (CritMeasure value) is rest = rest
@@ -139,11 +140,11 @@ arcs_named boundaries nodes (d ∷ declared) all =
     by : (d : Declared) → is_declared_named d ≡ true → list_all is_name (map (λ (arc : Arc). arc.name) (filter_map (arc_in boundaries nodes) declared)) ≡ true
         → list_all is_name (map (λ (arc : Arc). arc.name) (cons_option (arc_in boundaries nodes d) (filter_map (arc_in boundaries nodes) declared))) ≡ true
     by Version2 is rest = rest
-    by (UnitDeclared name) is rest = rest
-    by (BoundaryDeclared name) is rest = rest
-    by (TankDeclared name base service) is rest = both (is_name name) _ (first_named name [] is) rest
-    by (StrapDeclared tank mm ml) is rest = rest
-    by (StreamDeclared name from to kind base service) is rest = both (is_name name) _ (first_named name (from ∷ to ∷ []) is) rest
+    by (Declared.Unit name) is rest = rest
+    by (Declared.Boundary name) is rest = rest
+    by (Declared.Tank name base service) is rest = both (is_name name) _ (first_named name [] is) rest
+    by (Declared.Strap tank mm ml) is rest = rest
+    by (Declared.Stream name from to kind base service) is rest = both (is_name name) _ (first_named name (from ∷ to ∷ []) is) rest
     by (CritGlobal dof value) is rest = rest
     by (CritNodal value) is rest = rest
     by (CritMeasure value) is rest = rest
@@ -170,13 +171,13 @@ periods_more periods (Closes name) all is =
     (All-weaker IsNamedPeriod (λ (period : Period). IsNamedPeriod (closed_if_named name period)) (closed_named name) periods all)
 periods_more periods (Assays assay) all is = all
 
-periods_named : (rows : List StoredRow) (periods : List Period) → All IsNamedPeriod periods → HaveNames rows
+periods_named : (rows : List StoredRow) (periods : List Period) → All IsNamedPeriod periods → HaveWellFormedNames rows
     → All IsNamedPeriod (fold (λ (so_far : List Period) (stored : StoredRow). periods_after so_far stored.effect) periods rows)
 periods_named [] periods all named = all
 periods_named (stored ∷ rows) periods all named =
     periods_named rows (periods_after periods stored.effect) (periods_more periods stored.effect all (All-head IsNamedRow stored rows named)) (All-tail IsNamedRow stored rows named)
 
-all_named : (rows : List StoredRow) → HaveNames rows → AreNamed rows
+all_named : (rows : List StoredRow) → HaveWellFormedNames rows → AreNamed rows
 all_named rows named =
     let declared = declared_named rows named in
     record {
@@ -189,7 +190,7 @@ all_named rows named =
 abbrev IsNamedAssay : Assay → Type 0
 IsNamedAssay assay = is_name assay.component ≡ true
 
-assays_named : (rows : List StoredRow) → HaveNames rows → All IsNamedAssay (assays_of rows)
+assays_named : (rows : List StoredRow) → HaveWellFormedNames rows → All IsNamedAssay (assays_of rows)
 assays_named [] named = All-nil IsNamedAssay
 assays_named (stored ∷ rows) named =
     by stored.effect (All-head IsNamedRow stored rows named) (assays_named rows (All-tail IsNamedRow stored rows named))
@@ -236,7 +237,7 @@ balance_named asked true (Some place) component period named is = let same : ask
 balance_named asked true None component period named is = cc is
 balance_named asked false place component period named is = cc is
 
-component_named : (rows : List StoredRow) (fields : List (List ℕ)) (component : List ℕ) (period : ℕ) → HaveNames rows → answer_of rows fields ≡ Says (Component component period)
+component_named : (rows : List StoredRow) (fields : List (List ℕ)) (component : List ℕ) (period : ℕ) → HaveWellFormedNames rows → answer_of rows fields ≡ Says (Component component period)
     → is_name component ≡ true
 component_named rows fields component period named is = by (request_in (version_at rows) fields) is
   where
@@ -261,13 +262,13 @@ named_law law = record { begin = All-nil IsNamedRow; go_on = after_named law; na
 -- ---- numbers in their ranges
 
 ranges_of : (rows : List StoredRow) → ((i : ℕ) (stored : StoredRow) → slice_get rows i ≡ Some stored → IsEffectInRange stored.effect)
-    → All (λ (declared : Declared). IsInRange declared) (declared_of rows)
-ranges_of [] right = All-nil (λ (declared : Declared). IsInRange declared)
+    → All (λ (declared : Declared). IsDeclaredInRange declared) (declared_of rows)
+ranges_of [] right = All-nil (λ (declared : Declared). IsDeclaredInRange declared)
 ranges_of (stored ∷ rows) right = by stored.effect (right 0 stored refl) (ranges_of rows (λ i s at. right (suc i) s at))
   where
-    by : (effect : Effect) → IsEffectInRange effect → All (λ (d : Declared). IsInRange d) (declared_of rows)
-        → All (λ (d : Declared). IsInRange d) (cons_option (declaration_in effect) (declared_of rows))
-    by (Declares declared) is rest = All-cons (λ (d : Declared). IsInRange d) declared (declared_of rows) is rest
+    by : (effect : Effect) → IsEffectInRange effect → All (λ (d : Declared). IsDeclaredInRange d) (declared_of rows)
+        → All (λ (d : Declared). IsDeclaredInRange d) (cons_option (declaration_in effect) (declared_of rows))
+    by (Declares declared) is rest = All-cons (λ (d : Declared). IsDeclaredInRange d) declared (declared_of rows) is rest
     by (Opens name first last) is rest = rest
     by (Books fact late) is rest = rest
     by (Edits id edit reason) is rest = rest
@@ -293,6 +294,14 @@ grades_in (stored ∷ rows) right = by stored.effect (right 0 stored refl) (grad
     by (Books fact late) is rest = rest
     by (Edits id edit reason) is rest = rest
     by (Closes name) is rest = rest
+
+-- what holds for each item holds for the one that is found
+found_of : {X : Type 0} (P : X → Type 0) (test : X → Bool) (xs : List X) → All P xs → IfSome (find test xs) P
+found_of {X} P test [] all = tt
+found_of {X} P test (x ∷ xs) all = elim (cases_Bool (test x)) [
+  | inl is ↦ rw is (All-head P x xs all)
+  | inr other ↦ rw other (found_of P test xs (All-tail P x xs all))
+]
 
 pub grades_law : GradesLaw
 grades_law rows component period stream accepted =

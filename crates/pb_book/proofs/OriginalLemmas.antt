@@ -16,7 +16,7 @@ use Rattle.pb_facts.specs.declared.facts.KeptFact.{KeptFact}
 use Rattle.pb_book.specs.Kept.{HasOriginal, told_at}
 use Rattle.pb_book.specs.Rows.{live}
 use Rattle.pb_book.proofs.ChangeLemmas.{only_live}
-use Rattle.pb_book.proofs.PeriodLemmas.{none_at_first, position_at_first}
+use Rattle.pb_periods.proofs.PeriodLemmas.{none_at_first, position_at_first}
 
 -- facts that are returned where others are returned
 pub record TellsAll (told more : ℕ → Option Fact) : Type 0 where

@@ -15,7 +15,7 @@ use Rattle.pb_rows.specs.Name.{same_name}
 use Rattle.pb_site.specs.declared.declared.Arc.{Arc}
 use Rattle.pb_site.specs.declared.declared.ArcKind.{ArcKind}
 use Rattle.pb_site.specs.declared.declared.Declared.{Declared}
-use Rattle.pb_site.specs.declared.declared.Declared.TheVariants.{Version2, Unit as UnitRow, Boundary, Tank, Strap, Stream, CritGlobal, CritNodal, CritMeasure}
+use Rattle.pb_site.specs.declared.declared.Declared.TheVariants.{Version2, Boundary, Tank, Strap, Stream, CritGlobal, CritNodal, CritMeasure}
 use Rattle.pb_site.specs.declared.declared.Service.{Service}
 use Rattle.pb_site.specs.declared.declared.Version.{Version}
 use Rattle.pb_site.specs.declared.declared.Version.TheVariants.{One, Two}
@@ -27,28 +27,29 @@ use Rattle.pb_facts.specs.declared.fact.Fact.{Fact}
 use Rattle.pb_facts.specs.declared.fact.Fact.TheVariants.{Reading, Transfer, Dip}
 use Rattle.pb_facts.specs.declared.facts.KeptFact.{KeptFact}
 use Rattle.pb_facts.specs.Changes.{changed}
-use Rattle.pb_facts.specs.Fact.{IsInRange, id_of, is_out_of_order, is_too_long}
-use Rattle.pb_facts.specs.Facts.{NoRepeats, has_id, is_duplicate, is_full, is_live_with, is_repeat, live_fact, live_facts}
-use Rattle.pb_kinds.specs.declared.rows.Assay.{Assay}
+use Rattle.pb_facts.specs.Fact.{IsFactInRange, id_of, is_fact_out_of_order, is_too_long}
+use Rattle.pb_facts.specs.Facts.{NoRepeats, are_facts_full, has_id, is_duplicate_fact, is_live_with, is_repeat, live_fact, live_facts}
+use Rattle.pb_facts.specs.declared.assays.Assay.{Assay}
 use Rattle.pb_kinds.specs.declared.rows.Effect.{Effect}
 use Rattle.pb_kinds.specs.declared.rows.Edit.TheVariants as edits
 use Rattle.pb_kinds.specs.declared.rows.Effect.TheVariants.{Declares, Opens, Books, Edits, Closes, Assays}
-use Rattle.pb_book.specs.declared.rows.Period.{Period}
+use Rattle.pb_periods.specs.declared.period.Period.{Period}
 use Rattle.pb_book.specs.Accepted.{AreAccepted, AreInTables, IsAcceptable}
-use Rattle.pb_book.specs.Apart.{is_named, shares_a_day}
+use Rattle.pb_periods.specs.Apart.{is_named, shares_a_day}
 use Rattle.pb_book.specs.Assays.{assays_of}
 use Rattle.pb_book.specs.Plain.{PlainLaw, booked, numbered, opened, plain_stored, settled, settled_rows}
 use Rattle.pb_kinds.specs.Ranges.{IsEffectInRange}
 use Rattle.pb_kinds.specs.Versions.{may_declare, may_do}
-use Rattle.pb_book.specs.Refusals.{is_of_other_kind, is_of_plant, is_out_of_service, is_outside_table, is_closed_named, is_no_arc, is_sealed_by, is_unserved_in, kind_of_fact, names_other, refusal_behind, refusal_of}
+use Rattle.pb_book.specs.Refusals.{is_of_other_kind, is_of_plant, is_out_of_service, is_outside_table, is_no_arc, is_sealed_by, kind_of_fact, names_other, refusal_behind, refusal_of}
+use Rattle.pb_periods.specs.Closing.{closed_if_named, is_closed_named, is_unserved_in}
 use Rattle.pb_book.specs.declared.rows.StoredRow.{StoredRow}
-use Rattle.pb_book.specs.Rows.{closed_if_named, declared_of, facts_after, facts_of, live, open_period, periods_after, periods_of, version_at}
-use Rattle.pb_book.specs.Touching.{is_closed_in_service, service_of, some_closed, touches_closed, touches_in}
+use Rattle.pb_book.specs.Rows.{declared_of, facts_after, facts_of, live, open_period, periods_after, periods_of, version_at}
+use Rattle.pb_periods.specs.Touching.{is_closed_in_service, service_of, some_closed, touches_closed, touches_in}
 use Rattle.pb_book.proofs.AcceptedLemmas.{accepted_more, by_accepted, none_accepted}
 use Rattle.pb_book.proofs.ConsistentLemmas.{IsFine, amended_one, consistent, fine, range_parts, struck_one}
 use Rattle.pb_book.proofs.KeptLemmas.{assays_more, assays_same, declared_more, declared_same, facts_more, periods_more_of}
-use Rattle.pb_book.proofs.NameLemmas.{any_map}
-use Rattle.pb_book.proofs.PeriodLemmas.{fails_at}
+use Rattle.pb_periods.proofs.NameLemmas.{any_map}
+use Rattle.pb_periods.proofs.PeriodLemmas.{fails_at}
 
 -- ---- the kind of what a fact names, and its service, stay the same if more is declared
 
@@ -84,7 +85,7 @@ seen_stays bs ns more_bs more_ns name x (Stream own from to sort base days ∷ d
   | inr other ↦ rw other (seen_stays bs ns more_bs more_ns name x declared more (rw other at is))
 ]
 seen_stays bs ns more_bs more_ns name x (Version2 ∷ declared) more is = seen_stays bs ns more_bs more_ns name x declared more is
-seen_stays bs ns more_bs more_ns name x (UnitRow own ∷ declared) more is = seen_stays bs ns more_bs more_ns name x declared more is
+seen_stays bs ns more_bs more_ns name x (Declared.Unit own ∷ declared) more is = seen_stays bs ns more_bs more_ns name x declared more is
 seen_stays bs ns more_bs more_ns name x (Boundary own ∷ declared) more is = seen_stays bs ns more_bs more_ns name x declared more is
 seen_stays bs ns more_bs more_ns name x (Strap tank mm ml ∷ declared) more is = seen_stays bs ns more_bs more_ns name x declared more is
 seen_stays bs ns more_bs more_ns name x (CritGlobal dof value ∷ declared) more is = seen_stays bs ns more_bs more_ns name x declared more is
@@ -117,7 +118,7 @@ service_is version declared (Dip id tank day mm density variance) = refl
 pub record IsFactOf (declared : List Declared) (fact : Fact) : Type 0 where
   known : names_other fact (kind_of_fact declared fact) ≡ false
   matching : is_of_other_kind fact (kind_of_fact declared fact) ≡ false
-  order : is_out_of_order fact ≡ false
+  order : is_fact_out_of_order fact ≡ false
   short : is_too_long fact ≡ false
   serving : is_out_of_service (service_of (version_of declared) declared fact) fact ≡ false
 
@@ -260,7 +261,7 @@ below a b is = omega (arith, leb-false a b is)
 not_le : (a b : ℕ) → b < a → nat_le a b ≡ false
 not_le a b lt = elim (cases_Bool (nat_le a b)) [ inl le ↦ absurd (omega (arith, leb-true a b le, lt)) | inr is ↦ is ]
 
-well_more : (declared : List Declared) (kept : List KeptFact) (fact : Fact) → AreWell declared kept → IsFactOf declared fact → is_duplicate kept fact ≡ false → is_full kept ≡ false
+well_more : (declared : List Declared) (kept : List KeptFact) (fact : Fact) → AreWell declared kept → IsFactOf declared fact → is_duplicate_fact kept fact ≡ false → are_facts_full kept ≡ false
     → AreWell declared (kept ++ live fact ∷ [])
 well_more declared kept fact right own new room = record {
   facts = All-push (λ (k : KeptFact). IsFactOf declared k.fact) kept (live fact) right.facts own;
@@ -564,7 +565,7 @@ own_of P before k rest all = subst P (get_or-append_seam before k rest k) (all (
 
 record AreAddable (declared : List Declared) (kept : List KeptFact) : Type 0 where
   well : AreWell declared kept
-  ranges : All (λ (k : KeptFact). IsInRange k.fact) kept
+  ranges : All (λ (k : KeptFact). IsFactInRange k.fact) kept
   in_tables : AreInTables declared kept
 
 live_fine : (declared : List Declared) (periods : List Period) (assays : List Assay) (before : List KeptFact) (k : KeptFact) (rest : List KeptFact) → AreAddable declared (before ++ k ∷ rest)
@@ -582,7 +583,7 @@ live_fine declared periods assays before k rest right =
       room = above (omega (arith, length-append before (k ∷ rest), right.well.few, live_short before, length-map (live_facts before) live));
     }
   where
-    above : length (map live (live_facts before)) < most_facts → is_full (map live (live_facts before)) ≡ false
+    above : length (map live (live_facts before)) < most_facts → are_facts_full (map live (live_facts before)) ≡ false
     above lt = not_le most_facts (length (map live (live_facts before))) lt
 
 live_added : (declared : List Declared) (periods : List Period) (assays : List Assay) (before rest : List KeptFact) (at : ℕ) (plain : List StoredRow) → AreAddable declared (before ++ rest)
@@ -612,7 +613,7 @@ live_added declared periods assays before (k ∷ rest) at plain right so_far =
         sym (ap (map live) (live_more before k ∙ rw alive refl) ∙ map-append live (live_facts before) (k.fact ∷ [])) in
         let more : IsPlainSoFar declared periods (map live (live_facts (before ++ k ∷ []))) assays (plain ++ row ∷ []) =
         plain_more declared periods (map live (live_facts before)) assays plain at (Books k.fact false) declared periods (map live (live_facts (before ++ k ∷ []))) assays so_far
-        (live_fine declared periods assays before k rest right) (own_of (λ (q : KeptFact). IsInRange q.fact) before k rest right.ranges) refl (append-nil declared) refl same (append-nil assays) in
+        (live_fine declared periods assays before k rest right) (own_of (λ (q : KeptFact). IsFactInRange q.fact) before k rest right.ranges) refl (append-nil declared) refl same (append-nil assays) in
         let next = go_on (at + 1) (plain ++ row ∷ []) more in
         let rows = append_assoc plain (row ∷ []) (numbered (at + 1) (map booked (live_facts rest))) in
         let there = subst (λ (ks : List KeptFact). IsPlainSoFar declared periods (map live (live_facts ks)) assays ((plain ++ row ∷ []) ++ numbered (at + 1) (map booked (live_facts rest)))) split next in

@@ -11,13 +11,13 @@ use Rattle.pb_site.specs.declared.declared.Declared.{Declared}
 use Rattle.pb_facts.specs.declared.fact.Fact.{Fact}
 use Rattle.pb_facts.specs.declared.facts.KeptFact.{KeptFact}
 use Rattle.pb_facts.specs.Facts.{live_at, live_fact}
-use Rattle.pb_kinds.specs.declared.rows.Assay.{Assay}
+use Rattle.pb_facts.specs.declared.assays.Assay.{Assay}
 use Rattle.pb_kinds.specs.declared.rows.Effect.{Effect}
 use Rattle.pb_kinds.specs.declared.rows.Effect.TheVariants.{Declares, Books, Assays}
 use Rattle.pb_book.specs.declared.rows.Edited.{Edited}
 use Rattle.pb_book.specs.declared.rows.Part.{Part}
 use Rattle.pb_book.specs.declared.rows.Part.TheVariants as part
-use Rattle.pb_book.specs.declared.rows.Period.{Period}
+use Rattle.pb_periods.specs.declared.period.Period.{Period}
 use Rattle.pb_book.specs.declared.rows.Place.{Place}
 use Rattle.pb_book.specs.declared.rows.StoredRow.{StoredRow}
 use Rattle.pb_book.specs.Kept.{closing, editing, effect_in, opening, row_at, rows_at, settled_at, settled_in, shelves_of}

@@ -6,15 +6,15 @@ use Rattle.std.proofs.Math.Seq.{get_or-append_seam}
 use Rattle.pb_facts.specs.declared.facts.KeptFact.{KeptFact}
 use Rattle.pb_site.specs.declared.declared.Declared.{Declared}
 use Rattle.pb_site.specs.Site.{version_of}
-use Rattle.pb_kinds.specs.declared.rows.Assay.{Assay}
+use Rattle.pb_facts.specs.declared.assays.Assay.{Assay}
 use Rattle.pb_kinds.specs.declared.rows.Effect.{Effect}
-use Rattle.pb_book.specs.declared.rows.Period.{Period}
+use Rattle.pb_periods.specs.declared.period.Period.{Period}
 use Rattle.pb_book.specs.declared.rows.Place.{Place}
 use Rattle.pb_book.specs.declared.rows.StoredRow.{StoredRow}
 use Rattle.pb_book.specs.Kept.{AreOf, ArePlaced, Shelves, row_at, rows_at}
 use Rattle.pb_book.specs.Rows.{facts_after, facts_of, periods_after, periods_of, with_row}
 use Rattle.pb_book.specs.TakenOut.{last_row, row_takes_out, takes_out, touched_at, touching_of}
-use Rattle.pb_book.specs.Touching.{touches_in}
+use Rattle.pb_periods.specs.Touching.{touches_in}
 use Rattle.pb_book.proofs.EditLemmas.{placed_at, placed_length}
 use Rattle.pb_book.proofs.KeptLemmas.{facts_more, periods_more_of}
 

@@ -1,15 +1,15 @@
 -- Statement. Rows that were accepted one after the other, and what follows from that.
 use Rattle.std.specs.Prelude.{◌≡◌, ℕ, true, false, List, take, All, None, Some, slice_get}
-use Rattle.pb_facts.specs.Fact.{IsInRange}
+use Rattle.pb_facts.specs.Fact.{IsFactInRange}
 use Rattle.pb_facts.specs.declared.facts.KeptFact.{KeptFact}
 use Rattle.pb_site.specs.declared.declared.Declared.{Declared}
 use Rattle.pb_kinds.specs.declared.rows.Effect.{Effect}
 use Rattle.pb_kinds.specs.Ranges.{IsEffectInRange}
 use Rattle.pb_kinds.specs.Versions.{may_do}
-use Rattle.pb_book.specs.declared.rows.Period.{Period}
+use Rattle.pb_periods.specs.declared.period.Period.{Period}
 use Rattle.pb_book.specs.declared.rows.StoredRow.{StoredRow}
-use Rattle.pb_book.specs.Apart.{AreApart}
-use Rattle.pb_book.specs.Ranges.{IsPeriod}
+use Rattle.pb_periods.specs.Apart.{AreApart}
+use Rattle.pb_periods.specs.Ranges.{IsPeriod}
 use Rattle.pb_book.specs.Refusals.{is_outside_table, refusal_of}
 use Rattle.pb_book.specs.Rows.{version_at}
 
@@ -35,5 +35,5 @@ AreInTables declared kept = All (λ (k : KeptFact). is_outside_table declared k.
 pub record AreConsistent (declared : List Declared) (kept : List KeptFact) (periods : List Period) : Type 0 where
   pub days : All IsPeriod periods
   pub apart : AreApart periods
-  pub ranges : All (λ (k : KeptFact). IsInRange k.fact) kept
+  pub ranges : All (λ (k : KeptFact). IsFactInRange k.fact) kept
   pub in_tables : AreInTables declared kept

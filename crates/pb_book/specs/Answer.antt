@@ -9,10 +9,9 @@ use Rattle.pb_kinds.specs.declared.rows.Request.TheVariants as asked
 use Rattle.pb_kinds.specs.Costs.{named_costs}
 use Rattle.pb_kinds.specs.Requests.{request_in}
 use Rattle.pb_book.specs.declared.answer.Accepted.{Accepted}
-use Rattle.pb_book.specs.declared.answer.Accepted.TheVariants.{Blank, Stored as StoredAccepted, Design, Report, History, Advise, Window, Component}
+use Rattle.pb_book.specs.declared.answer.Accepted.TheVariants.{Blank, Design, Report, History, Advise, Window, Component}
 use Rattle.pb_book.specs.declared.answer.NotAccepted.{NotAccepted}
-use Rattle.pb_book.specs.declared.answer.NotAccepted.TheVariants.{Refused as NotAcceptedFor}
-use Rattle.pb_book.specs.declared.answer.Refused.{Refused as Refusal}
+use Rattle.pb_book.specs.declared.answer.Refused.{Refused}
 use Rattle.pb_book.specs.declared.answer.Refused.TheVariants.{Kind, Fields, BadName, Number, Date, Unknown, Duplicate, Order, Mismatch, Sealed, Closed, Range, Full}
 use Rattle.pb_book.specs.declared.rows.StoredRow.{StoredRow}
 use Rattle.pb_book.specs.Assays.{has_assay}
@@ -22,23 +21,23 @@ use Rattle.pb_book.specs.Rows.{declared_of, period_place, version_at, with_row}
 use Rattle.pb_book.specs.Windows.{refusal_of_window}
 
 -- the numbers of the causes in the output
-abbrev pub code_of : Refusal → ℕ
-code_of Kind = 1
-code_of Fields = 2
-code_of BadName = 3
-code_of Number = 4
-code_of Date = 5
-code_of Unknown = 6
-code_of Duplicate = 7
-code_of Order = 8
-code_of Mismatch = 9
-code_of Sealed = 10
-code_of Closed = 11
-code_of Range = 12
-code_of Full = 13
+abbrev pub cause_code : Refused → ℕ
+cause_code Kind = 1
+cause_code Fields = 2
+cause_code BadName = 3
+cause_code Number = 4
+cause_code Date = 5
+cause_code Unknown = 6
+cause_code Duplicate = 7
+cause_code Order = 8
+cause_code Mismatch = 9
+cause_code Sealed = 10
+cause_code Closed = 11
+cause_code Range = 12
+cause_code Full = 13
 
 -- the cause for a fault in a record's fields; a word that isn't one of its column's words counts as an unknown kind
-abbrev pub cause_of : FormFault → Refusal
+abbrev pub cause_of : FormFault → Refused
 cause_of fault.Kind = Kind
 cause_of fault.Fields = Fields
 cause_of fault.Name = BadName
@@ -48,44 +47,44 @@ cause_of fault.Word = Kind
 
 -- the answer to a record: it is refused, its row joins the stored ones, or the book says what the record asks for
 pub data Answer : Type 0 where
-  Refused : Refusal → Answer
-  Stored : Effect → Answer
+  Refuses : Refused → Answer
+  Stores : Effect → Answer
   Says : Accepted → Answer
 
 -- a row is refused if there is a cause, and otherwise joins the stored rows
-abbrev pub stored_or_refused : Effect → Option Refusal → Answer
-stored_or_refused effect (Some cause) = Refused cause
-stored_or_refused effect None = Stored effect
+abbrev pub stored_or_refused : Effect → Option Refused → Answer
+stored_or_refused effect (Some cause) = Refuses cause
+stored_or_refused effect None = Stores effect
 
 -- a report is refused unless its period exists
 abbrev pub report_or_refused : Option ℕ → Answer
 report_or_refused (Some period) = Says (Report period)
-report_or_refused None = Refused Unknown
+report_or_refused None = Refuses Unknown
 
 -- so is a history
 abbrev pub history_or_refused : Option ℕ → Answer
 history_or_refused (Some period) = Says (History period)
-history_or_refused None = Refused Unknown
+history_or_refused None = Refuses Unknown
 
 -- advice is refused if there is a cause to refuse its costs
-abbrev pub advise_or_refused : Option Refusal → Answer
-advise_or_refused (Some cause) = Refused cause
+abbrev pub advise_or_refused : Option Refused → Answer
+advise_or_refused (Some cause) = Refuses cause
 advise_or_refused None = Says Advise
 
 -- a window is refused if there is a cause
-abbrev pub window_unless : ℕ → ℕ → Option Refusal → Answer
-window_unless first last (Some cause) = Refused cause
+abbrev pub window_unless : ℕ → ℕ → Option Refused → Answer
+window_unless first last (Some cause) = Refuses cause
 window_unless first last None = Says (Window first last)
 
 -- a window is refused unless its first and last periods exist
 abbrev pub window_or_refused : List StoredRow → Option ℕ → Option ℕ → Answer
 window_or_refused rows (Some first) (Some last) = window_unless first last (refusal_of_window rows first last)
-window_or_refused rows first last = Refused Unknown
+window_or_refused rows first last = Refuses Unknown
 
 -- the balance of a component over a period is refused unless the period exists and there is an assay of the component over it
 abbrev pub component_or_refused : List ℕ → Bool → Option ℕ → Answer
 component_or_refused component true (Some period) = Says (Component component period)
-component_or_refused component assayed period = Refused Unknown
+component_or_refused component assayed period = Refuses Unknown
 
 -- the answer to a request, given the costs that its record names
 abbrev pub answer_to : List StoredRow → List NamedCost → Request → Answer
@@ -102,7 +101,7 @@ answer_to rows costs (asked.Component component period) =
 -- the answer to a request, or to a record that has a fault
 abbrev pub answer_if : List StoredRow → List NamedCost → Result Request FormFault → Answer
 answer_if rows costs (Ok request) = answer_to rows costs request
-answer_if rows costs (Err fault) = Refused (cause_of fault)
+answer_if rows costs (Err fault) = Refuses (cause_of fault)
 
 -- The answer to a record, given these stored rows. Empty fields at its end don't count.
 abbrev pub answer_of : List StoredRow → List (List ℕ) → Answer
@@ -110,18 +109,18 @@ answer_of rows fields = answer_if rows (named_costs fields) (request_in (version
 
 -- what the book returns for an answer
 abbrev pub said_of : Answer → Result Accepted NotAccepted
-said_of (Refused cause) = Err (NotAcceptedFor cause)
-said_of (Stored effect) = Ok StoredAccepted
+said_of (Refuses cause) = Err (NotAccepted.Refused cause)
+said_of (Stores effect) = Ok Accepted.Stored
 said_of (Says accepted) = Ok accepted
 
 -- a record is refused
 abbrev pub is_refused : Answer → Bool
-is_refused (Refused cause) = true
+is_refused (Refuses cause) = true
 is_refused answer = false
 
 -- the stored rows after an answer to the record with this number: an accepted row joins them
 abbrev pub after_answer : List StoredRow → ℕ → Answer → List StoredRow
-after_answer rows at (Stored effect) = with_row rows at effect
+after_answer rows at (Stores effect) = with_row rows at effect
 after_answer rows at answer = rows
 
 -- the stored rows after the record with this number

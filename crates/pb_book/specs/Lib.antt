@@ -1,11 +1,8 @@
 -- Statement
-pub mod Apart
 pub mod Rows
-pub mod Touching
 pub mod TakenOut
 pub mod Edits
 pub mod Assays
-pub mod Ranges
 pub mod Refusals
 pub mod Costs
 pub mod Windows

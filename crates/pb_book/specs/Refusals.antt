@@ -8,33 +8,34 @@ use Rattle.pb_strap.specs.Table.{volume_of}
 use Rattle.pb_site.specs.declared.declared.ArcKind.{ArcKind}
 use Rattle.pb_site.specs.declared.declared.ArcKind.TheVariants.{Metered, Batch, Tank}
 use Rattle.pb_site.specs.declared.declared.Declared.{Declared}
-use Rattle.pb_site.specs.declared.declared.Declared.TheVariants.{Version2, Tank as TankRow, Stream as StreamRow, CritGlobal, CritNodal, CritMeasure}
+use Rattle.pb_site.specs.declared.declared.Declared.TheVariants.{Version2, CritGlobal, CritNodal, CritMeasure}
 use Rattle.pb_site.specs.declared.declared.Service.{Service}
 use Rattle.pb_site.specs.declared.declared.Version.{Version}
 use Rattle.pb_site.specs.declared.declared.Version.TheVariants.{One, Two}
-use Rattle.pb_site.specs.Service.{is_eve, is_in_service_on, is_in_service_throughout, is_in_service_within}
+use Rattle.pb_site.specs.Service.{is_eve, is_in_service_on, is_in_service_throughout}
 use Rattle.pb_site.specs.Site.{kind_of, service_in, table_of, version_of}
-use Rattle.pb_site.specs.Faults.{is_unknown as is_unknown_declared, is_duplicate as is_duplicate_declared, is_out_of_order as is_out_of_order_declared, is_mismatch as is_mismatch_declared, is_full as is_full_declared}
+use Rattle.pb_site.specs.Faults.{refers_to_unknown, is_duplicate_declaration, is_declaration_out_of_order, is_mismatched_declaration, is_plant_full}
 use Rattle.pb_facts.specs.declared.fact.Change.{Change}
 use Rattle.pb_facts.specs.declared.fact.Fact.{Fact}
 use Rattle.pb_facts.specs.declared.fact.Fact.TheVariants.{Reading, Transfer, Dip}
 use Rattle.pb_facts.specs.declared.facts.KeptFact.{KeptFact}
-use Rattle.pb_facts.specs.Fact.{is_out_of_order as is_out_of_order_fact, is_too_long}
+use Rattle.pb_facts.specs.Fact.{is_fact_out_of_order, is_too_long}
 use Rattle.pb_facts.specs.Changes.{changed, fits}
-use Rattle.pb_facts.specs.Facts.{is_duplicate as is_duplicate_fact, is_full as is_full_fact, is_live_with}
-use Rattle.pb_kinds.specs.Ranges.{most_assays}
-use Rattle.pb_kinds.specs.declared.rows.Assay.{Assay}
+use Rattle.pb_facts.specs.Facts.{are_facts_full, is_duplicate_fact, is_live_with}
+use Rattle.pb_facts.specs.Assays.{is_assay_of, most_assays}
+use Rattle.pb_facts.specs.declared.assays.Assay.{Assay}
 use Rattle.pb_kinds.specs.declared.rows.Edit.TheVariants as edits
 use Rattle.pb_kinds.specs.declared.rows.Effect.{Effect}
 use Rattle.pb_kinds.specs.declared.rows.Effect.TheVariants.{Declares, Opens, Books, Edits, Closes, Assays}
 use Rattle.pb_book.specs.declared.answer.Refused.{Refused}
 use Rattle.pb_book.specs.declared.answer.Refused.TheVariants.{Unknown, Duplicate, Order, Mismatch, Sealed, Closed, Range, Full}
-use Rattle.pb_book.specs.declared.rows.Period.{Period}
+use Rattle.pb_periods.specs.declared.period.Period.{Period}
 use Rattle.pb_book.specs.declared.rows.StoredRow.{StoredRow}
-use Rattle.pb_book.specs.Apart.{is_named, shares_a_day}
-use Rattle.pb_book.specs.Assays.{assays_of, is_assay_of}
+use Rattle.pb_periods.specs.Apart.{is_named, shares_a_day}
+use Rattle.pb_periods.specs.Closing.{is_closed_named, is_unserved_in}
+use Rattle.pb_book.specs.Assays.{assays_of}
 use Rattle.pb_book.specs.Rows.{declared_of, facts_of, periods_of}
-use Rattle.pb_book.specs.Touching.{is_closed_in_service, service_of, some_closed, touches_closed, touches_in}
+use Rattle.pb_periods.specs.Touching.{is_closed_in_service, service_of, some_closed, touches_closed, touches_in}
 
 -- the kind of the stream, or of the tank, that a fact names, if one is declared
 abbrev pub kind_of_fact : List Declared → Fact → Option ArcKind
@@ -57,7 +58,7 @@ is_no_arc declared name = is_none (kind_of declared name)
 -- Unknown: a fact or an assay of a stream or tank that isn't declared; something that a declaration refers to but that isn't
 -- declared; an id that no live fact has, or a name that no period has
 abbrev pub is_unknown : List Declared → List KeptFact → List Period → Effect → Bool
-is_unknown declared kept periods (Declares row) = is_unknown_declared declared row
+is_unknown declared kept periods (Declares row) = refers_to_unknown declared row
 is_unknown declared kept periods (Books fact late) = names_other fact (kind_of_fact declared fact)
 is_unknown declared kept periods (Edits id edit reason) = not (list_any (is_live_with id) kept)
 is_unknown declared kept periods (Closes name) = not (list_any (is_named name) periods)
@@ -67,7 +68,7 @@ is_unknown declared kept periods effect = false
 -- Duplicate: a name that is taken, a critical value that is already declared, the id of an accepted fact, a day that already has
 -- its reading or dip, or a component, stream and period that already have an assay
 abbrev pub is_duplicate : List Declared → List KeptFact → List Period → List Assay → Effect → Bool
-is_duplicate declared kept periods assays (Declares row) = is_duplicate_declared declared row
+is_duplicate declared kept periods assays (Declares row) = is_duplicate_declaration declared row
 is_duplicate declared kept periods assays (Opens name first last) = list_any (is_named name) periods
 is_duplicate declared kept periods assays (Books fact late) = is_duplicate_fact kept fact
 is_duplicate declared kept periods assays (Assays assay) = list_any (is_assay_of assay.component assay.period assay.stream) assays
@@ -75,9 +76,9 @@ is_duplicate declared kept periods assays effect = false
 
 -- Order: a table that doesn't rise, or a first day after the last
 abbrev pub is_out_of_order : List Declared → Effect → Bool
-is_out_of_order declared (Declares row) = is_out_of_order_declared declared row
+is_out_of_order declared (Declares row) = is_declaration_out_of_order declared row
 is_out_of_order declared (Opens name first last) = int_lt last first
-is_out_of_order declared (Books fact late) = is_out_of_order_fact fact
+is_out_of_order declared (Books fact late) = is_fact_out_of_order fact
 is_out_of_order declared effect = false
 
 -- a reading is of a metered stream, a transfer of a batch stream
@@ -94,7 +95,7 @@ is_misfit id change kept = is_live_with id kept && not (fits change kept.fact)
 -- Mismatch: a stream from a node to itself, a period that shares a day with another one, a reading of a stream that isn't metered,
 -- a transfer of a stream that isn't moved in batches, a level for a fact that isn't a dip, or an amount for a dip
 abbrev pub is_mismatch : List Declared → List KeptFact → List Period → Effect → Bool
-is_mismatch declared kept periods (Declares row) = is_mismatch_declared declared row
+is_mismatch declared kept periods (Declares row) = is_mismatched_declaration declared row
 is_mismatch declared kept periods (Opens name first last) =
     list_any (shares_a_day first last) periods
 is_mismatch declared kept periods (Books fact late) =
@@ -112,8 +113,8 @@ is_of_plant declared = true
 
 -- a tank or a stream that is in service on a day of a closed period
 abbrev pub serves_closed : List Period → Declared → Bool
-serves_closed periods (TankRow name base service) = list_any (is_closed_in_service service) periods
-serves_closed periods (StreamRow name from to kind base service) = list_any (is_closed_in_service service) periods
+serves_closed periods (Declared.Tank name base service) = list_any (is_closed_in_service service) periods
+serves_closed periods (Declared.Stream name from to kind base service) = list_any (is_closed_in_service service) periods
 serves_closed periods declared = false
 
 -- in version 1, a part of the plant, once some period is closed; in version 2, a tank or a stream that is in service on a day of a
@@ -126,10 +127,6 @@ is_sealed_by Two periods declared = serves_closed periods declared
 abbrev pub is_sealed : Version → List Period → Effect → Bool
 is_sealed version periods (Declares declared) = is_sealed_by version periods declared
 is_sealed version periods effect = false
-
--- the period of this name is closed
-abbrev pub is_closed_named : List ℕ → Period → Bool
-is_closed_named name period = period.closed && is_named name period
 
 -- Closed: a fact that touches a closed period and isn't booked late; a second closing; an assay over a closed period
 abbrev pub is_closed : Version → List Declared → List Period → Effect → Bool
@@ -157,10 +154,6 @@ is_out_of_service service (Reading id stream day grams variance) = not (is_in_se
 is_out_of_service service (Transfer id stream first last grams variance) = not (is_in_service_throughout service first last)
 is_out_of_service service (Dip id tank day mm density variance) = not (is_in_service_on service day || is_eve service day)
 
--- a period of this name in which a stream or a tank with this service is never in service
-abbrev pub is_unserved_in : Option Service → List ℕ → Period → Bool
-is_unserved_in service name period = is_named name period && not (is_in_service_within service period.first period.last)
-
 -- Range: a period of more than 100 days, a fact of a day out of service, a transfer of more than 366 days, a level outside the
 -- tank's table, or an assay over a period without a day in service
 abbrev pub is_out_of_range : Version → List Declared → List KeptFact → List Period → Effect → Bool
@@ -175,12 +168,12 @@ is_out_of_range version declared kept periods (Assays assay) =
 is_out_of_range version declared kept periods effect = false
 
 -- Full: as many are stored as are allowed
-abbrev pub is_full : Version → List Declared → List KeptFact → List Period → List Assay → Effect → Bool
-is_full version declared kept periods assays (Declares row) = is_full_declared version declared row
-is_full version declared kept periods assays (Opens name first last) = nat_le most_periods (length periods)
-is_full version declared kept periods assays (Books fact late) = is_full_fact kept
-is_full version declared kept periods assays (Assays assay) = nat_le most_assays (length assays)
-is_full version declared kept periods assays effect = false
+abbrev pub is_book_full : Version → List Declared → List KeptFact → List Period → List Assay → Effect → Bool
+is_book_full version declared kept periods assays (Declares row) = is_plant_full version declared row
+is_book_full version declared kept periods assays (Opens name first last) = nat_le most_periods (length periods)
+is_book_full version declared kept periods assays (Books fact late) = are_facts_full kept
+is_book_full version declared kept periods assays (Assays assay) = nat_le most_assays (length assays)
+is_book_full version declared kept periods assays effect = false
 
 -- The first of these causes that holds for a row in a session of this version, given what is declared, the facts, the periods and
 -- the assays.
@@ -193,7 +186,7 @@ refusal_behind version declared kept periods assays effect =
     else if is_sealed version periods effect then Some Sealed
     else if is_closed version declared periods effect then Some Closed
     else if is_out_of_range version declared kept periods effect then Some Range
-    else if is_full version declared kept periods assays effect then Some Full
+    else if is_book_full version declared kept periods assays effect then Some Full
     else None
 
 -- The first cause to refuse a row, given the stored rows.

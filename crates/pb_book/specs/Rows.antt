@@ -1,5 +1,5 @@
 -- Statement. The stored rows of a book: what they declare, which periods there are, and which facts stand.
-use Rattle.std.specs.Prelude.{ℕ, ℤ, false, true, List, [], ◌∷◌, ◌++◌, map, filter_map, position, Option, Some, None, if◌then◌else◌}
+use Rattle.std.specs.Prelude.{ℕ, ℤ, false, List, [], ◌∷◌, ◌++◌, map, filter_map, position, Option, Some, None}
 use Rattle.std.specs.List.{fold}
 use Rattle.pb_site.specs.declared.declared.Declared.{Declared}
 use Rattle.pb_site.specs.declared.declared.Version.{Version}
@@ -10,9 +10,10 @@ use Rattle.pb_facts.specs.Changes.{amended, struck}
 use Rattle.pb_kinds.specs.declared.rows.Edit.TheVariants as edits
 use Rattle.pb_kinds.specs.declared.rows.Effect.{Effect}
 use Rattle.pb_kinds.specs.declared.rows.Effect.TheVariants.{Declares, Opens, Books, Edits, Closes}
-use Rattle.pb_book.specs.declared.rows.Period.{Period}
+use Rattle.pb_periods.specs.declared.period.Period.{Period}
 use Rattle.pb_book.specs.declared.rows.StoredRow.{StoredRow}
-use Rattle.pb_book.specs.Apart.{is_named}
+use Rattle.pb_periods.specs.Apart.{is_named}
+use Rattle.pb_periods.specs.Closing.{closed_if_named}
 
 -- these rows, followed by what the record with this number does
 abbrev pub with_row : List StoredRow → ℕ → Effect → List StoredRow
@@ -35,15 +36,6 @@ version_at (stored ∷ rows) = Some (version_of (declared_of (stored ∷ rows)))
 -- a period that hasn't been closed
 abbrev pub open_period : List ℕ → ℤ → ℤ → Period
 open_period name first last = record { name = name; first = first; last = last; closed = false }
-
--- the period, closed
-abbrev pub closed : Period → Period
-closed period =
-    record { name = period.name; first = period.first; last = period.last; closed = true }
-
--- a period is closed if it has this name, and otherwise unchanged
-abbrev pub closed_if_named : List ℕ → Period → Period
-closed_if_named name period = if is_named name period then closed period else period
 
 -- the periods after one more row: a closing closes the period of its name
 abbrev pub periods_after : List Period → Effect → List Period

@@ -11,15 +11,15 @@ use Rattle.pb_kinds.specs.declared.rows.Request.{Request}
 use Rattle.pb_kinds.specs.declared.rows.Request.TheVariants.{Store}
 use Rattle.pb_kinds.specs.Costs.{named_costs}
 use Rattle.pb_kinds.specs.Requests.{request_in}
-use Rattle.pb_book.specs.declared.answer.Refused.{Refused as Refusal}
+use Rattle.pb_book.specs.declared.answer.Refused.{Refused}
 use Rattle.pb_book.specs.declared.rows.StoredRow.{StoredRow}
-use Rattle.pb_book.specs.Answer.{Answer, Refused, Stored, answer_of, answer_to, cause_of, stored_or_refused}
+use Rattle.pb_book.specs.Answer.{Answer, Refuses, Stores, answer_of, answer_to, cause_of, stored_or_refused}
 use Rattle.pb_book.specs.Assays.{assays_of}
 use Rattle.pb_book.specs.Refusals.{refusal_behind}
 use Rattle.pb_book.specs.Rows.{declared_of, facts_of, periods_of}
 
 -- the first cause to refuse a row, as in a session of version 1
-abbrev pub first_refusal_of : List StoredRow → Effect → Option Refusal
+abbrev pub first_refusal_of : List StoredRow → Effect → Option Refused
 first_refusal_of rows effect = refusal_behind One (declared_of rows) (facts_of rows) (periods_of rows) (assays_of rows) effect
 
 -- the answer to a request, or to a record that has a fault, as in a session of version 1
@@ -29,7 +29,7 @@ first_answer_to rows costs request = answer_to rows costs request
 
 abbrev pub first_answer_if : List StoredRow → List NamedCost → Result Request FormFault → Answer
 first_answer_if rows costs (Ok request) = first_answer_to rows costs request
-first_answer_if rows costs (Err fault) = Refused (cause_of fault)
+first_answer_if rows costs (Err fault) = Refuses (cause_of fault)
 
 -- the answer to a record, as in a session of version 1
 abbrev pub first_answer_of : List StoredRow → List (List ℕ) → Answer
@@ -37,7 +37,7 @@ first_answer_of rows fields = first_answer_if rows (named_costs fields) (request
 
 -- the row that joins the stored ones states that the session is of version 2
 abbrev pub says_version : Answer → Bool
-says_version (Stored (Declares Version2)) = true
+says_version (Stores (Declares Version2)) = true
 says_version answer = false
 
 -- A record gets the answer that it has in a session of version 1, unless it or an earlier record states that the session is of

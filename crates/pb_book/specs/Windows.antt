@@ -1,113 +1,27 @@
 -- Statement. Windows over the periods of a book: the plant and the periods that a window is made from, and when it is refused.
-use Rattle.std.specs.Prelude.{◌≡◌, ℕ, ◌-◌, ◌≤◌, zero, suc, ℤ, pos, ◌+ℤ◌, Bool, true, false, not, int_lt, nat_lt, List, [], ◌∷◌, All, filter_map, find, length, map, slice_get, Option, Some, None, Ok, if◌then◌else◌}
-use Rattle.std.specs.Int.{int_gap}
-use Rattle.std.specs.List.{list_any}
-use Rattle.std.specs.Ordering.{int_eq}
+use Rattle.std.specs.Prelude.{◌≡◌, ℕ, ◌≤◌, List, All, length, map, slice_get, Option, Some, None, Ok}
+use Rattle.std.specs.Option.{option_map}
 use Rattle.pb_limits.specs.Limits.{most_periods_of_window}
 use Rattle.pb_window.specs.declared.plant.Plant.{Plant}
-use Rattle.pb_window.specs.declared.plant.PlantArc.{PlantArc}
-use Rattle.pb_window.specs.declared.plant.Service.{Service as ArcService}
-use Rattle.pb_window.specs.declared.plant.Span.{Span}
 use Rattle.pb_window.specs.declared.window.Window.{Window}
 use Rattle.pb_window.specs.Plant.{IsPlant, IsSpan}
-use Rattle.pb_window.specs.Window.{IsWindow, is_too_great, window_of, window_shape}
+use Rattle.pb_window.specs.Window.{IsWindow, window_of}
 use Rattle.pb_window.specs.Codes.{AreWindowNames}
 use Rattle.pb_window.specs.Places.{HaveNames}
-use Rattle.pb_site.specs.declared.declared.Arc.{Arc}
-use Rattle.pb_site.specs.declared.declared.ArcKind.{ArcKind}
-use Rattle.pb_site.specs.declared.declared.ArcKind.TheVariants.{Tank}
-use Rattle.pb_site.specs.declared.declared.Declared.{Declared}
-use Rattle.pb_site.specs.declared.declared.Service.{Service}
-use Rattle.pb_site.specs.declared.declared.Version.{Version}
-use Rattle.pb_site.specs.declared.declared.Version.TheVariants.{One, Two}
-use Rattle.pb_site.specs.Site.{arcs_of, names_of, node_names, version_of}
+use Rattle.pb_site.specs.Site.{names_of}
+use Rattle.pb_periods.specs.declared.period.Period.{Period}
+use Rattle.pb_periods.specs.declared.windows.BetweenFault.{BetweenFault}
+use Rattle.pb_periods.specs.declared.windows.BetweenFault.TheVariants as between
+use Rattle.pb_periods.specs.Windows.{fault_between, names_of_periods, periods_between, span_of_period, window_over, window_plant}
 use Rattle.pb_book.specs.declared.answer.Refused.{Refused}
 use Rattle.pb_book.specs.declared.answer.Refused.TheVariants.{Unknown, Order, Mismatch, Range, Full}
-use Rattle.pb_book.specs.declared.rows.Period.{Period}
 use Rattle.pb_book.specs.declared.rows.StoredRow.{StoredRow}
 use Rattle.pb_book.specs.Accepted.{AreAccepted}
-use Rattle.pb_book.specs.Apart.{shares_a_day}
 use Rattle.pb_book.specs.Rows.{declared_of, periods_of}
 
--- ---- the plant
-
--- the days of service of an arc, as a window uses them; version 1 has none
-abbrev pub arc_service : Version → Option Service → Option ArcService
-arc_service Two (Some service) = Some (record { since = service.since; until = service.until })
-arc_service version service = None
-
--- an arc of this kind is the inventory of a tank
-abbrev pub is_inventory : ArcKind → Bool
-is_inventory Tank = true
-is_inventory kind = false
-
--- an arc, as a window uses it
-abbrev pub window_arc : Version → Arc → PlantArc
-window_arc version arc = record {
-  from = arc.from;
-  to = arc.to;
-  is_tank = is_inventory arc.kind;
-  service = arc_service version arc.service;
-}
-
--- in version 1 each unit and tank is a node of the graph of a period, even one that no stream joins
-abbrev pub keeps_idle_nodes : Version → Bool
-keeps_idle_nodes One = true
-keeps_idle_nodes Two = false
-
--- the declared plant, as a window uses it: its nodes except the environment, and its arcs, in order of declaration
-unfoldable pub window_plant : List Declared → Plant
-window_plant declared = record {
-  nodes = length (node_names declared) - 1;
-  arcs = map (window_arc (version_of declared)) (arcs_of declared);
-  keeps_idle = keeps_idle_nodes (version_of declared);
-}
-
+-- the declared plant, as a window uses it
 abbrev pub plant_of : List StoredRow → Plant
 plant_of rows = window_plant (declared_of rows)
-
--- ---- the periods
-
--- this many days in a row, beginning with a given one
-abbrev pub days_in_row : ℤ → ℕ → List ℤ
-days_in_row day zero = []
-days_in_row day (suc n) = day ∷ days_in_row (day +ℤ pos 1) n
-
--- the days from `first` to `last`, both included; none if `last` comes first
-abbrev pub days_between : ℤ → ℤ → List ℤ
-days_between first last = days_in_row first (int_gap first (last +ℤ pos 1))
-
--- a period begins on a day
-abbrev pub begins_on : ℤ → Period → Bool
-begins_on day period = int_eq day period.first
-
--- a day is in none of these periods
-abbrev pub is_in_none : List Period → ℤ → Bool
-is_in_none periods day = not (list_any (shares_a_day day day) periods)
-
--- some day from the first day of one period to the last day of another isn't in any period
-unfoldable pub has_gap : List Period → Period → Period → Bool
-has_gap periods first last = list_any (is_in_none periods) (days_between first.first last.last)
-
--- The periods from one to another, in order of days: those that begin on a day from the first day of `first` to the first day of
--- `last`.
-unfoldable pub periods_between : List Period → Period → Period → List Period
-periods_between periods first last =
-    filter_map (λ day. find (begins_on day) periods) (days_between first.first last.first)
-
--- their names
-abbrev pub names_of_periods : List Period → List (List ℕ)
-names_of_periods periods = map (λ (period : Period). period.name) periods
-
--- ---- the window
-
--- a period, as a window uses it: without its name and whether it is closed
-abbrev pub span_of_period : Period → Span
-span_of_period period = record { first = period.first; last = period.last }
-
--- the nodes and streams of these periods at once
-abbrev pub window_over : List Declared → List Period → Window
-window_over declared periods = window_shape (window_plant declared) (map span_of_period periods)
 
 -- The window from one period to another.
 unfoldable pub window_between : List StoredRow → Period → Period → Window
@@ -116,25 +30,17 @@ window_between rows first last =
 
 -- ---- when it is refused
 
--- Full: a window over these periods would have more nodes or streams than a graph may have. Before that, Range: there are more
--- periods than a window may have.
-unfoldable pub refusal_over : List Declared → List Period → Option Refused
-refusal_over declared periods =
-    if nat_lt most_periods_of_window (length periods) then Some Range
-    else if is_too_great (window_over declared periods) then Some Full
-    else None
+-- the cause to refuse a window for a fault
+abbrev pub cause_between : BetweenFault → Refused
+cause_between between.Order = Order
+cause_between between.Gap = Mismatch
+cause_between between.TooLong = Range
+cause_between between.TooGreat = Full
 
--- The first cause to refuse a window from one of these periods to another. Order: the second begins before the first. Mismatch:
--- some day from the first day of the first to the last day of the second isn't in any period. Then come the causes for a window
--- over the periods between them.
-unfoldable pub refusal_between : List Declared → List Period → Period → Period → Option Refused
-refusal_between declared periods first last =
-    if int_lt last.first first.first then Some Order
-    else if has_gap periods first last then Some Mismatch
-    else refusal_over declared (periods_between periods first last)
-
+-- the first cause to refuse a window from one of the periods to another
 abbrev pub window_refusal : List StoredRow → Period → Period → Option Refused
-window_refusal rows first last = refusal_between (declared_of rows) (periods_of rows) first last
+window_refusal rows first last =
+    option_map cause_between (fault_between (declared_of rows) (periods_of rows) first last)
 
 -- the same for two optional periods; Unknown: one of them is missing
 abbrev pub refusal_of_ends : List StoredRow → Option Period → Option Period → Option Refused

@@ -1,9 +1,10 @@
 // The answer of the book to a record.
 
 ghost use Rattle.std.specs.Prelude.{◌≡◌, ◌≤◌};
-ghost use Rattle.pb_book.specs.Answer.{code_of};
+ghost use Rattle.pb_book.specs.Answer.{cause_code};
 
 use pb_form::FormFault;
+use pb_periods::BetweenFault;
 use pb_rows::Name;
 use std::alloc::AllocError;
 
@@ -71,7 +72,7 @@ pub enum NotAccepted {
 impl Refused {
     /// The number of the cause in the output, from 1 to 13.
     pub fn code(self) -> u32
-        ensures value { result ≡ code_of self }
+        ensures value { result ≡ cause_code self }
         ensures least { 1 ≤ result }
         ensures most { result ≤ 13 }
     {
@@ -94,9 +95,9 @@ impl Refused {
 }
 
 impl From<Refused> for NotAccepted {
-    ghost use Rattle.pb_book.specs.declared.answer.NotAccepted.TheVariants.{Refused as RefusedFor};
+    ghost use Rattle.pb_book.specs.declared.answer.NotAccepted.{NotAccepted};
 
-    ghost from_gives = { λ cause error. error ≡ RefusedFor cause };
+    ghost from_gives = { λ cause error. error ≡ NotAccepted.Refused cause };
 
     fn from(cause: Refused) -> NotAccepted {
         NotAccepted::Refused(cause)
@@ -125,6 +126,21 @@ impl From<FormFault> for Refused {
             FormFault::Name => Refused::BadName,
             FormFault::Number => Refused::Number,
             FormFault::Date => Refused::Date,
+        }
+    }
+}
+
+impl From<BetweenFault> for Refused {
+    ghost use Rattle.pb_book.specs.Windows.{cause_between};
+
+    ghost from_gives = { λ fault cause. cause ≡ cause_between fault };
+
+    fn from(fault: BetweenFault) -> Refused {
+        match fault {
+            BetweenFault::Order => Refused::Order,
+            BetweenFault::Gap => Refused::Mismatch,
+            BetweenFault::TooLong => Refused::Range,
+            BetweenFault::TooGreat => Refused::Full,
         }
     }
 }

@@ -2,29 +2,29 @@
 
 ghost use Rattle.std.specs.Prelude.{◌≡◌, ◌≢◌, ◌<◌, ◌≤◌, [], length, map, All, Err, Ok, IfOk, IfSome, OnOk, OnErr, slice_get, Some, false, true};
 ghost use Rattle.pb_limits.specs.Limits.{most_periods, most_periods_of_window};
-ghost use Rattle.pb_assay.specs.Grade.{IsGrade};
+ghost use Rattle.pb_facts.specs.Grade.{IsGrade};
 ghost use Rattle.pb_site.specs.Site.{version_of};
 ghost use Rattle.pb_site.specs.declared.declared.Version.TheVariants.{One};
 ghost use Rattle.pb_facts.specs.Facts.{NoRepeats};
-ghost use Rattle.pb_kinds.specs.declared.rows.Effect.TheVariants.{Assays as AssaysEffect, Books, Closes, Declares, Edits, Opens};
-ghost use Rattle.pb_kinds.specs.declared.rows.Request.TheVariants.{Advise as AskedAdvise};
+ghost use Rattle.pb_kinds.specs.declared.rows.Effect.TheVariants.{Books, Closes, Declares, Edits, Opens};
 ghost use Rattle.pb_kinds.specs.Costs.{IsMeterCost, named_costs};
-ghost use Rattle.pb_kinds.specs.Ranges.{IsEffectInRange, IsRequestInRange, most_assays};
+ghost use Rattle.pb_kinds.specs.Ranges.{IsEffectInRange, IsRequestInRange};
+ghost use Rattle.pb_facts.specs.Assays.{most_assays};
 ghost use Rattle.pb_kinds.specs.Requests.{request_in};
 ghost use Rattle.pb_kinds.specs.Versions.{may_ask, may_do};
 ghost use Rattle.pb_book.specs.declared.answer.Accepted.TheVariants.{Advise, Stored};
 ghost use Rattle.pb_book.specs.declared.answer.NotAccepted.TheVariants.{NoMemory};
 ghost use Rattle.pb_book.specs.Accepted.{AreAccepted, AreInTables, IsAcceptable};
 ghost use Rattle.pb_book.specs.Answer.{Says, advise_or_refused, after, after_answer, answer_of, answer_to, component_or_refused, said_of, stored_or_refused, window_or_refused, window_unless};
-ghost use Rattle.pb_book.specs.Apart.{AreApart};
+ghost use Rattle.pb_periods.specs.Apart.{AreApart};
 ghost use Rattle.pb_book.specs.Assays.{assays_of, grade_of, has_assay};
 ghost use Rattle.pb_book.specs.Costs.{meter_costs, refusal_of_costs};
 ghost use Rattle.pb_book.specs.Edits.{edit_touches, edits_of, touches_at};
 ghost use Rattle.pb_book.specs.Plain.{plain_rows};
-ghost use Rattle.pb_book.specs.Ranges.{IsPeriod};
+ghost use Rattle.pb_periods.specs.Ranges.{IsPeriod};
 ghost use Rattle.pb_book.specs.Refusals.{refusal_of};
 ghost use Rattle.pb_book.specs.Rows.{declared_of, facts_of, period_place, periods_of, version_at, with_row};
-ghost use Rattle.pb_book.specs.Touching.{touches_in};
+ghost use Rattle.pb_periods.specs.Touching.{touches_in};
 ghost use Rattle.pb_book.specs.TakenOut.{last_row, takes_out, touched_at, touches_by_id};
 ghost use Rattle.pb_book.specs.VersionOne.{first_answer_of, says_version};
 ghost use Rattle.pb_book.specs.Windows.{ArePlacesBetween, HavePlaceNames, IsWindowAsked, IsWindowBetween, refusal_of_window};
@@ -33,19 +33,15 @@ ghost use Rattle.pb_window.specs.Codes.{AreWindowNames};
 ghost use Rattle.pb_window.specs.Window.{IsWindow};
 
 use crate::answer::{Accepted, NotAccepted, Refused};
-use crate::assays::Assays;
 use crate::costs::{judge_costs, meter_costs};
 use crate::judge::judge;
 use crate::originals::keep_original;
-use crate::periods::Periods;
 use crate::plain::plain_records;
-use crate::rows::{Edited, Part, Period, Place, StoredRow};
+use crate::rows::{Edited, Part, Place, StoredRow};
 use crate::shelves::row_at;
-use crate::touching::touches_in;
-use crate::windows::{judge_window, places_between, window_over};
-use pb_assay::Grade;
-use pb_facts::{Fact, Facts};
-use pb_kinds::{Assay, Edit, Effect, NamedCosts, Request, read_request};
+use pb_facts::{Assays, Fact, Facts, Grade};
+use pb_kinds::{Assay, Edit, Effect, NamedCosts, Request, read_reading, read_request};
+use pb_periods::{Period, Periods, judge_window, places_between, touches_in, window_over};
 use pb_rows::{Name, Reason, Row, Rows};
 use pb_site::{Declared, Site, Version};
 use pb_window::Window;
@@ -106,6 +102,24 @@ impl Book {
     /// row was stored, no two facts have the same id. Unless a row states that the session is of version 2, the answer is that of
     /// version 1.
     pub fn accept(&mut self, at: u32, row: &Row) -> Result<Accepted, NotAccepted>
+        ensures answer { result ≢ Err NoMemory → result ≡ said_of (answer_of self.old row.now) }
+        ensures stored { result ≢ Err NoMemory → self.new ≡ after self.old at row.now }
+        ensures unchanged { result ≡ Err NoMemory → self.new ≡ self.old }
+        ensures no_repeats { result ≡ Ok Stored → NoRepeats (facts_of self.new) }
+        ensures accepted { AreAccepted self.new }
+        ensures version_1 { version_of (declared_of self.old) ≡ One
+            → says_version (answer_of self.old row.now) ≡ false → result ≢ Err NoMemory
+            → result ≡ said_of (first_answer_of self.old row.now) }
+    {
+        match read_reading(self.version(), row) {
+            Some(fact) => self.store(at, &Effect::Books { fact, late: false }),
+            None => self.accept_any(at, row),
+        }
+    }
+
+    // Takes a record of any kind.
+    #[inline(never)]
+    fn accept_any(&mut self, at: u32, row: &Row) -> Result<Accepted, NotAccepted>
         ensures answer { result ≢ Err NoMemory → result ≡ said_of (answer_of self.old row.now) }
         ensures stored { result ≢ Err NoMemory → self.new ≡ after self.old at row.now }
         ensures unchanged { result ≡ Err NoMemory → self.new ≡ self.old }
@@ -396,7 +410,7 @@ impl Book {
         let alloc = *self.places.allocator();
         let (one, other) = (self.periods.at(first), self.periods.at(last));
         match judge_window(alloc, &self.site, &self.periods, &one, &other)? {
-            Some(refused) => Err(NotAccepted::from(refused)),
+            Some(fault) => Err(NotAccepted::Refused(Refused::from(fault))),
             None => Ok(Accepted::Window { first, last }),
         }
     }
@@ -419,7 +433,7 @@ impl Book {
 
     // Accepts the request for advice, or returns why the costs that a record names are refused.
     fn advise(&self, row: &Row) -> Result<Accepted, NotAccepted>
-        requires { request_in (version_at self.now) row.now ≡ Ok AskedAdvise }
+        requires { request_in (version_at self.now) row.now ≡ Ok Request.Advise }
         ensures { result ≢ Err NoMemory → result ≡ said_of (advise_or_refused
             (refusal_of_costs (declared_of self.now) (named_costs row.now))) }
     {
@@ -596,8 +610,8 @@ impl Book {
     }
 
     fn add_assay(&mut self, at: u32, assay: &Assay) -> Result<(), AllocError>
-        requires { IsAcceptable self.old (AssaysEffect assay.now) }
-        ensures ok { OnOk result (self.new ≡ with_row self.old at (AssaysEffect assay.now)) }
+        requires { IsAcceptable self.old (Effect.Assays assay.now) }
+        ensures ok { OnOk result (self.new ≡ with_row self.old at (Effect.Assays assay.now)) }
         ensures err { OnErr result (self.new ≡ self.old) }
     {
         self.places.reserve(1)?;

@@ -4,22 +4,20 @@
 ghost use Rattle.std.specs.Prelude.{◌≡◌, ◌&&◌, [], not, Option, Some};
 ghost use Rattle.std.specs.List.{list_any};
 ghost use Rattle.pb_facts.specs.Changes.{changed, fits};
-ghost use Rattle.pb_facts.specs.Fact.{IsInRange};
+ghost use Rattle.pb_facts.specs.Fact.{IsFactInRange};
 ghost use Rattle.pb_site.specs.declared.declared.ArcKind.{ArcKind};
 ghost use Rattle.pb_site.specs.declared.declared.Version.TheVariants.{One};
 ghost use Rattle.pb_site.specs.Site.{version_of};
-ghost use Rattle.pb_kinds.specs.declared.rows.Effect.TheVariants.{Assays as AssaysEffect, Books, Closes, Declares, Edits, Opens};
+ghost use Rattle.pb_kinds.specs.declared.rows.Effect.TheVariants.{Books, Closes, Declares, Edits, Opens};
 ghost use Rattle.pb_kinds.specs.Ranges.{IsEffectInRange};
 ghost use Rattle.pb_book.specs.Causes.{cause_of_change, cause_of_edit};
 ghost use Rattle.pb_book.specs.Refusals.{is_closed, is_of_other_kind, is_of_plant, is_out_of_service, is_outside_table, is_sealed_by, kind_of_fact, names_other, refusal_behind, serves_closed};
 
 use crate::answer::Refused;
-use crate::assays::Assays;
-use crate::periods::Periods;
-use crate::touching::service_of;
-use pb_facts::{Change, Fact, FactFault, Facts};
-use pb_kinds::{Assay, Edit, Effect, MOST_ASSAYS};
+use pb_facts::{Assays, Change, Fact, FactFault, Facts, MOST_ASSAYS};
+use pb_kinds::{Assay, Edit, Effect};
 use pb_limits::{MOST_DAYS_OF_PERIOD, MOST_PERIODS};
+use pb_periods::{Periods, service_of};
 use pb_rows::Name;
 use pb_site::{
     ArcKind, Declared, Service, Site, SiteFault, Version, is_eve, is_in_service_on,
@@ -130,7 +128,7 @@ fn judge_fact(
     fact: &Fact,
     late: bool,
 ) -> Option<Refused>
-    requires { IsInRange fact.now }
+    requires { IsFactInRange fact.now }
     ensures { result ≡ refusal_behind (version_of site.now) site.now facts.now periods.now []
         (Books fact.now late) }
 {
@@ -161,7 +159,7 @@ fn judge_fact(
 
 // Whether a fact touches a closed period and isn't booked late.
 fn is_closed(site: &Site, periods: &Periods, fact: &Fact, late: bool) -> bool
-    requires { IsInRange fact.now }
+    requires { IsFactInRange fact.now }
     ensures { result
         ≡ is_closed (version_of site.now) site.now periods.now (Books fact.now late) }
 {
@@ -229,7 +227,7 @@ fn judge_closing(periods: &Periods, name: &Name) -> Option<Refused>
 // The first cause to refuse an assay.
 fn judge_assay(site: &Site, periods: &Periods, assays: &Assays, assay: &Assay) -> Option<Refused>
     ensures { result ≡ refusal_behind (version_of site.now) site.now [] periods.now assays.now
-        (AssaysEffect assay.now) }
+        (Effect.Assays assay.now) }
 {
     if site.kind_of(&assay.stream).is_none() || !periods.has_name(&assay.period) {
         Some(Refused::Unknown)

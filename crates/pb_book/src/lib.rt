@@ -4,18 +4,14 @@
 #![tactic(auto)]
 
 mod answer;
-mod assays;
 mod book;
 mod costs;
 mod judge;
 mod laws;
 mod originals;
-mod periods;
 mod plain;
 mod rows;
 mod shelves;
-mod touching;
-mod windows;
 
 pub use answer::{Accepted, NotAccepted, Refused};
 pub use book::Book;
@@ -23,4 +19,5 @@ pub use laws::{
     accepted_law, asked_window_law, book_windows_law, grades_law, live_law, meter_costs_law,
     named_law, plain_law, ranges_law, touched_law, version_one_law,
 };
-pub use rows::{Period, StoredRow};
+pub use pb_periods::Period;
+pub use rows::StoredRow;

@@ -64,13 +64,11 @@ fn keep_at(facts: &Facts, originals: &mut HashMap<u32, Fact>, place: u32) -> Res
     Ok(())
 }
 
-// Puts a fact for which there is room.
+// Puts a fact for which there is room, so it can't fail.
 fn put(originals: &mut HashMap<u32, Fact>, place: u32, fact: Fact)
     requires { 0 < spare originals.old }
     ensures { (q : ℕ) → get nat_eq originals.new q
         ≡ (if nat_eq place q then Some fact else get nat_eq originals.old q) }
 {
-    if originals.insert(place, fact).is_err() {
-        unreachable!()
-    }
+    originals.insert(place, fact).ok();
 }

@@ -2,19 +2,18 @@
 
 ghost use Rattle.std.specs.Prelude.{◌≡◌, ◌<◌, ◌++◌, [], All, length, map, IfOk, OnOk};
 ghost use Rattle.std.specs.Option.{option_map};
-ghost use Rattle.pb_site.specs.Row.{IsInRange as IsDeclaredInRange};
+ghost use Rattle.pb_site.specs.Row.{IsDeclaredInRange};
 ghost use Rattle.pb_facts.specs.Facts.{live_at, live_facts};
 ghost use Rattle.pb_kinds.specs.Ranges.{IsEffectInRange};
 ghost use Rattle.pb_book.specs.Kept.{settled_at, settled_in};
 ghost use Rattle.pb_book.specs.Plain.{booked};
 ghost use Rattle.pb_book.specs.Written.{AddsRow, AddsSome, WriteRows};
 
-use crate::assays::Assays;
-use crate::periods::Periods;
 use crate::rows::Place;
 use crate::shelves::settled_in;
-use pb_facts::Facts;
+use pb_facts::{Assays, Facts};
 use pb_kinds::{Effect, write_effect};
+use pb_periods::Periods;
 use pb_rows::Rows;
 use pb_site::Declared;
 use std::alloc::{AllocError, Global};

@@ -1,4 +1,4 @@
-// The stored rows of a book, its periods, and where the rows are kept.
+// The stored rows of a book, and where they are kept.
 
 use pb_kinds::{Edit, Effect};
 use pb_rows::{Name, Reason};
@@ -8,15 +8,6 @@ use pb_rows::{Name, Reason};
 pub struct StoredRow {
     pub at: u32,
     pub effect: Effect,
-}
-
-/// A period: its name, its first and last days, and whether it is closed.
-#[derive(Clone, Copy)]
-pub struct Period {
-    pub name: Name,
-    pub first: i32,
-    pub last: i32,
-    pub closed: bool,
 }
 
 /// Where a stored row is kept: the number of its record, and its place in a part of the book.

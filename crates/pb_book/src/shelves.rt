@@ -1,16 +1,15 @@
 // What the stored rows do, according to where they are kept.
 
 ghost use Rattle.std.specs.Prelude.{◌≡◌, All, IfSome};
-ghost use Rattle.pb_site.specs.Row.{IsInRange as IsDeclaredInRange};
+ghost use Rattle.pb_site.specs.Row.{IsDeclaredInRange};
 ghost use Rattle.pb_kinds.specs.Ranges.{IsEffectInRange};
 ghost use Rattle.pb_book.specs.Kept.{closing, editing, effect_in, opening, row_at, settled_in, shelves_of, told_at};
 
-use crate::assays::Assays;
 use crate::originals::told_at;
-use crate::periods::Periods;
-use crate::rows::{Edited, Part, Period, Place, StoredRow};
-use pb_facts::{Fact, Facts};
+use crate::rows::{Edited, Part, Place, StoredRow};
+use pb_facts::{Assays, Fact, Facts};
 use pb_kinds::Effect;
+use pb_periods::{Period, Periods};
 use pb_site::Declared;
 use std::collections::HashMap;
 

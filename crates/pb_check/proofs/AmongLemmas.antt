@@ -2,12 +2,12 @@
 use Rattle.std.proofs.Common.{◌≡◌, ◌∙◌, ℕ, ◌+◌, ◌≤◌, Option, Some, None, refl, sym, ap, subst, inl, inr, arith}
 use Rattle.std.specs.Prelude.{◌==◌, if◌then◌else◌}
 use Rattle.std.proofs.lemmas.Bool.{cases_lt}
-use Rattle.pb_graph.specs.declared.results.Stage.{Stage}
+use Rattle.pb_study.specs.declared.results.Stage.{Stage}
 use Rattle.pb_check.specs.declared.faults.Test.{Test}
 use Rattle.pb_check.specs.declared.faults.Test.TheVariants.{Class, Witness, Balance, Price, Box, Freedom, Gap, State, Bounds, Statistic, Nodal, Verdict, Least}
 use Rattle.pb_check.specs.declared.faults.Fault.{Fault}
 use Rattle.pb_check.specs.Asked.{HaveClasses, AreShown, AreEven, AreGroupPrices, AreInBox, IsFreedom}
-use Rattle.pb_check.specs.Verdict.{code_of, Passes, Fails, IsPassed, IsFirstFault}
+use Rattle.pb_check.specs.Verdict.{test_code, Passes, Fails, IsPassed, IsFirstFault}
 use Rattle.pb_check.specs.Among.{IsAmong}
 
 -- ---- each test has a number, from 1 to 13
@@ -16,7 +16,7 @@ test_of n =
     if n == 1 then Class else (if n == 2 then Witness else (if n == 3 then Balance else (if n == 4 then Price else (if n == 5 then Box else (if n == 6 then Freedom
     else (if n == 7 then Gap else (if n == 8 then State else (if n == 9 then Bounds else (if n == 10 then Statistic else (if n == 11 then Nodal else (if n == 12 then Verdict else Least)))))))))))
 
-is_test : (test : Test) → test_of (code_of test) ≡ test
+is_test : (test : Test) → test_of (test_code test) ≡ test
 is_test Class = refl
 is_test Witness = refl
 is_test Balance = refl
@@ -31,10 +31,10 @@ is_test Nodal = refl
 is_test Verdict = refl
 is_test Least = refl
 
-pub same_code : (a b : Test) → code_of a ≡ code_of b → a ≡ b
+pub same_code : (a b : Test) → test_code a ≡ test_code b → a ≡ b
 same_code a b e = sym (is_test a) ∙ ap test_of e ∙ is_test b
 
-pub code_least : (test : Test) → 1 ≤ code_of test
+pub code_least : (test : Test) → 1 ≤ test_code test
 code_least Class = omega arith
 code_least Witness = omega arith
 code_least Balance = omega arith
@@ -49,7 +49,7 @@ code_least Nodal = omega arith
 code_least Verdict = omega arith
 code_least Least = omega arith
 
-pub code_most : (test : Test) → code_of test ≤ 13
+pub code_most : (test : Test) → test_code test ≤ 13
 code_most Class = omega arith
 code_most Witness = omega arith
 code_most Balance = omega arith
@@ -68,14 +68,14 @@ code_most Least = omega arith
 pub none_yet : (stage : Stage) (gap sweeps : ℕ) → IsAmong stage gap sweeps 1 0 None
 none_yet stage gap sweeps test ge le = absurd (omega (arith, ge, le))
 
-pub passed : (stage : Stage) (gap sweeps from to : ℕ) (test : Test) → code_of test ≡ to + 1 → IsAmong stage gap sweeps from to None
+pub passed : (stage : Stage) (gap sweeps from to : ℕ) (test : Test) → test_code test ≡ to + 1 → IsAmong stage gap sweeps from to None
     → Passes stage gap sweeps test → IsAmong stage gap sweeps from (to + 1) None
-passed stage gap sweeps from to test is among passes = λ other ge le. elim (cases_lt (code_of other) (to + 1)) [
+passed stage gap sweeps from to test is among passes = λ other ge le. elim (cases_lt (test_code other) (to + 1)) [
   | inl less ↦ among other ge (omega (arith, less))
   | inr past ↦ subst (Passes stage gap sweeps) (same_code test other (omega (arith, is, le, past))) passes
 ]
 
-pub failed : (stage : Stage) (gap sweeps from to last : ℕ) (test : Test) (fault : Fault) → code_of test ≡ to + 1 → from ≤ to + 1 → to + 1 ≤ last
+pub failed : (stage : Stage) (gap sweeps from to last : ℕ) (test : Test) (fault : Fault) → test_code test ≡ to + 1 → from ≤ to + 1 → to + 1 ≤ last
     → IsAmong stage gap sweeps from to None → Fails stage gap sweeps test fault → IsAmong stage gap sweeps from last (Some (test, fault))
 failed stage gap sweeps from to last test fault is ge le among fails =
     (omega (arith, is, ge), omega (arith, is, le), fails, λ other first less. among other first (omega (arith, is, less)))
@@ -83,7 +83,7 @@ failed stage gap sweeps from to last test fault is ge le among fails =
 -- some tests, and those after them
 pub joined : (stage : Stage) (gap sweeps from to last : ℕ) (first : Option (Test × Fault)) → from ≤ to + 1 → to ≤ last
     → IsAmong stage gap sweeps from to None → IsAmong stage gap sweeps (to + 1) last first → IsAmong stage gap sweeps from last first
-joined stage gap sweeps from to last None ge le among behind = λ other first most. elim (cases_lt (code_of other) (to + 1)) [
+joined stage gap sweeps from to last None ge le among behind = λ other first most. elim (cases_lt (test_code other) (to + 1)) [
   | inl less ↦ among other first (omega (arith, less))
   | inr past ↦ behind other past most
 ]
@@ -91,7 +91,7 @@ joined stage gap sweeps from to last (Some (test, fault)) ge le among behind = (
   omega (arith, ge, behind.0),
   behind.1,
   behind.2,
-  λ other first less. elim (cases_lt (code_of other) (to + 1)) [
+  λ other first less. elim (cases_lt (test_code other) (to + 1)) [
     | inl before ↦ among other first (omega (arith, before))
     | inr past ↦ behind.3 other past less
   ],

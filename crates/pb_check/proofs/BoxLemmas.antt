@@ -3,19 +3,19 @@ use Rattle.std.proofs.Common.{◌≡◌, ◌∙◌, ℕ, ◌<◌, ◌≤◌, ℤ
 use Rattle.std.specs.Prelude.{IfSome}
 use Rattle.std.proofs.lemmas.Int.{ints}
 use Rattle.std.proofs.lemmas.Option.{get_or_from_slice_get, slice_get-get_or}
-use Rattle.pb_integers.proofs.Order.{le_trans, mul_mono, le_by_eq}
-use Rattle.pb_integers.proofs.Lists.{some_same, all_each}
+use Rattle.pb_fixed.proofs.Order.{le_trans, mul_mono, le_by_eq}
+use Rattle.pb_fixed.proofs.Lists.{some_same, all_each}
 use Rattle.pb_fixed.specs.Quotients.{IsFloor}
 use Rattle.pb_fixed.proofs.QuotientLaws.{floor_is, floor_from}
 use Rattle.pb_graph.specs.declared.records.Meas.{Meas}
 use Rattle.pb_graph.specs.declared.records.Stream.{Stream}
-use Rattle.pb_graph.specs.declared.results.Stage.{Stage}
+use Rattle.pb_study.specs.declared.results.Stage.{Stage}
 use Rattle.pb_graph.specs.ProcessGraph.{ProcessGraph, IsMeasurement, IsProcessGraph, IsWithinLimits}
 use Rattle.pb_graph.specs.Prices.{IsInBox, most_adjustment, rise_of}
 use Rattle.pb_dual.specs.Candidates.{room_of}
-use Rattle.pb_elim.specs.Printed.{printed_price}
+use Rattle.pb_stage.specs.Printed.{printed_price}
 use Rattle.pb_check.specs.declared.faults.Fault.{Fault}
-use Rattle.pb_check.specs.declared.faults.Place.TheVariants.{Stream as StreamAt}
+use Rattle.pb_check.specs.declared.faults.Place.{Place}
 use Rattle.pb_check.specs.Asked.{IsInBoxAt, AreInBox}
 use Rattle.pb_check.specs.Faults.{IsBoxFault, IsOutOfBox}
 
@@ -73,10 +73,10 @@ inside stage j s m stated seen near = λ t there.
     subst (IsInBox price) (sym same) (subst (λ (o : Option Meas). IfSome o (λ m. unsigned_abs (m.variance *ℤ rise_of price s) ≤ most_adjustment)) (sym seen.meas) small)
 
 abbrev box_fault_of : ℕ → ℤ → ℤ → Fault
-box_fault_of j x y = record { place = StreamAt j; stated = x; found = y }
+box_fault_of j x y = record { place = Place.Stream j; stated = x; found = y }
 
 pub outside : (stage : Stage) (j : ℕ) (s : Stream) (m : Meas) (stated found : ℤ) (fault : Fault) → IsSeen stage j s m stated → found ≡ room_of m.variance
-    → (stated ≤ℤ found → ⊥) → fault ≡ record { place = StreamAt j; stated = stated; found = found } → IsOutOfBox stage j fault
+    → (stated ≤ℤ found → ⊥) → fault ≡ record { place = Place.Stream j; stated = stated; found = found } → IsOutOfBox stage j fault
 outside stage j s m stated found fault seen room far is =
     let price = printed_price stage in
     record {

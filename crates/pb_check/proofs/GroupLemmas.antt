@@ -2,20 +2,21 @@
 use Rattle.std.proofs.Common.{◌≡◌, ◌≢◌, ◌∙◌, ℕ, ◌<◌, ℤ, pos, Bool, true, false, get_or, Some, slice_get, refl, sym, ap, subst, inl, inr, arith}
 use Rattle.std.proofs.lemmas.Bool.{cases_Bool, cases_lt}
 use Rattle.std.proofs.lemmas.Option.{get_or_from_slice_get}
-use Rattle.pb_integers.proofs.Lists.{all_each}
+use Rattle.pb_fixed.proofs.Lists.{all_each}
 use Rattle.std.specs.Prelude.{if◌then◌else◌}
 use Rattle.std.specs.Ordering.{int_eq}
 use Rattle.std.proofs.lemmas.Bool.Decides.{Decides-int_eq}
-use Rattle.pb_graph.specs.declared.results.Stage.{Stage}
+use Rattle.pb_study.specs.declared.results.Stage.{Stage}
 use Rattle.pb_graph.specs.ProcessGraph.{ProcessGraph}
-use Rattle.pb_graph.specs.WellFormed.{IsPrice, IsWellFormed}
+use Rattle.pb_graph.specs.WellFormed.{IsPrice}
+use Rattle.pb_study.specs.WellFormed.{IsWellFormed}
 use Rattle.pb_graph.specs.Walk.{unmeasured}
 use Rattle.pb_graph.specs.Groups.{SameGroup, IsFreeGroup, group_at}
 use Rattle.pb_graph.proofs.WalkLemmas.{reach_none, reach_both, reach_back}
 use Rattle.pb_graph.proofs.ReachLemmas.{reach_decided}
-use Rattle.pb_merge.specs.Grouping.{Grouping, AreGroupsOf, IsLeastNode, least_at}
-use Rattle.pb_merge.proofs.GroupLaws.{number_below}
-use Rattle.pb_elim.specs.Printed.{printed_price}
+use Rattle.pb_graph.specs.Grouping.{Grouping, AreGroupsOf, IsLeastNode, least_at}
+use Rattle.pb_graph.proofs.GroupLaws.{number_below}
+use Rattle.pb_stage.specs.Printed.{printed_price}
 use Rattle.pb_check.specs.Asked.{IsLeastOfGroup, HasGroupPriceAt, AreGroupPrices}
 use Rattle.pb_check.specs.Faults.{IsOtherPrice}
 use Rattle.pb_check.proofs.DecideLemmas.{least_with}

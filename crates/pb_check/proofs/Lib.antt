@@ -14,3 +14,4 @@ mod SomeLemmas
 mod SoundLemmas
 mod StateLemmas
 mod VerdictLemmas
+pub mod CheckLaws

@@ -5,33 +5,34 @@ use Rattle.std.specs.Ordering.{int_eq}
 use Rattle.std.proofs.lemmas.List.{length-map}
 use Rattle.std.proofs.lemmas.Bool.{cases_lt}
 use Rattle.std.proofs.lemmas.Option.{slice_get-map}
-use Rattle.pb_integers.proofs.Lists.{some_same, all_each}
+use Rattle.pb_fixed.proofs.Lists.{some_same, all_each}
 use Rattle.pb_graph.specs.declared.records.Meas.{Meas}
 use Rattle.pb_graph.specs.declared.records.Stream.{Stream}
-use Rattle.pb_graph.specs.declared.results.Bounds.{Bounds as BoundsOf}
-use Rattle.pb_graph.specs.declared.results.NodalTest.{NodalTest}
-use Rattle.pb_graph.specs.declared.results.MeasureTest.{MeasureTest}
-use Rattle.pb_graph.specs.declared.results.StreamResult.{StreamResult}
-use Rattle.pb_graph.specs.declared.results.Tests.{Tests}
-use Rattle.pb_graph.specs.declared.results.Stage.{Stage}
+use Rattle.pb_study.specs.declared.results.Bounds.{Bounds as BoundsOf}
+use Rattle.pb_study.specs.declared.results.NodalTest.{NodalTest}
+use Rattle.pb_study.specs.declared.results.MeasureTest.{MeasureTest}
+use Rattle.pb_study.specs.declared.results.StreamResult.{StreamResult}
+use Rattle.pb_study.specs.declared.results.Tests.{Tests}
+use Rattle.pb_study.specs.declared.results.Stage.{Stage}
 use Rattle.pb_graph.specs.ProcessGraph.{ProcessGraph}
 use Rattle.pb_forest.proofs.ForestLaws.{one_forest_law}
 use Rattle.pb_forest.specs.Forest.{degrees_of_freedom}
-use Rattle.pb_tests.specs.Laws.{OneNodalTestsLaw}
+use Rattle.pb_stage.specs.Laws.{OneNodalTestsLaw}
 use Rattle.pb_graph.specs.Balance.{net_of}
 use Rattle.pb_graph.specs.Prices.{IsInBox, rise_of}
 use Rattle.pb_dual.specs.Candidates.{room_of}
-use Rattle.pb_elim.specs.Printed.{printed_price, printed_flows}
-use Rattle.pb_elim.specs.Stage.{HasFreedom}
-use Rattle.pb_elim.specs.Certified.{IsMeasureVerdict, IsNodalVerdict, found_bounds, found_least, unjudged}
+use Rattle.pb_stage.specs.Printed.{printed_price, printed_flows}
+use Rattle.pb_stage.specs.Freedom.{HasFreedom}
+use Rattle.pb_stage.specs.Certified.{IsMeasureVerdict, IsNodalVerdict, found_bounds, found_least, unjudged}
 use Rattle.pb_check.specs.declared.faults.Test.{Test}
 use Rattle.pb_check.specs.declared.faults.Test.TheVariants.{Class, Witness, Balance, Price, Box, Freedom, Gap, State, Bounds, Statistic, Nodal, Verdict, Least}
-use Rattle.pb_check.specs.declared.faults.Place.TheVariants.{Node, Stream as StreamAt, Whole}
+use Rattle.pb_check.specs.declared.faults.Place.TheVariants.{Node, Whole}
+use Rattle.pb_check.specs.declared.faults.Place.{Place}
 use Rattle.pb_check.specs.declared.faults.Fault.{Fault}
 use Rattle.pb_check.specs.Asked.{HasClassAt, IsShownAt, IsEvenAt, HasGroupPriceAt, IsInBoxAt, HasBoundsAt, HasLeastBoundsAt, IsLeastOfGroup, AreVerdicts, AreNodalRows}
 use Rattle.pb_check.specs.First.{IsFirstOf}
 use Rattle.pb_check.specs.Faults.{bare_fault_at, bounds_numbers, fault_at, row_numbers, AreVerdictsFault, DifferAt, IsStreamFault, IsBalanceFault, IsPriceFault, IsBoxFault, IsFreedomFault, IsBoundsFault, IsRowAt, IsRowsFault, IsNodalRowsFault, IsLeastFault}
-use Rattle.pb_check.specs.Verdict.{code_of, Passes, Fails}
+use Rattle.pb_check.specs.Verdict.{test_code, Passes, Fails}
 use Rattle.pb_check.specs.VerdictLaws.{HasFault, NotBothLaw, OneFaultLaw}
 use Rattle.pb_check.proofs.DecideLemmas.{one_first}
 use Rattle.pb_check.proofs.GroupLemmas.{nodes_by_prices, one_least}
@@ -45,13 +46,13 @@ abbrev price_at : Stage → ℕ → ℕ → Fault
 price_at stage n m = fault_at (Node n) (printed_price stage n, if int_eq (printed_price stage n) (printed_price stage m) then pos 0 else printed_price stage m)
 
 abbrev box_at : Stage → ℕ → Stream → Meas → Fault
-box_at stage j s m = fault_at (StreamAt j) (pos (unsigned_abs (rise_of (printed_price stage) s)), room_of m.variance)
+box_at stage j s m = fault_at (Place.Stream j) (pos (unsigned_abs (rise_of (printed_price stage) s)), room_of m.variance)
 
 abbrev freedom_at : Stage → ℕ → Fault
 freedom_at stage dof = fault_at Whole (pos stage.dof, pos dof)
 
 abbrev bounds_at : ℕ → BoundsOf → BoundsOf → Fault
-bounds_at j stated found = fault_at (StreamAt j) (bounds_numbers stated found)
+bounds_at j stated found = fault_at (Place.Stream j) (bounds_numbers stated found)
 
 abbrev row_at : NodalTest → NodalTest → Fault
 row_at row test = fault_at (Node row.node) (row_numbers row test)
@@ -112,7 +113,7 @@ not_both_by law stage gap sweeps limits formed passed fault =
 stream_one : (stage : Stage) (P : ℕ → Type 0) (a b : Fault) → IsStreamFault stage P a → IsStreamFault stage P b → a ≡ b
 stream_one stage P a b one other =
     let same = one_first P (length stage.graph.streams) one.stream other.stream one.first other.first in
-    one.is ∙ ap (λ (j : ℕ). bare_fault_at (StreamAt j)) same ∙ sym other.is
+    one.is ∙ ap (λ (j : ℕ). bare_fault_at (Place.Stream j)) same ∙ sym other.is
 
 balance_one : (stage : Stage) (a b : Fault) → IsBalanceFault stage a → IsBalanceFault stage b → a ≡ b
 balance_one stage a b one other =
@@ -194,7 +195,7 @@ judged_one stage tests a b (inr (inr (overall, each, one))) (inr (inl (also, oth
 judged_one stage tests a b (inr (inl (overall, one))) (inr (inl (also, other))) =
     one.is ∙ ap (λ (r : NodalTest). bare_fault_at (Node r.node)) (first_one IsNodalVerdict tests.nodal one.row other.row one.first other.first) ∙ sym other.is
 judged_one stage tests a b (inr (inr (overall, each, one))) (inr (inr (also, all, other))) =
-    one.is ∙ ap (λ (r : MeasureTest). bare_fault_at (StreamAt r.stream)) (first_one IsMeasureVerdict tests.measure one.row other.row one.first other.first) ∙ sym other.is
+    one.is ∙ ap (λ (r : MeasureTest). bare_fault_at (Place.Stream r.stream)) (first_one IsMeasureVerdict tests.measure one.row other.row one.first other.first) ∙ sym other.is
 
 verdict_one : (stage : Stage) (o : Option Tests) (a b : Fault) → IsSomeAnd o (λ tests. AreVerdictsFault stage tests a) → IsSomeAnd o (λ tests. AreVerdictsFault stage tests b) → a ≡ b
 verdict_one stage None a b one other = absurd one
@@ -219,14 +220,14 @@ one_of law stage gap sweeps Least a b one other = least_one stage a b one other
 abbrev fault_of : {stage : Stage} {gap sweeps : ℕ} → HasFault stage gap sweeps → Fault
 fault_of h = record { place = h.place; stated = h.stated; found = h.found }
 
-no_earlier : OneNodalTestsLaw → (stage : Stage) (gap sweeps : ℕ) (one other : HasFault stage gap sweeps) → code_of one.test < code_of other.test → ⊥
+no_earlier : OneNodalTestsLaw → (stage : Stage) (gap sweeps : ℕ) (one other : HasFault stage gap sweeps) → test_code one.test < test_code other.test → ⊥
 no_earlier law stage gap sweeps one other less = not_both_of law stage gap sweeps one.test (fault_of one) (other.is.before one.test less) one.is.fails
 
 pub one_fault_by : OneNodalTestsLaw → OneFaultLaw
 one_fault_by law stage gap sweeps one other limits formed =
-    let test : one.test ≡ other.test = elim (cases_lt (code_of one.test) (code_of other.test)) [
+    let test : one.test ≡ other.test = elim (cases_lt (test_code one.test) (test_code other.test)) [
       | inl less ↦ absurd (no_earlier law stage gap sweeps one other less)
-      | inr past ↦ elim (cases_lt (code_of other.test) (code_of one.test)) [
+      | inr past ↦ elim (cases_lt (test_code other.test) (test_code one.test)) [
         | inl less ↦ absurd (no_earlier law stage gap sweeps other one less)
         | inr le ↦ same_code one.test other.test (omega (arith, past, le))
       ]

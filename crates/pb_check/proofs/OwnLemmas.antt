@@ -1,19 +1,19 @@
--- Each stage of a study passes.
-use Rattle.std.proofs.Common.{◌≡◌, ◌∙◌, ◌&&◌, ℕ, ℤ, Bool, List, Option, Some, None, is_some, slice_get, get_or, refl, sym, ap, subst, inl, inr, arith}
+-- A stage that is shown and solved passes.
+use Rattle.std.proofs.Common.{◌≡◌, ◌∙◌, ◌&&◌, ℕ, ℤ, Bool, List, Option, Some, None, is_some, slice_get, refl, sym, ap, subst, inl, inr, arith}
 use Rattle.std.specs.Prelude.{IfSome}
 use Rattle.std.proofs.lemmas.Bool.{cases_Bool}
 use Rattle.std.proofs.Math.Bool.{and-false, and-true}
-use Rattle.pb_integers.proofs.Lists.{some_same}
+use Rattle.pb_fixed.proofs.Lists.{some_same}
 use Rattle.pb_graph.specs.declared.records.Stream.{Stream}
 use Rattle.pb_graph.specs.declared.records.Class.{Class}
 use Rattle.pb_graph.specs.declared.records.Class.TheVariants.{Observable, Unobservable, Redundant, Nonredundant}
 use Rattle.pb_graph.specs.declared.records.Witness.{Witness}
 use Rattle.pb_graph.specs.declared.records.Witness.TheVariants.{Cut, Cycle}
-use Rattle.pb_graph.specs.declared.results.Solved.{Solved}
-use Rattle.pb_graph.specs.declared.results.Solved.TheVariants.{Converged, Unconverged}
-use Rattle.pb_graph.specs.declared.results.StreamResult.{StreamResult}
-use Rattle.pb_graph.specs.declared.results.Tests.{Tests}
-use Rattle.pb_graph.specs.declared.results.Stage.{Stage}
+use Rattle.pb_study.specs.declared.results.Solved.{Solved}
+use Rattle.pb_study.specs.declared.results.Solved.TheVariants.{Converged, Unconverged}
+use Rattle.pb_study.specs.declared.results.StreamResult.{StreamResult}
+use Rattle.pb_study.specs.declared.results.Tests.{Tests}
+use Rattle.pb_study.specs.declared.results.Stage.{Stage}
 use Rattle.pb_graph.specs.ProcessGraph.{ProcessGraph, IsProcessGraph, is_measured}
 use Rattle.pb_graph.specs.Certificates.{Shows}
 use Rattle.pb_gap.specs.declared.gap.Gap.{Gap}
@@ -22,13 +22,12 @@ use Rattle.pb_gap.specs.StreamBounds.{stream_bounds}
 use Rattle.pb_gap.specs.LeastBounds.{stream_least_bounds}
 use Rattle.pb_gap.specs.Solution.{IsSolution, OneStateLaw}
 use Rattle.pb_gap.specs.Laws.{AreGaps}
-use Rattle.pb_elim.specs.Printed.{have_least, printed_flows, printed_gap, printed_price}
-use Rattle.pb_elim.specs.Certified.{AreShownTests, IsShownStage}
-use Rattle.pb_elim.specs.Laws.{CertifiedLaw, SolutionLaw}
-use Rattle.pb_check.specs.declared.faults.Test.TheVariants.{Class as ClassTest, Witness as WitnessTest, Balance, Price, Box, Freedom, Gap as GapTest, State, Bounds as BoundsTest, Statistic, Nodal, Verdict as VerdictTest, Least}
+use Rattle.pb_stage.specs.Printed.{have_least, printed_flows, printed_gap, printed_price}
+use Rattle.pb_stage.specs.Certified.{AreShownTests, IsShownStage}
+use Rattle.pb_check.specs.declared.faults.Test.TheVariants.{Balance, Price, Box, Freedom, State, Statistic, Nodal, Least}
+use Rattle.pb_check.specs.declared.faults.Test.{Test}
 use Rattle.pb_check.specs.Asked.{AreNodalRows, AreVerdicts, HasClass, HaveLeastBounds, IsStateAt, found_gap, is_bounded, is_of_measured}
 use Rattle.pb_check.specs.Verdict.{IsPassed}
-use Rattle.pb_check.specs.Laws.{OwnLaw}
 use Rattle.pb_check.proofs.FirstLemmas.{each_fails}
 
 -- ---- classes
@@ -106,27 +105,23 @@ verdicts_if stage None shown = tt
 verdicts_if stage (Some tests) shown = record { overall = shown.overall; nodal = shown.nodal; measure = shown.measure }
 
 -- ---- all tests
-shown_passed : AreGaps → OneStateLaw → (stage : Stage) (gap sweeps : ℕ) → IsShownStage stage
+pub shown_passed : AreGaps → OneStateLaw → (stage : Stage) (gap sweeps : ℕ) → IsShownStage stage
     → IsSolution stage.graph gap sweeps stage.solved (printed_price stage) (printed_flows stage) → IsPassed stage gap sweeps
 shown_passed gaps one stage gap sweeps shown solution =
     let same : printed_gap stage ≡ found_gap stage = gaps.only (deviations_of (printed_price stage) stage.graph.streams (printed_flows stage)) (printed_gap stage) shown.numbers.deviation in
     λ test. passes same test
   where
     passes : printed_gap stage ≡ found_gap stage → IsPassed stage gap sweeps
-    passes same ClassTest = λ j s r at there. has_class stage j s r shown at there
-    passes same WitnessTest = shown.shown
+    passes same Test.Class = λ j s r at there. has_class stage j s r shown at there
+    passes same Test.Witness = shown.shown
     passes same Balance = shown.balanced
     passes same Price = record { shared = shown.fit.shared; fixed = shown.fit.fixed }
     passes same Box = shown.fit.box
     passes same Freedom = shown.numbers.freedom
-    passes same GapTest = same
+    passes same Test.Gap = same
     passes same State = state_at one stage.graph gap sweeps stage.solved (printed_price stage) (printed_flows stage) (printed_gap stage) shown.limits same solution
-    passes same BoundsTest = shown.numbers.bounded
+    passes same Test.Bounds = shown.numbers.bounded
     passes same Statistic = record { low = shown.numbers.from_below; high = shown.numbers.from_above }
     passes same Nodal = rows_if stage stage.tests shown.tests
-    passes same VerdictTest = verdicts_if stage stage.tests shown.tests
+    passes same Test.Verdict = verdicts_if stage stage.tests shown.tests
     passes same Least = shown.numbers.least_bounded
-
-pub own_by : AreGaps → CertifiedLaw → SolutionLaw → OneStateLaw → OwnLaw
-own_by gaps certified solved one graph options critical study limits is = λ k d lt.
-    shown_passed gaps one (get_or study.stages k d) options.gap options.sweeps (certified graph options critical study limits is k d lt).shown (solved graph options critical study is k d lt)

@@ -1,21 +1,21 @@
 -- Rows and the tests of a graph, and verdicts.
 use Rattle.std.proofs.Common.{◌≡◌, ℕ, zero, suc, ◌<◌, pos, Bool, true, false, List, [], ◌∷◌, length, map, Option, Some, None, slice_get, get_or, All, refl, sym, ap₂, subst, inl, inr, arith}
-use Rattle.std.specs.Prelude.{MatchOption, if◌then◌else◌}
+use Rattle.std.specs.Prelude.{IfNone, MatchOption, if◌then◌else◌}
 use Rattle.std.proofs.lemmas.List.{length-map}
 use Rattle.std.proofs.lemmas.List.Elements.{All-nil, All-cons, All-append}
 use Rattle.pb_graph.specs.declared.records.Stream.{Stream}
-use Rattle.pb_graph.specs.declared.results.Verdict.TheVariants.{Reject}
-use Rattle.pb_graph.specs.declared.results.NodalTest.{NodalTest}
-use Rattle.pb_graph.specs.declared.results.MeasureTest.{MeasureTest}
-use Rattle.pb_graph.specs.declared.results.Tests.{Tests}
-use Rattle.pb_graph.specs.declared.results.Stage.{Stage}
-use Rattle.pb_graph.specs.ProcessGraph.{ProcessGraph, IsProcessGraph}
+use Rattle.pb_study.specs.declared.results.Verdict.TheVariants.{Reject}
+use Rattle.pb_study.specs.declared.results.NodalTest.{NodalTest}
+use Rattle.pb_study.specs.declared.results.MeasureTest.{MeasureTest}
+use Rattle.pb_study.specs.declared.results.Tests.{Tests}
+use Rattle.pb_study.specs.declared.results.Stage.{Stage}
+use Rattle.pb_graph.specs.ProcessGraph.{ProcessGraph}
 use Rattle.pb_graph.specs.Groups.{group_count, is_free_group}
-use Rattle.pb_tests.specs.Nodal.{AreNodalTests, nodal_test, nodal_tests_below, test_of_group}
-use Rattle.pb_tests.specs.Laws.{IsNodalNumber, NodalRangeLaw}
-use Rattle.pb_elim.specs.Certified.{IsMeasureVerdict, IsNodalVerdict, unjudged}
+use Rattle.pb_stage.specs.Nodal.{AreNodalTests, nodal_test, nodal_tests_below, test_of_group}
+use Rattle.pb_stage.specs.Laws.{IsNodalNumber}
+use Rattle.pb_stage.specs.Certified.{IsMeasureVerdict, IsNodalVerdict, unjudged}
 use Rattle.pb_check.specs.declared.faults.Fault.{Fault}
-use Rattle.pb_check.specs.Asked.{AreNodalRows, AreVerdicts, IsGlobalVerdict}
+use Rattle.pb_check.specs.Asked.{AreVerdicts, IsGlobalVerdict}
 use Rattle.pb_check.specs.First.{IsFirstOf}
 use Rattle.pb_check.specs.Faults.{AreVerdictsFault, IsFirstMeasure, IsFirstNodal, IsRowAt}
 
@@ -48,11 +48,16 @@ at_unjudged [] k d lt = absurd (omega (arith, lt))
 at_unjudged (r ∷ rows) zero d lt = refl
 at_unjudged (r ∷ rows) (suc k) d lt = at_unjudged rows k d (omega (arith, lt))
 
-pub row_numbers : NodalRangeLaw → (stage : Stage) (tests : Tests) → IsProcessGraph stage.graph → AreNodalRows stage tests → All IsNodalNumber tests.nodal
-row_numbers law stage tests limits rows = λ k d lt.
-    let all = law stage.graph None (map unjudged tests.nodal) limits rows in
-    let is = subst IsNodalNumber (at_unjudged tests.nodal k d lt) (all k (unjudged d) (omega (arith, lt, length-map tests.nodal unjudged))) in
+pub row_numbers : (rows rule : List NodalTest) → map unjudged rows ≡ rule → All IsNodalNumber rule → All IsNodalNumber rows
+row_numbers rows rule same all = λ k d lt.
+    let there = subst (All IsNodalNumber) (sym same) all in
+    let is = subst IsNodalNumber (at_unjudged rows k d lt) (there k (unjudged d) (omega (arith, lt, length-map rows unjudged))) in
     record { net = is.net; positive = is.positive; variance = is.variance }
+
+-- and so they are if there is no fault
+pub numbers_by : (rows rule : List NodalTest) (o : Option Fault) (Q : Fault → Type 0) → All IsNodalNumber rule → MatchOption o (map unjudged rows ≡ rule) Q → IfNone o (All IsNodalNumber rows)
+numbers_by rows rule None Q all same = row_numbers rows rule same all
+numbers_by rows rule (Some fault) Q all fails = tt
 
 -- ---- verdicts
 pub nodal_fails : (stage : Stage) (tests : Tests) (fault : Fault) → IsGlobalVerdict stage tests → IsFirstNodal tests.nodal fault → AreVerdictsFault stage tests fault

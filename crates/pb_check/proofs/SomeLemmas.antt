@@ -4,38 +4,39 @@ use Rattle.std.specs.Prelude.{◌≢◌, IfSome, IsSomeAnd, is_some, unsigned_ab
 use Rattle.std.proofs.lemmas.List.{length-map}
 use Rattle.std.proofs.lemmas.Bool.{cases_Bool, cases_eq, cases_lt}
 use Rattle.std.proofs.lemmas.Option.{slice_get_within, slice_get-get_or}
-use Rattle.pb_integers.proofs.Lists.{some_same}
+use Rattle.pb_fixed.proofs.Lists.{some_same}
 use Rattle.pb_graph.specs.declared.records.Meas.{Meas}
 use Rattle.pb_graph.specs.declared.records.Stream.{Stream}
-use Rattle.pb_graph.specs.declared.results.Bounds.{Bounds as BoundsOf}
-use Rattle.pb_graph.specs.declared.results.Solved.{Solved}
-use Rattle.pb_graph.specs.declared.results.Solved.TheVariants.{Converged, Unconverged}
-use Rattle.pb_graph.specs.declared.results.Verdict.{Verdict as VerdictOf}
-use Rattle.pb_graph.specs.declared.results.Verdict.TheVariants.{Reject, Accept, Undecided, NoCritical, NoTest}
-use Rattle.pb_graph.specs.declared.results.NodalTest.{NodalTest}
-use Rattle.pb_graph.specs.declared.results.StreamResult.{StreamResult}
-use Rattle.pb_graph.specs.declared.results.Tests.{Tests}
-use Rattle.pb_graph.specs.declared.results.Stage.{Stage}
+use Rattle.pb_study.specs.declared.results.Bounds.{Bounds as BoundsOf}
+use Rattle.pb_study.specs.declared.results.Solved.{Solved}
+use Rattle.pb_study.specs.declared.results.Solved.TheVariants.{Converged, Unconverged}
+use Rattle.pb_study.specs.declared.results.Verdict.{Verdict as VerdictOf}
+use Rattle.pb_study.specs.declared.results.Verdict.TheVariants.{Reject, Accept, Undecided, NoCritical, NoTest}
+use Rattle.pb_study.specs.declared.results.NodalTest.{NodalTest}
+use Rattle.pb_study.specs.declared.results.StreamResult.{StreamResult}
+use Rattle.pb_study.specs.declared.results.Tests.{Tests}
+use Rattle.pb_study.specs.declared.results.Stage.{Stage}
 use Rattle.pb_graph.specs.ProcessGraph.{IsProcessGraph}
-use Rattle.pb_graph.specs.WellFormed.{IsWellFormed}
+use Rattle.pb_study.specs.WellFormed.{IsWellFormed}
 use Rattle.pb_graph.specs.Balance.{net_of}
 use Rattle.pb_graph.specs.Certificates.{Shows, IsCertified}
 use Rattle.pb_graph.specs.Groups.{IsFreeGroup, is_free_group, group_at}
 use Rattle.pb_graph.specs.Prices.{IsInBox, most_adjustment, rise_of}
 use Rattle.pb_graph.proofs.ReachLemmas.{IsDecidable}
-use Rattle.pb_merge.proofs.GroupLaws.{some_groups_law, free_law}
+use Rattle.pb_graph.proofs.GroupLaws.{some_groups_law, free_law}
 use Rattle.pb_forest.specs.Forest.{degrees_of_freedom}
 use Rattle.pb_forest.proofs.ForestLaws.{some_forest_law}
 use Rattle.pb_gap.specs.declared.gap.Gap.{Gap as GapOf}
 use Rattle.pb_gap.specs.StreamBounds.{stream_bounds}
 use Rattle.pb_gap.specs.LeastBounds.{stream_least_bounds}
 use Rattle.pb_gap.specs.Statistic.{high_of}
-use Rattle.pb_tests.specs.Laws.{SomeNodalTestsLaw}
-use Rattle.pb_tests.specs.Nodal.{AreNodalTests}
-use Rattle.pb_tests.specs.Verdicts.{global_verdict}
-use Rattle.pb_elim.specs.Printed.{printed_price, printed_flows, printed_gap, have_least}
-use Rattle.pb_elim.specs.Certified.{IsMeasureVerdict, IsNodalVerdict, unjudged}
-use Rattle.pb_check.specs.declared.faults.Place.TheVariants.{Node, Stream as StreamAt, Whole}
+use Rattle.pb_stage.specs.Laws.{SomeNodalTestsLaw}
+use Rattle.pb_stage.specs.Nodal.{AreNodalTests}
+use Rattle.pb_stage.specs.Verdicts.{global_verdict}
+use Rattle.pb_stage.specs.Printed.{printed_price, printed_flows, printed_gap, have_least}
+use Rattle.pb_stage.specs.Certified.{IsMeasureVerdict, IsNodalVerdict, unjudged}
+use Rattle.pb_check.specs.declared.faults.Place.TheVariants.{Node, Whole}
+use Rattle.pb_check.specs.declared.faults.Place.{Place}
 use Rattle.pb_check.specs.declared.faults.Fault.{Fault}
 use Rattle.pb_check.specs.Asked.{is_bounded, HasClass, HasClassAt, HaveClasses, IsShownAt, AreShown, IsEvenAt, AreEven, HasGroupPriceAt, AreGroupPrices, IsInBoxAt, AreInBox, IsFreedom, found_gap, IsGapOfFlows, IsStateAt, IsStateOfGap, HasBoundsAt, HaveBounds, found_low, IsStatistic, AreNodalRows, IsNodal, IsGlobalVerdict, AreVerdicts, IsJudged, HasLeastBoundsAt, HaveLeastBounds}
 use Rattle.pb_check.specs.First.{IsFirstOf}
@@ -61,7 +62,7 @@ stream_either : (stage : Stage) (P : ℕ → Type 0) → ((j : ℕ) → j < leng
     → Either ((j : ℕ) → j < length stage.graph.streams → P j) (IsStreamFault stage P)
 stream_either stage P decided = elim (each_or_first P (length stage.graph.streams) decided) [
   | inl each ↦ inl each
-  | inr (j, first) ↦ inr (bare_fault_at (StreamAt j), record { stream = j; first = first; is = refl })
+  | inr (j, first) ↦ inr (bare_fault_at (Place.Stream j), record { stream = j; first = first; is = refl })
 ]
 
 class_at_decided : (stage : Stage) (j : ℕ) → IsDecidable (HasClassAt stage j)
@@ -206,7 +207,7 @@ other_of (Some x) (Some y) b here there ne = record { stated = x; found = y; sta
 
 differ_of : (j : ℕ) (printed rule : Option BoundsOf) → AreOther printed rule → printed ≢ rule → (fault : Fault) × DifferAt j printed rule fault
 differ_of j printed rule other ne = (
-  fault_at (StreamAt j) (bounds_numbers other.stated other.found),
+  fault_at (Place.Stream j) (bounds_numbers other.stated other.found),
   record {
     here = other.stated;
     there = other.found;
@@ -324,7 +325,7 @@ first_either P decided rows = elim (each_or_first (λ i. (other : _) → slice_g
 measures_by : (stage : Stage) (tests : Tests) → IsGlobalVerdict stage tests → All IsNodalVerdict tests.nodal → Either (AreVerdicts stage tests) (AreVerdictsFault stage tests)
 measures_by stage tests overall nodal = elim (first_either IsMeasureVerdict (λ row. verdict_decided _ _) tests.measure) [
   | inl each ↦ inl (record { overall = overall; nodal = nodal; measure = each })
-  | inr (row, first) ↦ inr (bare_fault_at (StreamAt row.stream), inr (inr (overall, nodal, record { row = row; first = first; is = refl })))
+  | inr (row, first) ↦ inr (bare_fault_at (Place.Stream row.stream), inr (inr (overall, nodal, record { row = row; first = first; is = refl })))
 ]
 
 verdicts_by : (stage : Stage) (tests : Tests) → Either (AreVerdicts stage tests) (AreVerdictsFault stage tests)

@@ -1,19 +1,20 @@
 -- A stage that passes is shown, so it is certified.
 use Rattle.std.proofs.Common.{◌≡◌, ◌↔◌, ℕ, pos, Option, Some, None, refl, sym, subst, arith}
 use Rattle.std.specs.Prelude.{IfSome, IsTrue}
-use Rattle.pb_graph.specs.declared.results.Solved.{Solved}
-use Rattle.pb_graph.specs.declared.results.Solved.TheVariants.{Converged, Unconverged}
-use Rattle.pb_graph.specs.declared.results.Tests.{Tests}
-use Rattle.pb_graph.specs.declared.results.Stage.{Stage}
+use Rattle.pb_study.specs.declared.results.Solved.{Solved}
+use Rattle.pb_study.specs.declared.results.Solved.TheVariants.{Converged, Unconverged}
+use Rattle.pb_study.specs.declared.results.Tests.{Tests}
+use Rattle.pb_study.specs.declared.results.Stage.{Stage}
 use Rattle.pb_graph.specs.ProcessGraph.{IsProcessGraph}
-use Rattle.pb_graph.specs.WellFormed.{IsWellFormed}
+use Rattle.pb_study.specs.WellFormed.{IsWellFormed}
 use Rattle.pb_gap.specs.declared.gap.Gap.{Gap}
 use Rattle.pb_gap.specs.Gap.{IsGap, MeetsGap, deviations_of}
 use Rattle.pb_gap.specs.Laws.{AreGaps}
-use Rattle.pb_elim.specs.Printed.{printed_flows, printed_gap, printed_price}
-use Rattle.pb_elim.specs.Certified.{AreShownTests, IsShownStage}
-use Rattle.pb_elim.specs.Laws.{ShownLaw}
-use Rattle.pb_check.specs.declared.faults.Test.TheVariants.{Witness as WitnessTest, Balance, Price, Box, Freedom, Gap as GapTest, State, Bounds, Statistic, Nodal, Verdict as VerdictTest, Least}
+use Rattle.pb_stage.specs.Printed.{printed_flows, printed_gap, printed_price}
+use Rattle.pb_stage.specs.Certified.{AreShownTests, IsShownStage}
+use Rattle.pb_stage.specs.Laws.{ShownLaw}
+use Rattle.pb_check.specs.declared.faults.Test.TheVariants.{Balance, Price, Box, Freedom, State, Bounds, Statistic, Nodal, Least}
+use Rattle.pb_check.specs.declared.faults.Test.{Test}
 use Rattle.pb_check.specs.Asked.{AreNodalRows, AreVerdicts, IsStateAt, found_gap}
 use Rattle.pb_check.specs.Verdict.{IsPassed}
 use Rattle.pb_check.specs.Laws.{SoundLaw, is_converged}
@@ -29,7 +30,7 @@ passed_shown gaps stage gap sweeps limits formed passed =
     record {
       limits = limits;
       each = formed.each_stream;
-      shown = passed WitnessTest;
+      shown = passed Test.Witness;
       balanced = passed Balance;
       priced = formed.each_price;
       fit = record {
@@ -39,14 +40,14 @@ passed_shown gaps stage gap sweeps limits formed passed =
         box = passed Box;
       };
       numbers = record {
-        deviation = subst (IsGap deviations) (sym (passed GapTest)) (gaps.is deviations);
+        deviation = subst (IsGap deviations) (sym (passed Test.Gap)) (gaps.is deviations);
         bounded = passed Bounds;
         least_bounded = passed Least;
         freedom = passed Freedom;
         from_below = (passed Statistic).low;
         from_above = (passed Statistic).high;
       };
-      tests = tests_if stage stage.tests (passed Nodal) (passed VerdictTest);
+      tests = tests_if stage stage.tests (passed Nodal) (passed Test.Verdict);
     }
 
 state_is : (gap sweeps : ℕ) (printed found : Gap) (solved : Solved) → printed ≡ found → IsStateAt gap sweeps printed solved → IsTrue (is_converged solved) ↔ MeetsGap gap found
@@ -56,5 +57,5 @@ state_is gap sweeps printed found (Unconverged k) same is = ((λ no_. cc no_), (
 pub sound_by : AreGaps → ShownLaw → SoundLaw
 sound_by gaps shown stage gap sweeps limits formed passed = record {
   certified = shown stage (passed_shown gaps stage gap sweeps limits formed passed);
-  state = state_is gap sweeps (printed_gap stage) (found_gap stage) stage.solved (passed GapTest) (passed State);
+  state = state_is gap sweeps (printed_gap stage) (found_gap stage) stage.solved (passed Test.Gap) (passed State);
 }

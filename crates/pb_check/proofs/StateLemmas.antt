@@ -1,30 +1,24 @@
 -- What the pair of a stage says of its gap, its bounds and its measured flows.
 use Rattle.std.proofs.Common.{◌≡◌, ◌∙◌, ◌↔◌, ◌&&◌, Bool, true, false, ℕ, zero, suc, ◌<◌, ◌≤◌, ℤ, List, [], ◌∷◌, length, map, Option, Some, is_some, slice_get, get_or, All, refl, sym, ap, ap₂, subst, arith}
-use Rattle.std.specs.Prelude.{IfSome}
 use Rattle.std.proofs.Math.Bool.{and-true}
 use Rattle.std.proofs.lemmas.List.{length-map}
 use Rattle.std.proofs.lemmas.Option.{slice_get-get_or, slice_get_within}
-use Rattle.pb_limits.specs.Limits.{most_streams}
-use Rattle.pb_integers.proofs.Lists.{all_each, some_same}
-use Rattle.pb_graph.specs.declared.records.Member.{Member}
+use Rattle.pb_fixed.proofs.Lists.{all_each, some_same}
 use Rattle.pb_graph.specs.declared.records.Witness.{Witness}
 use Rattle.pb_graph.specs.declared.records.Witness.TheVariants.{Cut, Cycle}
-use Rattle.pb_graph.specs.declared.records.Classified.{Classified}
-use Rattle.pb_graph.specs.declared.results.Bounds.{Bounds}
-use Rattle.pb_graph.specs.declared.results.StreamResult.{StreamResult}
-use Rattle.pb_graph.specs.declared.results.Stage.{Stage}
+use Rattle.pb_study.specs.declared.results.Bounds.{Bounds}
+use Rattle.pb_study.specs.declared.results.StreamResult.{StreamResult}
+use Rattle.pb_study.specs.declared.results.Stage.{Stage}
 use Rattle.pb_graph.specs.ProcessGraph.{ProcessGraph, IsProcessGraph}
-use Rattle.pb_graph.specs.Certificates.{IsCertified}
-use Rattle.pb_graph.specs.WellFormed.{IsFlow, IsResultWithin, IsWellFormed, IsWitnessWithin}
+use Rattle.pb_graph.specs.WellFormed.{IsFlow, IsWitnessWithin}
+use Rattle.pb_study.specs.WellFormed.{IsResultWithin, IsWellFormed}
 use Rattle.pb_gap.specs.declared.gap.Gap.{Gap}
 use Rattle.pb_gap.specs.Gap.{MeetsGap, gap_of, standard_deviations_of}
 use Rattle.pb_gap.specs.FlowPair.{AreMeasured, PairedFlows}
-use Rattle.pb_gap.specs.Bounds.{AreSigned}
-use Rattle.pb_gap.specs.StreamBounds.{stream_bounds, sum_for}
+use Rattle.pb_gap.specs.StreamBounds.{stream_bounds}
 use Rattle.pb_gap.specs.LeastBounds.{stream_least_bounds}
-use Rattle.pb_gap.specs.Laws.{StreamSumLaw, SumsTo}
-use Rattle.pb_elim.specs.Printed.{have_least, printed_flows, printed_gap, printed_price, HasLeastBounds}
-use Rattle.pb_elim.specs.Signs.{AreWitnessSigns}
+use Rattle.pb_stage.specs.Printed.{have_least, printed_flows, printed_gap, printed_price, HasLeastBounds}
+use Rattle.pb_stage.specs.Signs.{AreWitnessSigns}
 use Rattle.pb_check.specs.declared.faults.Fault.{Fault}
 use Rattle.pb_check.specs.Asked.{AreShown, HasBoundsAt, HasLeastBoundsAt, HaveBounds, HaveClasses, HaveLeastBounds, IsGapOfFlows, found_gap, is_bounded}
 use Rattle.pb_check.specs.Faults.{DifferAt, IsBoundsFault, IsLeastFault}
@@ -40,12 +34,6 @@ pub met_printed : (stage : Stage) (pair : PairedFlows) (gap : ℕ) (P : Type 0) 
 met_printed stage pair gap P is gap_is met = subst (λ (g : Gap). P ↔ MeetsGap gap g) (found_is stage pair is ∙ sym gap_is) met
 
 -- ---- bounds
-pub signed_members : StreamSumLaw → (g : ProcessGraph) (j : ℕ) (c : Classified) (members : List Member) → IsProcessGraph g → IsCertified g j c → sum_for j c.class c.witness ≡ Some members
-    → AreSigned g members
-signed_members law g j c members limits certified is =
-    let sums : SumsTo g j members = subst (λ (o : Option (List Member)). IfSome o (SumsTo g j)) is (law g j c limits certified) in
-    sums.signed
-
 signs_within : (g : ProcessGraph) (w : Witness) → IsWitnessWithin g w → AreWitnessSigns w
 signs_within g (Cut side members) (each, within) = λ k d lt. (within k d lt).sign
 signs_within g (Cycle steps) within = tt
@@ -92,15 +80,6 @@ measured stage roots flows limits formed rooted printed = record {
 }
 
 -- ---- the streams of a stage, one by one
--- a result at a place, when the results are handed on as a slice
-pub result_at : (stage : Stage) (results : List StreamResult) (j : ℕ) (r : StreamResult) → results ≡ stage.streams → r ≡ get_or results j r → j < length results
-    → slice_get stage.streams j ≡ Some r
-result_at stage results j r same is lt = ap (λ (rs : List StreamResult). slice_get rs j) (sym same) ∙ slice_get-get_or results j r lt ∙ ap Some (sym is)
-
--- its place is a number of 32 bits
-pub place_small : (stage : Stage) (results : List StreamResult) (j : ℕ) → results ≡ stage.streams → IsProcessGraph stage.graph → IsWellFormed stage → j < length results → j < most_streams
-place_small stage results j same limits formed lt = omega (arith, ap length same, limits.few_streams, formed.each_stream, lt)
-
 -- the first stream that has other bounds than the rule gives
 pub bounds_fail : (stage : Stage) (j : ℕ) (r : StreamResult) (found : Option Bounds) (fault : Fault) → IsWellFormed stage → slice_get stage.streams j ≡ Some r
     → found ≡ stream_bounds (printed_price stage) stage.graph.streams (printed_gap stage) j r.classified → ((k : ℕ) → k < j → HasBoundsAt stage k) → DifferAt j r.bounds found fault

@@ -1,16 +1,16 @@
 -- Each stage passes or has a first fault, at a place of the stage.
 use Rattle.std.proofs.Common.{◌≡◌, ◌⊎◌, ℕ, ◌+◌, length, Option, Some, None, refl, sym, subst, inl, inr, arith}
 use Rattle.std.specs.Prelude.{IfSome, IsSomeAnd}
-use Rattle.pb_integers.proofs.Lists.{all_each}
-use Rattle.pb_graph.specs.declared.results.Tests.{Tests}
-use Rattle.pb_graph.specs.declared.results.Stage.{Stage}
-use Rattle.pb_graph.specs.WellFormed.{IsNodalWithin, IsMeasureWithin, AreTestsWithin, IsWellFormed}
-use Rattle.pb_tests.specs.Laws.{SomeNodalTestsLaw}
+use Rattle.pb_fixed.proofs.Lists.{all_each}
+use Rattle.pb_study.specs.declared.results.Tests.{Tests}
+use Rattle.pb_study.specs.declared.results.Stage.{Stage}
+use Rattle.pb_study.specs.WellFormed.{IsNodalWithin, IsMeasureWithin, AreTestsWithin, IsWellFormed}
+use Rattle.pb_stage.specs.Laws.{SomeNodalTestsLaw}
 use Rattle.pb_check.specs.declared.faults.Test.{Test}
 use Rattle.pb_check.specs.declared.faults.Test.TheVariants.{Class, Witness, Balance, Price, Box, Freedom, Gap, State, Bounds, Statistic, Nodal, Verdict, Least}
 use Rattle.pb_check.specs.declared.faults.Fault.{Fault}
 use Rattle.pb_check.specs.Faults.{AreVerdictsFault, IsNodalRowsFault}
-use Rattle.pb_check.specs.Verdict.{code_of, Passes, Fails, IsPlaceWithin}
+use Rattle.pb_check.specs.Verdict.{test_code, Passes, Fails, IsPlaceWithin}
 use Rattle.pb_check.specs.VerdictLaws.{HasFault, SomeVerdictLaw, PlaceLaw}
 use Rattle.pb_check.specs.Among.{IsAmong}
 use Rattle.pb_check.proofs.AmongLemmas.{none_yet, passed, code_least, all_passed}
@@ -20,7 +20,7 @@ use Rattle.pb_check.proofs.SomeLemmas.{Either, class_either, witness_either, bal
 abbrev Outcome : Stage → ℕ → ℕ → ℕ → Type 0
 Outcome stage gap sweeps n = IsAmong stage gap sweeps 1 n None ⊎ HasFault stage gap sweeps
 
-step : (stage : Stage) (gap sweeps n : ℕ) (test : Test) → code_of test ≡ n + 1 → Outcome stage gap sweeps n
+step : (stage : Stage) (gap sweeps n : ℕ) (test : Test) → test_code test ≡ n + 1 → Outcome stage gap sweeps n
     → (IsAmong stage gap sweeps 1 n None → Either (Passes stage gap sweeps test) (Fails stage gap sweeps test)) → Outcome stage gap sweeps (n + 1)
 step stage gap sweeps n test is before decide = elim before [
   | inr fault ↦ inr fault

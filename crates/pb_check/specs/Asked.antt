@@ -3,11 +3,11 @@ use Rattle.std.specs.Prelude.{◌≡◌, ◌≤◌, ◌<◌, ◌&&◌, ℕ, ℤ,
 use Rattle.pb_graph.specs.declared.records.Stream.{Stream}
 use Rattle.pb_graph.specs.declared.records.Class.{Class}
 use Rattle.pb_graph.specs.declared.records.Class.TheVariants.{Unobservable, Redundant, Nonredundant}
-use Rattle.pb_graph.specs.declared.results.StreamResult.{StreamResult}
-use Rattle.pb_graph.specs.declared.results.Solved.{Solved}
-use Rattle.pb_graph.specs.declared.results.Solved.TheVariants.{Converged, Unconverged}
-use Rattle.pb_graph.specs.declared.results.Tests.{Tests}
-use Rattle.pb_graph.specs.declared.results.Stage.{Stage}
+use Rattle.pb_study.specs.declared.results.StreamResult.{StreamResult}
+use Rattle.pb_study.specs.declared.results.Solved.{Solved}
+use Rattle.pb_study.specs.declared.results.Solved.TheVariants.{Converged, Unconverged}
+use Rattle.pb_study.specs.declared.results.Tests.{Tests}
+use Rattle.pb_study.specs.declared.results.Stage.{Stage}
 use Rattle.pb_graph.specs.ProcessGraph.{ProcessGraph, is_measured}
 use Rattle.pb_graph.specs.Balance.{IsBalanced, net_of}
 use Rattle.pb_graph.specs.Certificates.{IsCertified}
@@ -16,11 +16,11 @@ use Rattle.pb_graph.specs.Prices.{IsInBox}
 use Rattle.pb_gap.specs.declared.gap.Gap.{Gap}
 use Rattle.pb_gap.specs.Gap.{MeetsGap, gap_of}
 use Rattle.pb_gap.specs.Statistic.{low_of, high_of}
-use Rattle.pb_tests.specs.Nodal.{AreNodalTests}
-use Rattle.pb_tests.specs.Verdicts.{global_verdict}
-use Rattle.pb_elim.specs.Printed.{printed_price, printed_flows, printed_gap, have_least, HasLeastBounds}
-use Rattle.pb_elim.specs.Stage.{HasFreedom}
-use Rattle.pb_elim.specs.Certified.{IsMeasureVerdict, IsNodalVerdict, found_bounds, found_least, unjudged}
+use Rattle.pb_stage.specs.Nodal.{AreNodalTests}
+use Rattle.pb_stage.specs.Verdicts.{global_verdict}
+use Rattle.pb_stage.specs.Printed.{printed_price, printed_flows, printed_gap, have_least, HasLeastBounds}
+use Rattle.pb_stage.specs.Freedom.{HasFreedom}
+use Rattle.pb_stage.specs.Certified.{IsMeasureVerdict, IsNodalVerdict, found_bounds, found_least, unjudged}
 
 -- ---- 1. class
 -- whether a class is one of those of measured streams

@@ -4,25 +4,25 @@ use Rattle.std.specs.Prelude.{◌≡◌, ◌≢◌, ◌⊎◌, ◌==◌, ℕ, �
 use Rattle.std.specs.Ordering.{int_eq}
 use Rattle.pb_graph.specs.declared.records.Meas.{Meas}
 use Rattle.pb_graph.specs.declared.records.Stream.{Stream}
-use Rattle.pb_graph.specs.declared.results.Bounds.{Bounds}
-use Rattle.pb_graph.specs.declared.results.StreamResult.{StreamResult}
-use Rattle.pb_graph.specs.declared.results.NodalTest.{NodalTest}
-use Rattle.pb_graph.specs.declared.results.MeasureTest.{MeasureTest}
-use Rattle.pb_graph.specs.declared.results.Tests.{Tests}
-use Rattle.pb_graph.specs.declared.results.Stage.{Stage}
+use Rattle.pb_study.specs.declared.results.Bounds.{Bounds}
+use Rattle.pb_study.specs.declared.results.StreamResult.{StreamResult}
+use Rattle.pb_study.specs.declared.results.NodalTest.{NodalTest}
+use Rattle.pb_study.specs.declared.results.MeasureTest.{MeasureTest}
+use Rattle.pb_study.specs.declared.results.Tests.{Tests}
+use Rattle.pb_study.specs.declared.results.Stage.{Stage}
 use Rattle.pb_graph.specs.Balance.{net_of}
 use Rattle.pb_graph.specs.Prices.{rise_of}
-use Rattle.pb_graph.specs.WellFormed.{sweeps_of}
+use Rattle.pb_study.specs.WellFormed.{sweeps_of}
 use Rattle.pb_dual.specs.Candidates.{room_of}
 use Rattle.pb_gap.specs.declared.gap.Gap.{Gap}
 use Rattle.pb_gap.specs.Statistic.{high_of}
-use Rattle.pb_tests.specs.Nodal.{AreNodalTests}
-use Rattle.pb_elim.specs.Printed.{printed_price, printed_flows, printed_gap, HasLeastBounds}
-use Rattle.pb_elim.specs.Stage.{HasFreedom}
-use Rattle.pb_elim.specs.Certified.{IsMeasureVerdict, IsNodalVerdict, found_bounds, found_least, unjudged}
+use Rattle.pb_stage.specs.Nodal.{AreNodalTests}
+use Rattle.pb_stage.specs.Printed.{printed_price, printed_flows, printed_gap, HasLeastBounds}
+use Rattle.pb_stage.specs.Freedom.{HasFreedom}
+use Rattle.pb_stage.specs.Certified.{IsMeasureVerdict, IsNodalVerdict, found_bounds, found_least, unjudged}
 use Rattle.pb_check.specs.declared.faults.Fault.{Fault}
 use Rattle.pb_check.specs.declared.faults.Place.{Place}
-use Rattle.pb_check.specs.declared.faults.Place.TheVariants.{Node, Stream as StreamAt, Whole}
+use Rattle.pb_check.specs.declared.faults.Place.TheVariants.{Node, Whole}
 use Rattle.pb_check.specs.First.{IsFirstOf, IsFirstWithout}
 use Rattle.pb_check.specs.Asked.{HasClassAt, IsShownAt, IsEvenAt, IsLeastOfGroup, HasGroupPriceAt, IsInBoxAt, found_gap, IsStateOfGap, HasBoundsAt, HasLeastBoundsAt, found_low, IsGlobalVerdict}
 
@@ -44,7 +44,7 @@ bare_fault_at place = fault_at place (pos 0, pos 0)
 pub record IsStreamFault (stage : Stage) (P : ℕ → Type 0) (fault : Fault) : Type 0 where
   pub stream : ℕ
   pub first : IsFirstWithout P (length stage.graph.streams) stream
-  pub is : fault ≡ bare_fault_at (StreamAt stream)
+  pub is : fault ≡ bare_fault_at (Place.Stream stream)
 
 abbrev pub IsClassFault : Stage → Fault → Type 0
 IsClassFault stage = IsStreamFault stage (HasClassAt stage)
@@ -87,7 +87,7 @@ pub record IsOutOfBox (stage : Stage) (place : ℕ) (fault : Fault) : Type 0 whe
   pub fails : IsInBoxAt stage place → ⊥
   pub is :
       fault
-      ≡ fault_at (StreamAt place)
+      ≡ fault_at (Place.Stream place)
       (pos (unsigned_abs (rise_of (printed_price stage) stream)), room_of meas.variance)
 
 pub record IsBoxFault (stage : Stage) (fault : Fault) : Type 0 where
@@ -130,7 +130,7 @@ pub record DifferAt (stream : ℕ) (stated found : Option Bounds) (fault : Fault
   pub stated_is : stated ≡ Some here
   pub found_is : found ≡ Some there
   pub differ : here ≢ there
-  pub is : fault ≡ fault_at (StreamAt stream) (bounds_numbers here there)
+  pub is : fault ≡ fault_at (Place.Stream stream) (bounds_numbers here there)
 
 pub record IsBoundsFault (stage : Stage) (fault : Fault) : Type 0 where
   pub stream : ℕ
@@ -215,7 +215,7 @@ pub record IsFirstNodal (rows : List NodalTest) (fault : Fault) : Type 0 where
 pub record IsFirstMeasure (rows : List MeasureTest) (fault : Fault) : Type 0 where
   pub row : MeasureTest
   pub first : IsFirstOf IsMeasureVerdict rows row
-  pub is : fault ≡ bare_fault_at (StreamAt row.stream)
+  pub is : fault ≡ bare_fault_at (Place.Stream row.stream)
 
 abbrev pub AreVerdictsFault : Stage → Tests → Fault → Type 0
 AreVerdictsFault stage tests fault =

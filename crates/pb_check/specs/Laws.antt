@@ -1,16 +1,14 @@
 -- Statement. What is proved of judgements.
-use Rattle.std.specs.Prelude.{◌↔◌, ℕ, Bool, true, false, IsTrue, All}
-use Rattle.pb_graph.specs.declared.results.Solved.{Solved}
-use Rattle.pb_graph.specs.declared.results.Solved.TheVariants.{Converged, Unconverged}
-use Rattle.pb_graph.specs.declared.results.Stage.{Stage}
-use Rattle.pb_graph.specs.declared.results.Study.{Study}
-use Rattle.pb_graph.specs.declared.results.Options.{Options}
-use Rattle.pb_graph.specs.declared.results.Critical.{Critical}
-use Rattle.pb_graph.specs.ProcessGraph.{ProcessGraph, IsProcessGraph}
-use Rattle.pb_graph.specs.WellFormed.{IsWellFormed}
+use Rattle.std.specs.Prelude.{◌↔◌, ℕ, Bool, true, false, IsTrue}
+use Rattle.pb_study.specs.declared.results.Solved.{Solved}
+use Rattle.pb_study.specs.declared.results.Solved.TheVariants.{Converged, Unconverged}
+use Rattle.pb_study.specs.declared.results.Stage.{Stage}
+use Rattle.pb_graph.specs.ProcessGraph.{IsProcessGraph}
+use Rattle.pb_study.specs.WellFormed.{IsWellFormed}
 use Rattle.pb_gap.specs.Gap.{MeetsGap}
-use Rattle.pb_elim.specs.Study.{IsStudyOf}
-use Rattle.pb_elim.specs.Certified.{IsCertifiedStage}
+use Rattle.pb_gap.specs.Solution.{IsSolution}
+use Rattle.pb_stage.specs.Printed.{printed_price, printed_flows}
+use Rattle.pb_stage.specs.Certified.{IsShownStage, IsCertifiedStage}
 use Rattle.pb_check.specs.Asked.{found_gap}
 use Rattle.pb_check.specs.Verdict.{IsPassed}
 
@@ -29,8 +27,8 @@ abbrev pub SoundLaw : Type 0
 SoundLaw = (stage : Stage) (gap sweeps : ℕ) → IsProcessGraph stage.graph → IsWellFormed stage
     → IsPassed stage gap sweeps → IsSound stage gap
 
--- each stage of a study passes at the gap and the sweeps of the study
-abbrev pub OwnLaw : Type 0
-OwnLaw = (graph : ProcessGraph) (options : Options) (critical : Critical) (study : Study)
-    → IsProcessGraph graph → IsStudyOf graph options critical study
-    → All (λ stage. IsPassed stage options.gap options.sweeps) study.stages
+-- a stage that is shown passes at a gap and sweeps if its prices, flows and sweeps are the solution of its graph for these
+abbrev pub SolvedLaw : Type 0
+SolvedLaw = (stage : Stage) (gap sweeps : ℕ) → IsShownStage stage
+    → IsSolution stage.graph gap sweeps stage.solved (printed_price stage) (printed_flows stage)
+    → IsPassed stage gap sweeps

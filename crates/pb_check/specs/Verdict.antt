@@ -1,6 +1,6 @@
 -- Statement. The verdict on a stage: it passes all tests, or there is a first one that it fails.
 use Rattle.std.specs.Prelude.{ℕ, ℤ, ◌<◌, length}
-use Rattle.pb_graph.specs.declared.results.Stage.{Stage}
+use Rattle.pb_study.specs.declared.results.Stage.{Stage}
 use Rattle.pb_check.specs.declared.faults.Test.{Test}
 use Rattle.pb_check.specs.declared.faults.Test.TheVariants.{Class, Witness, Balance, Price, Box, Freedom, Gap, State, Bounds, Statistic, Nodal, Verdict, Least}
 use Rattle.pb_check.specs.declared.faults.Place.{Place}
@@ -12,20 +12,20 @@ use Rattle.pb_check.specs.Asked.{HaveClasses, AreShown, AreEven, AreGroupPrices,
 use Rattle.pb_check.specs.Faults.{IsClassFault, IsWitnessFault, IsBalanceFault, IsPriceFault, IsBoxFault, IsFreedomFault, IsGapFault, IsStateFault, IsBoundsFault, IsStatisticFault, IsNodalFault, IsVerdictFault, IsLeastFault}
 
 -- the number of a test, from 1; the tests are made in this order
-abbrev pub code_of : Test → ℕ
-code_of Class = 1
-code_of Witness = 2
-code_of Balance = 3
-code_of Price = 4
-code_of Box = 5
-code_of Freedom = 6
-code_of Gap = 7
-code_of State = 8
-code_of Bounds = 9
-code_of Statistic = 10
-code_of Nodal = 11
-code_of Verdict = 12
-code_of Least = 13
+abbrev pub test_code : Test → ℕ
+test_code Class = 1
+test_code Witness = 2
+test_code Balance = 3
+test_code Price = 4
+test_code Box = 5
+test_code Freedom = 6
+test_code Gap = 7
+test_code State = 8
+test_code Bounds = 9
+test_code Statistic = 10
+test_code Nodal = 11
+test_code Verdict = 12
+test_code Least = 13
 
 -- what a test asks of a stage that was to meet this gap in these sweeps
 abbrev pub Passes : Stage → ℕ → ℕ → Test → Type 0
@@ -66,7 +66,7 @@ IsPassed stage gap sweeps = (test : Test) → Passes stage gap sweeps test
 -- Its first fault, if it doesn't pass: the stage passes the tests before this one, and this one fails with this fault.
 pub record IsFirstFault (stage : Stage) (gap sweeps : ℕ) (test : Test) (place : Place)
     (stated found : ℤ) : Type 0 where
-  pub before : (other : Test) → code_of other < code_of test → Passes stage gap sweeps other
+  pub before : (other : Test) → test_code other < test_code test → Passes stage gap sweeps other
   pub fails : Fails stage gap sweeps test (record { place = place; stated = stated; found = found })
 
 -- a place is one of the stage

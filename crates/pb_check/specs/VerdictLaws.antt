@@ -1,8 +1,8 @@
 -- Statement. What is proved of verdicts: a stage passes, or has one first fault.
 use Rattle.std.specs.Prelude.{◌≡◌, ◌⊎◌, ℕ, ℤ}
-use Rattle.pb_graph.specs.declared.results.Stage.{Stage}
+use Rattle.pb_study.specs.declared.results.Stage.{Stage}
 use Rattle.pb_graph.specs.ProcessGraph.{IsProcessGraph}
-use Rattle.pb_graph.specs.WellFormed.{IsWellFormed}
+use Rattle.pb_study.specs.WellFormed.{IsWellFormed}
 use Rattle.pb_check.specs.declared.faults.Test.{Test}
 use Rattle.pb_check.specs.declared.faults.Place.{Place}
 use Rattle.pb_check.specs.Verdict.{IsPassed, IsFirstFault, IsPlaceWithin}

@@ -1,17 +1,19 @@
 // Test 3: the balance of each node.
 
 ghost use Rattle.std.specs.Prelude.{◌≡◌, ℕ, ◌<◌, ◌≤◌, ◌*◌, ◌^◌, pos, ◌+ℤ◌, unsigned_abs, length, set, IfOk, MatchOption};
-ghost use Rattle.pb_integers.specs.Sums.{item};
+ghost use Rattle.pb_fixed.specs.Sums.{item};
 ghost use Rattle.pb_limits.specs.Limits.{most_streams};
 ghost use Rattle.pb_graph.specs.ProcessGraph.{IsStream};
 ghost use Rattle.pb_graph.specs.Balance.{brought_to, net_of};
-ghost use Rattle.pb_graph.specs.WellFormed.{IsFlow, IsWellFormed};
-ghost use Rattle.pb_elim.specs.Printed.{printed_flows};
+ghost use Rattle.pb_graph.specs.WellFormed.{IsFlow};
+ghost use Rattle.pb_study.specs.WellFormed.{IsWellFormed};
+ghost use Rattle.pb_stage.specs.Printed.{printed_flows};
 ghost use Rattle.pb_check.specs.Asked.{AreEven};
 ghost use Rattle.pb_check.specs.Faults.{IsBalanceFault};
 
 use crate::faults::{Fault, at_node};
-use pb_graph::{Stage, Stream};
+use pb_graph::Stream;
+use pb_study::Stage;
 use std::alloc::{AllocError, Global};
 
 // Adds to the net flow of a node.

@@ -2,20 +2,20 @@
 
 ghost use Rattle.std.specs.Prelude.{◌≡◌, is_some, IfOk, MatchOption};
 ghost use Rattle.pb_graph.specs.Certificates.{IsCertified};
-ghost use Rattle.pb_graph.specs.WellFormed.{IsWellFormed};
+ghost use Rattle.pb_study.specs.WellFormed.{IsWellFormed};
 ghost use Rattle.pb_gap.specs.GapRange.{IsGapInRange};
 ghost use Rattle.pb_gap.specs.StreamBounds.{stream_bounds};
-ghost use Rattle.pb_elim.specs.Printed.{printed_gap, printed_price};
-ghost use Rattle.pb_elim.specs.Signs.{AreWitnessSigns};
-ghost use Rattle.pb_check.specs.declared.faults.Place.TheVariants.{Stream as StreamAt};
+ghost use Rattle.pb_stage.specs.Printed.{printed_gap, printed_price};
+ghost use Rattle.pb_stage.specs.Signs.{AreWitnessSigns};
 ghost use Rattle.pb_check.specs.Asked.{AreShown, HaveBounds, HaveClasses};
 ghost use Rattle.pb_check.specs.Faults.{DifferAt, IsBoundsFault};
 ghost use Rattle.pb_check.specs.Pairs.{IsPairOf};
 
 use crate::faults::{Fault, Place};
-use pb_elim::sum_for;
-use pb_gap::{FlowPair, Gap, stream_law};
-use pb_graph::{Bounds, Classified, Stage};
+use pb_gap::{FlowPair, Gap};
+use pb_graph::Classified;
+use pb_stage::sum_for;
+use pb_study::{Bounds, Stage};
 use std::alloc::{AllocError, Global};
 
 // The bounds of a stream by its class and its certificate, or none if it is unobservable.
@@ -36,8 +36,6 @@ fn found_bounds(
         ≡ stream_bounds (printed_price stage.now) stage.now.graph.streams (printed_gap stage.now)
         stream classified.now) }
 {
-    stream_law();
-    let _graph = stage.graph.nodes();
     match sum_for(alloc, stream, classified)? {
         None => Ok(None),
         Some(members) => Ok(Some(pair.bounds(members.as_slice(), gap))),
@@ -46,7 +44,7 @@ fn found_bounds(
 
 // A fault at a stream, with its two numbers.
 fn bounds_at(stream: u32, stated: i128, found: i128) -> Fault
-    ensures { result ≡ record { place = StreamAt stream; stated = stated; found = found } }
+    ensures { result ≡ record { place = Place.Stream stream; stated = stated; found = found } }
 {
     Fault {
         place: Place::Stream(stream),
@@ -92,12 +90,10 @@ pub fn bounds_fault(
     ensures { IfOk result
         (λ found. MatchOption found (HaveBounds stage.now) (IsBoundsFault stage.now)) }
 {
-    let _nodes = stage.graph.nodes();
-    let streams = stage.streams.as_slice();
-    for (j, printed) in streams.iter().enumerate() {
-        let classified = &printed.classified;
-        let found = found_bounds(alloc, stage, pair, gap, j as u32, classified)?;
-        if let Some(fault) = bounds_difference(j as u32, printed.bounds, found) {
+    for j in 0..stage.graph.len() {
+        let printed = stage.streams.at(j as usize);
+        let found = found_bounds(alloc, stage, pair, gap, j, &printed.classified)?;
+        if let Some(fault) = bounds_difference(j, printed.bounds, found) {
             return Ok(Some(fault));
         }
     }

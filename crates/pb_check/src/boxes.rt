@@ -2,14 +2,16 @@
 
 ghost use Rattle.std.specs.Prelude.{◌≡◌, ◌<◌, ◌≤◌, ◌^◌, ℕ, pos, ◌≤ℤ◌, ◌-ℤ◌, unsigned_abs, length, MatchOption};
 ghost use Rattle.pb_graph.specs.ProcessGraph.{IsMeasurement, IsProcessGraph};
-ghost use Rattle.pb_graph.specs.WellFormed.{IsPrice, IsWellFormed};
+ghost use Rattle.pb_graph.specs.WellFormed.{IsPrice};
+ghost use Rattle.pb_study.specs.WellFormed.{IsWellFormed};
 ghost use Rattle.pb_dual.specs.Candidates.{room_of};
 ghost use Rattle.pb_check.specs.Asked.{IsInBoxAt, AreInBox};
 ghost use Rattle.pb_check.specs.Faults.{IsBoxFault, IsOutOfBox};
 
 use crate::faults::{Fault, Place};
 use pb_fixed::div_floor;
-use pb_graph::{MOST_ADJUSTMENT, Meas, Stage};
+use pb_graph::{MOST_ADJUSTMENT, Meas};
+use pb_study::Stage;
 
 // The most by which the prices at the ends of a stream of this variance may differ.
 fn room(meas: &Meas) -> i128

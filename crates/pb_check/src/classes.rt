@@ -6,15 +6,16 @@ ghost use Rattle.pb_graph.specs.declared.records.Member.{Member};
 ghost use Rattle.pb_graph.specs.declared.records.Step.{Step};
 ghost use Rattle.pb_graph.specs.declared.records.Stream.{Stream};
 ghost use Rattle.pb_graph.specs.Certificates.{CutsOff, GoesRound, Shows};
-ghost use Rattle.pb_graph.specs.WellFormed.{IsWellFormed};
-ghost use Rattle.pb_elim.specs.Printed.{have_least};
+ghost use Rattle.pb_study.specs.WellFormed.{IsWellFormed};
+ghost use Rattle.pb_stage.specs.Printed.{have_least};
 ghost use Rattle.pb_check.specs.Others.{IsOtherMeasured, IsOtherUnmeasured};
 ghost use Rattle.pb_check.specs.Asked.{is_of_measured, is_bounded, HasClass, HasClassAt, HaveClasses, IsShownAt, AreShown};
 ghost use Rattle.pb_check.specs.Faults.{IsClassFault, IsWitnessFault};
 
 use crate::faults::{Fault, at_stream};
 use crate::least::have_least;
-use pb_graph::{Class, Graph, Member, Stage, Step, Stream, StreamResult, Witness};
+use pb_graph::{Class, Graph, Member, Step, Stream, Witness};
+use pb_study::{Stage, StreamResult};
 
 // Whether a class is one of those of measured streams.
 fn is_of_measured(class: Class) -> bool

@@ -1,8 +1,8 @@
 // The tests of a judgement, and the fault that a failing test reports.
 
 ghost use Rattle.std.specs.Prelude.{◌≡◌, pos};
-ghost use Rattle.pb_check.specs.declared.faults.Place.TheVariants.{Node, Stream as StreamAt, Whole};
-ghost use Rattle.pb_check.specs.Verdict.{code_of};
+ghost use Rattle.pb_check.specs.declared.faults.Place.TheVariants.{Node, Whole};
+ghost use Rattle.pb_check.specs.Verdict.{test_code};
 
 /// The tests of a stage, in their order.
 #[derive(Clone, Copy, Debug, PartialEq, Eq)]
@@ -39,7 +39,7 @@ pub enum Test {
 impl Test {
     /// The number of the test, from 1.
     pub fn code(self) -> u32
-        ensures { result ≡ code_of self }
+        ensures { result ≡ test_code self }
     {
         match self {
             Test::Class => 1,
@@ -89,7 +89,7 @@ pub enum CheckFault {
 
 /// A failure at a stream, without numbers.
 pub fn at_stream(stream: u32) -> Fault
-    ensures { result ≡ record { place = StreamAt stream; stated = pos 0; found = pos 0 } }
+    ensures { result ≡ record { place = Place.Stream stream; stated = pos 0; found = pos 0 } }
 {
     Fault {
         place: Place::Stream(stream),

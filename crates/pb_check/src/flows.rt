@@ -2,9 +2,9 @@
 
 ghost use Rattle.std.specs.Prelude.{◌≡◌, ◌<◌, ◌≤◌, map, length, IfOk};
 ghost use Rattle.pb_limits.specs.Limits.{most_gap, most_sweeps};
-ghost use Rattle.pb_graph.specs.WellFormed.{IsWellFormed};
+ghost use Rattle.pb_study.specs.WellFormed.{IsWellFormed};
 ghost use Rattle.pb_check.specs.declared.faults.Test.{Test as TestValue};
-ghost use Rattle.pb_check.specs.Verdict.{Passes, code_of};
+ghost use Rattle.pb_check.specs.Verdict.{Passes, test_code};
 ghost use Rattle.pb_check.specs.Among.{IsAmong};
 ghost use Rattle.pb_check.specs.Pairs.{IsPairOf};
 
@@ -13,7 +13,7 @@ use crate::least::least_fault;
 use crate::numbers::{first_of_numbers, printed_gap};
 use crate::rows::first_of_tests;
 use pb_gap::{FlowPair, standard_deviations, write_dual_flows};
-use pb_graph::{Stage, StreamResult};
+use pb_study::{Stage, StreamResult};
 use std::alloc::{AllocError, Global};
 
 // The printed flows.
@@ -39,7 +39,7 @@ fn first_of_pair(
     requires formed { IsWellFormed stage.now }
     requires pair { IsPairOf stage.now pair.now }
     requires room { length deviations.old ≡ length pair.now.graph.streams }
-    requires earlier { (test : TestValue) → code_of test < 7 → Passes stage.now gap sweeps test }
+    requires earlier { (test : TestValue) → test_code test < 7 → Passes stage.now gap sweeps test }
     ensures { IfOk result (IsAmong stage.now gap sweeps 7 13) }
 {
     if let Some(first) = first_of_numbers(alloc, stage, pair, deviations, gap, sweeps)? {
@@ -67,10 +67,9 @@ pub fn first_of_flows(
     requires gap_from { 1 ≤ gap }
     requires gap_to { gap ≤ most_gap }
     requires sweeps { sweeps ≤ most_sweeps }
-    requires earlier { (test : TestValue) → code_of test < 7 → Passes stage.now gap sweeps test }
+    requires earlier { (test : TestValue) → test_code test < 7 → Passes stage.now gap sweeps test }
     ensures { IfOk result (IsAmong stage.now gap sweeps 7 13) }
 {
-    let _nodes = stage.graph.nodes();
     let streams = stage.graph.streams();
     let roots = standard_deviations(alloc, streams)?;
     let flows = printed_flows(alloc, stage.streams.as_slice())?;

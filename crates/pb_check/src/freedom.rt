@@ -6,7 +6,7 @@ ghost use Rattle.pb_check.specs.Faults.{IsFreedomFault};
 
 use crate::faults::{Fault, whole};
 use pb_forest::Forest;
-use pb_graph::Stage;
+use pb_study::Stage;
 use std::alloc::{AllocError, Global};
 
 /// Test 6: the degrees of freedom are the number of measured streams in the spanning forest.

@@ -1,7 +1,7 @@
 // Tests 1 to 6, one after another: what the graph, its classes, flows and prices decide.
 
 ghost use Rattle.std.specs.Prelude.{ℕ, IfOk};
-ghost use Rattle.pb_graph.specs.WellFormed.{IsWellFormed};
+ghost use Rattle.pb_study.specs.WellFormed.{IsWellFormed};
 ghost use Rattle.pb_check.specs.Among.{IsAmong};
 
 use crate::balance::balance_fault;
@@ -10,7 +10,7 @@ use crate::classes::{class_fault, witness_fault};
 use crate::faults::{Fault, Test};
 use crate::freedom::freedom_fault;
 use crate::prices::price_fault;
-use pb_graph::Stage;
+use pb_study::Stage;
 use std::alloc::{AllocError, Global};
 
 /// The first of the tests 1 to 6 that the stage fails.

@@ -2,14 +2,14 @@
 
 ghost use Rattle.std.specs.Prelude.{◌≡◌, ◌≤◌, IfErr, IfOk, OnOk};
 ghost use Rattle.pb_limits.specs.Limits.{most_gap, most_sweeps};
-ghost use Rattle.pb_graph.specs.WellFormed.{IsWellFormed};
+ghost use Rattle.pb_study.specs.WellFormed.{IsWellFormed};
 ghost use Rattle.pb_check.specs.Verdict.{IsPassed, IsRefusal, IsRefusalWithin};
 ghost use Rattle.pb_check.specs.Among.{IsAmong};
 
 use crate::faults::{CheckFault, Fault, Test};
 use crate::flows::first_of_flows;
 use crate::graphs::first_of_graph;
-use pb_graph::Stage;
+use pb_study::Stage;
 use std::alloc::{AllocError, Global};
 
 // The first of all tests that the stage fails.

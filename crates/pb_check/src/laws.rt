@@ -1,24 +1,18 @@
 // What is proved of the definitions alone. The contract of each function is a law; it calls the laws that its proof uses.
 
-ghost use Rattle.pb_check.specs.Laws.{SoundLaw, OwnLaw};
+ghost use Rattle.pb_check.specs.Laws.{SoundLaw, SolvedLaw};
 
-use pb_elim::{certified_law, shown_law, solution_law};
 use pb_gap::{gap_law, one_state_law};
 
 /// A stage that passes is certified, wherever it came from, and its state is converged exactly when its gap is met.
 pub fn sound_law()
     ensures { SoundLaw }
-{
-    gap_law();
-    shown_law();
-}
+{}
 
-/// Each stage of a study passes at the gap and the sweeps of the study.
-pub fn own_law()
-    ensures { OwnLaw }
+/// A stage that is shown passes at a gap and sweeps if its prices, flows and sweeps are the solution of its graph for these.
+pub fn solved_law()
+    ensures { SolvedLaw }
 {
     gap_law();
-    certified_law();
-    solution_law();
     one_state_law();
 }

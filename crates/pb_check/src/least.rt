@@ -2,20 +2,21 @@
 
 ghost use Rattle.std.specs.Prelude.{◌≡◌, IfOk, MatchOption};
 ghost use Rattle.pb_graph.specs.Certificates.{IsCertified};
-ghost use Rattle.pb_graph.specs.WellFormed.{IsWellFormed};
+ghost use Rattle.pb_study.specs.WellFormed.{IsWellFormed};
 ghost use Rattle.pb_gap.specs.GapRange.{IsGapInRange};
 ghost use Rattle.pb_gap.specs.LeastBounds.{stream_least_bounds};
-ghost use Rattle.pb_elim.specs.Printed.{have_least, printed_flows, printed_gap, printed_price};
-ghost use Rattle.pb_elim.specs.Signs.{AreWitnessSigns};
+ghost use Rattle.pb_stage.specs.Printed.{have_least, printed_flows, printed_gap, printed_price};
+ghost use Rattle.pb_stage.specs.Signs.{AreWitnessSigns};
 ghost use Rattle.pb_check.specs.Asked.{AreShown, HaveClasses, HaveLeastBounds};
 ghost use Rattle.pb_check.specs.Faults.{IsLeastFault};
 ghost use Rattle.pb_check.specs.Pairs.{IsPairOf};
 
 use crate::bounds::bounds_difference;
 use crate::faults::Fault;
-use pb_elim::sum_for;
-use pb_gap::{FlowPair, Gap, stream_law};
-use pb_graph::{Bounds, Classified, Stage, StreamResult};
+use pb_gap::{FlowPair, Gap};
+use pb_graph::Classified;
+use pb_stage::sum_for;
+use pb_study::{Bounds, Stage, StreamResult};
 use std::alloc::{AllocError, Global};
 
 /// Whether some stream has least bounds.
@@ -43,8 +44,6 @@ fn found_least(
         ≡ stream_least_bounds (printed_price stage.now) stage.now.graph.streams
         (printed_flows stage.now) (printed_gap stage.now) stream classified.now) }
 {
-    stream_law();
-    let _graph = stage.graph.nodes();
     match sum_for(alloc, stream, classified)? {
         None => Ok(None),
         Some(members) => Ok(Some(pair.least(members.as_slice(), gap))),
@@ -67,15 +66,13 @@ pub fn least_fault(
     ensures { IfOk result
         (λ found. MatchOption found (HaveLeastBounds stage.now) (IsLeastFault stage.now)) }
 {
-    let _nodes = stage.graph.nodes();
-    let streams = stage.streams.as_slice();
-    if !have_least(streams) {
+    if !have_least(stage.streams.as_slice()) {
         return Ok(None);
     }
-    for (j, printed) in streams.iter().enumerate() {
-        let classified = &printed.classified;
-        let found = found_least(alloc, stage, pair, gap, j as u32, classified)?;
-        if let Some(fault) = bounds_difference(j as u32, printed.least, found) {
+    for j in 0..stage.graph.len() {
+        let printed = stage.streams.at(j as usize);
+        let found = found_least(alloc, stage, pair, gap, j, &printed.classified)?;
+        if let Some(fault) = bounds_difference(j, printed.least, found) {
             return Ok(Some(fault));
         }
     }

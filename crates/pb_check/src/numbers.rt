@@ -1,22 +1,22 @@
 // Tests 7 to 10: the numbers that follow from the flows and the prices.
 
 ghost use Rattle.std.specs.Prelude.{◌≡◌, ◌↔◌, ℕ, ◌<◌, length, IfOk, IsTrue, MatchOption};
-ghost use Rattle.pb_graph.specs.WellFormed.{IsWellFormed, sweeps_of};
+ghost use Rattle.pb_study.specs.WellFormed.{IsWellFormed, sweeps_of};
 ghost use Rattle.pb_gap.specs.declared.gap.Gap.{Gap as GapValue};
 ghost use Rattle.pb_gap.specs.Gap.{MeetsGap};
 ghost use Rattle.pb_gap.specs.GapRange.{IsGapInRange};
-ghost use Rattle.pb_elim.specs.Printed.{printed_gap};
+ghost use Rattle.pb_stage.specs.Printed.{printed_gap};
 ghost use Rattle.pb_check.specs.declared.faults.Test.{Test as TestValue};
 ghost use Rattle.pb_check.specs.Asked.{IsGapOfFlows, IsStateAt, IsStateOfGap, IsStatistic};
 ghost use Rattle.pb_check.specs.Faults.{EndsDiffer, GapsDiffer, IsGapFault, IsStateFault, IsStatisticFault, high_or_none};
-ghost use Rattle.pb_check.specs.Verdict.{Passes, code_of};
+ghost use Rattle.pb_check.specs.Verdict.{Passes, test_code};
 ghost use Rattle.pb_check.specs.Among.{IsAmong};
 ghost use Rattle.pb_check.specs.Pairs.{IsPairOf};
 
 use crate::bounds::bounds_fault;
 use crate::faults::{Fault, Test, whole};
 use pb_gap::{FlowPair, Gap};
-use pb_graph::{Solved, Stage};
+use pb_study::{Solved, Stage};
 use std::alloc::{AllocError, Global};
 
 // If two gaps differ, the first number that does: h, and then g.
@@ -162,7 +162,7 @@ pub fn first_of_numbers(
     requires formed { IsWellFormed stage.now }
     requires pair { IsPairOf stage.now pair.now }
     requires room { length deviations.old ≡ length pair.now.graph.streams }
-    requires earlier { (test : TestValue) → code_of test < 7 → Passes stage.now gap sweeps test }
+    requires earlier { (test : TestValue) → test_code test < 7 → Passes stage.now gap sweeps test }
     ensures { IfOk result (IsAmong stage.now gap sweeps 7 10) }
 {
     if let Some(fault) = gap_fault(stage, pair, deviations) {

@@ -3,15 +3,15 @@
 ghost use Rattle.std.specs.Prelude.{◌≡◌, ◌<◌, ℕ, pos, IfOk, MatchOption, if◌then◌else◌};
 ghost use Rattle.std.specs.Ordering.{int_eq};
 ghost use Rattle.pb_graph.specs.ProcessGraph.{IsProcessGraph};
-ghost use Rattle.pb_graph.specs.WellFormed.{IsWellFormed};
-ghost use Rattle.pb_merge.specs.Grouping.{AreGroupsOf};
-ghost use Rattle.pb_elim.specs.Printed.{printed_price};
+ghost use Rattle.pb_study.specs.WellFormed.{IsWellFormed};
+ghost use Rattle.pb_graph.specs.Grouping.{AreGroupsOf};
+ghost use Rattle.pb_stage.specs.Printed.{printed_price};
 ghost use Rattle.pb_check.specs.Asked.{HasGroupPriceAt, AreGroupPrices};
 ghost use Rattle.pb_check.specs.Faults.{IsOtherPrice, IsPriceFault};
 
 use crate::faults::{Fault, Place};
-use pb_graph::Stage;
-use pb_merge::Groups;
+use pb_graph::Groups;
+use pb_study::Stage;
 use std::alloc::{AllocError, Global};
 
 // If the price of a node isn't that of the least node of its group: the price of that least node. If it is, and the group isn't free, but
@@ -38,7 +38,6 @@ fn other_price(stage: &Stage, groups: &Groups, node: u32) -> Option<i128>
 // The fault at the first node whose price isn't that of its group.
 fn first_mispriced(stage: &Stage, groups: &Groups) -> Option<Fault>
     requires formed { IsWellFormed stage.now }
-    requires limits { IsProcessGraph stage.now.graph }
     requires groups { AreGroupsOf stage.now.graph groups.now }
     ensures { MatchOption result (AreGroupPrices stage.now) (IsPriceFault stage.now) }
 {
@@ -61,6 +60,5 @@ pub fn price_fault(alloc: Global, stage: &Stage) -> Result<Option<Fault>, AllocE
         (λ fault. MatchOption fault (AreGroupPrices stage.now) (IsPriceFault stage.now)) }
 {
     let groups = Groups::of(alloc, &stage.graph)?;
-    let _nodes = stage.graph.nodes();
     Ok(first_mispriced(stage, &groups))
 }

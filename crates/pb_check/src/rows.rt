@@ -1,19 +1,19 @@
 // Tests 11 and 12: the nodal tests, and the verdicts.
 
-ghost use Rattle.std.specs.Prelude.{◌≡◌, ◌↔◌, ◌<◌, map, All, IfOk, IfSome, IsTrue, MatchOption};
+ghost use Rattle.std.specs.Prelude.{◌≡◌, ◌↔◌, ◌<◌, map, All, IfNone, IfOk, IfSome, IsTrue, MatchOption};
 ghost use Rattle.pb_limits.specs.Ranges.{IsCriticalValue};
-ghost use Rattle.pb_graph.specs.WellFormed.{AreTestsWithin, IsWellFormed};
-ghost use Rattle.pb_tests.specs.Laws.{IsNodalNumber};
-ghost use Rattle.pb_elim.specs.Certified.{IsMeasureVerdict, IsNodalVerdict, unjudged};
+ghost use Rattle.pb_study.specs.WellFormed.{AreTestsWithin, IsWellFormed};
+ghost use Rattle.pb_stage.specs.Laws.{IsNodalNumber};
+ghost use Rattle.pb_stage.specs.Certified.{IsMeasureVerdict, IsNodalVerdict, unjudged};
 ghost use Rattle.pb_check.specs.declared.faults.Test.{Test as TestValue};
 ghost use Rattle.pb_check.specs.Asked.{AreNodalRows, AreVerdicts, IsGlobalVerdict};
 ghost use Rattle.pb_check.specs.Faults.{AreVerdictsFault, IsFirstMeasure, IsFirstNodal, IsNodalRowsFault, IsRowDifference, IsRowsFault};
-ghost use Rattle.pb_check.specs.Verdict.{Passes, code_of};
+ghost use Rattle.pb_check.specs.Verdict.{Passes, test_code};
 ghost use Rattle.pb_check.specs.Among.{IsAmong};
 
 use crate::faults::{Fault, Test, at_node, at_stream, whole};
-use pb_graph::{MeasureTest, NodalTest, Stage, Tests};
-use pb_tests::{global, nodal_range_law, nodal_tests, nodal_verdict, verdict};
+use pb_stage::{global, nodal_tests, nodal_verdict, verdict};
+use pb_study::{MeasureTest, NodalTest, Stage, Tests};
 use std::alloc::{AllocError, Global};
 
 // If a row isn't the test of its group, the first number that differs: the node, the net flow, and then the variance.
@@ -52,8 +52,9 @@ fn rows_fault(rows: &[NodalTest], rule: &[NodalTest]) -> Option<Fault>
 
 // Test 11: except for critical values and verdicts, the nodal rows are the tests of the graph.
 fn nodal_fault(alloc: Global, stage: &Stage, tests: &Tests) -> Result<Option<Fault>, AllocError>
-    ensures { IfOk result (λ found. MatchOption found (AreNodalRows stage.now tests.now)
+    ensures rows { IfOk result (λ found. MatchOption found (AreNodalRows stage.now tests.now)
         (IsNodalRowsFault stage.now tests.now)) }
+    ensures numbers { IfOk result (λ found. IfNone found (All IsNodalNumber tests.now.nodal)) }
 {
     let rule = nodal_tests(alloc, &stage.graph, None)?;
     Ok(rows_fault(tests.nodal.as_slice(), rule.as_slice()))
@@ -112,12 +113,10 @@ fn measure_verdict_fault(rows: &[MeasureTest]) -> Option<Fault>
 // Test 12: each verdict follows from the printed numbers: that of the whole, of the nodes, and of the measurements, in this order.
 fn verdict_fault(stage: &Stage, tests: &Tests) -> Option<Fault>
     requires formed { AreTestsWithin stage.now.graph tests.now }
-    requires nodal { AreNodalRows stage.now tests.now }
+    requires numbers { All IsNodalNumber tests.now.nodal }
     ensures { MatchOption result (AreVerdicts stage.now tests.now)
         (AreVerdictsFault stage.now tests.now) }
 {
-    nodal_range_law();
-    let _nodes = stage.graph.nodes();
     if !is_global_verdict(stage, tests) {
         return Some(whole(0, 0));
     }
@@ -135,7 +134,7 @@ pub fn first_of_tests(
     sweeps: u32,
 ) -> Result<Option<(Test, Fault)>, AllocError>
     requires formed { IsWellFormed stage.now }
-    requires earlier { (test : TestValue) → code_of test < 11 → Passes stage.now gap sweeps test }
+    requires earlier { (test : TestValue) → test_code test < 11 → Passes stage.now gap sweeps test }
     ensures { IfOk result (IsAmong stage.now gap sweeps 11 12) }
 {
     let Some(tests) = &stage.tests else {

@@ -5,10 +5,10 @@ use Rattle.pb_form.specs.Words.{class_words, shape_words, stop_words, verdict_wo
 use Rattle.pb_form.specs.Writing.{IsFirst}
 use Rattle.pb_graph.specs.declared.records.Class.{Class}
 use Rattle.pb_graph.specs.declared.records.Class.TheVariants.{Observable, Unobservable, Redundant, Nonredundant}
-use Rattle.pb_graph.specs.declared.results.Stop.{Stop}
-use Rattle.pb_graph.specs.declared.results.Stop.TheVariants as stop
-use Rattle.pb_graph.specs.declared.results.Verdict.{Verdict}
-use Rattle.pb_graph.specs.declared.results.Verdict.TheVariants as verdict
+use Rattle.pb_study.specs.declared.results.Stop.{Stop}
+use Rattle.pb_study.specs.declared.results.Stop.TheVariants as stop
+use Rattle.pb_study.specs.declared.results.Verdict.{Verdict}
+use Rattle.pb_study.specs.declared.results.Verdict.TheVariants as verdict
 use Rattle.pb_choices.specs.declared.places.Shape.{Shape}
 use Rattle.pb_choices.specs.declared.places.Shape.TheVariants.{Cut, Cycle}
 use Rattle.pb_choices.specs.Places.{IsWordTable, class_place, placed_class, placed_shape, placed_stop, placed_truth, placed_verdict, shape_place, stop_place, truth_place, verdict_place}

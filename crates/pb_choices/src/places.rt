@@ -4,7 +4,8 @@ ghost use Rattle.std.specs.Prelude.{◌≡◌};
 ghost use Rattle.pb_form.specs.Words.{class_words, measured_words, period_words, shape_words, state_words, stop_words, verdict_words};
 ghost use Rattle.pb_choices.specs.Places.{IsWordTable, class_place, gap_met, placed_class, placed_shape, placed_stop, placed_truth, placed_verdict, shape_place, stop_place, truth_place, verdict_place, witness_shape};
 
-use pb_graph::{Class, Solved, Stop, Verdict, Witness};
+use pb_graph::{Class, Witness};
+use pb_study::{Solved, Stop, Verdict};
 
 static CLASSES: [Class; 4] = [
     Class::Observable,

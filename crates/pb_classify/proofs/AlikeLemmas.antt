@@ -20,7 +20,7 @@ use Rattle.pb_graph.specs.Path.{IsPath, is_open}
 use Rattle.pb_graph.specs.Certificates.{CutsOff, GoesRound, Shows, IsCertified}
 use Rattle.pb_graph.specs.Alike.{StreamShape, shape_of, shapes_of, AreAlike}
 use Rattle.pb_graph.proofs.WalkLemmas.{some_same}
-use Rattle.pb_balance.proofs.BalanceLaws.{certificate_shows}
+use Rattle.pb_graph.proofs.BalanceLaws.{certificate_shows}
 use Rattle.pb_forest.specs.Forest.{IsForest, IsHeld, IsTied, is_before}
 use Rattle.pb_classify.specs.Certificate.{IsCutOf, IsCycleOf, IsFirstCycle, IsUnmeasured, IsCanonical}
 use Rattle.pb_classify.specs.Classification.{IsClassified, IsClassification}

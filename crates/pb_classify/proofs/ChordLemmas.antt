@@ -9,14 +9,12 @@ use Rattle.pb_graph.specs.Walk.{ends_of, unmeasured_but, Walks, Reaches}
 use Rattle.pb_graph.specs.Path.{is_open}
 use Rattle.pb_graph.specs.Certificates.{GoesRound}
 use Rattle.pb_graph.proofs.WalkLemmas.{some_same, ends_is, stream_of, reach_one, reach_both, reach_back}
-use Rattle.pb_balance.proofs.BalanceLaws.{no_meas}
+use Rattle.pb_graph.proofs.BalanceLaws.{no_meas}
 use Rattle.pb_forest.specs.Forest.{IsForest}
 use Rattle.pb_forest.specs.Laws.{except}
-use Rattle.pb_forest.proofs.ForestLaws.{along_reach}
-use Rattle.pb_forest.proofs.ForestLaws.{acyclic_law}
+use Rattle.pb_forest.proofs.ForestLaws.{along_reach, acyclic_law, walk_without}
 use Rattle.pb_classify.specs.Certificate.{IsCycleOf, IsFirstCycle, IsUnmeasured, has_stream}
 use Rattle.pb_classify.specs.Chords.{IsChord, IsCycleWithout, IsFirstBefore, after_cycle}
-use Rattle.pb_forest.proofs.ForestLaws.{walk_without}
 use Rattle.pb_classify.proofs.RoundLemmas.{round_of, cycle_round, chord_joined}
 use Rattle.pb_classify.proofs.UniqueLemmas.{one_cycle}
 

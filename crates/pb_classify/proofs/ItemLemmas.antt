@@ -15,8 +15,7 @@ use Rattle.pb_graph.specs.Walk.{ends_of, unmeasured_but, is_in, Reaches, IsReach
 use Rattle.pb_graph.specs.Boundary.{boundary_of}
 use Rattle.pb_graph.specs.Certificates.{CutsOff, Shows, IsCertified}
 use Rattle.pb_graph.proofs.WalkLemmas.{some_same}
-use Rattle.pb_balance.proofs.BalanceLaws.{certificate_shows}
-use Rattle.pb_balance.proofs.BalanceLaws.{no_meas, side_cuts_off}
+use Rattle.pb_graph.proofs.BalanceLaws.{certificate_shows, no_meas, side_cuts_off}
 use Rattle.pb_forest.specs.Forest.{IsForest}
 use Rattle.pb_classify.specs.Certificate.{IsCutOf, IsCycleOf, IsFirstCycle, IsCanonical}
 use Rattle.pb_classify.specs.Classification.{IsClassified}

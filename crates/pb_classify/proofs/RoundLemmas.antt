@@ -11,15 +11,12 @@ use Rattle.pb_graph.specs.Cycle.{is_distinct, begin_of}
 use Rattle.pb_graph.specs.Path.{IsPath, is_open}
 use Rattle.pb_graph.specs.Certificates.{GoesRound}
 use Rattle.pb_graph.proofs.WalkLemmas.{ends_is, IsWithin, walk_more, reach_more, reach_back}
-use Rattle.pb_balance.proofs.BalanceLaws.{others_walk}
+use Rattle.pb_graph.proofs.BalanceLaws.{others_walk}
 use Rattle.pb_forest.specs.Forest.{is_before, IsForest}
 use Rattle.pb_forest.specs.Laws.{held_unmeasured}
-use Rattle.pb_forest.proofs.ForestLaws.{spans_law, chord_law}
-use Rattle.pb_forest.proofs.ForestLaws.{acyclic_law}
-use Rattle.pb_forest.proofs.ForestLaws.{part_law}
+use Rattle.pb_forest.proofs.ForestLaws.{spans_law, chord_law, acyclic_law, part_law, begin_is, streams_once}
 use Rattle.pb_classify.specs.Certificate.{IsCycleOf, has_stream}
 use Rattle.pb_classify.specs.Chords.{IsChord}
-use Rattle.pb_forest.proofs.ForestLaws.{begin_is, streams_once}
 
 abbrev pub round_of : ℕ → List Step → List Step
 round_of j back = record { stream = j; forward = true } ∷ back

@@ -14,8 +14,7 @@ use Rattle.pb_graph.specs.Boundary.{boundary_of}
 use Rattle.pb_graph.proofs.WalkLemmas.{some_same}
 use Rattle.pb_forest.specs.Forest.{IsForest}
 use Rattle.pb_graph.proofs.ReachLemmas.{some_reach}
-use Rattle.pb_forest.proofs.ForestLaws.{some_forest_law}
-use Rattle.pb_forest.proofs.ForestLaws.{some_path_law}
+use Rattle.pb_forest.proofs.ForestLaws.{some_forest_law, some_path_law}
 use Rattle.pb_classify.specs.Certificate.{IsCycleOf}
 use Rattle.pb_classify.specs.Classification.{IsClassified}
 use Rattle.pb_classify.specs.Chords.{IsChord, IsFirstBefore, after_cycle}

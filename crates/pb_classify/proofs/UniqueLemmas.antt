@@ -15,10 +15,9 @@ use Rattle.pb_graph.specs.Boundary.{boundary_of}
 use Rattle.pb_graph.specs.Path.{IsPath, is_open}
 use Rattle.pb_graph.proofs.WalkLemmas.{some_same}
 use Rattle.pb_graph.proofs.ReachLemmas.{one_reach}
-use Rattle.pb_balance.proofs.BalanceLaws.{one_class}
+use Rattle.pb_graph.proofs.BalanceLaws.{one_class}
 use Rattle.pb_forest.specs.Forest.{IsForest}
-use Rattle.pb_forest.proofs.ForestLaws.{unique_law}
-use Rattle.pb_forest.proofs.ForestLaws.{acyclic_law, one_forest_law}
+use Rattle.pb_forest.proofs.ForestLaws.{unique_law, acyclic_law, one_forest_law}
 use Rattle.pb_classify.specs.Certificate.{IsCutOf, IsCycleOf, IsFirstCycle, IsCanonical}
 use Rattle.pb_classify.specs.Classification.{IsClassified, IsClassification}
 

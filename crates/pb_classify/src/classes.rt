@@ -5,18 +5,19 @@ ghost use Rattle.pb_graph.specs.ProcessGraph.{IsProcessGraph, is_measured};
 ghost use Rattle.pb_graph.specs.Walk.{ends_of, unmeasured_but, Reaches};
 ghost use Rattle.pb_graph.specs.Boundary.{boundary_of};
 ghost use Rattle.pb_forest.specs.Forest.{IsForestOf};
-ghost use Rattle.pb_points.specs.Points.{ArePoints, IsSideOf};
-ghost use Rattle.pb_points.specs.Tables.{points_of};
-ghost use Rattle.pb_points.specs.Cuts.{AreCuts};
+ghost use Rattle.pb_classify.specs.Points.{ArePoints, IsSideOf};
+ghost use Rattle.pb_classify.specs.Tables.{points_of};
+ghost use Rattle.pb_classify.specs.Cuts.{AreCuts};
 ghost use Rattle.pb_classify.specs.Chords.{IsFirstBefore, AreFirstBefore};
 ghost use Rattle.pb_classify.specs.Classification.{IsClassified, IsClassification};
 
+use crate::cuts::Cuts;
 use crate::cycles::{cycle_of, first_cycles};
+use crate::points::Points;
 use pb_forest::Forest;
 use pb_graph::{
     Class, Classified, Graph, List, Member, Neighbours, Step, Stream, Witness, boundary,
 };
-use pb_points::{Cuts, Points};
 use std::alloc::{AllocError, Global};
 
 // Stream j, whose ends are joined by other unmeasured streams, with its cycle: a measured stream has a cycle of its own, and an
@@ -44,14 +45,12 @@ fn free_stream(
             witness: Witness::Cycle { steps },
         });
     }
-    match first {
-        // its ends are joined, so the cycle of some chord has it
-        None => unreachable!(),
-        Some(steps) => Ok(Classified {
-            class: Class::Unobservable,
-            witness: Witness::Cycle { steps },
-        }),
-    }
+    // its ends are joined, so the cycle of some chord has it
+    let steps = first.unwrap();
+    Ok(Classified {
+        class: Class::Unobservable,
+        witness: Witness::Cycle { steps },
+    })
 }
 
 // The class of a stream that the other measured flows determine.

@@ -39,11 +39,9 @@ pub fn cycle_of(
     ensures { IfOk result (λ steps. IsCycleOf graph.now forest.now.held j steps) }
 {
     let stream = graph.stream(j);
-    match forest.path(alloc, stream.to, stream.from)? {
-        // held streams join its ends
-        None => unreachable!(),
-        Some(back) => forward_then(alloc, j, back.as_slice()),
-    }
+    // held streams join its ends
+    let back = forest.path(alloc, stream.to, stream.from)?.unwrap();
+    forward_then(alloc, j, back.as_slice())
 }
 
 // Gives a cycle to each stream on it that has none yet.

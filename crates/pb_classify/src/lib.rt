@@ -4,8 +4,14 @@
 #![tactic(auto)]
 
 mod classes;
+mod cuts;
 mod cycles;
 mod laws;
+mod points;
+mod spans;
+mod walk;
 
 pub use classes::{classify, classify_in};
-pub use laws::{alike_law, one_classification_law, some_classification_law};
+pub use cuts::Cuts;
+pub use laws::{alike_law, one_classification_law, points_law, some_classification_law};
+pub use points::Points;

@@ -12,7 +12,7 @@ use Rattle.pb_rows.specs.RecordsLeft.{RecordsLeft}
 use Rattle.pb_audit.specs.declared.judge.Judged.{Judged}
 use Rattle.pb_audit.specs.declared.judge.Judged.TheVariants.{Passed, Failed, Unreadable}
 use Rattle.pb_audit.specs.Judgement.{AreFindings, Finding, Finds, FindsNothing, IsCertifiedFinding, IsJudgement, IsJudgementPart, IsJudgementText, failed, finding_row, finds_wrong, is_wrong, passed, text_of_findings, unreadable}
-use Rattle.pb_audit.specs.Next.{AppendsFinding, GoesOn, IsNextFinding, Tells, judged_of}
+use Rattle.pb_audit.specs.Next.{AppendsFinding, FindsNext, GoesOn, IsNextFinding, judged_of}
 use Rattle.pb_audit.specs.Laws.{CertifiedFindingsLaw, FewerLaw, NothingLaw, SomeFindingsLaw}
 use Rattle.pb_cli.specs.Judging.{TellsFinding}
 use Rattle.pb_cli.specs.Prefix.{IsBeginningOf}
@@ -217,7 +217,7 @@ cut_row old new judged before after bytes sink_old sink_new appends empty is (n,
     same : bytes ≡ appends.text
     same = is ∙ appends.appended ∙ ap (λ (b : List ℕ). b ++ appends.text) empty
 
-    by : (kind : Option Judged) → Tells old new kind appends.text → PutsSuch (IsBeginningOf (TellsFinding old)) sink_old sink_new
+    by : (kind : Option Judged) → FindsNext old new kind appends.text → PutsSuch (IsBeginningOf (TellsFinding old)) sink_old sink_new
     by None (nothing, none) = absurd (omega (arith, within, ap (λ (l : List ℕ). length l) (same ∙ none)))
     by (Some kind) next = (
       take n appends.text,

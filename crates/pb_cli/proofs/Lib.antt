@@ -3,4 +3,7 @@ mod TextLemmas
 mod CommandLemmas
 mod FindingLemmas
 mod OwnLemmas
+mod OwnStageLemmas
 mod ProgramLemmas
+mod StateLemmas
+mod SumLemmas

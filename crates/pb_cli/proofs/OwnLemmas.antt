@@ -13,30 +13,30 @@ use Rattle.pb_rows.specs.Records.{records_of}
 use Rattle.pb_rows.specs.Written.{begins_with_word}
 use Rattle.pb_window.specs.Codes.{window_names}
 use Rattle.pb_window.specs.Places.{window_places}
-use Rattle.pb_graph.specs.declared.results.Options.{Options}
-use Rattle.pb_graph.specs.declared.results.Bounds.{Bounds}
-use Rattle.pb_graph.specs.declared.results.StreamResult.{StreamResult}
-use Rattle.pb_graph.specs.declared.results.Stage.{Stage}
-use Rattle.pb_graph.specs.declared.results.Study.{Study}
+use Rattle.pb_study.specs.declared.results.Options.{Options}
+use Rattle.pb_study.specs.declared.results.Bounds.{Bounds}
+use Rattle.pb_study.specs.declared.results.StreamResult.{StreamResult}
+use Rattle.pb_study.specs.declared.results.Stage.{Stage}
+use Rattle.pb_study.specs.declared.results.Study.{Study}
 use Rattle.pb_graph.specs.ProcessGraph.{IsProcessGraph, ProcessGraph}
-use Rattle.pb_elim.specs.Certified.{HasLeastThroughout, IsCertifiedStage}
-use Rattle.pb_elim.specs.Criticals.{AreCritical}
+use Rattle.pb_stage.specs.Certified.{HasLeastThroughout, IsCertifiedStage}
+use Rattle.pb_study.specs.Criticals.{AreCritical}
 use Rattle.pb_elim.specs.Laws.{FormedLaw}
-use Rattle.pb_elim.specs.Options.{AreOptions}
-use Rattle.pb_check.specs.Laws.{OwnLaw}
+use Rattle.pb_study.specs.Options.{AreOptions}
 use Rattle.pb_check.specs.Verdict.{IsPassed}
 use Rattle.pb_book.specs.declared.answer.Accepted.{Accepted}
-use Rattle.pb_book.specs.declared.answer.Accepted.TheVariants.{Blank, Stored as StoredAccepted, Design, Report, History, Advise, Component, Window}
+use Rattle.pb_book.specs.declared.answer.Accepted.TheVariants.{Blank, Design, Report, History, Advise, Component, Window}
 use Rattle.pb_kinds.specs.Costs.{named_costs}
-use Rattle.pb_book.specs.declared.rows.Period.{Period}
+use Rattle.pb_periods.specs.declared.period.Period.{Period}
 use Rattle.pb_book.specs.Accepted.{AreAccepted}
-use Rattle.pb_book.specs.Answer.{Answer, Refused, Says, Stored, answer_of, code_of}
+use Rattle.pb_book.specs.Answer.{Answer, Refuses, Says, Stores, answer_of, cause_code}
 use Rattle.pb_book.specs.Edits.{history_of}
 use Rattle.pb_book.specs.Laws.{AcceptedLaw, AskedWindowLaw}
-use Rattle.pb_book.specs.Named.{AreNamed, HaveNames, NamedLaw}
+use Rattle.pb_book.specs.Named.{AreNamed, HaveWellFormedNames, NamedLaw}
 use Rattle.pb_book.specs.declared.rows.StoredRow.{StoredRow}
 use Rattle.pb_book.specs.Rows.{declared_of, periods_of}
-use Rattle.pb_book.specs.Windows.{BookWindowsLaw, IsWindowAsked, names_of_periods, periods_between, window_between}
+use Rattle.pb_book.specs.Windows.{BookWindowsLaw, IsWindowAsked, window_between}
+use Rattle.pb_periods.specs.Windows.{names_of_periods, periods_between}
 use Rattle.pb_period.specs.declared.days.Days.{Days}
 use Rattle.pb_period.specs.Days.{days_of}
 use Rattle.pb_period.specs.declared.graph.Assembly.{Assembly}
@@ -60,10 +60,11 @@ use Rattle.pb_report.specs.Over.{over_row}
 use Rattle.pb_report.specs.Refusal.{refused_row}
 use Rattle.pb_site.specs.Site.{names_of, version_of}
 use Rattle.pb_session.specs.History.{told, told_history, told_period}
-use Rattle.pb_session.specs.Session.{Adds, AddsAccepted, AddsBy, AreNamesOf, Balances, BalancesBy, IsReport, IsReportAfter, IsSessionText, IsTextOf, Reports, ReportsBy, SessionState, Tells, Windows, WindowsBy, assembly_between, state_after, window_head}
+use Rattle.pb_session.specs.Session.{Adds, AddsAccepted, AddsBy, AreNamesOf, Balances, BalancesBy, IsHistoryText, IsReport, IsReportAfter, IsSessionText, IsTextOf, Reports, ReportsBy, SessionState, Windows, WindowsBy, assembly_between, state_after, window_head}
 use Rattle.pb_audit.specs.Judgement.{AreFindings, Finding, IsJudgement, IsPassedBlock, finds_wrong, passed}
 use Rattle.pb_audit.specs.Laws.{OneFindingsLaw, PassedLaw}
 use Rattle.pb_cli.proofs.ServedLemmas.{days_named}
+use Rattle.pb_cli.specs.Laws.{OwnLaw}
 
 -- A text consists of rows that read back as blocks, each of which passes.
 pub record ReadsBack (text : List ℕ) : Type 0 where
@@ -105,7 +106,7 @@ pub record IsSound (state : SessionState) : Type 0 where
   pub form : state.form ≡ Csv
   pub options : AreOptions state.options
   pub accepted : AreAccepted state.rows
-  pub named : HaveNames state.rows
+  pub named : HaveWellFormedNames state.rows
 
 sound_after : AcceptedLaw → NamedLaw → (state : SessionState) (at : ℕ) (fields : List (List ℕ)) → IsSound state → IsSound (state_after state at fields)
 sound_after accepted named state at fields sound = record {
@@ -300,7 +301,7 @@ windows_read known windows law state i k text sound asked adds = by (assembly_be
 record_read : AreKnown → AreKnownWindows → NamedLaw → (state : SessionState) (at : ℕ) (fields : List (List ℕ)) (text : List ℕ) → IsSound state → Adds state at fields text → ReadsBack text
 record_read known windows law state at fields text sound adds = by (answer_of state.rows fields) refl adds
   where
-    tells : (found : Option Period) → Tells state found text → ReadsBack text
+    tells : (found : Option Period) → IsHistoryText state found text → ReadsBack text
     tells None is = absurd is
     tells (Some period) is =
         let edits = filter_map told (history_of state.rows period) in
@@ -312,7 +313,7 @@ record_read known windows law state at fields text sound adds = by (answer_of st
 
     said : (accepted : Accepted) → answer_of state.rows fields ≡ Says accepted → AddsAccepted state (named_costs fields) accepted text → ReadsBack text
     said Blank asks is = nothing is
-    said StoredAccepted asks is = nothing is
+    said Accepted.Stored asks is = nothing is
     said Design asks design =
         let names = names_of (declared_of state.rows) in
         let graph = design_graph state.rows in
@@ -328,10 +329,10 @@ record_read known windows law state at fields text sound adds = by (answer_of st
         passed_over rows text (in_csv state rows text sound.form advised.rows) (known.words.advices names advised.advice) (known.others.advices names advised.advice)
 
     by : (answer : Answer) → answer_of state.rows fields ≡ answer → AddsBy state at (named_costs fields) answer text → ReadsBack text
-    by (Refused cause) asks is =
-        let rows : List OutputRow = refused_row at (code_of cause) ∷ [] in
-        passed_over rows text (in_csv state rows text sound.form is) (known.words.refused at (code_of cause)) (known.others.refused at (code_of cause))
-    by (Stored effect) asks is = nothing is
+    by (Refuses cause) asks is =
+        let rows : List OutputRow = refused_row at (cause_code cause) ∷ [] in
+        passed_over rows text (in_csv state rows text sound.form is) (known.words.refused at (cause_code cause)) (known.others.refused at (cause_code cause))
+    by (Stores effect) asks is = nothing is
     by (Says accepted) asks is = said accepted asks is
 
 pub session_read : AreKnown → AreKnownWindows → NamedLaw → AcceptedLaw → (state : SessionState) (at : ℕ) (records : List (List (List ℕ))) (text : List ℕ) → IsSound state → IsSessionText state at records text → ReadsBack text

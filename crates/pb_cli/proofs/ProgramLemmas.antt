@@ -13,11 +13,11 @@ use Rattle.pb_words.specs.declared.command.WordsRefused.{WordsRefused}
 use Rattle.pb_words.specs.declared.command.WordsRefused.TheVariants as refused
 use Rattle.pb_cli.specs.declared.status.Status.{Status}
 use Rattle.pb_cli.specs.declared.status.Status.TheVariants.{Done, DoneRefused, Usage, ReadFault, WriteFault, TooLarge, NoMemory}
-use Rattle.pb_cli.specs.Status.{name_of, number_of, status_of}
+use Rattle.pb_cli.specs.Status.{status_name, status_number, status_of}
 use Rattle.pb_cli.specs.Program.{PutsUnlessFault, Runs, RunsGiven, error_line, line_feed}
 
 -- the line of a status that isn't a success
-pub line_of_name : (status : Status) → 2 ≤ number_of status → error_line status ≡ name_of status ++ line_feed ∷ []
+pub line_of_name : (status : Status) → 2 ≤ status_number status → error_line status ≡ status_name status ++ line_feed ∷ []
 line_of_name Done le = absurd (omega arith)
 line_of_name DoneRefused le = absurd (omega arith)
 line_of_name Usage le = refl
@@ -27,7 +27,7 @@ line_of_name TooLarge le = refl
 line_of_name NoMemory le = refl
 
 -- and a success has no line
-pub no_line : (status : Status) → number_of status < 2 → error_line status ≡ []
+pub no_line : (status : Status) → status_number status < 2 → error_line status ≡ []
 no_line Done lt = refl
 no_line DoneRefused lt = refl
 no_line Usage lt = absurd (omega arith)

@@ -1,6 +1,7 @@
 -- Statement
 pub mod Status
 pub mod Prefix
+pub mod Summary
 pub mod Run
 pub mod Program
 pub mod Laws

@@ -10,8 +10,8 @@ use Rattle.pb_words.specs.declared.command.WordsRefused.{WordsRefused}
 use Rattle.pb_words.specs.Command.{IsCommandOf}
 use Rattle.pb_cli.specs.declared.status.Status.{Status}
 use Rattle.pb_cli.specs.declared.status.Status.TheVariants.{Done, DoneRefused, Usage, ReadFault, WriteFault, TooLarge, NoMemory}
-use Rattle.pb_cli.specs.Status.{name_of, status_of}
-use Rattle.pb_cli.specs.Run.{AreAccepted, AskToMake, Does, EndsAs, IsCut, IsFront, IsGiven, IsWhole}
+use Rattle.pb_cli.specs.Status.{status_name, status_of}
+use Rattle.pb_cli.specs.Run.{AskToMake, Does, EndsAs, GiveCommand, IsCutShort, IsFront, IsGiven, IsWhole}
 
 -- the byte that ends a line
 abbrev pub line_feed : ℕ
@@ -21,7 +21,7 @@ line_feed = 10
 abbrev pub error_line : Status → List ℕ
 error_line Done = []
 error_line DoneRefused = []
-error_line status = name_of status ++ line_feed ∷ []
+error_line status = status_name status ++ line_feed ∷ []
 
 -- All of these bytes were put, unless a fault was counted. In either case, what was put is a beginning of these bytes, and nothing
 -- else.
@@ -40,10 +40,10 @@ pub record Runs {R W : Type 0} (seen_read : R → SourceSeen) (seen_written : W 
   pub done_refused : status ≡ DoneRefused → Does (IsWhole true) words (seen_read source_old) (seen_read source_new) (seen_written sink_old) (seen_written sink_new)
   -- Usage is the status only if the words aren't accepted. If they aren't, the only other possible status is NoMemory, and nothing
   -- is read or written.
-  pub usage : status ≡ Usage → AreAccepted words → ⊥
-  pub unaccepted : (AreAccepted words → ⊥) → (status ≡ Usage) ⊎ (status ≡ NoMemory)
-  pub unread : (AreAccepted words → ⊥) → source_new ≡ source_old
-  pub unwritten : (AreAccepted words → ⊥) → sink_new ≡ sink_old
+  pub usage : status ≡ Usage → GiveCommand words → ⊥
+  pub unaccepted : (GiveCommand words → ⊥) → (status ≡ Usage) ⊎ (status ≡ NoMemory)
+  pub unread : (GiveCommand words → ⊥) → source_new ≡ source_old
+  pub unwritten : (GiveCommand words → ⊥) → sink_new ≡ sink_old
   -- ReadFault is the status iff the source counted a fault. Then nothing is written.
   pub read_fault : status ≡ ReadFault → Rose (seen_read source_old).faults (seen_read source_new).faults
   pub no_read_fault : status ≢ ReadFault → (seen_read source_new).faults ≡ (seen_read source_old).faults
@@ -51,7 +51,7 @@ pub record Runs {R W : Type 0} (seen_read : R → SourceSeen) (seen_written : W 
   -- WriteFault is the status iff the sink counted a fault. What was written is a proper beginning of the output.
   pub write_fault : status ≡ WriteFault → Rose (seen_written sink_old).faults (seen_written sink_new).faults
   pub no_write_fault : status ≢ WriteFault → (seen_written sink_new).faults ≡ (seen_written sink_old).faults
-  pub write_fault_cut : status ≡ WriteFault → Does IsCut words (seen_read source_old) (seen_read source_new) (seen_written sink_old) (seen_written sink_new)
+  pub write_fault_cut : status ≡ WriteFault → Does IsCutShort words (seen_read source_old) (seen_read source_new) (seen_written sink_old) (seen_written sink_new)
   -- TooLarge is the status iff one byte more than the limit was taken. Then nothing is written.
   pub too_large : status ≡ TooLarge → TakesExactly (seen_read source_old) (seen_read source_new) (most_bytes + 1)
   pub too_large_unwritten : status ≡ TooLarge → sink_new ≡ sink_old

@@ -6,11 +6,10 @@ use Rattle.pb_io.specs.Source.{SourceSeen, TakesInTurns}
 use Rattle.pb_io.specs.Sink.{SinkSeen, PutsSuch}
 use Rattle.pb_limits.specs.Limits.{most_bytes}
 use Rattle.pb_rows.specs.Records.{records_of}
-use Rattle.pb_graph.specs.declared.results.Options.{Options}
+use Rattle.pb_study.specs.declared.results.Options.{Options}
 use Rattle.pb_report.specs.declared.form.Form.{Form}
 use Rattle.pb_session.specs.Session.{IsSessionText, new_session, refuses_some}
 use Rattle.pb_make.specs.Rows.{session_text}
-use Rattle.pb_summary.specs.Summary.{IsSummaryText}
 use Rattle.pb_words.specs.declared.command.Command.{Command}
 use Rattle.pb_words.specs.declared.command.Command.TheVariants.{Run, Check, Make}
 use Rattle.pb_words.specs.Command.{IsCommandOf}
@@ -19,10 +18,11 @@ use Rattle.pb_cli.specs.declared.status.Status.{Status}
 use Rattle.pb_cli.specs.declared.status.Status.TheVariants.{Done}
 use Rattle.pb_cli.specs.Status.{done_status}
 use Rattle.pb_cli.specs.Prefix.{AreTextsOfSome, AreTextsCutShort, IsBeginningOf}
+use Rattle.pb_cli.specs.Summary.{IsSummaryText}
 
 -- the words are accepted: they give a command
-abbrev pub AreAccepted : List (List ℕ) → Type 0
-AreAccepted words = (command : Command) × IsCommandOf words command
+abbrev pub GiveCommand : List (List ℕ) → Type 0
+GiveCommand words = (command : Command) × IsCommandOf words command
 
 -- The text of a run with these options in this form: the texts of the records of the input, in order, from a session that has
 -- stored nothing. Each report in it is the report of the rows before it, and each stage of the report is certified, has least
@@ -70,10 +70,10 @@ IsWhole wrong Check input output = IsCheck wrong input output
 IsWhole wrong (Make number streams summary gap sweeps) input output = (wrong ≡ false) × IsMade number streams summary gap sweeps output
 
 -- a proper beginning of the output; for a run, the texts of the first records and a proper beginning of the next one's
-abbrev pub IsCut : Command → List ℕ → List ℕ → Type 0
-IsCut (Run options form) input bytes = AreTextsCutShort (new_session options form) (records_of input) bytes
-IsCut Check input bytes = IsBeginningOf (IsTextOfCheck input) bytes
-IsCut (Make number streams summary gap sweeps) input bytes = IsBeginningOf (IsMade number streams summary gap sweeps) bytes
+abbrev pub IsCutShort : Command → List ℕ → List ℕ → Type 0
+IsCutShort (Run options form) input bytes = AreTextsCutShort (new_session options form) (records_of input) bytes
+IsCutShort Check input bytes = IsBeginningOf (IsTextOfCheck input) bytes
+IsCutShort (Make number streams summary gap sweeps) input bytes = IsBeginningOf (IsMade number streams summary gap sweeps) bytes
 
 -- the texts of the first records of a run, or the first rows of a check, whole
 abbrev pub IsFront : Command → List ℕ → List ℕ → Type 0
@@ -104,7 +104,7 @@ pub record Does (Wrote : Command → List ℕ → List ℕ → Type 0) (words : 
   pub put : PutsSuch (Wrote command input) sink_old sink_new
 
 -- The source shows an input within the limit, and counted no fault.
-pub record IsTold (source_old source_new : SourceSeen) (input : List ℕ) : Type 0 where
+pub record ShowsInput (source_old source_new : SourceSeen) (input : List ℕ) : Type 0 where
   pub remaining : source_old.remaining ≡ Some input
   pub within : length input ≤ most_bytes
   pub no_fault : Rose source_old.faults source_new.faults → ⊥
@@ -112,7 +112,7 @@ pub record IsTold (source_old source_new : SourceSeen) (input : List ℕ) : Type
 -- nothing is required of the source, or that it shows this input
 abbrev pub IsGivenIf : Bool → SourceSeen → SourceSeen → List ℕ → Type 0
 IsGivenIf true source_old source_new input = input ≡ []
-IsGivenIf false source_old source_new input = IsTold source_old source_new input
+IsGivenIf false source_old source_new input = ShowsInput source_old source_new input
 
 -- what a command needs from its source to end normally: the making of a session needs nothing
 abbrev pub IsGiven : Command → SourceSeen → SourceSeen → List ℕ → Type 0

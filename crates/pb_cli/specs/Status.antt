@@ -6,24 +6,24 @@ use Rattle.pb_cli.specs.declared.status.Status.{Status}
 use Rattle.pb_cli.specs.declared.status.Status.TheVariants.{Done, DoneRefused, Usage, ReadFault, WriteFault, TooLarge, NoMemory}
 
 -- the exit status of the program
-abbrev pub number_of : Status → ℕ
-number_of Done = 0
-number_of DoneRefused = 1
-number_of Usage = 2
-number_of ReadFault = 3
-number_of WriteFault = 4
-number_of TooLarge = 5
-number_of NoMemory = 6
+abbrev pub status_number : Status → ℕ
+status_number Done = 0
+status_number DoneRefused = 1
+status_number Usage = 2
+status_number ReadFault = 3
+status_number WriteFault = 4
+status_number TooLarge = 5
+status_number NoMemory = 6
 
 -- its name, which is written to standard error as a line if the run wasn't a success
-abbrev pub name_of : Status → List ℕ
-name_of Done = codes "Done"
-name_of DoneRefused = codes "DoneRefused"
-name_of Usage = codes "Usage"
-name_of ReadFault = codes "ReadFault"
-name_of WriteFault = codes "WriteFault"
-name_of TooLarge = codes "TooLarge"
-name_of NoMemory = codes "NoMemory"
+abbrev pub status_name : Status → List ℕ
+status_name Done = codes "Done"
+status_name DoneRefused = codes "DoneRefused"
+status_name Usage = codes "Usage"
+status_name ReadFault = codes "ReadFault"
+status_name WriteFault = codes "WriteFault"
+status_name TooLarge = codes "TooLarge"
+status_name NoMemory = codes "NoMemory"
 
 -- the status of a run that read and wrote everything, by whether some record was refused
 abbrev pub done_status : Bool → Status

@@ -3,7 +3,7 @@ ghost use Rattle.std.specs.Prelude.{◌≡◌, ◌≢◌, ◌⊎◌, ◌^◌, �
 ghost use Rattle.pb_io.specs.Counts.{Rose};
 ghost use Rattle.pb_io.specs.Sink.{PutsSuch};
 ghost use Rattle.pb_limits.specs.Limits.{most_bytes};
-ghost use Rattle.pb_elim.specs.Options.{AreOptions};
+ghost use Rattle.pb_study.specs.Options.{AreOptions};
 ghost use Rattle.pb_rows.specs.Records.{records_of};
 ghost use Rattle.pb_book.specs.Answer.{answer_of, is_refused};
 ghost use Rattle.pb_session.specs.Session.{Adds, IsSessionText, new_session, refuses_some, state_after};
@@ -13,11 +13,11 @@ ghost use Rattle.pb_cli.specs.Prefix.{AreTextsOfSome, AreTextsCutShort, IsBeginn
 ghost use Rattle.pb_cli.specs.Run.{IsOutput, refuses};
 
 use crate::status::Status;
-use pb_graph::Options;
 use pb_io::{Sink, SinkFailed, write_all};
 use pb_report::Form;
 use pb_rows::{Records, Row};
 use pb_session::Session;
+use pb_study::Options;
 use std::alloc::{AllocError, Global};
 
 // Why the answer to a record was not written.

@@ -5,7 +5,7 @@ ghost use Rattle.pb_io.specs.Sink.{PutsSuch};
 ghost use Rattle.pb_limits.specs.Limits.{most_bytes};
 ghost use Rattle.pb_rows.specs.Records.{records_of};
 ghost use Rattle.pb_audit.specs.Judgement.{IsJudgement, IsJudgementPart, IsJudgementText};
-ghost use Rattle.pb_audit.specs.Next.{Tells};
+ghost use Rattle.pb_audit.specs.Next.{FindsNext};
 ghost use Rattle.pb_cli.specs.declared.status.Status.TheVariants.{Done, DoneRefused, WriteFault, NoMemory};
 ghost use Rattle.pb_cli.specs.Judging.{TellsFinding};
 ghost use Rattle.pb_cli.specs.Prefix.{IsBeginningOf};
@@ -13,7 +13,7 @@ ghost use Rattle.pb_cli.specs.Run.{IsCheck, IsTextOfCheck, EndsAsChecked};
 
 use crate::answers::Stopped;
 use crate::status::Status;
-use pb_audit::{Judged, certified_law, findings_law, judge_next};
+use pb_audit::{Judged, judge_next};
 use pb_io::{Sink, write_all};
 use pb_rows::Records;
 use std::alloc::Global;
@@ -81,8 +81,6 @@ fn judge_records<W: Sink>(
     ensures idle { (W.seen sink.new).idle ≡ (W.seen sink.old).idle }
     ensures faults_stay { (W.seen sink.old).faults ≤ (W.seen sink.new).faults }
 {
-    findings_law();
-    certified_law();
     let mut some_wrong = false;
     'turns: loop {
         match judge_block(alloc, records, sink)? {
@@ -102,7 +100,7 @@ fn judge_block<W: Sink>(
 ) -> Result<Option<Judged>, Stopped>
     requires few { records.now.taken + length records.now.left < 2 ^ 31 }
     ensures whole { IfOk result (λ judged. PutsSuch
-        (Tells records.old records.new judged) (W.seen sink.old) (W.seen sink.new)) }
+        (FindsNext records.old records.new judged) (W.seen sink.old) (W.seen sink.new)) }
     ensures no_memory { IfErr result (λ e. e ≡ Stopped.OutOfMemory → sink.new ≡ sink.old) }
     ensures cut { IfErr result (λ e. e ≡ Stopped.SinkFault → PutsSuch
         (IsBeginningOf (TellsFinding records.old)) (W.seen sink.old) (W.seen sink.new)) }

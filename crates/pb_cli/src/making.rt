@@ -8,6 +8,7 @@ ghost use Rattle.pb_cli.specs.Prefix.{IsBeginningOf};
 ghost use Rattle.pb_cli.specs.Run.{IsMade};
 
 use crate::status::Status;
+use crate::texts;
 use pb_io::{Sink, write_all};
 use std::alloc::{AllocError, Global};
 
@@ -60,7 +61,7 @@ fn made(
     ensures { IfOk result (λ text. IsMade number streams summary gap sweeps text.items) }
 {
     if summary {
-        pb_summary::summary(alloc, number, streams, gap, sweeps)
+        texts::summary(alloc, number, streams, gap, sweeps)
     } else {
         pb_make::make(alloc, number, streams)
     }

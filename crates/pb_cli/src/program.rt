@@ -4,7 +4,7 @@ ghost use Rattle.std.specs.Process.{exit_status};
 ghost use Rattle.pb_io.specs.Counts.{Rose};
 ghost use Rattle.pb_io.specs.Sink.{Puts, PutsPrefix};
 ghost use Rattle.pb_words.specs.Args.{words_given};
-ghost use Rattle.pb_cli.specs.Status.{number_of};
+ghost use Rattle.pb_cli.specs.Status.{status_number};
 ghost use Rattle.pb_cli.specs.declared.status.Status.{Status};
 ghost use Rattle.pb_cli.specs.Program.{PutsUnlessFault, RunsGiven, error_line, line_feed};
 
@@ -29,7 +29,7 @@ pub fn run_program<R: Source, W: Sink, E: Sink>(
     // For the status with which the run ended: the exit status is its number, all that `run` says holds for it, and what is put
     // into the third end is its line.
     ensures ended { (status : Status)
-        × (exit_status result ≡ number_of status)
+        × (exit_status result ≡ status_number status)
         × RunsGiven R.seen W.seen (words_given args) source.old source.new sink.old sink.new status
         × PutsUnlessFault (E.seen errors.old) (E.seen errors.new) (error_line status) }
 
@@ -62,7 +62,7 @@ fn run_args<R: Source, W: Sink>(
 // Writes the line of a status, if it has one. A failure to do so can't be reported.
 fn report<E: Sink>(status: Status, errors: &mut E)
     ensures line { PutsUnlessFault (E.seen errors.old) (E.seen errors.new) (error_line status) }
-    ensures silent { number_of status < 2 → errors.new ≡ errors.old }
+    ensures silent { status_number status < 2 → errors.new ≡ errors.old }
     ensures idle { (E.seen errors.new).idle ≡ (E.seen errors.old).idle }
     ensures faults_stay { (E.seen errors.old).faults ≤ (E.seen errors.new).faults }
 {

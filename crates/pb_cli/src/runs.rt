@@ -5,9 +5,9 @@ ghost use Rattle.pb_io.specs.Source.{TakesExactly, TakesAtMost};
 ghost use Rattle.pb_limits.specs.Limits.{most_bytes};
 ghost use Rattle.pb_cli.specs.declared.status.Status.TheVariants.{Done, DoneRefused, Usage, ReadFault, WriteFault, TooLarge, NoMemory};
 ghost use Rattle.pb_words.specs.declared.command.Command.{Command};
-ghost use Rattle.pb_words.specs.Command.{IsCommandOf, IsInRange};
+ghost use Rattle.pb_words.specs.Command.{IsCommandInRange, IsCommandOf};
 ghost use Rattle.pb_words.specs.Line.{are_plain_or_named};
-ghost use Rattle.pb_cli.specs.Run.{AreAccepted, AskToMake, Does, EndsAs, IsCut, IsFront, IsGiven, IsWhole, Reads, is_making};
+ghost use Rattle.pb_cli.specs.Run.{AskToMake, Does, EndsAs, GiveCommand, IsCutShort, IsFront, IsGiven, IsWhole, Reads, is_making};
 
 use crate::answers::answer;
 use crate::checks::judge;
@@ -15,7 +15,7 @@ use crate::making::make_session;
 use crate::status::Status;
 use pb_io::{ReadEnd, Sink, Source, read_all};
 use pb_limits::MOST_BYTES;
-use pb_words::{Command, Words, WordsRefused, one_command_law, read_words};
+use pb_words::{Command, Words, WordsRefused, read_words};
 use std::alloc::Global;
 
 /// Does what the command of the words asks: reads a session from a source to its end and writes its output to a sink; or reads a
@@ -44,11 +44,11 @@ pub fn run<R: Source, W: Sink>(alloc: Global, words: &Words, source: &mut R, sin
 
     // Usage is the answer only if the words aren't accepted. If they aren't, the only other possible answer is NoMemory, and
     // nothing is read or written; if one of them doesn't have the form of any word of a command, the answer is always Usage.
-    ensures usage { result ≡ Usage → AreAccepted words.now → ⊥ }
-    ensures unaccepted { (AreAccepted words.now → ⊥) → (result ≡ Usage) ⊎ (result ≡ NoMemory) }
+    ensures usage { result ≡ Usage → GiveCommand words.now → ⊥ }
+    ensures unaccepted { (GiveCommand words.now → ⊥) → (result ≡ Usage) ⊎ (result ≡ NoMemory) }
     ensures malformed { are_plain_or_named words.now ≡ false → result ≡ Usage }
-    ensures unread { (AreAccepted words.now → ⊥) → source.new ≡ source.old }
-    ensures unwritten { (AreAccepted words.now → ⊥) → sink.new ≡ sink.old }
+    ensures unread { (GiveCommand words.now → ⊥) → source.new ≡ source.old }
+    ensures unwritten { (GiveCommand words.now → ⊥) → sink.new ≡ sink.old }
 
     // ReadFault is the answer iff the source counted a fault. Then nothing is written.
     ensures read_fault { result ≡ ReadFault →
@@ -62,7 +62,7 @@ pub fn run<R: Source, W: Sink>(alloc: Global, words: &Words, source: &mut R, sin
         Rose (W.seen sink.old).faults (W.seen sink.new).faults }
     ensures no_write_fault { result ≢ WriteFault →
         (W.seen sink.new).faults ≡ (W.seen sink.old).faults }
-    ensures write_fault_cut { result ≡ WriteFault → Does IsCut words.now
+    ensures write_fault_cut { result ≡ WriteFault → Does IsCutShort words.now
         (R.seen source.old) (R.seen source.new) (W.seen sink.old) (W.seen sink.new) }
 
     // TooLarge is the answer iff one byte more than the limit was taken. Then nothing is written.
@@ -90,7 +90,6 @@ pub fn run<R: Source, W: Sink>(alloc: Global, words: &Words, source: &mut R, sin
     ensures source_faults_stay { (R.seen source.old).faults ≤ (R.seen source.new).faults }
     ensures sink_faults_stay { (W.seen sink.old).faults ≤ (W.seen sink.new).faults }
 {
-    one_command_law();
     let command = match read_words(alloc, words) {
         Ok(command) => command,
         Err(WordsRefused::Usage) => return Status::Usage,

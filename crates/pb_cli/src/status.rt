@@ -1,6 +1,6 @@
 // How a run ended: a number for the operating system, and a name.
 ghost use Rattle.std.specs.Prelude.{◌≡◌, codes};
-ghost use Rattle.pb_cli.specs.Status.{number_of, name_of, status_of};
+ghost use Rattle.pb_cli.specs.Status.{status_number, status_name, status_of};
 
 use pb_words::WordsRefused;
 
@@ -26,7 +26,7 @@ pub enum Status {
 impl Status {
     /// The number with which the program exits.
     pub fn number(&self) -> u8
-        ensures { result ≡ number_of self.now }
+        ensures { result ≡ status_number self.now }
     {
         match *self {
             Status::Done => 0,
@@ -41,7 +41,7 @@ impl Status {
 
     /// The name of the status.
     pub fn name(&self) -> &str
-        ensures { result.now ≡ name_of self.now }
+        ensures { result.now ≡ status_name self.now }
     {
         match *self {
             Status::Done => "Done",

@@ -3,8 +3,8 @@ use Rattle.std.proofs.Common.{◌≡◌, ◌∙◌, ℕ, zero, suc, ℤ, pos, ne
 use Rattle.std.specs.Prelude.{int_lt}
 use Rattle.std.proofs.lemmas.Bool.{cases_Bool}
 use Rattle.std.proofs.lemmas.Int.{by_lt_z, ints}
-use Rattle.pb_integers.proofs.Order.{mul_mono, mul_negative, mul_nonneg}
-use Rattle.pb_integers.proofs.Ring.{Expr, var, lit, plus, times, minus, ring}
+use Rattle.pb_fixed.proofs.Order.{mul_mono, mul_negative, mul_nonneg}
+use Rattle.pb_fixed.proofs.Ring.{Expr, var, lit, plus, times, minus, ring}
 use Rattle.pb_fixed.specs.Quotients.{IsNearest}
 use Rattle.pb_dual.specs.Best.{best, best_upto, clamped, IsBest}
 use Rattle.pb_dual.specs.Moves.{FallsAlong}

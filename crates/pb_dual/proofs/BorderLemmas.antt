@@ -7,16 +7,16 @@ use Rattle.std.specs.Option.{option_to_list}
 use Rattle.std.proofs.lemmas.Bool.{eqb-true}
 use Rattle.std.proofs.lemmas.Int.{ints}
 use Rattle.std.proofs.lemmas.List.{length-take-le, take_more}
-use Rattle.pb_integers.specs.Sums.{item}
-use Rattle.pb_integers.proofs.Lists.{drop_next}
-use Rattle.pb_integers.proofs.RingLaws.{zero_add}
+use Rattle.pb_fixed.specs.Sums.{item}
+use Rattle.pb_fixed.proofs.Lists.{drop_next}
+use Rattle.pb_fixed.proofs.RingLaws.{zero_add}
 use Rattle.pb_fixed.proofs.QuotientLaws.{floor_size}
 use Rattle.pb_graph.specs.declared.records.Meas.{Meas}
 use Rattle.pb_graph.specs.declared.records.Stream.{Stream}
 use Rattle.pb_graph.specs.ProcessGraph.{IsMeasurement, IsWithinLimits, is_measured}
 use Rattle.pb_graph.specs.Groups.{entering, group_at, has_one_end}
 use Rattle.pb_graph.specs.Prices.{IsInBox, rise_of}
-use Rattle.pb_merge.specs.Variance.{variance_of, crossing_variance, group_variance}
+use Rattle.pb_graph.specs.Variance.{variance_of, crossing_variance, group_variance}
 use Rattle.pb_dual.specs.declared.border.BorderStream.{BorderStream}
 use Rattle.pb_dual.specs.DualValue.{flow_at, dual_flow}
 use Rattle.pb_dual.specs.Moves.{group_flow}

@@ -5,7 +5,7 @@ use Rattle.std.specs.Int.{int_max, int_min}
 use Rattle.std.specs.List.{All, AllByRecursion}
 use Rattle.std.proofs.lemmas.Bool.{cases_Bool}
 use Rattle.std.proofs.lemmas.Int.{int_max_is, int_min_is, ints}
-use Rattle.pb_integers.proofs.Lists.{AllByRecursion-from_all, drop_next}
+use Rattle.pb_fixed.proofs.Lists.{AllByRecursion-from_all, drop_next}
 use Rattle.pb_dual.specs.declared.border.BorderStream.{BorderStream}
 use Rattle.pb_dual.specs.Best.{clamped}
 use Rattle.pb_dual.specs.Border.{AreBorder, IsBorderStream, IsGreatest, border_low, border_high, border_room}

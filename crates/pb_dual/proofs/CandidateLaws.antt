@@ -4,9 +4,9 @@ use Rattle.std.specs.Prelude.{if◌then◌else◌, IfSome}
 use Rattle.std.specs.Int.{int_max, int_min}
 use Rattle.std.specs.List.{AllByRecursion}
 use Rattle.std.proofs.lemmas.Int.{int_max_is, int_min_is, ints}
-use Rattle.pb_integers.proofs.Order.{mul_mono}
-use Rattle.pb_integers.proofs.RingLaws.{mul_comm}
-use Rattle.pb_integers.proofs.Ring.{var, lit, plus, times, minus, ring}
+use Rattle.pb_fixed.proofs.Order.{mul_mono}
+use Rattle.pb_fixed.proofs.RingLaws.{mul_comm}
+use Rattle.pb_fixed.proofs.Ring.{var, lit, plus, times, minus, ring}
 use Rattle.pb_fixed.proofs.QuotientLaws.{floor_is, floor_from}
 use Rattle.pb_graph.specs.declared.records.Meas.{Meas}
 use Rattle.pb_graph.specs.declared.records.Stream.{Stream}

@@ -9,19 +9,17 @@ use Rattle.std.proofs.lemmas.Grind.{get_or-set_at}
 use Rattle.std.proofs.lemmas.Int.{int_max_is, ints}
 use Rattle.std.proofs.lemmas.List.{get_or_default, get_or-set_other, length-map}
 use Rattle.std.proofs.lemmas.Option.{slice_get-get_or}
-use Rattle.pb_integers.proofs.Lists.{AllByRecursion-from_all, All-from_recursion}
-use Rattle.pb_integers.proofs.Order.{le_trans}
-use Rattle.pb_integers.proofs.Sums.{sum_over-bound}
+use Rattle.pb_fixed.proofs.Lists.{AllByRecursion-from_all, All-from_recursion}
+use Rattle.pb_fixed.proofs.Order.{le_trans}
+use Rattle.pb_fixed.proofs.Sums.{sum_over-bound}
 use Rattle.pb_fixed.specs.Quotients.{nearest_div}
 use Rattle.pb_fixed.proofs.QuotientLaws.{nearest_is}
 use Rattle.pb_graph.specs.declared.records.Stream.{Stream}
 use Rattle.pb_graph.specs.ProcessGraph.{ProcessGraph, IsProcessGraph, IsWithinLimits}
 use Rattle.pb_graph.specs.Groups.{AreGroups, group_at, group_count, has_one_end, is_free_group}
 use Rattle.pb_graph.specs.Prices.{PricesFit, IsInBox}
-use Rattle.pb_merge.specs.Variance.{group_variance}
-use Rattle.pb_merge.proofs.GroupLaws.{number_below}
-use Rattle.pb_merge.proofs.GroupLaws.{number_node, numbers_below}
-use Rattle.pb_merge.proofs.GroupLaws.{first_number, crossing_measured, crossings_add, crossed_is}
+use Rattle.pb_graph.specs.Variance.{group_variance}
+use Rattle.pb_graph.proofs.GroupLaws.{number_below, number_node, numbers_below, first_number, crossing_measured, crossings_add, crossed_is}
 use Rattle.pb_dual.specs.declared.border.BorderStream.{BorderStream}
 use Rattle.pb_dual.specs.DualValue.{dual_flow, dual_flows_of, dual_value, most_dual_flow}
 use Rattle.pb_dual.specs.Moves.{with_price, group_flow, FallsAlong}

@@ -4,13 +4,13 @@ use Rattle.std.specs.List.{list_any}
 use Rattle.std.proofs.lemmas.Bool.{cases_lt, cases_eq, eq-eqb, ne_eqb, and_parts}
 use Rattle.std.proofs.lemmas.List.{get_or_past}
 use Rattle.std.proofs.lemmas.List.Folds.{Any-from_list_any}
-use Rattle.pb_integers.proofs.Lists.{AllByRecursion-from_all, All-from_recursion}
-use Rattle.pb_integers.proofs.Order.{le_trans}
+use Rattle.pb_fixed.proofs.Lists.{AllByRecursion-from_all, All-from_recursion}
+use Rattle.pb_fixed.proofs.Order.{le_trans}
 use Rattle.pb_graph.specs.declared.records.Stream.{Stream}
 use Rattle.pb_graph.specs.ProcessGraph.{ProcessGraph, IsProcessGraph, IsStream, IsWithinLimits}
 use Rattle.pb_graph.specs.Groups.{group_at, has_one_end, is_free_group}
 use Rattle.pb_graph.specs.Prices.{PricesFit, IsInBox}
-use Rattle.pb_merge.proofs.GroupLaws.{first_number, one_end_cases, free_means}
+use Rattle.pb_graph.proofs.GroupLaws.{first_number, one_end_cases, free_means}
 use Rattle.pb_dual.specs.DualValue.{dual_value}
 use Rattle.pb_dual.specs.Moves.{with_price}
 use Rattle.pb_dual.specs.Candidates.{least_candidate, greatest_candidate, best_price}

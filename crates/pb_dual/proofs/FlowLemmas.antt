@@ -7,8 +7,8 @@ use Rattle.std.proofs.lemmas.Bool.{cases_eq, cases_lt, eqb-false}
 use Rattle.std.proofs.lemmas.Int.{ints}
 use Rattle.std.proofs.lemmas.List.{ext_get_or, get_or_default, get_or_past, take-append-le, take_all, get_or-set_other, get_or-set_same, length-map}
 use Rattle.pb_limits.specs.Limits.{most_streams, most_value}
-use Rattle.pb_integers.specs.Sums.{item}
-use Rattle.pb_integers.proofs.Lists.{AllByRecursion-from_all, All-from_recursion, drop_next}
+use Rattle.pb_fixed.specs.Sums.{item}
+use Rattle.pb_fixed.proofs.Lists.{AllByRecursion-from_all, All-from_recursion, drop_next}
 use Rattle.pb_graph.specs.declared.records.Meas.{Meas}
 use Rattle.pb_graph.specs.declared.records.Stream.{Stream}
 use Rattle.pb_graph.specs.ProcessGraph.{IsMeasurement, IsWithinLimits, some_stream}

@@ -3,13 +3,13 @@ use Rattle.std.proofs.Common.{◌≡◌, ◌∙◌, ◌==◌, ℕ, ℤ, pos, neg
 use Rattle.std.specs.Prelude.{if◌then◌else◌}
 use Rattle.std.proofs.lemmas.Bool.{cases_eq, eq-eqb, ne_eqb}
 use Rattle.std.proofs.lemmas.Int.{ints}
-use Rattle.pb_integers.specs.Sums.{sum_over}
-use Rattle.pb_integers.proofs.Ring.{Expr, var, lit, plus, times, minus, ring}
+use Rattle.pb_fixed.specs.Sums.{sum_over}
+use Rattle.pb_fixed.proofs.Ring.{Expr, var, lit, plus, times, minus, ring}
 use Rattle.pb_graph.specs.declared.records.Meas.{Meas}
 use Rattle.pb_graph.specs.declared.records.Stream.{Stream}
 use Rattle.pb_graph.specs.Groups.{entering, group_at}
 use Rattle.pb_graph.specs.Prices.{rise_of}
-use Rattle.pb_merge.specs.Variance.{variance_of, group_variance}
+use Rattle.pb_graph.specs.Variance.{variance_of, group_variance}
 use Rattle.pb_dual.specs.DualValue.{scale, flow_at, cost_at, dual_flow, dual_value}
 use Rattle.pb_dual.specs.Moves.{with_price, group_flow, FallsAlong, MoveLaw}
 

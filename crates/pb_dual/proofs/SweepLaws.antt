@@ -2,8 +2,8 @@
 use Rattle.std.proofs.Common.{◌≡◌, ◌∙◌, ◌+◌, ◌^◌, ℕ, zero, suc, ◌≤◌, ℤ, pos, ◌-ℤ◌, ◌*ℤ◌, ◌≤ℤ◌, List, Option, Some, None, ap, refl, inl, inr, arith, unsigned_abs}
 use Rattle.std.specs.Prelude.{IfSome}
 use Rattle.std.proofs.lemmas.Bool.{cases_Bool}
-use Rattle.pb_integers.proofs.Order.{le_refl, le_trans}
-use Rattle.pb_integers.proofs.RingLaws.{mul_zero}
+use Rattle.pb_fixed.proofs.Order.{le_refl, le_trans}
+use Rattle.pb_fixed.proofs.RingLaws.{mul_zero}
 use Rattle.pb_graph.specs.declared.records.Meas.{Meas}
 use Rattle.pb_graph.specs.ProcessGraph.{ProcessGraph, IsProcessGraph}
 use Rattle.pb_graph.specs.Groups.{AreGroups, is_free_group, group_count}

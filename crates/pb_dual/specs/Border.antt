@@ -4,7 +4,7 @@ use Rattle.std.specs.Int.{int_max, int_min}
 use Rattle.std.specs.List.{AllByRecursion}
 use Rattle.std.specs.Option.{option_to_list}
 use Rattle.pb_limits.specs.Limits.{most_price, most_streams, most_value, most_variance}
-use Rattle.pb_integers.specs.Sums.{item, sum_over}
+use Rattle.pb_fixed.specs.Sums.{item, sum_over}
 use Rattle.pb_graph.specs.declared.records.Meas.{Meas}
 use Rattle.pb_graph.specs.declared.records.Stream.{Stream}
 use Rattle.pb_graph.specs.ProcessGraph.{IsProcessGraph}

@@ -2,7 +2,7 @@
 -- (Rockafellar, Network Flows and Monotropic Optimization).
 use Rattle.std.specs.Prelude.{◌+◌, ◌*◌, ◌^◌, ℕ, ℤ, pos, neg_ℤ, ◌+ℤ◌, ◌*ℤ◌, List, map, Option, Some, None}
 use Rattle.pb_limits.specs.Limits.{most_value}
-use Rattle.pb_integers.specs.Sums.{sum_over}
+use Rattle.pb_fixed.specs.Sums.{sum_over}
 use Rattle.pb_graph.specs.declared.records.Meas.{Meas}
 use Rattle.pb_graph.specs.declared.records.Stream.{Stream}
 use Rattle.pb_graph.specs.Prices.{most_adjustment, rise_of}

@@ -1,9 +1,9 @@
 -- Statement. How the dual value changes with the price of one group.
 use Rattle.std.specs.Prelude.{◌≡◌, ◌==◌, ℕ, ℤ, pos, ◌+ℤ◌, ◌-ℤ◌, ◌*ℤ◌, List, if◌then◌else◌}
-use Rattle.pb_integers.specs.Sums.{sum_over}
+use Rattle.pb_fixed.specs.Sums.{sum_over}
 use Rattle.pb_graph.specs.declared.records.Stream.{Stream}
 use Rattle.pb_graph.specs.Groups.{entering, group_at}
-use Rattle.pb_merge.specs.Variance.{group_variance}
+use Rattle.pb_graph.specs.Variance.{group_variance}
 use Rattle.pb_dual.specs.DualValue.{dual_flow, dual_value}
 
 -- the prices with group k at c

@@ -3,21 +3,21 @@ use Rattle.std.proofs.Common.{◌≡◌, ◌≤ℤ◌, ℕ, ℤ, pos, take, All,
 use Rattle.std.specs.Prelude.{IfSome, MatchOption}
 use Rattle.std.proofs.lemmas.Option.{slice_get-get_or}
 use Rattle.pb_limits.specs.Ranges.{IsCriticalValue}
-use Rattle.pb_graph.specs.declared.results.Verdict.{Verdict}
-use Rattle.pb_graph.specs.declared.results.Verdict.TheVariants.{Reject, Accept, Undecided, NoCritical, NoTest}
-use Rattle.pb_graph.specs.declared.results.MeasureTest.{MeasureTest}
-use Rattle.pb_graph.specs.declared.results.Tests.{Tests}
-use Rattle.pb_graph.specs.declared.results.Stage.{Stage}
-use Rattle.pb_graph.specs.declared.results.Options.{Options}
-use Rattle.pb_graph.specs.declared.results.Critical.{Critical}
+use Rattle.pb_study.specs.declared.results.Verdict.{Verdict}
+use Rattle.pb_study.specs.declared.results.Verdict.TheVariants.{Reject, Accept, Undecided, NoCritical, NoTest}
+use Rattle.pb_study.specs.declared.results.MeasureTest.{MeasureTest}
+use Rattle.pb_study.specs.declared.results.Tests.{Tests}
+use Rattle.pb_study.specs.declared.results.Stage.{Stage}
+use Rattle.pb_study.specs.declared.results.Options.{Options}
+use Rattle.pb_study.specs.declared.results.Critical.{Critical}
 use Rattle.pb_graph.specs.ProcessGraph.{ProcessGraph, IsProcessGraph}
-use Rattle.pb_tests.specs.Drop.{IsMeasureTestOf, without_measurement}
-use Rattle.pb_tests.specs.Laws.{MeasureAcceptLaw, MeasureRejectLaw}
-use Rattle.pb_elim.specs.Criticals.{AreCritical}
-use Rattle.pb_elim.specs.StageTests.{AreTestsOf, redundant_streams}
+use Rattle.pb_stage.specs.Drop.{IsMeasureTestOf, without_measurement}
+use Rattle.pb_stage.specs.Laws.{MeasureAcceptLaw, MeasureRejectLaw}
+use Rattle.pb_study.specs.Criticals.{AreCritical}
+use Rattle.pb_stage.specs.StageTests.{AreTestsOf, redundant_streams}
 use Rattle.pb_elim.specs.Stage.{IsReconciliationOf, IsStageOf}
 use Rattle.pb_elim.specs.Study.{without_taken}
-use Rattle.pb_elim.specs.Certified.{IsUndecided}
+use Rattle.pb_stage.specs.Certified.{IsUndecided}
 use Rattle.pb_elim.specs.Decided.{AreMeasuresRight, IsDropRight, IsMeasureRight}
 use Rattle.pb_elim.specs.Laws.{DecidedLaw}
 use Rattle.pb_elim.proofs.ListLemmas.{some_at}

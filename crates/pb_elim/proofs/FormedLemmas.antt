@@ -4,16 +4,16 @@ use Rattle.std.specs.Prelude.{IfSome, IsSomeAnd}
 use Rattle.std.proofs.lemmas.List.{length_push}
 use Rattle.std.proofs.lemmas.List.Elements.{All-nil, All-cons, All-push}
 use Rattle.std.proofs.lemmas.Option.{get_or_from_slice_get, slice_get_within}
-use Rattle.pb_graph.specs.declared.results.Tests.{Tests}
-use Rattle.pb_graph.specs.declared.results.Stage.{Stage}
-use Rattle.pb_graph.specs.declared.results.Taken.{Taken}
-use Rattle.pb_graph.specs.declared.results.Stop.{Stop}
-use Rattle.pb_graph.specs.declared.results.Study.{Study}
-use Rattle.pb_graph.specs.declared.results.Options.{Options}
-use Rattle.pb_graph.specs.declared.results.Critical.{Critical}
+use Rattle.pb_study.specs.declared.results.Tests.{Tests}
+use Rattle.pb_study.specs.declared.results.Stage.{Stage}
+use Rattle.pb_study.specs.declared.results.Taken.{Taken}
+use Rattle.pb_study.specs.declared.results.Stop.{Stop}
+use Rattle.pb_study.specs.declared.results.Study.{Study}
+use Rattle.pb_study.specs.declared.results.Options.{Options}
+use Rattle.pb_study.specs.declared.results.Critical.{Critical}
 use Rattle.pb_graph.specs.ProcessGraph.{ProcessGraph, IsProcessGraph, unmeasured_at}
 use Rattle.pb_graph.proofs.WalkLemmas.{some_same}
-use Rattle.pb_graph.specs.WellFormed.{AreTestsWithin, HasShapeOf, IsMeasureWithin, IsTakenWithin, IsWellFormed, IsWide}
+use Rattle.pb_study.specs.WellFormed.{AreTestsWithin, HasShapeOf, IsMeasureWithin, IsTakenWithin, IsWellFormed, IsWide}
 use Rattle.pb_elim.specs.Stage.{IsStageOf}
 use Rattle.pb_elim.specs.Elimination.{IsStop, IsTakenAfter}
 use Rattle.pb_elim.specs.Study.{IsStudyOf}

@@ -6,10 +6,10 @@ mod NextLemmas
 mod FormedLemmas
 mod TestLemmas
 mod DecidedLemmas
-mod ShownLemmas
 mod SolutionLemmas
 mod UniqueLemmas
 mod StageLemmas
 mod SomeStudyLemmas
 mod WithinLemmas
 mod ThroughoutLemmas
+pub mod StudyLaws

@@ -4,17 +4,17 @@ use Rattle.std.specs.Prelude.{is_some, IsSome, IsSomeAnd, if◌then◌else◌}
 use Rattle.std.proofs.lemmas.Bool.{eq-eqb}
 use Rattle.std.proofs.lemmas.List.{length_push, take_all, take-append-le}
 use Rattle.std.proofs.lemmas.Option.{slice_get_within}
-use Rattle.pb_graph.specs.declared.results.Verdict.{Verdict}
-use Rattle.pb_graph.specs.declared.results.Verdict.TheVariants.{Reject, Accept, Undecided, NoCritical, NoTest}
-use Rattle.pb_graph.specs.declared.results.Stop.TheVariants.{Spent}
-use Rattle.pb_graph.specs.declared.results.MeasureTest.{MeasureTest}
-use Rattle.pb_graph.specs.declared.results.Stage.{Stage}
-use Rattle.pb_graph.specs.declared.results.Taken.{Taken}
-use Rattle.pb_graph.specs.declared.results.Options.{Options}
-use Rattle.pb_graph.specs.declared.results.Critical.{Critical}
+use Rattle.pb_study.specs.declared.results.Verdict.{Verdict}
+use Rattle.pb_study.specs.declared.results.Verdict.TheVariants.{Reject, Accept, Undecided, NoCritical, NoTest}
+use Rattle.pb_study.specs.declared.results.Stop.TheVariants.{Spent}
+use Rattle.pb_study.specs.declared.results.MeasureTest.{MeasureTest}
+use Rattle.pb_study.specs.declared.results.Stage.{Stage}
+use Rattle.pb_study.specs.declared.results.Taken.{Taken}
+use Rattle.pb_study.specs.declared.results.Options.{Options}
+use Rattle.pb_study.specs.declared.results.Critical.{Critical}
 use Rattle.pb_graph.specs.ProcessGraph.{ProcessGraph, unmeasured_at}
 use Rattle.pb_graph.proofs.WalkLemmas.{some_same}
-use Rattle.pb_elim.specs.Options.{AreOptions}
+use Rattle.pb_study.specs.Options.{AreOptions}
 use Rattle.pb_elim.specs.Stage.{IsStageOf}
 use Rattle.pb_elim.specs.Elimination.{IsTakenAfter, stop_after, stop_by, stop_of_measures}
 use Rattle.pb_elim.specs.Study.{AreRounds, without_taken}

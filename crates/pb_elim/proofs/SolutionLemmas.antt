@@ -4,13 +4,13 @@ use Rattle.std.specs.Prelude.{IfSome}
 use Rattle.std.proofs.lemmas.List.{length-map}
 use Rattle.std.proofs.lemmas.Option.{slice_get-get_or}
 use Rattle.pb_graph.specs.declared.records.Classified.{Classified}
-use Rattle.pb_graph.specs.declared.results.Solved.{Solved}
-use Rattle.pb_graph.specs.declared.results.Solved.TheVariants.{Converged, Unconverged}
-use Rattle.pb_graph.specs.declared.results.StreamResult.{StreamResult}
-use Rattle.pb_graph.specs.declared.results.Tests.{Tests}
-use Rattle.pb_graph.specs.declared.results.Stage.{Stage}
-use Rattle.pb_graph.specs.declared.results.Options.{Options}
-use Rattle.pb_graph.specs.declared.results.Critical.{Critical}
+use Rattle.pb_study.specs.declared.results.Solved.{Solved}
+use Rattle.pb_study.specs.declared.results.Solved.TheVariants.{Converged, Unconverged}
+use Rattle.pb_study.specs.declared.results.StreamResult.{StreamResult}
+use Rattle.pb_study.specs.declared.results.Tests.{Tests}
+use Rattle.pb_study.specs.declared.results.Stage.{Stage}
+use Rattle.pb_study.specs.declared.results.Options.{Options}
+use Rattle.pb_study.specs.declared.results.Critical.{Critical}
 use Rattle.pb_graph.specs.ProcessGraph.{ProcessGraph, IsProcessGraph}
 use Rattle.pb_graph.specs.Prices.{PricesFit}
 use Rattle.pb_dual.specs.Laws.{AscentLaw}
@@ -18,12 +18,13 @@ use Rattle.pb_gap.specs.Gap.{IsGap, deviations_of}
 use Rattle.pb_gap.specs.State.{IsStateAfter}
 use Rattle.pb_gap.specs.Solution.{IsSolution}
 use Rattle.pb_gap.specs.Laws.{AreGaps}
-use Rattle.pb_elim.specs.Printed.{printed_price, printed_flows}
-use Rattle.pb_elim.specs.StageTests.{AreTestsOf}
+use Rattle.pb_stage.specs.Printed.{printed_price, printed_flows}
+use Rattle.pb_stage.specs.StageTests.{AreTestsOf}
 use Rattle.pb_elim.specs.Stage.{IsReconciliationOf, IsStageOf}
 use Rattle.pb_elim.specs.Study.{without_taken}
-use Rattle.pb_elim.specs.Certified.{AreShownTests, IsShownStage}
-use Rattle.pb_elim.specs.Laws.{ShownLaw, CertifiedLaw, SolutionLaw}
+use Rattle.pb_stage.specs.Certified.{AreShownTests, IsShownStage}
+use Rattle.pb_stage.specs.Laws.{ShownLaw}
+use Rattle.pb_elim.specs.Laws.{CertifiedLaw, SolutionLaw}
 use Rattle.pb_elim.proofs.ListLemmas.{at_map}
 use Rattle.pb_elim.proofs.TakenLemmas.{without_limits}
 use Rattle.pb_elim.proofs.TestLemmas.{tests_shown}

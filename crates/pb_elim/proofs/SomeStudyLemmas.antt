@@ -3,18 +3,18 @@ use Rattle.std.proofs.Common.{◌≡◌, ◌≢◌, ◌∙◌, ◌+◌, ◌<◌,
 use Rattle.std.specs.Prelude.{IsSomeAnd}
 use Rattle.std.proofs.lemmas.Bool.{cases_eq, cases_lt}
 use Rattle.std.proofs.lemmas.List.{get_or_past, length_push}
-use Rattle.pb_integers.specs.Sums.{item}
+use Rattle.pb_fixed.specs.Sums.{item}
 use Rattle.pb_graph.specs.declared.records.Stream.{Stream}
 use Rattle.pb_graph.specs.declared.records.Classified.{Classified}
-use Rattle.pb_graph.specs.declared.results.Solved.{Solved}
-use Rattle.pb_graph.specs.declared.results.StreamResult.{StreamResult}
-use Rattle.pb_graph.specs.declared.results.Tests.{Tests}
-use Rattle.pb_graph.specs.declared.results.Stage.{Stage}
-use Rattle.pb_graph.specs.declared.results.Taken.{Taken}
-use Rattle.pb_graph.specs.declared.results.Stop.{Stop}
-use Rattle.pb_graph.specs.declared.results.Study.{Study}
-use Rattle.pb_graph.specs.declared.results.Options.{Options}
-use Rattle.pb_graph.specs.declared.results.Critical.{Critical}
+use Rattle.pb_study.specs.declared.results.Solved.{Solved}
+use Rattle.pb_study.specs.declared.results.StreamResult.{StreamResult}
+use Rattle.pb_study.specs.declared.results.Tests.{Tests}
+use Rattle.pb_study.specs.declared.results.Stage.{Stage}
+use Rattle.pb_study.specs.declared.results.Taken.{Taken}
+use Rattle.pb_study.specs.declared.results.Stop.{Stop}
+use Rattle.pb_study.specs.declared.results.Study.{Study}
+use Rattle.pb_study.specs.declared.results.Options.{Options}
+use Rattle.pb_study.specs.declared.results.Critical.{Critical}
 use Rattle.pb_graph.specs.ProcessGraph.{ProcessGraph, IsProcessGraph, unmeasured_at}
 use Rattle.pb_graph.proofs.WalkLemmas.{some_same}
 use Rattle.pb_forest.specs.Forest.{degrees_of_freedom}
@@ -26,11 +26,11 @@ use Rattle.pb_gap.specs.StreamBounds.{stream_bounds}
 use Rattle.pb_gap.specs.LeastBounds.{stream_least_bounds}
 use Rattle.pb_gap.specs.Statistic.{low_of, high_of}
 use Rattle.pb_gap.specs.Solution.{IsSolution, OutsideLaw, SomeSolutionLaw}
-use Rattle.pb_tests.specs.Verdicts.{global_test_of}
-use Rattle.pb_tests.specs.Laws.{SomeNodalTestsLaw, SomeMeasureTestsLaw}
-use Rattle.pb_elim.specs.Options.{AreOptions}
-use Rattle.pb_elim.specs.Printed.{printed_price, printed_flows, printed_classes}
-use Rattle.pb_elim.specs.StageTests.{AreTestsOf, redundant_streams}
+use Rattle.pb_stage.specs.Verdicts.{global_test_of}
+use Rattle.pb_stage.specs.Laws.{SomeNodalTestsLaw, SomeMeasureTestsLaw}
+use Rattle.pb_study.specs.Options.{AreOptions}
+use Rattle.pb_stage.specs.Printed.{printed_price, printed_flows, printed_classes}
+use Rattle.pb_stage.specs.StageTests.{AreTestsOf, redundant_streams}
 use Rattle.pb_elim.specs.Stage.{IsReconciliationOf, IsStageOf}
 use Rattle.pb_elim.specs.Elimination.{IsStop, IsTakenAfter, stop_after}
 use Rattle.pb_elim.specs.Study.{AreRounds, IsStudyOf}

@@ -6,21 +6,21 @@ use Rattle.std.proofs.lemmas.List.Elements.{All-from_recursion, recursion_from_A
 use Rattle.std.proofs.lemmas.Bool.{cases_eq, cases_lt}
 use Rattle.std.proofs.lemmas.List.{get_or_append_left, get_or_push, length-map, length_push}
 use Rattle.std.proofs.lemmas.Option.{get_or_from_slice_get, slice_get_within, slice_get-get_or}
-use Rattle.pb_integers.specs.Sums.{item}
+use Rattle.pb_fixed.specs.Sums.{item}
 use Rattle.pb_limits.specs.Limits.{most_sweeps}
 use Rattle.pb_limits.specs.Ranges.{IsCriticalValue}
 use Rattle.pb_forest.proofs.ForestLaws.{few_held_law}
 use Rattle.pb_graph.specs.declared.records.Classified.{Classified}
 use Rattle.pb_graph.specs.declared.records.Witness.{Witness}
 use Rattle.pb_graph.specs.declared.records.Witness.TheVariants.{Cut, Cycle}
-use Rattle.pb_graph.specs.declared.results.Solved.{Solved}
-use Rattle.pb_graph.specs.declared.results.Solved.TheVariants.{Converged, Unconverged}
-use Rattle.pb_graph.specs.declared.results.StreamResult.{StreamResult}
-use Rattle.pb_graph.specs.declared.results.Tests.{Tests}
-use Rattle.pb_graph.specs.declared.results.Stage.{Stage}
-use Rattle.pb_graph.specs.declared.results.Options.{Options}
-use Rattle.pb_graph.specs.declared.results.Critical.{Critical}
-use Rattle.pb_graph.specs.declared.results.CriticalRow.{CriticalRow}
+use Rattle.pb_study.specs.declared.results.Solved.{Solved}
+use Rattle.pb_study.specs.declared.results.Solved.TheVariants.{Converged, Unconverged}
+use Rattle.pb_study.specs.declared.results.StreamResult.{StreamResult}
+use Rattle.pb_study.specs.declared.results.Tests.{Tests}
+use Rattle.pb_study.specs.declared.results.Stage.{Stage}
+use Rattle.pb_study.specs.declared.results.Options.{Options}
+use Rattle.pb_study.specs.declared.results.Critical.{Critical}
+use Rattle.pb_study.specs.declared.results.CriticalRow.{CriticalRow}
 use Rattle.pb_graph.specs.ProcessGraph.{ProcessGraph}
 use Rattle.pb_graph.specs.Certificates.{IsCertified}
 use Rattle.pb_graph.proofs.WalkLemmas.{some_same}
@@ -32,14 +32,15 @@ use Rattle.pb_gap.specs.LeastBounds.{stream_least_bounds}
 use Rattle.pb_gap.specs.Statistic.{low_of, high_of}
 use Rattle.pb_gap.specs.State.{State, IsState, price_in, gap_in}
 use Rattle.pb_gap.specs.Solution.{IsSolution, IsSolvedStatistic}
-use Rattle.pb_tests.specs.Verdicts.{critical_for, global_critical}
-use Rattle.pb_elim.specs.Options.{AreOptions}
-use Rattle.pb_elim.specs.Criticals.{AreCritical, IsCriticalRow}
-use Rattle.pb_elim.specs.Printed.{printed_price, printed_flows, printed_classes, printed_gap}
-use Rattle.pb_elim.specs.StageTests.{AreTestsOf, is_redundant, redundant_from, redundant_streams}
+use Rattle.pb_stage.specs.Verdicts.{critical_for, global_critical}
+use Rattle.pb_study.specs.Options.{AreOptions}
+use Rattle.pb_study.specs.Criticals.{AreCritical, IsCriticalRow}
+use Rattle.pb_stage.specs.Printed.{printed_price, printed_flows, printed_classes, printed_gap}
+use Rattle.pb_stage.specs.StageTests.{AreTestsOf, is_redundant, redundant_from, redundant_streams}
 use Rattle.pb_elim.specs.Stage.{IsReconciliationOf, IsStageOf}
-use Rattle.pb_graph.specs.WellFormed.{sweeps_of, IsPrice, IsWide, IsResultWithin, IsWitnessWithin, AreTestsWithin, IsWellFormed}
-use Rattle.pb_elim.specs.Signs.{AreWitnessSigns}
+use Rattle.pb_study.specs.WellFormed.{sweeps_of, IsWide, IsResultWithin, AreTestsWithin, IsWellFormed}
+use Rattle.pb_graph.specs.WellFormed.{IsPrice, IsWitnessWithin}
+use Rattle.pb_stage.specs.Signs.{AreWitnessSigns}
 use Rattle.pb_elim.specs.Results.{IsResultOf, AreResultsOf}
 use Rattle.pb_elim.proofs.ListLemmas.{from_map, same_items, some_at}
 use Rattle.pb_graph.proofs.CertificateLemmas.{witness_within}

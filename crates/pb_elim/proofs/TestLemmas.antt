@@ -5,20 +5,20 @@ use Rattle.std.proofs.lemmas.List.{length-map, map-append}
 use Rattle.std.proofs.lemmas.List.Elements.{All-nil, All-cons, All-append}
 use Rattle.std.proofs.lemmas.Option.{slice_get-get_or}
 use Rattle.pb_graph.specs.declared.records.Stream.{Stream}
-use Rattle.pb_graph.specs.declared.results.GlobalTest.{GlobalTest}
-use Rattle.pb_graph.specs.declared.results.NodalTest.{NodalTest}
-use Rattle.pb_graph.specs.declared.results.MeasureTest.{MeasureTest}
-use Rattle.pb_graph.specs.declared.results.Tests.{Tests}
-use Rattle.pb_graph.specs.declared.results.Stage.{Stage}
-use Rattle.pb_graph.specs.declared.results.Options.{Options}
-use Rattle.pb_graph.specs.declared.results.Critical.{Critical}
+use Rattle.pb_study.specs.declared.results.GlobalTest.{GlobalTest}
+use Rattle.pb_study.specs.declared.results.NodalTest.{NodalTest}
+use Rattle.pb_study.specs.declared.results.MeasureTest.{MeasureTest}
+use Rattle.pb_study.specs.declared.results.Tests.{Tests}
+use Rattle.pb_study.specs.declared.results.Stage.{Stage}
+use Rattle.pb_study.specs.declared.results.Options.{Options}
+use Rattle.pb_study.specs.declared.results.Critical.{Critical}
 use Rattle.pb_graph.specs.ProcessGraph.{ProcessGraph}
 use Rattle.pb_graph.specs.Groups.{group_count, is_free_group}
-use Rattle.pb_tests.specs.Verdicts.{global_verdict, measure_verdict}
-use Rattle.pb_tests.specs.Nodal.{AreNodalTests, nodal_test, nodal_tests_below, test_of_group}
-use Rattle.pb_elim.specs.StageTests.{AreTestsOf, redundant_streams}
+use Rattle.pb_stage.specs.Verdicts.{global_verdict, measure_verdict}
+use Rattle.pb_stage.specs.Nodal.{AreNodalTests, nodal_test, nodal_tests_below, test_of_group}
+use Rattle.pb_stage.specs.StageTests.{AreTestsOf, redundant_streams}
 use Rattle.pb_elim.specs.Study.{without_taken}
-use Rattle.pb_elim.specs.Certified.{AreShownTests, IsNodalVerdict, unjudged}
+use Rattle.pb_stage.specs.Certified.{AreShownTests, IsNodalVerdict, unjudged}
 use Rattle.pb_elim.specs.Laws.{TestedLaw}
 use Rattle.pb_elim.proofs.ListLemmas.{from_map, same_items, some_at}
 

@@ -3,17 +3,17 @@ use Rattle.std.proofs.Common.{◌≡◌, ◌∙◌, List, take, Option, Some, No
 use Rattle.std.specs.Prelude.{is_some, option_map}
 use Rattle.std.proofs.lemmas.Option.{slice_get-get_or}
 use Rattle.pb_graph.specs.declared.records.Member.{Member}
-use Rattle.pb_graph.specs.declared.results.Bounds.{Bounds}
-use Rattle.pb_graph.specs.declared.results.Stage.{Stage}
-use Rattle.pb_graph.specs.declared.results.Options.{Options}
+use Rattle.pb_study.specs.declared.results.Bounds.{Bounds}
+use Rattle.pb_study.specs.declared.results.Stage.{Stage}
+use Rattle.pb_study.specs.declared.results.Options.{Options}
 use Rattle.pb_graph.specs.ProcessGraph.{ProcessGraph}
 use Rattle.pb_gap.specs.Bounds.{bounds_of}
 use Rattle.pb_gap.specs.StreamBounds.{sum_for}
 use Rattle.pb_gap.specs.LeastBounds.{least_bounds_of}
-use Rattle.pb_elim.specs.Printed.{printed_price, printed_flows, printed_gap}
+use Rattle.pb_stage.specs.Printed.{printed_price, printed_flows, printed_gap}
 use Rattle.pb_elim.specs.Stage.{IsReconciliationOf}
 use Rattle.pb_elim.specs.Study.{without_taken}
-use Rattle.pb_elim.specs.Certified.{HasLeastThroughout}
+use Rattle.pb_stage.specs.Certified.{HasLeastThroughout}
 use Rattle.pb_elim.specs.Laws.{LeastThroughoutLaw}
 
 both_or_none : (f g : List Member → Bounds) (o : Option (List Member)) → is_some (option_map f o) ≡ is_some (option_map g o)

@@ -6,14 +6,14 @@ use Rattle.std.proofs.lemmas.List.{ext_get_or, length-map, take_all, take_more_s
 use Rattle.std.proofs.lemmas.Option.{get_or_from_slice_get, slice_get_within}
 use Rattle.pb_graph.specs.declared.records.Stream.{Stream}
 use Rattle.pb_graph.specs.declared.records.Classified.{Classified}
-use Rattle.pb_graph.specs.declared.results.StreamResult.{StreamResult}
-use Rattle.pb_graph.specs.declared.results.Tests.{Tests}
-use Rattle.pb_graph.specs.declared.results.Stage.{Stage}
-use Rattle.pb_graph.specs.declared.results.Taken.{Taken}
-use Rattle.pb_graph.specs.declared.results.Stop.{Stop}
-use Rattle.pb_graph.specs.declared.results.Study.{Study}
-use Rattle.pb_graph.specs.declared.results.Options.{Options}
-use Rattle.pb_graph.specs.declared.results.Critical.{Critical}
+use Rattle.pb_study.specs.declared.results.StreamResult.{StreamResult}
+use Rattle.pb_study.specs.declared.results.Tests.{Tests}
+use Rattle.pb_study.specs.declared.results.Stage.{Stage}
+use Rattle.pb_study.specs.declared.results.Taken.{Taken}
+use Rattle.pb_study.specs.declared.results.Stop.{Stop}
+use Rattle.pb_study.specs.declared.results.Study.{Study}
+use Rattle.pb_study.specs.declared.results.Options.{Options}
+use Rattle.pb_study.specs.declared.results.Critical.{Critical}
 use Rattle.pb_graph.specs.ProcessGraph.{ProcessGraph, IsProcessGraph}
 use Rattle.pb_graph.proofs.WalkLemmas.{some_same}
 use Rattle.pb_forest.specs.Forest.{degrees_of_freedom}
@@ -25,12 +25,13 @@ use Rattle.pb_gap.specs.StreamBounds.{stream_bounds}
 use Rattle.pb_gap.specs.LeastBounds.{stream_least_bounds}
 use Rattle.pb_gap.specs.Statistic.{low_of, high_of}
 use Rattle.pb_gap.specs.Solution.{OneSolutionLaw}
-use Rattle.pb_tests.specs.Verdicts.{global_test_of}
-use Rattle.pb_tests.specs.Drop.{AreMeasureTests}
-use Rattle.pb_tests.specs.Laws.{OneMeasureTestsLaw, OneNodalTestsLaw}
-use Rattle.pb_elim.specs.Printed.{printed_price, printed_flows, printed_classes, printed_gap}
-use Rattle.pb_elim.specs.StageTests.{AreTestsOf, redundant_streams}
-use Rattle.pb_elim.specs.Stage.{HasFreedom, IsReconciliationOf, IsStageOf}
+use Rattle.pb_stage.specs.Verdicts.{global_test_of}
+use Rattle.pb_stage.specs.Drop.{AreMeasureTests}
+use Rattle.pb_stage.specs.Laws.{OneMeasureTestsLaw, OneNodalTestsLaw}
+use Rattle.pb_stage.specs.Printed.{printed_price, printed_flows, printed_classes, printed_gap}
+use Rattle.pb_stage.specs.StageTests.{AreTestsOf, redundant_streams}
+use Rattle.pb_stage.specs.Freedom.{HasFreedom}
+use Rattle.pb_elim.specs.Stage.{IsReconciliationOf, IsStageOf}
 use Rattle.pb_elim.specs.Elimination.{IsStop, IsTakenAfter, stop_after}
 use Rattle.pb_elim.specs.Study.{IsStudyOf, without_taken}
 use Rattle.pb_elim.specs.Laws.{OneStudyLaw}

@@ -7,24 +7,25 @@ use Rattle.std.proofs.lemmas.List.{get_or_default, length-map}
 use Rattle.std.proofs.lemmas.List.Elements.{All-nil, All-cons, All-append}
 use Rattle.std.proofs.lemmas.Option.{slice_get-get_or, slice_get_within}
 use Rattle.pb_limits.specs.Ranges.{IsCriticalValue}
-use Rattle.pb_integers.proofs.Lists.{all_each}
+use Rattle.pb_fixed.proofs.Lists.{all_each}
 use Rattle.pb_forest.proofs.ForestLaws.{few_held_law}
 use Rattle.pb_graph.specs.declared.records.Stream.{Stream}
 use Rattle.pb_graph.specs.declared.records.Member.{Member}
-use Rattle.pb_graph.specs.declared.results.Bounds.{Bounds}
-use Rattle.pb_graph.specs.declared.results.StreamResult.{StreamResult}
-use Rattle.pb_graph.specs.declared.results.GlobalTest.{GlobalTest}
-use Rattle.pb_graph.specs.declared.results.NodalTest.{NodalTest}
-use Rattle.pb_graph.specs.declared.results.MeasureTest.{MeasureTest}
-use Rattle.pb_graph.specs.declared.results.Tests.{Tests}
-use Rattle.pb_graph.specs.declared.results.Stage.{Stage}
-use Rattle.pb_graph.specs.declared.results.Taken.{Taken}
-use Rattle.pb_graph.specs.declared.results.Options.{Options}
-use Rattle.pb_graph.specs.declared.results.Critical.{Critical}
+use Rattle.pb_study.specs.declared.results.Bounds.{Bounds}
+use Rattle.pb_study.specs.declared.results.StreamResult.{StreamResult}
+use Rattle.pb_study.specs.declared.results.GlobalTest.{GlobalTest}
+use Rattle.pb_study.specs.declared.results.NodalTest.{NodalTest}
+use Rattle.pb_study.specs.declared.results.MeasureTest.{MeasureTest}
+use Rattle.pb_study.specs.declared.results.Tests.{Tests}
+use Rattle.pb_study.specs.declared.results.Stage.{Stage}
+use Rattle.pb_study.specs.declared.results.Taken.{Taken}
+use Rattle.pb_study.specs.declared.results.Options.{Options}
+use Rattle.pb_study.specs.declared.results.Critical.{Critical}
 use Rattle.pb_graph.specs.ProcessGraph.{ProcessGraph, IsProcessGraph}
 use Rattle.pb_graph.specs.Prices.{PricesFit}
 use Rattle.pb_graph.specs.Groups.{group_count, is_free_group}
-use Rattle.pb_graph.specs.WellFormed.{AreBoundsWithin, AreTestsWithin, HasShapeOf, IsFlow, IsMeasureWithin, IsNodalWithin, IsPrice, IsResultWithin, IsTakenWithin, IsWellFormed, IsWide}
+use Rattle.pb_study.specs.WellFormed.{AreBoundsWithin, AreTestsWithin, HasShapeOf, IsMeasureWithin, IsNodalWithin, IsResultWithin, IsTakenWithin, IsWellFormed, IsWide}
+use Rattle.pb_graph.specs.WellFormed.{IsFlow, IsPrice}
 use Rattle.pb_graph.proofs.CertificateLemmas.{witness_within}
 use Rattle.pb_dual.specs.Laws.{AscentLaw}
 use Rattle.pb_gap.specs.declared.gap.Gap.{Gap}
@@ -38,13 +39,13 @@ use Rattle.pb_gap.specs.Solution.{IsSolvedStatistic}
 use Rattle.pb_gap.specs.Laws.{StreamSumLaw, SumsTo}
 use Rattle.pb_gap.specs.RangeLaws.{AreNumbersWithin, IsEnd, RangeLaw}
 use Rattle.pb_gap.specs.LeastBoundsLaws.{LeastRangeLaw}
-use Rattle.pb_tests.specs.Nodal.{AreNodalTests, nodal_test, nodal_tests_below, test_of_group}
-use Rattle.pb_tests.specs.Drop.{AreMeasureTests, drop_high, drop_low, without_measurement}
-use Rattle.pb_tests.specs.Laws.{FreeGroupsLaw, NodalRangeLaw}
-use Rattle.pb_elim.specs.Options.{AreOptions}
-use Rattle.pb_elim.specs.Criticals.{AreCritical}
-use Rattle.pb_elim.specs.Printed.{printed_price, printed_flows}
-use Rattle.pb_elim.specs.StageTests.{AreTestsOf, redundant_streams}
+use Rattle.pb_stage.specs.Nodal.{AreNodalTests, nodal_test, nodal_tests_below, test_of_group}
+use Rattle.pb_stage.specs.Drop.{AreMeasureTests, drop_high, drop_low, without_measurement}
+use Rattle.pb_stage.specs.Laws.{FreeGroupsLaw, NodalRangeLaw}
+use Rattle.pb_study.specs.Options.{AreOptions}
+use Rattle.pb_study.specs.Criticals.{AreCritical}
+use Rattle.pb_stage.specs.Printed.{printed_price, printed_flows}
+use Rattle.pb_stage.specs.StageTests.{AreTestsOf, redundant_streams}
 use Rattle.pb_elim.specs.Stage.{IsReconciliationOf, IsStageOf}
 use Rattle.pb_elim.specs.Study.{without_taken}
 use Rattle.pb_elim.specs.Laws.{FormedLaw}

@@ -1,15 +1,15 @@
 -- Statement. What the decided tests of measurements say about the weighted squares themselves.
 use Rattle.std.specs.Prelude.{ℕ, ℤ, List, All, IfSome, MatchOption}
-use Rattle.pb_graph.specs.declared.results.Verdict.{Verdict}
-use Rattle.pb_graph.specs.declared.results.Verdict.TheVariants.{Reject, Accept}
-use Rattle.pb_graph.specs.declared.results.MeasureTest.{MeasureTest}
-use Rattle.pb_graph.specs.declared.results.Stage.{Stage}
+use Rattle.pb_study.specs.declared.results.Verdict.{Verdict}
+use Rattle.pb_study.specs.declared.results.Verdict.TheVariants.{Reject, Accept}
+use Rattle.pb_study.specs.declared.results.MeasureTest.{MeasureTest}
+use Rattle.pb_study.specs.declared.results.Stage.{Stage}
 use Rattle.pb_graph.specs.Balance.{IsBalanced}
 use Rattle.pb_graph.specs.Squares.{Fractional, IsBalancedFractional, whole_flows}
-use Rattle.pb_tests.specs.Drop.{without_measurement}
-use Rattle.pb_tests.specs.Decided.{AreSquaresAboveBy, AreSquaresWithinBy}
-use Rattle.pb_elim.specs.Printed.{printed_flows}
-use Rattle.pb_elim.specs.Certified.{IsUndecided}
+use Rattle.pb_stage.specs.Drop.{without_measurement}
+use Rattle.pb_stage.specs.Decided.{AreSquaresAboveBy, AreSquaresWithinBy}
+use Rattle.pb_stage.specs.Printed.{printed_flows}
+use Rattle.pb_stage.specs.Certified.{IsUndecided}
 
 -- What the verdict of the test of a measurement says with a critical value. If it rejects, there are balanced flows without the
 -- measurement whose weighted squares are less than those of all balanced flows with it, by more than the value. If it accepts, the

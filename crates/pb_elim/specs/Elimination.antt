@@ -2,16 +2,16 @@
 -- Jordache).
 use Rattle.std.specs.Prelude.{◌≡◌, ◌≢◌, ◌==◌, ◌<◌, ◌≤ℤ◌, ◌<ℤ◌, ℕ, ℤ, Bool, true, false, List, Option, Some, None, slice_get, IsSomeAnd, if◌then◌else◌}
 use Rattle.std.specs.List.{list_any}
-use Rattle.pb_graph.specs.declared.results.Verdict.{Verdict}
-use Rattle.pb_graph.specs.declared.results.Verdict.TheVariants.{Reject, Accept, Undecided, NoCritical, NoTest}
-use Rattle.pb_graph.specs.declared.results.Stop.{Stop}
-use Rattle.pb_graph.specs.declared.results.Stop.TheVariants.{Accepted, NoSuspect, Spent, Undecided as StopUndecided, NoCritical as StopNoCritical, NoTest as StopNoTest}
-use Rattle.pb_graph.specs.declared.results.MeasureTest.{MeasureTest}
-use Rattle.pb_graph.specs.declared.results.Tests.{Tests}
-use Rattle.pb_graph.specs.declared.results.Stage.{Stage}
-use Rattle.pb_graph.specs.declared.results.Taken.{Taken}
-use Rattle.pb_graph.specs.declared.results.Options.{Options}
-use Rattle.pb_graph.specs.declared.results.Critical.{Critical}
+use Rattle.pb_study.specs.declared.results.Verdict.{Verdict}
+use Rattle.pb_study.specs.declared.results.Verdict.TheVariants.{Reject, Accept, Undecided, NoCritical, NoTest}
+use Rattle.pb_study.specs.declared.results.Stop.{Stop}
+use Rattle.pb_study.specs.declared.results.Stop.TheVariants.{Accepted, NoSuspect, Spent}
+use Rattle.pb_study.specs.declared.results.MeasureTest.{MeasureTest}
+use Rattle.pb_study.specs.declared.results.Tests.{Tests}
+use Rattle.pb_study.specs.declared.results.Stage.{Stage}
+use Rattle.pb_study.specs.declared.results.Taken.{Taken}
+use Rattle.pb_study.specs.declared.results.Options.{Options}
+use Rattle.pb_study.specs.declared.results.Critical.{Critical}
 
 -- the test says that the limit is exceeded
 abbrev pub is_reject : Verdict → Bool
@@ -25,16 +25,16 @@ is_suspect test = is_reject test.verdict
 -- the reason to stop after a rejected stage while rounds are left: there is no critical value for its measurements, or no suspect
 -- among them; none if there is a suspect
 abbrev pub stop_of_measures : Option ℤ → List MeasureTest → Option Stop
-stop_of_measures None measures = Some StopNoCritical
+stop_of_measures None measures = Some Stop.NoCritical
 stop_of_measures (Some value) measures = if list_any is_suspect measures then None else Some NoSuspect
 
 -- the reason to stop after a stage for which this many streams were taken, by its global test: a rejected stage goes on to its
 -- measurements, unless as many streams were taken as rounds are asked for
 abbrev pub stop_by : Verdict → Options → Critical → ℕ → List MeasureTest → Option Stop
 stop_by Accept options critical taken measures = Some Accepted
-stop_by Undecided options critical taken measures = Some StopUndecided
-stop_by NoCritical options critical taken measures = Some StopNoCritical
-stop_by NoTest options critical taken measures = Some StopNoTest
+stop_by Undecided options critical taken measures = Some Stop.Undecided
+stop_by NoCritical options critical taken measures = Some Stop.NoCritical
+stop_by NoTest options critical taken measures = Some Stop.NoTest
 stop_by Reject options critical taken measures =
     if taken == options.eliminate then Some Spent else stop_of_measures critical.measure measures
 

@@ -1,22 +1,18 @@
 -- Statement. What is proved of stages and studies.
 use Rattle.std.specs.Prelude.{◌≡◌, All}
-use Rattle.pb_graph.specs.declared.results.Stage.{Stage}
-use Rattle.pb_graph.specs.declared.results.Study.{Study}
-use Rattle.pb_graph.specs.declared.results.Options.{Options}
-use Rattle.pb_graph.specs.declared.results.Critical.{Critical}
+use Rattle.pb_study.specs.declared.results.Stage.{Stage}
+use Rattle.pb_study.specs.declared.results.Study.{Study}
+use Rattle.pb_study.specs.declared.results.Options.{Options}
+use Rattle.pb_study.specs.declared.results.Critical.{Critical}
 use Rattle.pb_graph.specs.ProcessGraph.{ProcessGraph, IsProcessGraph}
-use Rattle.pb_graph.specs.WellFormed.{IsWellFormedStudy}
+use Rattle.pb_study.specs.WellFormed.{IsWellFormedStudy}
 use Rattle.pb_gap.specs.Solution.{IsSolution}
-use Rattle.pb_elim.specs.Options.{AreOptions}
-use Rattle.pb_elim.specs.Criticals.{AreCritical}
-use Rattle.pb_elim.specs.Printed.{printed_price, printed_flows}
+use Rattle.pb_study.specs.Options.{AreOptions}
+use Rattle.pb_study.specs.Criticals.{AreCritical}
+use Rattle.pb_stage.specs.Printed.{printed_price, printed_flows}
 use Rattle.pb_elim.specs.Study.{IsStudyOf}
-use Rattle.pb_elim.specs.Certified.{IsShownStage, IsCertifiedStage, TestsEachRedundant, HasLeastThroughout}
+use Rattle.pb_stage.specs.Certified.{IsCertifiedStage, TestsEachRedundant, HasLeastThroughout}
 use Rattle.pb_elim.specs.Decided.{AreMeasuresRight}
-
--- a stage that is shown is certified, whatever made it
-abbrev pub ShownLaw : Type 0
-ShownLaw = (stage : Stage) → IsShownStage stage → IsCertifiedStage stage
 
 -- each stage of a study is certified
 abbrev pub CertifiedLaw : Type 0

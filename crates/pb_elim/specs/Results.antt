@@ -1,11 +1,12 @@
 -- Inside. What is printed for the streams of a solved graph.
 use Rattle.std.specs.Prelude.{◌≡◌, ℕ, List, length, Some, slice_get, IfSome}
 use Rattle.pb_graph.specs.declared.records.Classified.{Classified}
-use Rattle.pb_graph.specs.declared.results.StreamResult.{StreamResult}
+use Rattle.pb_study.specs.declared.results.StreamResult.{StreamResult}
 use Rattle.pb_gap.specs.State.{State, price_in, gap_in}
 use Rattle.pb_gap.specs.StreamBounds.{stream_bounds}
 use Rattle.pb_gap.specs.LeastBounds.{stream_least_bounds}
-use Rattle.pb_graph.specs.WellFormed.{AreBoundsWithin, IsFlow}
+use Rattle.pb_study.specs.WellFormed.{AreBoundsWithin}
+use Rattle.pb_graph.specs.WellFormed.{IsFlow}
 
 -- the result of stream j, which has a class with its certificate: the class, the flow, the bounds from the certificate, and the least
 -- bounds

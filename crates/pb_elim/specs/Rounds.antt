@@ -1,16 +1,16 @@
 -- Inside. How streams are taken, round by round.
 use Rattle.std.specs.Prelude.{◌≡◌, ◌≢◌, ◌==◌, ℕ, int_lt, false, List, [], ◌∷◌, Option, None, Some, length, slice_get, is_some, IsSome, IsSomeAnd, MatchOption, if◌then◌else◌}
 use Rattle.std.specs.List.{list_any}
-use Rattle.pb_graph.specs.declared.results.MeasureTest.{MeasureTest}
-use Rattle.pb_graph.specs.declared.results.Tests.{Tests}
-use Rattle.pb_graph.specs.declared.results.Stage.{Stage}
-use Rattle.pb_graph.specs.declared.results.Taken.{Taken}
-use Rattle.pb_graph.specs.declared.results.Stop.{Stop}
-use Rattle.pb_graph.specs.declared.results.Study.{Study}
-use Rattle.pb_graph.specs.declared.results.Options.{Options}
-use Rattle.pb_graph.specs.declared.results.Critical.{Critical}
+use Rattle.pb_study.specs.declared.results.MeasureTest.{MeasureTest}
+use Rattle.pb_study.specs.declared.results.Tests.{Tests}
+use Rattle.pb_study.specs.declared.results.Stage.{Stage}
+use Rattle.pb_study.specs.declared.results.Taken.{Taken}
+use Rattle.pb_study.specs.declared.results.Stop.{Stop}
+use Rattle.pb_study.specs.declared.results.Study.{Study}
+use Rattle.pb_study.specs.declared.results.Options.{Options}
+use Rattle.pb_study.specs.declared.results.Critical.{Critical}
 use Rattle.pb_graph.specs.ProcessGraph.{ProcessGraph, IsProcessGraph}
-use Rattle.pb_graph.specs.WellFormed.{IsWellFormedStudy}
+use Rattle.pb_study.specs.WellFormed.{IsWellFormedStudy}
 use Rattle.pb_elim.specs.Elimination.{IsSuspect, is_suspect, stop_after}
 use Rattle.pb_elim.specs.Study.{AreRounds}
 

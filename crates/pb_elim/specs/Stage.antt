@@ -1,25 +1,18 @@
 -- Statement. The stage of a graph.
-use Rattle.std.specs.Prelude.{◌≡◌, ℕ, Bool, List, length, is_some, IfSome}
-use Rattle.pb_graph.specs.declared.records.Stream.{Stream}
-use Rattle.pb_graph.specs.declared.results.Stage.{Stage}
-use Rattle.pb_graph.specs.declared.results.Options.{Options}
-use Rattle.pb_graph.specs.declared.results.Critical.{Critical}
+use Rattle.std.specs.Prelude.{◌≡◌, length, is_some, IfSome}
+use Rattle.pb_study.specs.declared.results.Stage.{Stage}
+use Rattle.pb_study.specs.declared.results.Options.{Options}
+use Rattle.pb_study.specs.declared.results.Critical.{Critical}
 use Rattle.pb_graph.specs.ProcessGraph.{ProcessGraph}
-use Rattle.pb_forest.specs.Forest.{IsForest, degrees_of_freedom}
 use Rattle.pb_classify.specs.Classification.{IsClassification}
 use Rattle.pb_gap.specs.Gap.{gap_of}
 use Rattle.pb_gap.specs.StreamBounds.{stream_bounds}
 use Rattle.pb_gap.specs.LeastBounds.{stream_least_bounds}
 use Rattle.pb_gap.specs.Statistic.{low_of, high_of}
 use Rattle.pb_gap.specs.Solution.{IsSolution}
-use Rattle.pb_elim.specs.Printed.{printed_price, printed_flows, printed_classes, printed_gap, EachStream}
-use Rattle.pb_elim.specs.StageTests.{AreTestsOf}
-
--- the degrees of freedom are the number of measured streams in the spanning forest
-pub record HasFreedom (streams : List Stream) (dof : ℕ) : Type 0 where
-  pub held : List Bool
-  pub forest : IsForest streams held
-  pub count : dof ≡ degrees_of_freedom streams held
+use Rattle.pb_stage.specs.Printed.{printed_price, printed_flows, printed_classes, printed_gap, EachStream}
+use Rattle.pb_stage.specs.StageTests.{AreTestsOf}
+use Rattle.pb_stage.specs.Freedom.{HasFreedom}
 
 -- The reconciliation of a graph, which is its stage except for the tests: each stream's class with its canonical certificate; the
 -- solution of the graph, which gives prices and flows; and what follows from these: the gap, each stream's bounds and least bounds

@@ -5,7 +5,7 @@ ghost use Rattle.std.specs.List.{list_any};
 ghost use Rattle.pb_elim.specs.Elimination.{is_suspect, stop_after, stop_of_measures};
 ghost use Rattle.pb_elim.specs.Rounds.{next_at, stop_at, worse, worse_of, worst_from};
 
-use pb_graph::{Critical, MeasureTest, Options, Stop, Taken, Tests, Verdict};
+use pb_study::{Critical, MeasureTest, Options, Stop, Taken, Tests, Verdict};
 
 // Whether a measurement is suspected by its test.
 fn is_suspect(test: &MeasureTest) -> bool

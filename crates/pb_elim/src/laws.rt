@@ -1,41 +1,19 @@
 // What is proved of the definitions alone. The contract of each function is a law; the function calls the laws that its proof uses.
 
-ghost use Rattle.pb_elim.specs.Laws.{ShownLaw, CertifiedLaw, TestedLaw, LeastThroughoutLaw, DecidedLaw, FormedLaw, SolutionLaw, SomeStudyLaw, OneStudyLaw};
+ghost use Rattle.pb_elim.specs.Laws.{CertifiedLaw, TestedLaw, LeastThroughoutLaw, DecidedLaw, FormedLaw, SolutionLaw, SomeStudyLaw, OneStudyLaw};
 
-use pb_balance::certificate_law;
 use pb_classify::{one_classification_law, some_classification_law};
 use pb_dual::laws::ascent_law;
 use pb_forest::one_forest_law;
 use pb_gap::{
-    gap_law, least_bounds_law, least_law, one_solution_law, outside_law, range_law,
-    some_solution_law, statistic_law, stream_law,
+    least_bounds_law, one_solution_law, outside_law, range_law, some_solution_law, stream_law,
 };
-use pb_tests::{
-    decided_global_law, decided_measure_law, free_groups_law, measure_tests_law, nodal_range_law,
-    nodal_tests_law,
-};
-
-/// A stage that is shown is certified, whatever made it.
-pub fn shown_law()
-    ensures { ShownLaw }
-{
-    certificate_law();
-    gap_law();
-    stream_law();
-    least_bounds_law();
-    least_law();
-    statistic_law();
-    decided_global_law();
-}
+use pb_stage::{free_groups_law, measure_tests_law, nodal_range_law, nodal_tests_law};
 
 /// Each stage of a study is certified, for every graph, options and critical values.
 pub fn certified_law()
     ensures { CertifiedLaw }
-{
-    ascent_law();
-    gap_law();
-    shown_law();
-}
+{}
 
 /// If there are tests, each redundant stream of each stage of a study has the test of its measurement, in order.
 pub fn tested_law()
@@ -50,9 +28,7 @@ pub fn least_throughout_law()
 /// The decided tests of measurements of each stage of a study are right.
 pub fn decided_law()
     ensures { DecidedLaw }
-{
-    decided_measure_law();
-}
+{}
 
 /// A study is well formed, whatever made it: each of its numbers is within the range in which it is printed.
 pub fn formed_law()

@@ -6,15 +6,13 @@
 
 mod elimination;
 mod laws;
-mod members;
 mod stages;
 mod studies;
 mod testing;
 
 pub use laws::{
-    certified_law, decided_law, formed_law, least_throughout_law, one_study_law, shown_law,
-    solution_law, some_study_law, tested_law,
+    certified_law, decided_law, formed_law, least_throughout_law, one_study_law, solution_law,
+    some_study_law, tested_law,
 };
-pub use members::sum_for;
 pub use stages::stage;
 pub use studies::{study, study_classed};

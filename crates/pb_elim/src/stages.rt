@@ -1,26 +1,28 @@
 // The stage of a graph.
 
 ghost use Rattle.std.specs.Prelude.{◌≡◌, ℕ, ◌<◌, ◌≤◌, None, All, length, IfOk, IfSome};
-ghost use Rattle.pb_integers.specs.Sums.{item};
+ghost use Rattle.pb_fixed.specs.Sums.{item};
 ghost use Rattle.pb_graph.specs.ProcessGraph.{IsProcessGraph};
-ghost use Rattle.pb_graph.specs.WellFormed.{AreBoundsWithin, IsPrice, IsWellFormed};
+ghost use Rattle.pb_study.specs.WellFormed.{AreBoundsWithin, IsWellFormed};
+ghost use Rattle.pb_graph.specs.WellFormed.{IsPrice};
 ghost use Rattle.pb_forest.specs.Forest.{IsForestOf};
 ghost use Rattle.pb_classify.specs.Classification.{IsClassified, IsClassification};
 ghost use Rattle.pb_gap.specs.State.{IsState, price_in, gap_in};
 ghost use Rattle.pb_gap.specs.StreamBounds.{stream_bounds};
 ghost use Rattle.pb_gap.specs.LeastBounds.{stream_least_bounds};
 ghost use Rattle.pb_gap.specs.Solution.{IsSolution};
-ghost use Rattle.pb_elim.specs.Options.{AreOptions};
+ghost use Rattle.pb_study.specs.Options.{AreOptions};
 ghost use Rattle.pb_elim.specs.Results.{IsResultOf, AreResultsOf};
-ghost use Rattle.pb_elim.specs.Criticals.{AreCritical};
+ghost use Rattle.pb_study.specs.Criticals.{AreCritical};
 ghost use Rattle.pb_elim.specs.Stage.{IsReconciliationOf, IsStageOf};
 
-use crate::members::sum_for;
 use crate::testing::asked_tests;
 use pb_classify::classify_in;
 use pb_forest::Forest;
-use pb_gap::{Solver, stream_law};
-use pb_graph::{Bounds, Classified, Critical, Graph, List, Options, Solved, Stage, StreamResult};
+use pb_gap::Solver;
+use pb_graph::{Classified, Graph, List};
+use pb_stage::sum_for;
+use pb_study::{Bounds, Critical, Options, Solved, Stage, StreamResult};
 use std::alloc::{AllocError, Global};
 
 // The bounds of the flow of a stream, and its least bounds.
@@ -47,7 +49,6 @@ fn enclosure_of(
     ensures within { IfOk result (λ enclosure. IfSome enclosure.bounds AreBoundsWithin) }
     ensures least_within { IfOk result (λ enclosure. IfSome enclosure.least AreBoundsWithin) }
 {
-    stream_law();
     match sum_for(alloc, stream, classified)? {
         None => Ok(Enclosure {
             bounds: None,

@@ -2,20 +2,20 @@
 
 ghost use Rattle.std.specs.Prelude.{◌<◌, None, All, length, IfOk};
 ghost use Rattle.pb_graph.specs.ProcessGraph.{IsProcessGraph, unmeasured_at};
-ghost use Rattle.pb_graph.specs.WellFormed.{IsWellFormed, IsWellFormedStudy};
+ghost use Rattle.pb_study.specs.WellFormed.{IsWellFormed, IsWellFormedStudy};
 ghost use Rattle.pb_classify.specs.Classification.{IsClassification};
-ghost use Rattle.pb_elim.specs.Options.{AreOptions};
-ghost use Rattle.pb_elim.specs.Criticals.{AreCritical};
+ghost use Rattle.pb_study.specs.Options.{AreOptions};
+ghost use Rattle.pb_study.specs.Criticals.{AreCritical};
 ghost use Rattle.pb_elim.specs.Stage.{IsStageOf};
 ghost use Rattle.pb_elim.specs.Study.{IsStudyOf};
-ghost use Rattle.pb_elim.specs.Certified.{IsCertifiedStage, TestsEachRedundant, HasLeastThroughout};
+ghost use Rattle.pb_stage.specs.Certified.{IsCertifiedStage, TestsEachRedundant, HasLeastThroughout};
 ghost use Rattle.pb_elim.specs.Decided.{AreMeasuresRight};
 ghost use Rattle.pb_elim.specs.Rounds.{AreAllRoundsOf};
 
 use crate::elimination::{next_at, stop_at};
-use crate::laws::{certified_law, decided_law, least_throughout_law, tested_law};
 use crate::stages::{stage, stage_classed};
-use pb_graph::{Classified, Critical, Graph, List, Options, Stage, Study};
+use pb_graph::{Classified, Graph, List};
+use pb_study::{Critical, Options, Stage, Study};
 use std::alloc::{AllocError, Global};
 
 // The stage of a graph without the measurement of a stream.
@@ -144,9 +144,5 @@ fn study_from(
     let count = study.taken.len();
     let last = study.stages.at(count);
     study.stop = stop_at(options, critical, count as u32, &last.tests);
-    certified_law();
-    tested_law();
-    least_throughout_law();
-    decided_law();
     Ok(study)
 }

@@ -3,14 +3,15 @@
 ghost use Rattle.std.specs.Prelude.{◌≡◌, ◌≤◌, length, is_some, IfOk, IfSome};
 ghost use Rattle.pb_limits.specs.Limits.{most_streams};
 ghost use Rattle.pb_graph.specs.ProcessGraph.{IsProcessGraph};
-ghost use Rattle.pb_graph.specs.WellFormed.{AreTestsWithin, IsWellFormed};
-ghost use Rattle.pb_elim.specs.Options.{AreOptions};
-ghost use Rattle.pb_elim.specs.Criticals.{AreCritical};
-ghost use Rattle.pb_elim.specs.StageTests.{AreTestsOf, redundant_streams};
+ghost use Rattle.pb_study.specs.WellFormed.{AreTestsWithin, IsWellFormed};
+ghost use Rattle.pb_study.specs.Options.{AreOptions};
+ghost use Rattle.pb_study.specs.Criticals.{AreCritical};
+ghost use Rattle.pb_stage.specs.StageTests.{AreTestsOf, redundant_streams};
 ghost use Rattle.pb_elim.specs.Stage.{IsReconciliationOf};
 
-use pb_graph::{Class, Critical, Graph, List, Options, Stage, StreamResult, Tests};
-use pb_tests::{global_test, measure_tests, nodal_tests};
+use pb_graph::{Class, Graph, List};
+use pb_stage::{global_test, measure_tests, nodal_tests};
+use pb_study::{Critical, Options, Stage, StreamResult, Tests};
 use std::alloc::{AllocError, Global};
 
 // The redundant streams according to the results of all streams, in order.

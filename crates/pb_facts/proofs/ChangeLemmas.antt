@@ -12,7 +12,7 @@ use Rattle.std.proofs.lemmas.List.Folds.{list_any_at}
 use Rattle.std.proofs.lemmas.List.Quantifiers.{position-Some}
 use Rattle.pb_rows.specs.Name.{same_name}
 use Rattle.pb_facts.specs.Changes.{IsChangeInRange, amend_fault_of, amended, changed, fits, is_live_without, struck}
-use Rattle.pb_facts.specs.Fact.{IsInRange, id_of, is_dip_on, is_on_day_of, is_reading_on, is_too_long}
+use Rattle.pb_facts.specs.Fact.{IsFactInRange, id_of, is_dip_on, is_on_day_of, is_reading_on, is_too_long}
 use Rattle.pb_facts.specs.Facts.{NoRepeats, has_id, is_live_dip_on, is_live_reading_on, is_live_with, is_repeat, is_repeat_by_day, live_place_of}
 use Rattle.pb_facts.specs.Places.{Forgets, IsKept, is_about, places_at, places_from, same_key}
 use Rattle.pb_facts.specs.declared.fact.Change.{Change}
@@ -195,7 +195,7 @@ changed_earlier (Level m w v) (Transfer id s first last grams variance) other = 
 changed_earlier (Level m w v) (Dip id t d mm density variance) other = refl
 
 -- new values in their ranges
-changed_range : (c : Change) (fact : Fact) → IsChangeInRange c → IsInRange fact → IsInRange (changed c fact)
+changed_range : (c : Change) (fact : Fact) → IsChangeInRange c → IsFactInRange fact → IsFactInRange (changed c fact)
 changed_range (Amount g v) (Reading id s d grams variance) new old = (old.0, new.0, new.1)
 changed_range (Amount g v) (Transfer id s first last grams variance) new old = (old.0, old.1, new.0, new.1)
 changed_range (Amount g v) (Dip id t d mm density variance) new old = old
@@ -225,7 +225,7 @@ amend_one_repeat id c earlier later apart =
     (λ b fact. ap₂ (λ (x y : Bool). x || (not earlier.struck && y)) (ap (λ (i : List ℕ). same_name (id_of earlier.fact) i) (changed_id c fact)) (changed_earlier c fact earlier.fact)) in
     first ∙ second ∙ apart
 
-amend_one_range : (id : List ℕ) (c : Change) (k : KeptFact) → IsChangeInRange c → IsInRange k.fact → IsInRange (amend_one id c k).fact
+amend_one_range : (id : List ℕ) (c : Change) (k : KeptFact) → IsChangeInRange c → IsFactInRange k.fact → IsFactInRange (amend_one id c k).fact
 amend_one_range id c k new old = elim (cases_Bool (is_live_with id k)) [
   | inl live ↦ rw live (changed_range c k.fact new old)
   | inr other ↦ rw other old
@@ -243,7 +243,7 @@ kept_amended id c kept places new right =
       transfers = λ key. right.transfers key
           ∙ sym (places_map (λ (k : KeptFact). is_about key k.fact) one 0 kept (λ k. amend_one_same (λ b fact. is_about key fact) id c k (λ b fact. changed_about key c fact)));
       no_repeats = pairs_map (λ (earlier later : KeptFact). is_repeat later.fact earlier ≡ false) one kept (λ a b. amend_one_repeat id c a b) right.no_repeats;
-      in_range = all_map (λ (k : KeptFact). IsInRange k.fact) one kept (λ k old. amend_one_range id c k new old) right.in_range;
+      in_range = all_map (λ (k : KeptFact). IsFactInRange k.fact) one kept (λ k old. amend_one_range id c k new old) right.in_range;
       short = all_map (λ (k : KeptFact). is_too_long k.fact ≡ false) one kept (λ k old. amend_one_same (λ b fact. is_too_long fact) id c k (λ b fact. changed_length c fact) ∙ old) right.short;
       few = let long = length-map kept one in omega (arith, long, right.few);
     }
@@ -362,7 +362,7 @@ kept_struck id kept old new i d only right forgets =
       transfers = λ key. forgets.transfers key ∙ right.transfers key
           ∙ sym (places_map (λ (k : KeptFact). is_about key k.fact) one 0 kept (λ k. strike_one_fact (λ fact. is_about key fact) id k));
       no_repeats = pairs_map (λ (earlier later : KeptFact). is_repeat later.fact earlier ≡ false) one kept (λ a b. strike_one_repeat id a b) right.no_repeats;
-      in_range = all_map (λ (k : KeptFact). IsInRange k.fact) one kept (λ k ranges. elim (cases_Bool (has_id id k)) [ inl used ↦ rw used ranges | inr free ↦ rw free ranges ]) right.in_range;
+      in_range = all_map (λ (k : KeptFact). IsFactInRange k.fact) one kept (λ k ranges. elim (cases_Bool (has_id id k)) [ inl used ↦ rw used ranges | inr free ↦ rw free ranges ]) right.in_range;
       short = all_map (λ (k : KeptFact). is_too_long k.fact ≡ false) one kept (λ k short. strike_one_fact is_too_long id k ∙ short) right.short;
       few = let long = length-map kept one in omega (arith, long, right.few);
     }

@@ -1,3 +1,4 @@
+mod AssayLemmas
 mod ChangeLemmas
 mod LiveLemmas
 mod PlaceLemmas

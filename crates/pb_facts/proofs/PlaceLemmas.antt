@@ -11,8 +11,8 @@ use Rattle.std.proofs.lemmas.List.{get_or_default}
 use Rattle.std.proofs.lemmas.List.Quantifiers.{all_pairs_push, position-Some}
 use Rattle.pb_limits.specs.Limits.{most_facts}
 use Rattle.pb_rows.specs.Name.{same_name}
-use Rattle.pb_facts.specs.Fact.{IsInRange, id_of, is_dip_on, is_out_of_order, is_reading_on, is_too_long}
-use Rattle.pb_facts.specs.Facts.{NoRepeats, fault_of, first_fault, has_id, is_duplicate, is_full, is_live_dip_on, is_live_reading_on, is_repeat, is_repeat_by_day, live_place_of}
+use Rattle.pb_facts.specs.Fact.{IsFactInRange, id_of, is_dip_on, is_fact_out_of_order, is_reading_on, is_too_long}
+use Rattle.pb_facts.specs.Facts.{NoRepeats, are_facts_full, fact_fault_of, first_fact_fault, has_id, is_duplicate_fact, is_live_dip_on, is_live_reading_on, is_repeat, is_repeat_by_day, live_place_of}
 use Rattle.pb_facts.specs.Places.{IsKept, Notes, SamePlaces, is_about, places_from, same_key}
 use Rattle.pb_facts.specs.declared.fact.Fact.{Fact}
 use Rattle.pb_facts.specs.declared.fact.Fact.TheVariants.{Reading, Transfer, Dip}
@@ -40,10 +40,10 @@ list_any-or p q (x ∷ xs) = rw (list_any-or p q xs) (by (p x) (q x) (list_any p
     by false false c d = refl
 
 -- a fact without a fault isn't a duplicate and isn't too long, and there is room for it
-no_fault : (kept : List KeptFact) (fact : Fact) → fault_of kept fact ≡ None → (is_duplicate kept fact ≡ false) × (is_full kept ≡ false) × (is_too_long fact ≡ false)
-no_fault kept fact fine = by (is_duplicate kept fact) (is_out_of_order fact) (is_too_long fact) (is_full kept) fine
+no_fault : (kept : List KeptFact) (fact : Fact) → fact_fault_of kept fact ≡ None → (is_duplicate_fact kept fact ≡ false) × (are_facts_full kept ≡ false) × (is_too_long fact ≡ false)
+no_fault kept fact fine = by (is_duplicate_fact kept fact) (is_fact_out_of_order fact) (is_too_long fact) (are_facts_full kept) fine
   where
-    by : (a b c d : Bool) → first_fault a b c d ≡ None → (a ≡ false) × (d ≡ false) × (c ≡ false)
+    by : (a b c d : Bool) → first_fact_fault a b c d ≡ None → (a ≡ false) × (d ≡ false) × (c ≡ false)
     by true b c d e = cc e
     by false true c d e = cc e
     by false false true d e = cc e
@@ -51,10 +51,10 @@ no_fault kept fact fine = by (is_duplicate kept fact) (is_out_of_order fact) (is
     by false false false false e = (refl, refl, refl)
 
 -- so there is room for it, and no fact has its id
-pub room_for : (kept : List KeptFact) (fact : Fact) → fault_of kept fact ≡ None → length kept < most_facts
+pub room_for : (kept : List KeptFact) (fact : Fact) → fact_fault_of kept fact ≡ None → length kept < most_facts
 room_for kept fact fine = omega (arith, leb-false most_facts (length kept) (no_fault kept fact fine).1)
 
-pub new_id : (kept : List KeptFact) (fact : Fact) → fault_of kept fact ≡ None → list_any (has_id (id_of fact)) kept ≡ false
+pub new_id : (kept : List KeptFact) (fact : Fact) → fact_fault_of kept fact ≡ None → list_any (has_id (id_of fact)) kept ≡ false
 new_id kept fact fine = (or_none _ _ (sym (list_any-or (has_id (id_of fact)) (is_repeat_by_day fact) kept) ∙ (no_fault kept fact fine).0)).0
 
 -- maps that give the same places
@@ -102,7 +102,7 @@ fresh_dip kept (Dip id t d mm density variance) tank day none same =
 
 -- what holds of the kept facts holds with one more
 pub kept_more : (kept : List KeptFact) (old mid new : Places) (fact : Fact) (place : ℕ) → IsKept kept old → SamePlaces old mid → Notes mid new fact place
-    → fault_of kept fact ≡ None → IsInRange fact → place ≡ length kept → IsKept (kept ++ record { fact = fact; struck = false } ∷ []) new
+    → fact_fault_of kept fact ≡ None → IsFactInRange fact → place ≡ length kept → IsKept (kept ++ record { fact = fact; struck = false } ∷ []) new
 kept_more kept old mid new fact place right same notes fine ranges at =
     let free = no_fault kept fact fine in
     let apart = or_none _ _ (sym (list_any-or (has_id (id_of fact)) (is_repeat_by_day fact) kept) ∙ free.0) in
@@ -116,7 +116,7 @@ kept_more kept old mid new fact place right same notes fine ranges at =
           ∙ ap (λ (places : List ℕ). places ++ (if is_about key fact then place ∷ [] else [])) (same.transfers key ∙ right.transfers key)
           ∙ placed key place at;
       no_repeats = all_pairs_push (λ (earlier later : KeptFact). is_repeat later.fact earlier ≡ false) kept item right.no_repeats (λ k d lt. any_absent (is_repeat fact) kept free.0 k d lt);
-      in_range = All-push (λ (k : KeptFact). IsInRange k.fact) kept item right.in_range ranges;
+      in_range = All-push (λ (k : KeptFact). IsFactInRange k.fact) kept item right.in_range ranges;
       short = All-push (λ (k : KeptFact). is_too_long k.fact ≡ false) kept item right.short free.2;
       few = few kept item free.1;
     }
@@ -129,7 +129,7 @@ kept_more kept old mid new fact place right same notes fine ranges at =
         ap (λ (n : ℕ). places_from (λ (k : KeptFact). is_about key k.fact) 0 kept ++ (if is_about key fact then n ∷ [] else [])) here
         ∙ sym (places_from-push (λ (k : KeptFact). is_about key k.fact) 0 kept (record { fact = fact; struck = false }))
 
-    few : (kept : List KeptFact) (item : KeptFact) → is_full kept ≡ false → length (kept ++ item ∷ []) ≤ most_facts
+    few : (kept : List KeptFact) (item : KeptFact) → are_facts_full kept ≡ false → length (kept ++ item ∷ []) ≤ most_facts
     few kept item free = omega (arith, leb-false most_facts (length kept) free, length-append kept (item ∷ []))
 
 -- ---- looking up

@@ -22,7 +22,6 @@ use Rattle.pb_facts.specs.declared.fact.Fact.{Fact}
 use Rattle.pb_facts.specs.declared.facts.KeptFact.{KeptFact}
 use Rattle.pb_facts.specs.declared.shelf.Entry.{Entry}
 use Rattle.pb_facts.specs.declared.shelf.Told.{Told}
-use Rattle.pb_facts.specs.declared.shelf.Told.TheVariants.{Reading as ReadingTold, Transfer as TransferTold, Dip as DipTold}
 use Rattle.pb_facts.proofs.ChangeLemmas.{at_map}
 
 -- ---- ids
@@ -49,9 +48,9 @@ same_flip a b = elim (cases_Bool (same_name a b)) [
 ]
 
 told_id : (id name : List ℕ) (entry : Entry) (told : Told) → id_of (told_fact id name entry.variance told) ≡ id
-told_id id name entry (ReadingTold day grams) = refl
-told_id id name entry (TransferTold first last grams) = refl
-told_id id name entry (DipTold day mm density) = refl
+told_id id name entry (Told.Reading day grams) = refl
+told_id id name entry (Told.Transfer first last grams) = refl
+told_id id name entry (Told.Dip day mm density) = refl
 
 -- an id is the id of the fact that is stored under it
 is_under : (id : List ℕ) (names : List (List ℕ)) (one : List ℕ × Entry) → same_name id one.0 ≡ has_id id (kept_of names one)

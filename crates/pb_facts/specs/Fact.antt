@@ -1,8 +1,9 @@
 -- Statement. One fact: its id, its stream or tank and its days, and what can be wrong with it by itself.
-use Rattle.std.specs.Prelude.{◌-ℤ◌, ◌≤ℤ◌, ◌&&◌, ℕ, ℤ, pos, neg_ℤ, int_le, int_lt, List, Bool, false}
+use Rattle.std.specs.Prelude.{◌-ℤ◌, ◌&&◌, ℕ, ℤ, pos, int_le, int_lt, List, Bool, false}
 use Rattle.std.specs.Ordering.{int_eq}
 use Rattle.pb_limits.specs.Limits.{most_days_of_transfer}
 use Rattle.pb_limits.specs.Ranges.{IsDensity, IsGrams, IsLevel, IsVariance}
+use Rattle.pb_rows.specs.Date.{IsDay}
 use Rattle.pb_rows.specs.Name.{same_name}
 use Rattle.pb_facts.specs.declared.fact.Fact.{Fact}
 use Rattle.pb_facts.specs.declared.fact.Fact.TheVariants.{Reading, Transfer, Dip}
@@ -37,9 +38,9 @@ is_on_day_of (Dip id tank day mm density variance) other = is_dip_on tank day ot
 is_on_day_of _ other = false
 
 -- a transfer whose first day comes after its last
-abbrev pub is_out_of_order : Fact → Bool
-is_out_of_order (Transfer id stream first last grams variance) = int_lt last first
-is_out_of_order _ = false
+abbrev pub is_fact_out_of_order : Fact → Bool
+is_fact_out_of_order (Transfer id stream first last grams variance) = int_lt last first
+is_fact_out_of_order _ = false
 
 -- a transfer of too many days, counting its first and its last
 abbrev pub is_too_long : Fact → Bool
@@ -47,14 +48,10 @@ is_too_long (Transfer id stream first last grams variance) =
     int_le (pos most_days_of_transfer) (last -ℤ first)
 is_too_long _ = false
 
--- a day from 1900-01-01 to 2199-12-31, counted from 1970-01-01
-abbrev pub IsDay : ℤ → Type 0
-IsDay day = (neg_ℤ (pos 25567) ≤ℤ day) × (day ≤ℤ pos 84005)
-
 -- the numbers of a fact lie in their ranges
-abbrev pub IsInRange : Fact → Type 0
-IsInRange (Reading id stream day grams variance) = IsDay day × IsGrams grams × IsVariance variance
-IsInRange (Transfer id stream first last grams variance) =
+abbrev pub IsFactInRange : Fact → Type 0
+IsFactInRange (Reading id stream day grams variance) = IsDay day × IsGrams grams × IsVariance variance
+IsFactInRange (Transfer id stream first last grams variance) =
     IsDay first × IsDay last × IsGrams grams × IsVariance variance
-IsInRange (Dip id tank day mm density variance) =
+IsFactInRange (Dip id tank day mm density variance) =
     IsDay day × IsLevel mm × IsDensity density × IsVariance variance

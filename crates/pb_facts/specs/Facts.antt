@@ -3,7 +3,7 @@ use Rattle.std.specs.Prelude.{◌≡◌, ◌&&◌, ◌||◌, ℕ, ℤ, nat_le, L
 use Rattle.std.specs.List.{list_any}
 use Rattle.pb_limits.specs.Limits.{most_facts}
 use Rattle.pb_rows.specs.Name.{same_name}
-use Rattle.pb_facts.specs.Fact.{id_of, is_dip_on, is_on_day_of, is_out_of_order, is_reading_on, is_too_long, is_transfer_within}
+use Rattle.pb_facts.specs.Fact.{id_of, is_dip_on, is_fact_out_of_order, is_on_day_of, is_reading_on, is_too_long, is_transfer_within}
 use Rattle.pb_facts.specs.declared.fact.Fact.{Fact}
 use Rattle.pb_facts.specs.declared.fact.FactFault.{FactFault}
 use Rattle.pb_facts.specs.declared.fact.FactFault.TheVariants.{Duplicate, Order, Range, Full}
@@ -34,16 +34,16 @@ abbrev pub is_repeat : Fact → KeptFact → Bool
 is_repeat fact kept = has_id (id_of fact) kept || is_repeat_by_day fact kept
 
 -- a new fact repeats some kept one
-abbrev pub is_duplicate : List KeptFact → Fact → Bool
-is_duplicate kept fact = list_any (is_repeat fact) kept
+abbrev pub is_duplicate_fact : List KeptFact → Fact → Bool
+is_duplicate_fact kept fact = list_any (is_repeat fact) kept
 
 -- as many facts were added as there may be, including struck ones
-abbrev pub is_full : List KeptFact → Bool
-is_full kept = nat_le most_facts (length kept)
+abbrev pub are_facts_full : List KeptFact → Bool
+are_facts_full kept = nat_le most_facts (length kept)
 
 -- the first of these faults that holds
-abbrev pub first_fault : Bool → Bool → Bool → Bool → Option FactFault
-first_fault duplicate order range full =
+abbrev pub first_fact_fault : Bool → Bool → Bool → Bool → Option FactFault
+first_fact_fault duplicate order range full =
     if duplicate then Some Duplicate
     else if order then Some Order
     else if range then Some Range
@@ -51,9 +51,9 @@ first_fault duplicate order range full =
     else None
 
 -- the first fault of a new fact
-abbrev pub fault_of : List KeptFact → Fact → Option FactFault
-fault_of kept fact =
-    first_fault (is_duplicate kept fact) (is_out_of_order fact) (is_too_long fact) (is_full kept)
+abbrev pub fact_fault_of : List KeptFact → Fact → Option FactFault
+fact_fault_of kept fact =
+    first_fact_fault (is_duplicate_fact kept fact) (is_fact_out_of_order fact) (is_too_long fact) (are_facts_full kept)
 
 -- no fact repeats an earlier one: so no id occurs twice, and no two live readings or dips share a stream or tank and day
 abbrev pub NoRepeats : List KeptFact → Type 0
@@ -64,8 +64,8 @@ abbrev pub live_fact : KeptFact → Option Fact
 live_fact kept = if kept.struck then None else Some kept.fact
 
 -- the place of the fact with this id, struck or not
-abbrev pub place_of : List ℕ → List KeptFact → Option ℕ
-place_of id kept = position (has_id id) kept
+abbrev pub place_of_id : List ℕ → List KeptFact → Option ℕ
+place_of_id id kept = position (has_id id) kept
 
 -- the place of the live fact with this id
 abbrev pub live_place_of : List ℕ → List KeptFact → Option ℕ

@@ -7,7 +7,7 @@ use Rattle.std.specs.HashMap.{HashMap, get, spare}
 use Rattle.std.specs.Global.{Vec}
 use Rattle.pb_limits.specs.Limits.{most_facts}
 use Rattle.pb_rows.specs.Name.{same_name}
-use Rattle.pb_facts.specs.Fact.{IsInRange, is_dip_on, is_reading_on, is_too_long}
+use Rattle.pb_facts.specs.Fact.{IsFactInRange, is_dip_on, is_reading_on, is_too_long}
 use Rattle.pb_facts.specs.Facts.{NoRepeats, is_live_dip_on, is_live_reading_on}
 use Rattle.pb_facts.specs.declared.fact.Fact.{Fact}
 use Rattle.pb_facts.specs.declared.fact.Fact.TheVariants.{Reading, Transfer, Dip}
@@ -53,7 +53,7 @@ pub record IsKept (kept : List KeptFact) (places : Places) : Type 0 where
   pub transfers : (key : List ℕ × ℤ)
       → places_at places.transfers key ≡ places_from (λ (k : KeptFact). is_about key k.fact) 0 kept
   pub no_repeats : NoRepeats kept
-  pub in_range : All (λ k. IsInRange k.fact) kept
+  pub in_range : All (λ k. IsFactInRange k.fact) kept
   pub short : All (λ k. is_too_long k.fact ≡ false) kept
   pub few : length kept ≤ most_facts
 

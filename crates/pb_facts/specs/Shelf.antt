@@ -5,7 +5,6 @@ use Rattle.pb_facts.specs.declared.fact.Fact.{Fact}
 use Rattle.pb_facts.specs.declared.fact.Fact.TheVariants.{Reading, Transfer, Dip}
 use Rattle.pb_facts.specs.declared.facts.KeptFact.{KeptFact}
 use Rattle.pb_facts.specs.declared.shelf.Told.{Told}
-use Rattle.pb_facts.specs.declared.shelf.Told.TheVariants.{Reading as ReadingTold, Transfer as TransferTold, Dip as DipTold}
 use Rattle.pb_facts.specs.declared.shelf.Entry.{Entry}
 
 -- the name of the fact's stream or tank
@@ -16,9 +15,9 @@ stream_or_tank (Dip id tank day mm density variance) = tank
 
 -- the fact with this id, of the stream or tank of this name, that says this
 abbrev pub told_fact : List ℕ → List ℕ → ℤ → Told → Fact
-told_fact id name variance (ReadingTold day grams) = Reading id name day grams variance
-told_fact id name variance (TransferTold first last grams) = Transfer id name first last grams variance
-told_fact id name variance (DipTold day mm density) = Dip id name day mm density variance
+told_fact id name variance (Told.Reading day grams) = Reading id name day grams variance
+told_fact id name variance (Told.Transfer first last grams) = Transfer id name first last grams variance
+told_fact id name variance (Told.Dip day mm density) = Dip id name day mm density variance
 
 -- the fact of an id and an entry, whose number is the place of a name
 abbrev pub kept_of : List (List ℕ) → List ℕ × Entry → KeptFact

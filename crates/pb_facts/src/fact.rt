@@ -2,7 +2,7 @@
 
 ghost use Rattle.std.specs.Prelude.{◌≡◌};
 ghost use Rattle.pb_facts.specs.Changes.{changed, fits};
-ghost use Rattle.pb_facts.specs.Fact.{id_of, is_out_of_order, is_too_long};
+ghost use Rattle.pb_facts.specs.Fact.{id_of, is_fact_out_of_order, is_too_long};
 ghost use Rattle.pb_facts.specs.Shelf.{stream_or_tank};
 
 use pb_limits::MOST_DAYS_OF_TRANSFER;
@@ -99,7 +99,7 @@ impl Fact {
 
     // Whether it is a transfer whose first day comes after its last.
     pub(crate) fn is_out_of_order(&self) -> bool
-        ensures { result ≡ is_out_of_order self.now }
+        ensures { result ≡ is_fact_out_of_order self.now }
     {
         match self {
             Fact::Transfer { first, last, .. } => *last < *first,

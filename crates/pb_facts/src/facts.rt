@@ -4,8 +4,8 @@ ghost use Rattle.std.specs.Prelude.{◌≡◌, ◌<◌, ◌≤◌, ◌-ℤ◌, �
 ghost use Rattle.std.specs.List.{list_any};
 ghost use Rattle.pb_limits.specs.Limits.{most_days_of_period, most_facts};
 ghost use Rattle.pb_facts.specs.Changes.{IsChangeInRange, amend_fault_of, amended, struck};
-ghost use Rattle.pb_facts.specs.Fact.{IsInRange, is_dip_on, is_reading_on, is_too_long};
-ghost use Rattle.pb_facts.specs.Facts.{HoldsTransfers, NoRepeats, fault_of, has_id, is_duplicate, is_live_dip_on, is_live_reading_on, is_repeat_by_day, live_at, live_facts, live_place_of, place_of};
+ghost use Rattle.pb_facts.specs.Fact.{IsFactInRange, is_dip_on, is_reading_on, is_too_long};
+ghost use Rattle.pb_facts.specs.Facts.{HoldsTransfers, NoRepeats, fact_fault_of, has_id, is_duplicate_fact, is_live_dip_on, is_live_reading_on, is_repeat_by_day, live_at, live_facts, live_place_of, place_of_id};
 
 use crate::fact::{Change, Fact, FactFault};
 use crate::places::{Places, block_of};
@@ -63,7 +63,7 @@ impl Facts {
     /// reading or dip has its stream or tank and day; a transfer's first day comes after its last; a transfer has more than 366
     /// days; as many facts as there may be were added. `None` exactly when there is none.
     pub fn judge(&self, fact: &Fact) -> Option<FactFault>
-        ensures { result ≡ fault_of self.now fact.now }
+        ensures { result ≡ fact_fault_of self.now fact.now }
     {
         if self.is_duplicate(fact) {
             Some(FactFault::Duplicate)
@@ -80,8 +80,8 @@ impl Facts {
 
     /// Adds a fact that has no fault. After an `Err`, out of memory, the facts are as they were.
     pub fn add(&mut self, fact: Fact) -> Result<(), AllocError>
-        requires in_range { IsInRange fact }
-        requires no_fault { fault_of self.old fact ≡ None }
+        requires in_range { IsFactInRange fact }
+        requires no_fault { fact_fault_of self.old fact ≡ None }
         ensures added { OnOk result (self.new
             ≡ self.old ++ record { fact = fact; struck = false } ∷ []) }
         ensures unchanged { OnErr result (self.new ≡ self.old) }
@@ -151,7 +151,7 @@ impl Facts {
     pub fn kept(&self, place: u32) -> KeptFact
         requires { place < length self.now }
         ensures value { slice_get self.now place ≡ Some result }
-        ensures in_range { IsInRange result.fact }
+        ensures in_range { IsFactInRange result.fact }
         ensures short { is_too_long result.fact ≡ false }
     {
         self.shelf.at(place)
@@ -161,7 +161,7 @@ impl Facts {
     pub fn live(&self, place: u32) -> Option<Fact>
         requires { place < length self.now }
         ensures value { result ≡ live_at self.now place }
-        ensures in_range { IfSome result IsInRange }
+        ensures in_range { IfSome result IsFactInRange }
         ensures short { IfSome result (λ fact. is_too_long fact ≡ false) }
     {
         let kept = self.kept(place);
@@ -184,7 +184,7 @@ impl Facts {
 
     /// The place of the fact that has the id, struck or not; `None` exactly when there is none.
     pub fn place_of(&self, id: &Name) -> Option<u32>
-        ensures { result ≡ place_of id.now self.now }
+        ensures { result ≡ place_of_id id.now self.now }
     {
         self.shelf.place_of(id)
     }
@@ -223,7 +223,7 @@ impl Facts {
 
     // Whether the id was used before, or a live fact has the same stream or tank and day.
     fn is_duplicate(&self, fact: &Fact) -> bool
-        ensures { result ≡ is_duplicate self.now fact.now }
+        ensures { result ≡ is_duplicate_fact self.now fact.now }
     {
         self.has_id(&fact.id()) || self.has_day_of(fact)
     }

@@ -85,9 +85,8 @@ fn put<K: Eq + Hash + Drop, V: Drop>(map: &mut HashMap<K, V>, key: K, value: V)
     ensures { (q : K) → get K.eq map.new q
         ≡ (if K.eq key q then Some value else get K.eq map.old q) }
 {
-    if map.insert(key, value).is_err() {
-        unreachable!()
-    }
+    let put: Result<_, _> = map.insert(key, value);
+    put.unwrap();
 }
 
 // Makes room for one more place under a stream and a block of days, and under the next block.
@@ -150,10 +149,7 @@ fn reserve_at(
     ensures room { OnOk result (HasRoomAt transfers.new key) }
     ensures others { (q : List ℕ × ℤ) → HasRoomAt transfers.old q → HasRoomAt transfers.new q }
 {
-    match transfers.get_mut(&key) {
-        Some(places) => places.reserve(1),
-        None => unreachable!(),
-    }
+    transfers.get_mut(&key).unwrap().reserve(1)
 }
 
 // Puts the place of a transfer under its stream and a block of days, and under the next block.
@@ -183,8 +179,5 @@ fn put_at(transfers: &mut HashMap<(Name, i32), Vec<u32>>, key: (Name, i32), plac
     ensures others { (q : List ℕ × ℤ) → same_key key q ≡ false
         → HasRoomAt transfers.old q → HasRoomAt transfers.new q }
 {
-    match transfers.get_mut(&key) {
-        Some(places) => places.push_reserved(place),
-        None => unreachable!(),
-    }
+    transfers.get_mut(&key).unwrap().push_reserved(place);
 }

@@ -8,7 +8,7 @@ ghost use Rattle.pb_limits.specs.Limits.{most_facts};
 ghost use Rattle.pb_rows.specs.Name.{same_name};
 ghost use Rattle.pb_facts.specs.Changes.{changed};
 ghost use Rattle.pb_facts.specs.Fact.{id_of};
-ghost use Rattle.pb_facts.specs.Facts.{has_id, place_of};
+ghost use Rattle.pb_facts.specs.Facts.{has_id, place_of_id};
 ghost use Rattle.pb_facts.specs.Shelf.{stream_or_tank, told_fact};
 
 use crate::fact::{Change, Fact};
@@ -95,12 +95,10 @@ impl Shelf {
         requires { place < length self.now }
         ensures { slice_get self.now place ≡ Some result }
     {
-        match self.entries.get_index(place as usize) {
-            Some((id, entry)) => KeptFact {
-                fact: entry.fact(*id, self.names[entry.name as usize]),
-                struck: entry.struck,
-            },
-            None => unreachable!(),
+        let (id, entry) = self.entries.get_index(place as usize).unwrap();
+        KeptFact {
+            fact: entry.fact(*id, self.names[entry.name as usize]),
+            struck: entry.struck,
         }
     }
 
@@ -137,7 +135,7 @@ impl Shelf {
 
     /// The place of the fact that has the id; `None` exactly when there is none.
     pub fn place_of(&self, id: &Name) -> Option<u32>
-        ensures value { result ≡ place_of id.now self.now }
+        ensures value { result ≡ place_of_id id.now self.now }
         ensures within { IfSome result (λ place. place < length self.now) }
     {
         match self.entries.get_index_of(id) {
@@ -257,10 +255,8 @@ fn number_of(names: &mut IndexSet<Name>, name: Name) -> u32
     ensures names { names.new.keys ≡ names_of.insert_key same_name names.old.keys name }
     ensures number { slice_get names.new.keys result ≡ Some name }
 {
-    match names.insert_full(name) {
-        Ok((number, _)) => number as u32,
-        Err(_) => unreachable!(),
-    }
+    let (number, _) = names.insert_full(name).unwrap();
+    number as u32
 }
 
 // Appends an entry with a new id.
@@ -269,8 +265,6 @@ fn put_entry(entries: &mut IndexMap<Name, Entry>, id: Name, entry: Entry)
     requires new { list_any (same_name id) (entries_of.keys entries.old) ≡ false }
     ensures { entries.new.entries ≡ entries.old.entries ++ (id, entry) ∷ [] }
 {
-    match entries.insert(id, entry) {
-        Ok(_) => {}
-        Err(_) => unreachable!(),
-    }
+    let put: Result<_, _> = entries.insert(id, entry);
+    put.unwrap();
 }

@@ -6,10 +6,10 @@ use Rattle.std.proofs.lemmas.Bool.{and_parts, cases_lt}
 use Rattle.std.proofs.lemmas.Int.{ints}
 use Rattle.std.proofs.lemmas.Nat.{pow_pos, pow-add}
 use Rattle.std.proofs.Math.Nat.{mul-le-mul, pow-le-pow_right}
-use Rattle.pb_integers.specs.Sums.{sum_over}
-use Rattle.pb_integers.proofs.Lists.{All-from_recursion, AllByRecursion-from_all}
-use Rattle.pb_integers.proofs.Order.{le_trans, mul_mono_both, mul_nonneg, square_mono}
-use Rattle.pb_integers.proofs.RingLaws.{mul_assoc}
+use Rattle.pb_fixed.specs.Sums.{sum_over}
+use Rattle.pb_fixed.proofs.Lists.{All-from_recursion, AllByRecursion-from_all}
+use Rattle.pb_fixed.proofs.Order.{le_trans, mul_mono_both, mul_nonneg, square_mono}
+use Rattle.pb_fixed.proofs.RingLaws.{mul_assoc}
 use Rattle.pb_fixed.specs.Quotients.{IsCeiling}
 use Rattle.pb_fixed.specs.Blocks.{FitBlocks, IsBlockExponent, block_exponent_of, blocks_of, fit_blocks, half_width_of}
 use Rattle.pb_fixed.proofs.QuotientLaws.{ceiling_from, ceiling_only, ceiling_scaled, ceiling_to}

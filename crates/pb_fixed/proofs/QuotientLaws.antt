@@ -4,9 +4,9 @@ use Rattle.std.specs.Int.{int_rem_euclid, int_shr}
 use Rattle.std.proofs.lemmas.Int.{ints}
 use Rattle.std.proofs.lemmas.Nat.{pow_pos}
 use Rattle.std.proofs.Math.Nat.{two-pow-succ}
-use Rattle.pb_integers.proofs.Order.{le_antisym, le_by_eq, le_trans, lt_by_eq, mul_cancel_strict, mul_mono, mul_strict}
-use Rattle.pb_integers.proofs.Ring.{var, lit, plus, times, minus, ring}
-use Rattle.pb_integers.proofs.RingLaws.{add_mul, mul_assoc, one_mul}
+use Rattle.pb_fixed.proofs.Order.{le_antisym, le_by_eq, le_trans, lt_by_eq, mul_cancel_strict, mul_mono, mul_strict}
+use Rattle.pb_fixed.proofs.Ring.{var, lit, plus, times, minus, ring}
+use Rattle.pb_fixed.proofs.RingLaws.{add_mul, mul_assoc, one_mul}
 use Rattle.pb_fixed.specs.Quotients.{IsFloor, IsCeiling, IsNearest, floor_div, ceil_div, nearest_div}
 
 -- ---- rounded down

@@ -4,7 +4,7 @@ use Rattle.std.proofs.Common.{◌≡◌, ℕ, zero, suc, ◌+◌, ◌*◌, ◌^�
 use Rattle.std.proofs.lemmas.Bool.{cases_lt, le-leb, leb-true}
 use Rattle.std.proofs.lemmas.Int.{ints}
 use Rattle.std.proofs.Math.Nat.{mul-le-mul}
-use Rattle.pb_integers.proofs.Order.{root_strict}
+use Rattle.pb_fixed.proofs.Order.{root_strict}
 use Rattle.pb_fixed.specs.Roots.{IsRootFloor, IsRootCeiling, IsScaledRoot, root_floor_of, root_ceil_of, scaled_root_of}
 use Rattle.pb_fixed.proofs.SearchLaws.{greatest_upto-greatest, greatest_upto-passes, least_upto-least, least_upto-passes}
 

@@ -2,7 +2,7 @@
 -- be added in few bits (Wilkinson, Rounding Errors in Algebraic Processes, chapter 1).
 use Rattle.std.specs.Prelude.{ℕ, ◌+◌, ◌*◌, ◌^◌, ◌≤◌, Bool, ℤ, pos, ◌*ℤ◌, ◌≤ℤ◌, int_le, List, All, unsigned_abs}
 use Rattle.std.specs.List.{list_all}
-use Rattle.pb_integers.specs.Sums.{sum_over}
+use Rattle.pb_fixed.specs.Sums.{sum_over}
 use Rattle.pb_fixed.specs.Quotients.{ceil_div}
 use Rattle.pb_fixed.specs.Search.{least_upto}
 

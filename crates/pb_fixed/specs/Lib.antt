@@ -4,3 +4,5 @@ pub mod Search
 pub mod Roots
 pub mod Blocks
 pub mod Laws
+pub mod Sums
+pub mod IntegerLaws

@@ -47,7 +47,8 @@ pub fn block_squares(items: &[i128], h: u32) -> i128
 {
     let mut sum = 0;
     for item in items {
-        sum += square(blocks(*item, h));
+        let count = blocks(*item, h);
+        sum += count * count;
     }
     sum
 }
@@ -62,17 +63,6 @@ fn blocks(item: i128, h: u32) -> i128
     ensures width { result ≤ℤ pos (2 ^ 57) }
 {
     div_ceil(item, 1 << h)
-}
-
-// The square of a number of blocks.
-fn square(blocks: i128) -> i128
-    requires nonneg { pos 0 ≤ℤ blocks }
-    requires width { blocks ≤ℤ pos (2 ^ 57) }
-    ensures value { result ≡ blocks *ℤ blocks }
-    ensures nonneg { pos 0 ≤ℤ result }
-    ensures width { result ≤ℤ pos (2 ^ 114) }
-{
-    blocks * blocks
 }
 
 /// The half width of a bound in grams, rounded up, from a standard deviation `root` in units of

@@ -4,21 +4,19 @@ use Rattle.std.proofs.lemmas.Bool.{cases_Bool, cases_eq, ne_eqb, not_from_false,
 use Rattle.std.proofs.lemmas.Int.{ints}
 use Rattle.std.proofs.lemmas.List.{ext_get_or, get_or-set_same, get_or-set_other}
 use Rattle.std.proofs.lemmas.Option.{slice_get-get_or}
-use Rattle.pb_integers.specs.Sums.{sum_below, item}
-use Rattle.pb_integers.proofs.RingLaws.{zero_mul}
-use Rattle.pb_integers.proofs.Sums.{sum_below-same, sum_below-single}
+use Rattle.pb_fixed.specs.Sums.{sum_below, item}
+use Rattle.pb_fixed.proofs.RingLaws.{zero_mul}
+use Rattle.pb_fixed.proofs.Sums.{sum_below-same, sum_below-single}
 use Rattle.pb_graph.specs.declared.records.Stream.{Stream}
 use Rattle.pb_graph.specs.declared.records.Step.{Step}
-use Rattle.pb_graph.specs.ProcessGraph.{ProcessGraph, IsProcessGraph}
+use Rattle.pb_graph.specs.ProcessGraph.{ProcessGraph, IsProcessGraph, some_stream}
 use Rattle.pb_graph.specs.Walk.{along, ends_of, any_stream, is_in, Reaches, IsReach}
 use Rattle.pb_graph.specs.Path.{is_open}
-use Rattle.pb_graph.specs.ProcessGraph.{some_stream}
 use Rattle.pb_graph.specs.Groups.{entering}
 use Rattle.pb_graph.specs.Balance.{IsBalanced}
 use Rattle.pb_graph.proofs.WalkLemmas.{some_same, ends_is, stream_of, reach_one, reach_both, reach_more, walk_keeps, IsWithin}
-use Rattle.pb_balance.specs.PricedSums.{priced_streams}
-use Rattle.pb_balance.proofs.BalanceLaws.{balanced_sum}
-use Rattle.pb_balance.proofs.BalanceLaws.{unit_price, side_price}
+use Rattle.pb_graph.specs.PricedSums.{priced_streams}
+use Rattle.pb_graph.proofs.BalanceLaws.{balanced_sum, unit_price, side_price}
 use Rattle.pb_forest.specs.Forest.{IsForest}
 use Rattle.pb_forest.specs.Laws.{except}
 use Rattle.pb_forest.specs.Flows.{AgreeOffForest}

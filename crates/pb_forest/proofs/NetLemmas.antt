@@ -3,20 +3,18 @@ use Rattle.std.proofs.Common.{◌≡◌, ◌≢◌, ◌∙◌, ◌⊎◌, ℕ, z
 use Rattle.std.proofs.lemmas.Bool.{cases_Bool, cases_eq, cases_lt, eq-eqb, ne_eqb}
 use Rattle.std.proofs.lemmas.Int.{ints}
 use Rattle.std.proofs.lemmas.List.{get_or_past, get_or-set_same, get_or-set_other, length-set}
-use Rattle.pb_integers.specs.Sums.{sum_below, item}
-use Rattle.pb_integers.proofs.RingLaws.{mul_zero, one_mul, zero_mul}
-use Rattle.pb_integers.proofs.Ring.{var, plus, times, less, ring}
-use Rattle.pb_integers.proofs.Sums.{sum_below-same, sum_below-add, sum_below-single}
+use Rattle.pb_fixed.specs.Sums.{sum_below, item}
+use Rattle.pb_fixed.proofs.RingLaws.{mul_zero, one_mul, zero_mul}
+use Rattle.pb_fixed.proofs.Ring.{var, plus, times, less, ring}
+use Rattle.pb_fixed.proofs.Sums.{sum_below-same, sum_below-add, sum_below-single}
 use Rattle.pb_graph.specs.declared.records.Stream.{Stream}
-use Rattle.pb_graph.specs.ProcessGraph.{ProcessGraph, IsStream, IsProcessGraph}
+use Rattle.pb_graph.specs.ProcessGraph.{ProcessGraph, IsStream, IsProcessGraph, other_end, some_stream}
 use Rattle.pb_graph.specs.Neighbours.{touches}
-use Rattle.pb_graph.specs.ProcessGraph.{other_end, some_stream}
 use Rattle.pb_graph.specs.Groups.{entering}
 use Rattle.pb_graph.specs.Balance.{brought_to, net_of, IsBalanced}
 use Rattle.pb_graph.proofs.WalkLemmas.{some_same}
-use Rattle.pb_balance.specs.PricedSums.{priced_nodes, priced_streams}
-use Rattle.pb_balance.proofs.BalanceLaws.{priced_sums}
-use Rattle.pb_balance.proofs.BalanceLaws.{unit_price}
+use Rattle.pb_graph.specs.PricedSums.{priced_nodes, priced_streams}
+use Rattle.pb_graph.proofs.BalanceLaws.{priced_sums, unit_price}
 use Rattle.pb_forest.specs.Forest.{IsForest}
 use Rattle.pb_forest.specs.Trees.{RootedTrees, node_at, root_of, up_of, end_from, IsBranch, AreTrees, AreWhole}
 use Rattle.pb_limits.specs.Limits.{most_streams}

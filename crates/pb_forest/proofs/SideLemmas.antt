@@ -2,10 +2,9 @@
 use Rattle.std.proofs.Common.{◌≡◌, ◌∙◌, ℕ, false, Some, slice_get, get_or, set, sym, subst}
 use Rattle.std.proofs.lemmas.Option.{slice_get_within, slice_get-get_or, get_or_from_slice_get}
 use Rattle.pb_graph.specs.declared.records.Stream.{Stream}
-use Rattle.pb_graph.specs.ProcessGraph.{IsStream}
+use Rattle.pb_graph.specs.ProcessGraph.{IsStream, some_stream}
 use Rattle.pb_graph.specs.Walk.{ends_of, IsReach}
 use Rattle.pb_graph.specs.Path.{is_open}
-use Rattle.pb_graph.specs.ProcessGraph.{some_stream}
 use Rattle.pb_graph.proofs.WalkLemmas.{some_same}
 use Rattle.pb_forest.specs.Flows.{OneBalancedLaw}
 use Rattle.pb_graph.proofs.ReachLemmas.{some_reach}

@@ -2,9 +2,9 @@
 use Rattle.std.proofs.Common.{◌≡◌, ◌≢◌, ◌∙◌, ℕ, zero, suc, ◌<◌, ◌≤◌, ℤ, pos, ◌+ℤ◌, ◌-ℤ◌, ◌*ℤ◌, Bool, true, false, cond, ◌==◌, List, [], ◌∷◌, length, Some, None, slice_get, get_or, refl, sym, ap, ap₂, subst, inl, inr, arith}
 use Rattle.std.proofs.lemmas.Bool.{cases_Bool, cases_eq, ne_eqb}
 use Rattle.std.proofs.lemmas.Option.{slice_get-get_or, slice_get_within}
-use Rattle.pb_integers.specs.Sums.{item}
-use Rattle.pb_integers.proofs.RingLaws.{mul_zero, add_zero}
-use Rattle.pb_integers.proofs.Ring.{lit, var, plus, times, less, ring}
+use Rattle.pb_fixed.specs.Sums.{item}
+use Rattle.pb_fixed.proofs.RingLaws.{mul_zero, add_zero}
+use Rattle.pb_fixed.proofs.Ring.{lit, var, plus, times, less, ring}
 use Rattle.pb_graph.specs.declared.records.Stream.{Stream}
 use Rattle.pb_graph.specs.declared.records.Step.{Step}
 use Rattle.pb_graph.specs.ProcessGraph.{ProcessGraph}
@@ -12,7 +12,7 @@ use Rattle.pb_graph.specs.Walk.{any_stream, ends_of, Walks}
 use Rattle.pb_graph.specs.Path.{is_open}
 use Rattle.pb_graph.specs.Balance.{brought_to, net_of, IsBalanced}
 use Rattle.pb_graph.proofs.WalkLemmas.{ends_is, stream_of, walk_more, reach_one, reach_back}
-use Rattle.pb_balance.proofs.BalanceLaws.{turns, takes, length_turns, round_net, not_taken, first_unit}
+use Rattle.pb_graph.proofs.BalanceLaws.{turns, takes, length_turns, round_net, not_taken, first_unit}
 use Rattle.pb_forest.specs.Forest.{IsForest}
 use Rattle.pb_forest.specs.Flows.{SomeBalancedLaw}
 use Rattle.pb_forest.proofs.SpansLemmas.{spans_law}

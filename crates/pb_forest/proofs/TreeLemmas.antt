@@ -4,9 +4,8 @@ use Rattle.std.proofs.lemmas.Bool.{cases_Bool, cases_eq, cases_lt, eq-eqb, ne_eq
 use Rattle.std.proofs.lemmas.List.{get_or_past, get_or-set_same, get_or-set_other, get_or_append_left, get_or-append-add, length-append, length-set, length-replicate}
 use Rattle.std.proofs.lemmas.Option.{slice_get_within, get_or_from_slice_get}
 use Rattle.pb_graph.specs.declared.records.Stream.{Stream}
-use Rattle.pb_graph.specs.ProcessGraph.{IsStream}
+use Rattle.pb_graph.specs.ProcessGraph.{IsStream, other_end, some_stream}
 use Rattle.pb_graph.specs.Neighbours.{touches, touching_from, touching}
-use Rattle.pb_graph.specs.ProcessGraph.{other_end, some_stream}
 use Rattle.pb_graph.proofs.WalkLemmas.{some_same}
 use Rattle.pb_forest.specs.Trees.{RootedTrees, node_at, place_of, root_of, up_of, end_from, unfound, IsBranch, AreTrees, AreWhole, AreGrowing, Extends, hung, AreFollowed, AreSearched}
 

@@ -1,6 +1,6 @@
 -- Inside. How flows are balanced: net flows are kept at the branches, from the leaves of each tree to its root.
 use Rattle.std.specs.Prelude.{◌≡◌, ◌≢◌, ℕ, zero, suc, ◌<◌, ◌≤◌, ℤ, pos, neg_ℤ, ◌+ℤ◌, Bool, false, ◌==◌, List, [], ◌∷◌, ◌++◌, length, map, Option, Some, None, get_or, set, if◌then◌else◌}
-use Rattle.pb_integers.specs.Sums.{sum_below, item}
+use Rattle.pb_fixed.specs.Sums.{sum_below, item}
 use Rattle.pb_graph.specs.declared.records.Stream.{Stream}
 use Rattle.pb_graph.specs.ProcessGraph.{ProcessGraph, IsProcessGraph, some_stream}
 use Rattle.pb_graph.specs.Groups.{entering}

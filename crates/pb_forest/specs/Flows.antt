@@ -1,7 +1,7 @@
 -- Statement. The only balanced flow vector that has given flows off the forest: its flows at the held streams follow from the
 -- balances (Narasimhan and Jordache, chapter 3).
 use Rattle.std.specs.Prelude.{◌≡◌, ℕ, ◌+◌, ◌^◌, ◌<◌, ◌≤◌, ℤ, Bool, false, List, length, get_or, unsigned_abs}
-use Rattle.pb_integers.specs.Sums.{item}
+use Rattle.pb_fixed.specs.Sums.{item}
 use Rattle.pb_graph.specs.ProcessGraph.{ProcessGraph, IsProcessGraph}
 use Rattle.pb_graph.specs.Balance.{IsBalanced}
 use Rattle.pb_forest.specs.Forest.{IsForest}

@@ -18,18 +18,14 @@ fn step_up(graph: &Graph, held: &[bool], trees: &Trees, node: u32) -> (Step, u32
     ensures { IsRise graph.now.nodes graph.now.streams held.now trees.now node result.1 result.0 }
 {
     let streams = graph.streams();
-    match trees.up(node) {
-        // the root was found first
-        None => unreachable!(),
-        Some(j) => {
-            let stream = &streams[j as usize];
-            let step = Step {
-                stream: j,
-                forward: stream.to != node,
-            };
-            (step, stream.end_from(node))
-        }
-    }
+    // the root was found first
+    let j = trees.up(node).unwrap();
+    let stream = &streams[j as usize];
+    let step = Step {
+        stream: j,
+        forward: stream.to != node,
+    };
+    (step, stream.end_from(node))
 }
 
 // Climbs from two nodes of one tree, each time from the node found later, until they meet. The steps from the first node are written

@@ -2,7 +2,7 @@
 
 ghost use Rattle.std.specs.Prelude.{◌≡◌, ℕ, ◌<◌, ◌≤◌, ◌^◌, ℤ, neg_ℤ, List as Seq, All, Some, length, unsigned_abs};
 ghost use Rattle.pb_limits.specs.Limits.{most_streams};
-ghost use Rattle.pb_integers.specs.Sums.{item};
+ghost use Rattle.pb_fixed.specs.Sums.{item};
 ghost use Rattle.pb_graph.specs.ProcessGraph.{IsProcessGraph};
 ghost use Rattle.pb_graph.specs.Balance.{IsBalanced};
 ghost use Rattle.pb_graph.specs.WellFormed.{IsFlow};

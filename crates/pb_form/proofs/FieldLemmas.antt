@@ -12,7 +12,7 @@ use Rattle.pb_form.specs.Seen.{column_seen}
 use Rattle.pb_form.specs.declared.column.Column as coded
 use Rattle.pb_form.specs.Holds as holds
 use Rattle.pb_form.specs.Value.{Value, Word}
-use Rattle.pb_form.specs.Writing.{FitEach, Fits, FitsIn, word_at}
+use Rattle.pb_form.specs.Writing.{FitEach, FitsColumn, FitsIn, word_at}
 
 -- the word at the place of a field among words is the field
 pub word_found : (words : List (List ℕ)) (field : List ℕ) (place : ℕ) → position (bytes_eq field) words ≡ Some place → word_at words place ≡ field

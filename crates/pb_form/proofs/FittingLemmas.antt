@@ -16,7 +16,7 @@ use Rattle.pb_form.specs.Holds as holds
 use Rattle.pb_form.specs.Laws.{FittingLaw}
 use Rattle.pb_form.specs.Reading.{fields_read}
 use Rattle.pb_form.specs.Value.{Value, Missing, Word, Name, Reason, Number, Date, Items}
-use Rattle.pb_form.specs.Writing.{FitEach, Fits, FitsIn}
+use Rattle.pb_form.specs.Writing.{FitEach, FitsColumn, FitsIn}
 use Rattle.pb_form.specs.declared.fault.FormFault.{FormFault}
 use Rattle.pb_form.specs.declared.fault.FormFault.TheVariants as fault
 
@@ -49,10 +49,10 @@ held_fits dates holds.Items optional field v told says =
     rw same told
 
 -- any field
-field_fits : HaveOneDateText → (column : Column) (field : List ℕ) (v : Value) → field_read column field ≡ Ok v → Fits column v
+field_fits : HaveOneDateText → (column : Column) (field : List ℕ) (v : Value) → field_read column field ≡ Ok v → FitsColumn column v
 field_fits dates column field v says = by (column.optional && (length field == 0)) refl says
   where
-    by : (b : Bool) → (column.optional && (length field == 0)) ≡ b → (if b then Ok Missing else held_in column.holds field) ≡ Ok v → Fits column v
+    by : (b : Bool) → (column.optional && (length field == 0)) ≡ b → (if b then Ok Missing else held_in column.holds field) ≡ Ok v → FitsColumn column v
     by true left says =
         let none : v ≡ Missing = cc says in
         rw none (and_parts column.optional (length field == 0) left).0

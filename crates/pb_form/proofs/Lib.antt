@@ -14,3 +14,4 @@ mod JsonLemmas
 mod TextLemmas
 mod DayTextLemmas
 mod RowTextLemmas
+pub mod FormLaws

@@ -33,13 +33,13 @@ FitsIn holds.Date optional (Date day) = IsDay day
 FitsIn holds.Items optional (Items text) = IsTold optional text
 FitsIn takes optional value = ⊥
 
-abbrev pub Fits : Column → Value → Type 0
-Fits column value = FitsIn column.holds column.optional value
+abbrev pub FitsColumn : Column → Value → Type 0
+FitsColumn column value = FitsIn column.holds column.optional value
 
 -- each value fits its column, and there is one for each
 abbrev pub FitEach : List Column → List Value → Type 0
 FitEach [] [] = Unit {0}
-FitEach (column ∷ columns) (value ∷ values) = Fits column value × FitEach columns values
+FitEach (column ∷ columns) (value ∷ values) = FitsColumn column value × FitEach columns values
 FitEach columns values = ⊥
 
 -- A record writes values by a schema: it reads as them.

@@ -9,16 +9,13 @@ ghost use Rattle.pb_form.specs.Texts.{held_word, texts_of, value_text};
 use crate::column::{Column, Holds};
 use crate::day::push_day;
 use crate::value::Value;
-use pb_rows::{Row, date_text_law, number_text_law};
+use pb_rows::Row;
 use std::alloc::{AllocError, Global};
 
 /// The law that the texts of values which fit the columns of a schema read back as the values.
 pub fn text_law()
     ensures { TextLaw }
-{
-    number_text_law();
-    date_text_law();
-}
+{}
 
 // The record of the texts of values, one for each column.
 pub(crate) fn write_texts(

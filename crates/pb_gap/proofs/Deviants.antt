@@ -1,11 +1,11 @@
 -- A gap that is met has no deviations whose squares add up to more than the square of the gap.
 use Rattle.std.proofs.Common.{◌≡◌, ℕ, zero, suc, ◌*◌, ◌/◌, ◌^◌, ◌<◌, ◌≤◌, ℤ, pos, ◌+ℤ◌, ◌*ℤ◌, ◌≤ℤ◌, Bool, false, List, [], ◌∷◌, take, refl, subst, arith, ◌∙◌, ap, sym}
 use Rattle.std.proofs.lemmas.Int.{ints}
-use Rattle.pb_integers.proofs.Lists.{AllByRecursion-every}
-use Rattle.pb_integers.specs.Sums.{item, sum_over}
-use Rattle.pb_integers.proofs.Order.{add_mono, le_by_eq, le_trans, mul_mono, mul_mono_left, mul_nonneg, square_pos}
-use Rattle.pb_integers.proofs.Ring.{var, plus, times, ring}
-use Rattle.pb_integers.proofs.Sums.{sum_over-nonneg}
+use Rattle.pb_fixed.proofs.Lists.{AllByRecursion-every}
+use Rattle.pb_fixed.specs.Sums.{item, sum_over}
+use Rattle.pb_fixed.proofs.Order.{add_mono, le_by_eq, le_trans, mul_mono, mul_mono_left, mul_nonneg, square_pos}
+use Rattle.pb_fixed.proofs.Ring.{var, plus, times, ring}
+use Rattle.pb_fixed.proofs.Sums.{sum_over-nonneg}
 use Rattle.pb_fixed.specs.Blocks.{block_squares_of, blocks_of}
 use Rattle.pb_fixed.proofs.QuotientLaws.{ceiling_is}
 use Rattle.pb_graph.specs.declared.records.Stream.{Stream}

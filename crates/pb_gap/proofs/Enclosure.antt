@@ -2,9 +2,9 @@
 use Rattle.std.proofs.Common.{◌≡◌, ◌∙◌, ◌^◌, ℕ, ℤ, pos, neg_ℤ, ◌+ℤ◌, ◌-ℤ◌, ◌*ℤ◌, ◌≤ℤ◌, ◌<ℤ◌, unsigned_abs, List, [], ◌∷◌, Option, Some, None, refl, sym, subst, ap, arith}
 use Rattle.std.specs.Int.{int_div_euclid}
 use Rattle.std.proofs.lemmas.Int.{by_lt_z, ints}
-use Rattle.pb_integers.proofs.Order.{le_by_eq, le_trans, le_of_eq, add_mono, mul_cancel, mul_mono, mul_positive, square_pos}
-use Rattle.pb_integers.proofs.Ring.{var, lit, plus, times, less, square, ring}
-use Rattle.pb_integers.proofs.RingLaws.{mul_comm, mul_zero}
+use Rattle.pb_fixed.proofs.Order.{le_by_eq, le_trans, le_of_eq, add_mono, mul_cancel, mul_mono, mul_positive, square_pos}
+use Rattle.pb_fixed.proofs.Ring.{var, lit, plus, times, less, square, ring}
+use Rattle.pb_fixed.proofs.RingLaws.{mul_comm, mul_zero}
 use Rattle.pb_fixed.specs.Quotients.{floor_div, ceil_div}
 use Rattle.pb_fixed.specs.Roots.{scaled_root_of, root_ceil_of}
 use Rattle.pb_fixed.specs.Blocks.{block_squares_of, blocks_of}
@@ -18,7 +18,7 @@ use Rattle.pb_graph.specs.ProcessGraph.{ProcessGraph}
 use Rattle.pb_graph.specs.Balance.{IsBalanced}
 use Rattle.pb_graph.specs.Squares.{Fractional, IsNoWorse, variance_product, weighted_squares, whole_flows}
 use Rattle.pb_graph.specs.Prices.{rise_of}
-use Rattle.pb_balance.specs.PricedSums.{signed_sum}
+use Rattle.pb_graph.specs.PricedSums.{signed_sum}
 use Rattle.pb_dual.specs.DualValue.{scale, flow_at, dual_value}
 use Rattle.pb_gap.specs.Residuals.{residual_squares, residuals_of, residual_of}
 use Rattle.pb_gap.specs.Gap.{deviation_at, deviations_of, gap_of, gap_size}

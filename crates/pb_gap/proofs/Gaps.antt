@@ -1,9 +1,9 @@
 -- The two numbers of a gap.
 use Rattle.std.proofs.Common.{◌≡◌, ◌∙◌, ◌*◌, ◌≤◌, ℕ, ℤ, pos, ◌*ℤ◌, ◌≤ℤ◌, unsigned_abs, List, ap, ap₂, arith}
 use Rattle.std.proofs.lemmas.Int.{ints}
-use Rattle.pb_integers.proofs.Lists.{AllByRecursion-every}
-use Rattle.pb_integers.proofs.Order.{square_pos}
-use Rattle.pb_integers.proofs.Sums.{sum_over-nonneg}
+use Rattle.pb_fixed.proofs.Lists.{AllByRecursion-every}
+use Rattle.pb_fixed.proofs.Order.{square_pos}
+use Rattle.pb_fixed.proofs.Sums.{sum_over-nonneg}
 use Rattle.pb_fixed.specs.Roots.{root_ceil_of}
 use Rattle.pb_fixed.specs.Blocks.{block_exponent_of, block_squares_of, blocks_of}
 use Rattle.pb_fixed.proofs.BlockLaws.{block_exponent_is, block_exponent_only}

@@ -4,10 +4,10 @@ use Rattle.std.specs.Prelude.{IfSome, option_map}
 use Rattle.std.specs.Int.{int_div_euclid}
 use Rattle.std.specs.List.{AllByRecursion}
 use Rattle.std.proofs.lemmas.Int.{ints}
-use Rattle.pb_integers.specs.Sums.{item}
-use Rattle.pb_integers.proofs.Order.{le_by_eq, le_of_eq, mul_mono_left, square_pos}
-use Rattle.pb_integers.proofs.Ring.{var, lit, plus, times, minus, less, square, ring}
-use Rattle.pb_integers.proofs.RingLaws.{mul_zero}
+use Rattle.pb_fixed.specs.Sums.{item}
+use Rattle.pb_fixed.proofs.Order.{le_by_eq, le_of_eq, mul_mono_left, square_pos}
+use Rattle.pb_fixed.proofs.Ring.{var, lit, plus, times, minus, less, square, ring}
+use Rattle.pb_fixed.proofs.RingLaws.{mul_zero}
 use Rattle.pb_fixed.specs.Quotients.{floor_div, ceil_div}
 use Rattle.pb_fixed.specs.Roots.{scaled_root_of}
 use Rattle.pb_fixed.proofs.QuotientLaws.{ceiling_is, floor_is}
@@ -17,7 +17,7 @@ use Rattle.pb_graph.specs.declared.records.Stream.{Stream}
 use Rattle.pb_graph.specs.declared.records.Member.{Member}
 use Rattle.pb_graph.specs.ProcessGraph.{ProcessGraph}
 use Rattle.pb_graph.specs.Squares.{Fractional, IsBalancedFractional, IsLeast, variance_product, weighted_product, weighted_sum_of_squares, by_stream, weighted_squares, whole_flows}
-use Rattle.pb_balance.specs.PricedSums.{signed_sum}
+use Rattle.pb_graph.specs.PricedSums.{signed_sum}
 use Rattle.pb_dual.specs.DualValue.{scale, dual_flow, dual_value}
 use Rattle.pb_gap.specs.Residuals.{residual_squares, residual_of}
 use Rattle.pb_gap.specs.Gap.{gap_of, gap_size}

@@ -2,14 +2,14 @@
 use Rattle.std.proofs.Common.{◌≡◌, ◌∙◌, ℕ, ℤ, pos, neg_ℤ, ◌+ℤ◌, ◌-ℤ◌, ◌*ℤ◌, ◌≤ℤ◌, List, [], ◌∷◌, length, Option, Some, None, refl, sym, subst, ap, arith}
 use Rattle.std.specs.Int.{int_div_euclid}
 use Rattle.std.proofs.lemmas.Int.{ints}
-use Rattle.pb_integers.specs.Sums.{sum_over}
-use Rattle.pb_integers.proofs.Ring.{var, lit, plus, times, minus, less, square, ring}
+use Rattle.pb_fixed.specs.Sums.{sum_over}
+use Rattle.pb_fixed.proofs.Ring.{var, lit, plus, times, minus, less, square, ring}
 use Rattle.pb_graph.specs.declared.records.Meas.{Meas}
 use Rattle.pb_graph.specs.declared.records.Stream.{Stream}
 use Rattle.pb_graph.specs.Squares.{variance_product, weighted_squares, squares_unit}
 use Rattle.pb_graph.specs.Prices.{rise_of}
-use Rattle.pb_balance.specs.PricedSums.{priced_streams}
-use Rattle.pb_balance.proofs.BalanceLaws.{balanced_sum}
+use Rattle.pb_graph.specs.PricedSums.{priced_streams}
+use Rattle.pb_graph.proofs.BalanceLaws.{balanced_sum}
 use Rattle.pb_dual.specs.DualValue.{scale, cost_at}
 use Rattle.pb_gap.specs.Residuals.{residual_squares, residuals_of}
 use Rattle.pb_gap.specs.Laws.{IdentityLaw, DualityLaw}

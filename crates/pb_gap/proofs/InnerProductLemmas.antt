@@ -3,8 +3,8 @@ use Rattle.std.proofs.Common.{◌≡◌, ℕ, zero, suc, ℤ, pos, ◌-ℤ◌, �
 use Rattle.std.specs.Int.{int_div_euclid}
 use Rattle.std.specs.List.{AllByRecursion}
 use Rattle.std.proofs.lemmas.Int.{ints}
-use Rattle.pb_integers.specs.Sums.{item}
-use Rattle.pb_integers.proofs.Order.{mul_nonneg, square_pos}
+use Rattle.pb_fixed.specs.Sums.{item}
+use Rattle.pb_fixed.proofs.Order.{mul_nonneg, square_pos}
 use Rattle.pb_graph.specs.declared.records.Meas.{Meas}
 use Rattle.pb_graph.specs.declared.records.Stream.{Stream}
 use Rattle.pb_graph.specs.Squares.{weighted_product, weighted_sum_of_squares, by_stream, value_or_zero, error_of}

@@ -9,8 +9,8 @@ use Rattle.pb_graph.specs.Walk.{ends_of, unmeasured}
 use Rattle.pb_graph.proofs.WalkLemmas.{reach_none}
 use Rattle.pb_forest.specs.Forest.{SpanningForest, IsForest, degrees_of_freedom}
 use Rattle.pb_forest.proofs.ForestLaws.{one_forest_law}
-use Rattle.pb_merge.specs.Grouping.{AreGroupsOf, Grouping}
-use Rattle.pb_merge.specs.Variance.{group_variance}
+use Rattle.pb_graph.specs.Grouping.{AreGroupsOf, Grouping}
+use Rattle.pb_graph.specs.Variance.{group_variance}
 use Rattle.pb_dual.specs.DualValue.{dual_flows_of}
 use Rattle.pb_dual.specs.Priced.{Priced, price_of}
 use Rattle.pb_dual.specs.Sweeps.{prices_after}

@@ -2,9 +2,9 @@
 use Rattle.std.proofs.Common.{◌≡◌, ◌∙◌, ◌==◌, ◌^◌, ℕ, suc, ℤ, pos, negsuc, neg_ℤ, ◌+ℤ◌, ◌-ℤ◌, ◌*ℤ◌, ◌≤ℤ◌, ◌<ℤ◌, Bool, true, false, cond, List, [], ◌∷◌, length, Option, Some, None, refl, sym, ap, arith}
 use Rattle.std.specs.Int.{int_div_euclid}
 use Rattle.std.proofs.lemmas.Int.{by_lt_z, ints}
-use Rattle.pb_integers.proofs.Order.{le_by_eq, mul_cancel, mul_mono, mul_positive, square_pos}
-use Rattle.pb_integers.proofs.Ring.{var, lit, plus, times, minus, less, square, ring}
-use Rattle.pb_integers.proofs.RingLaws.{one_mul}
+use Rattle.pb_fixed.proofs.Order.{le_by_eq, mul_cancel, mul_mono, mul_positive, square_pos}
+use Rattle.pb_fixed.proofs.Ring.{var, lit, plus, times, minus, less, square, ring}
+use Rattle.pb_fixed.proofs.RingLaws.{one_mul}
 use Rattle.pb_graph.specs.declared.records.Meas.{Meas}
 use Rattle.pb_graph.specs.declared.records.Stream.{Stream}
 use Rattle.pb_graph.specs.ProcessGraph.{ProcessGraph, IsProcessGraph}

@@ -2,15 +2,15 @@
 use Rattle.std.proofs.Common.{◌^◌, ◌<◌, ◌≤◌, ℤ, pos, ◌+ℤ◌, ◌-ℤ◌, ◌*ℤ◌, ◌≤ℤ◌, ◌<ℤ◌, unsigned_abs, ◌∷◌, arith}
 use Rattle.std.proofs.lemmas.Int.{ints}
 use Rattle.std.proofs.lemmas.Option.{slice_get_within}
-use Rattle.pb_integers.specs.Sums.{item}
-use Rattle.pb_integers.proofs.Lists.{AllByRecursion-map}
-use Rattle.pb_integers.proofs.Sums.{sum_over-bound}
+use Rattle.pb_fixed.specs.Sums.{item}
+use Rattle.pb_fixed.proofs.Lists.{AllByRecursion-map}
+use Rattle.pb_fixed.proofs.Sums.{sum_over-bound}
 use Rattle.pb_fixed.specs.Quotients.{IsCeiling, floor_div, ceil_div}
 use Rattle.pb_fixed.specs.Roots.{scaled_root_of}
 use Rattle.pb_fixed.proofs.QuotientLaws.{ceiling_is, ceiling_only, ceiling_size, floor_is, floor_size}
 use Rattle.pb_graph.specs.declared.records.Member.{Member}
-use Rattle.pb_graph.specs.WellFormed.{AreBoundsWithin}
-use Rattle.pb_balance.specs.PricedSums.{signed_sum}
+use Rattle.pb_study.specs.WellFormed.{AreBoundsWithin}
+use Rattle.pb_graph.specs.PricedSums.{signed_sum}
 use Rattle.pb_dual.specs.DualValue.{scale}
 use Rattle.pb_gap.specs.Gap.{gap_of, gap_size}
 use Rattle.pb_gap.specs.Bounds.{IsSigned, dual_flow_sum, half_width_in, variance_sum}

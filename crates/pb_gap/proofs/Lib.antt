@@ -22,3 +22,4 @@ mod NetLemmas
 mod SolveLemmas
 mod HypercircleLemmas
 mod LeastRangeLemmas
+pub mod GapLaws

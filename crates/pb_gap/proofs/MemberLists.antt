@@ -4,9 +4,9 @@ use Rattle.std.specs.Prelude.{All}
 use Rattle.std.specs.List.{AllByRecursion}
 use Rattle.std.proofs.lemmas.Int.{ints}
 use Rattle.std.proofs.lemmas.Option.{slice_get_within}
-use Rattle.pb_integers.specs.Sums.{item, sum_over, total}
-use Rattle.pb_integers.proofs.Lists.{All-from_recursion, AllByRecursion-map}
-use Rattle.pb_integers.proofs.PartialSums.{partial_sum}
+use Rattle.pb_fixed.specs.Sums.{item, sum_over, total}
+use Rattle.pb_fixed.proofs.Lists.{All-from_recursion, AllByRecursion-map}
+use Rattle.pb_fixed.proofs.PartialSums.{partial_sum}
 use Rattle.pb_graph.specs.declared.records.Member.{Member}
 use Rattle.pb_graph.specs.ProcessGraph.{ProcessGraph}
 use Rattle.pb_gap.specs.Bounds.{AreSigned, IsSigned}

@@ -8,13 +8,13 @@ use Rattle.std.proofs.lemmas.Option.{slice_get-get_or}
 use Rattle.std.proofs.Math.ListN.{get_or-append}
 use Rattle.std.proofs.Math.Seq.{get_or-append_seam}
 use Rattle.std.proofs.lemmas.Bool.{cases_lt}
-use Rattle.pb_integers.specs.Sums.{item, sum_over}
-use Rattle.pb_integers.specs.Laws.{IsWeighed}
-use Rattle.pb_integers.proofs.Lists.{AllByRecursion-from_all}
-use Rattle.pb_integers.proofs.Order.{le_by_eq, le_trans, mul_cancel, mul_mono, mul_mono_left, mul_nonneg, root_mono, square_pos}
-use Rattle.pb_integers.proofs.Ring.{var, lit, plus, times, minus, less, square, ring}
-use Rattle.pb_integers.proofs.RingLaws.{mul_comm, zero_add}
-use Rattle.pb_integers.proofs.Schwarz.{schwarz}
+use Rattle.pb_fixed.specs.Sums.{item, sum_over}
+use Rattle.pb_fixed.specs.IntegerLaws.{IsWeighed}
+use Rattle.pb_fixed.proofs.Lists.{AllByRecursion-from_all}
+use Rattle.pb_fixed.proofs.Order.{le_by_eq, le_trans, mul_cancel, mul_mono, mul_mono_left, mul_nonneg, root_mono, square_pos}
+use Rattle.pb_fixed.proofs.Ring.{var, lit, plus, times, minus, less, square, ring}
+use Rattle.pb_fixed.proofs.RingLaws.{mul_comm, zero_add}
+use Rattle.pb_fixed.proofs.Schwarz.{schwarz}
 use Rattle.pb_fixed.specs.Roots.{scaled_root_of}
 use Rattle.pb_fixed.proofs.RootLaws.{scaled_root_is}
 use Rattle.pb_graph.specs.declared.records.Meas.{Meas}
@@ -24,10 +24,10 @@ use Rattle.pb_graph.specs.Groups.{AreGroups, entering, group_at, has_one_end}
 use Rattle.pb_graph.specs.Squares.{by_stream, variance_product, weighted_product, weighted_sum_of_squares}
 use Rattle.pb_graph.specs.Balance.{IsBalanced}
 use Rattle.pb_graph.specs.Prices.{PricesFit}
-use Rattle.pb_balance.specs.PricedSums.{priced_streams}
-use Rattle.pb_balance.proofs.BalanceLaws.{balanced_sum}
-use Rattle.pb_merge.specs.Variance.{variance_of, crossing_variance, group_variance, most_group_variance}
-use Rattle.pb_merge.proofs.GroupLaws.{crossing_measured}
+use Rattle.pb_graph.specs.PricedSums.{priced_streams}
+use Rattle.pb_graph.proofs.BalanceLaws.{balanced_sum}
+use Rattle.pb_graph.specs.Variance.{variance_of, crossing_variance, group_variance, most_group_variance}
+use Rattle.pb_graph.proofs.GroupLaws.{crossing_measured}
 use Rattle.pb_dual.specs.DualValue.{scale, dual_flow}
 use Rattle.pb_dual.specs.Moves.{group_flow}
 use Rattle.pb_gap.specs.Residuals.{residual_of}

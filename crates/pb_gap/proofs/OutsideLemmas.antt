@@ -7,7 +7,7 @@ use Rattle.pb_graph.specs.ProcessGraph.{ProcessGraph}
 use Rattle.pb_graph.specs.Groups.{group_at, group_count, is_free_group}
 use Rattle.pb_graph.specs.Walk.{ends_of, unmeasured}
 use Rattle.pb_graph.proofs.WalkLemmas.{reach_none}
-use Rattle.pb_merge.proofs.GroupLaws.{first_number}
+use Rattle.pb_graph.proofs.GroupLaws.{first_number}
 use Rattle.pb_dual.specs.Candidates.{best_price}
 use Rattle.pb_dual.specs.Sweeps.{prices_after, swept}
 use Rattle.pb_dual.proofs.SweepLaws.{prices_fit}

@@ -5,10 +5,10 @@ use Rattle.std.specs.Int.{int_max, int_min}
 use Rattle.std.specs.List.{AllByRecursion, list_any}
 use Rattle.std.proofs.lemmas.Int.{ints}
 use Rattle.pb_limits.specs.Limits.{most_streams, most_variance}
-use Rattle.pb_integers.specs.Sums.{item}
-use Rattle.pb_integers.proofs.Lists.{All-from_recursion, AllByRecursion-from_all, AllByRecursion-map, some_same}
-use Rattle.pb_integers.proofs.Order.{square_mono}
-use Rattle.pb_integers.proofs.Sums.{sum_over-bound, sum_over-nonneg}
+use Rattle.pb_fixed.specs.Sums.{item}
+use Rattle.pb_fixed.proofs.Lists.{All-from_recursion, AllByRecursion-from_all, AllByRecursion-map, some_same}
+use Rattle.pb_fixed.proofs.Order.{square_mono}
+use Rattle.pb_fixed.proofs.Sums.{sum_over-bound, sum_over-nonneg}
 use Rattle.pb_fixed.specs.Quotients.{floor_div, ceil_div, nearest_div}
 use Rattle.pb_fixed.specs.Roots.{scaled_root_of}
 use Rattle.pb_fixed.specs.Blocks.{IsBlockItem, FitBlocks, block_exponent_of, block_squares_of, blocks_of}
@@ -20,8 +20,9 @@ use Rattle.pb_graph.specs.declared.records.Stream.{Stream}
 use Rattle.pb_graph.specs.declared.records.Member.{Member}
 use Rattle.pb_graph.specs.ProcessGraph.{ProcessGraph, IsProcessGraph, IsMeasurement, IsWithinLimits}
 use Rattle.pb_graph.specs.Prices.{IsInBox, rise_of}
-use Rattle.pb_graph.specs.WellFormed.{AreBoundsWithin, IsFlow}
-use Rattle.pb_merge.specs.Variance.{variance_of}
+use Rattle.pb_study.specs.WellFormed.{AreBoundsWithin}
+use Rattle.pb_graph.specs.WellFormed.{IsFlow}
+use Rattle.pb_graph.specs.Variance.{variance_of}
 use Rattle.pb_dual.specs.DualValue.{scale, dual_flow, flow_at, most_dual_flow}
 use Rattle.pb_forest.specs.Flows.{IsGivenFlow, most_given_flow}
 use Rattle.pb_gap.specs.Gap.{Gap, deviation_at, deviations_of, gap_from, gap_of, gap_size}

@@ -1,9 +1,9 @@
 -- Roundings go outward.
 use Rattle.std.proofs.Common.{◌≡◌, ◌∙◌, ◌^◌, ℤ, pos, neg_ℤ, ◌+ℤ◌, ◌-ℤ◌, ◌*ℤ◌, ◌≤ℤ◌, List, [], ◌∷◌, refl, sym, ap, arith}
 use Rattle.std.proofs.lemmas.Int.{ints}
-use Rattle.pb_integers.proofs.Order.{le_by_eq, le_trans, mul_cancel, mul_mono, mul_nonneg, neg_square, root_mono, square_pos, square_within}
-use Rattle.pb_integers.proofs.Ring.{var, lit, plus, times, less, square, ring}
-use Rattle.pb_integers.proofs.RingLaws.{mul_comm}
+use Rattle.pb_fixed.proofs.Order.{le_by_eq, le_trans, mul_cancel, mul_mono, mul_nonneg, neg_square, root_mono, square_pos, square_within}
+use Rattle.pb_fixed.proofs.Ring.{var, lit, plus, times, less, square, ring}
+use Rattle.pb_fixed.proofs.RingLaws.{mul_comm}
 
 -- l times the square of b blocks of p, in units of 2^-72
 abbrev pub bound : ℤ → ℤ → ℤ → ℤ

@@ -3,27 +3,27 @@ use Rattle.std.proofs.Common.{◌≡◌, ◌∙◌, ℕ, zero, suc, ℤ, pos, �
 use Rattle.std.specs.Int.{int_div_euclid}
 use Rattle.std.specs.List.{AllByRecursion}
 use Rattle.std.proofs.lemmas.Int.{ints}
-use Rattle.pb_integers.specs.Sums.{sum_over, total, item}
-use Rattle.pb_integers.specs.Laws.{IsWeighed}
-use Rattle.pb_integers.proofs.Lists.{All-from_recursion, AllByRecursion-map}
-use Rattle.pb_integers.proofs.Order.{le_by_eq, le_trans, mul_mono_left}
-use Rattle.pb_integers.proofs.PartialSums.{partial_sum}
-use Rattle.pb_integers.proofs.Ring.{var, lit, plus, times, less, square, ring}
-use Rattle.pb_integers.proofs.Schwarz.{schwarz}
-use Rattle.pb_integers.proofs.Sums.{sum_over-nonneg, sum_over-same}
+use Rattle.pb_fixed.specs.Sums.{sum_over, total, item}
+use Rattle.pb_fixed.specs.IntegerLaws.{IsWeighed}
+use Rattle.pb_fixed.proofs.Lists.{All-from_recursion, AllByRecursion-map}
+use Rattle.pb_fixed.proofs.Order.{le_by_eq, le_trans, mul_mono_left}
+use Rattle.pb_fixed.proofs.PartialSums.{partial_sum}
+use Rattle.pb_fixed.proofs.Ring.{var, lit, plus, times, less, square, ring}
+use Rattle.pb_fixed.proofs.Schwarz.{schwarz}
+use Rattle.pb_fixed.proofs.Sums.{sum_over-nonneg, sum_over-same}
 use Rattle.pb_graph.specs.declared.records.Meas.{Meas}
 use Rattle.pb_graph.specs.declared.records.Stream.{Stream}
 use Rattle.pb_graph.specs.declared.records.Member.{Member}
 use Rattle.pb_graph.specs.ProcessGraph.{ProcessGraph, IsProcessGraph}
 use Rattle.pb_graph.specs.Squares.{Fractional, variance_product, weighted_product, weighted_sum_of_squares}
 use Rattle.pb_graph.proofs.WalkLemmas.{some_same}
-use Rattle.pb_balance.specs.PricedSums.{signed_sum}
-use Rattle.pb_merge.specs.Variance.{variance_of}
-use Rattle.pb_merge.proofs.GroupLaws.{all_at}
+use Rattle.pb_graph.specs.PricedSums.{signed_sum}
+use Rattle.pb_graph.specs.Variance.{variance_of}
+use Rattle.pb_graph.proofs.GroupLaws.{all_at}
 use Rattle.pb_dual.specs.DualValue.{scale}
 use Rattle.pb_gap.specs.Residuals.{residual_of, residuals_of}
 use Rattle.pb_gap.specs.Bounds.{IsSigned, AreSigned, dual_flow_in, variance_in, dual_flow_sum, variance_sum}
-use Rattle.pb_gap.specs.Laws.{SchwarzLaw}
+use Rattle.pb_gap.specs.Laws.{SignedSchwarzLaw}
 use Rattle.pb_gap.proofs.Weights.{HasWeight, MayWeigh, product_of, weights_of}
 use Rattle.pb_gap.proofs.InnerProductLemmas.{by_stream_at, square_nonneg}
 
@@ -111,7 +111,7 @@ variances_nonneg g ms limits is =
     (AllByRecursion-map (IsWeighed (variance_at g.streams) (weight_at l g.streams) l) (λ m. pos 0 ≤ℤ variance_at g.streams m) ms (λ m one. not_below (variance_at g.streams m) one.positive)
     (all_weighed l g ms (weights_of g limits) is.each))
 
-pub error_schwarz : SchwarzLaw
+pub error_schwarz : SignedSchwarzLaw
 error_schwarz g es ms limits each is =
     let l = variance_product g.streams in
     let ss = g.streams in

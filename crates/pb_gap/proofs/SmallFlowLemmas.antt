@@ -4,9 +4,9 @@ use Rattle.std.specs.Prelude.{◌⊎◌, IfSome}
 use Rattle.std.specs.List.{AllByRecursion}
 use Rattle.std.proofs.lemmas.Bool.{cases_Bool}
 use Rattle.std.proofs.lemmas.Int.{ints}
-use Rattle.pb_integers.specs.Sums.{item}
-use Rattle.pb_integers.proofs.Lists.{All-from_recursion, AllByRecursion-from_all, AllByRecursion-map, all_each, some_same}
-use Rattle.pb_integers.proofs.Sums.{sum_over-bound}
+use Rattle.pb_fixed.specs.Sums.{item}
+use Rattle.pb_fixed.proofs.Lists.{All-from_recursion, AllByRecursion-from_all, AllByRecursion-map, all_each, some_same}
+use Rattle.pb_fixed.proofs.Sums.{sum_over-bound}
 use Rattle.pb_graph.specs.declared.records.Meas.{Meas}
 use Rattle.pb_graph.specs.declared.records.Stream.{Stream}
 use Rattle.pb_graph.specs.declared.records.Member.{Member}
@@ -20,7 +20,7 @@ use Rattle.pb_graph.specs.Classes.{IsDetermined}
 use Rattle.pb_graph.specs.Walk.{unmeasured_but}
 use Rattle.pb_graph.specs.WellFormed.{IsFlow}
 use Rattle.pb_graph.proofs.ReachLemmas.{some_reach}
-use Rattle.pb_balance.proofs.BalanceLaws.{reach_decides}
+use Rattle.pb_graph.proofs.BalanceLaws.{reach_decides}
 use Rattle.pb_forest.specs.Forest.{IsForest}
 use Rattle.pb_forest.specs.Flows.{AgreeOffForest, IsGivenFlow, most_given_flow}
 use Rattle.pb_forest.proofs.ForestLaws.{one_balanced_law}

@@ -2,10 +2,10 @@
 use Rattle.std.proofs.Common.{◌≡◌, ◌∙◌, ℕ, zero, suc, ◌+◌, ◌-◌, ◌*◌, ◌^◌, ◌≤◌, ◌⊎◌, Bool, false, ℤ, List, ap, ap₂, refl, sym, subst, inl, inr, arith, rules}
 use Rattle.std.specs.Prelude.{IsTrue, ◌↔◌}
 use Rattle.std.proofs.lemmas.Bool.{cases_lt}
-use Rattle.pb_graph.specs.declared.results.Solved.{Solved}
-use Rattle.pb_graph.specs.declared.results.Solved.TheVariants.{Converged, Unconverged}
+use Rattle.pb_study.specs.declared.results.Solved.{Solved}
+use Rattle.pb_study.specs.declared.results.Solved.TheVariants.{Converged, Unconverged}
 use Rattle.pb_graph.specs.ProcessGraph.{ProcessGraph, IsProcessGraph}
-use Rattle.pb_merge.proofs.GroupLaws.{numbering_law, some_groups_law}
+use Rattle.pb_graph.proofs.GroupLaws.{numbering_law, some_groups_law}
 use Rattle.pb_forest.specs.Flows.{AgreeOffForest}
 use Rattle.pb_forest.proofs.ForestLaws.{one_balanced_law, one_forest_law, some_balanced_law, some_forest_law}
 use Rattle.pb_graph.specs.Groups.{AreGroups}

@@ -4,9 +4,9 @@ use Rattle.std.specs.Prelude.{IfSome, int_lt, nat_lt}
 use Rattle.std.specs.Int.{int_div_euclid, int_min}
 use Rattle.std.specs.List.{AllByRecursion, list_any}
 use Rattle.std.proofs.lemmas.Int.{int_min_is, ints}
-use Rattle.pb_integers.proofs.Order.{le_by_eq, le_trans, le_of_eq, mul_cancel, mul_mono, mul_nonneg, square_mono, square_pos, unsigned_abs_square}
-use Rattle.pb_integers.proofs.Ring.{var, lit, plus, times, less, square, ring}
-use Rattle.pb_integers.proofs.RingLaws.{zero_mul}
+use Rattle.pb_fixed.proofs.Order.{le_by_eq, le_trans, le_of_eq, mul_cancel, mul_mono, mul_nonneg, square_mono, square_pos, unsigned_abs_square}
+use Rattle.pb_fixed.proofs.Ring.{var, lit, plus, times, less, square, ring}
+use Rattle.pb_fixed.proofs.RingLaws.{zero_mul}
 use Rattle.pb_fixed.specs.Quotients.{floor_div, ceil_div}
 use Rattle.pb_fixed.specs.Roots.{scaled_root_of}
 use Rattle.pb_fixed.proofs.QuotientLaws.{ceiling_is, floor_is, floor_from}

@@ -3,26 +3,27 @@ use Rattle.std.proofs.Common.{◌≡◌, ◌≢◌, ◌∙◌, ℕ, suc, ◌+◌
 use Rattle.std.specs.Prelude.{◌⊎◌, IfSome, option_map}
 use Rattle.std.specs.List.{AllByRecursion, list_any}
 use Rattle.std.proofs.lemmas.Bool.{cases_eq, eq-eqb, ne_eqb}
-use Rattle.pb_integers.specs.Sums.{item, AreDistinctBy}
-use Rattle.pb_integers.proofs.Lists.{AllByRecursion-map}
-use Rattle.pb_integers.proofs.Ring.{var, lit, plus, times, minus, less, ring}
+use Rattle.pb_fixed.specs.Sums.{item, AreDistinctBy}
+use Rattle.pb_fixed.proofs.Lists.{AllByRecursion-map}
+use Rattle.pb_fixed.proofs.Ring.{var, lit, plus, times, minus, less, ring}
 use Rattle.pb_graph.specs.declared.records.Meas.{Meas}
 use Rattle.pb_graph.specs.declared.records.Stream.{Stream}
 use Rattle.pb_graph.specs.declared.records.Member.{Member}
 use Rattle.pb_graph.specs.declared.records.Class.{Class}
 use Rattle.pb_graph.specs.declared.records.Class.TheVariants.{Observable, Unobservable, Redundant, Nonredundant}
+use Rattle.pb_graph.specs.declared.records.Classified.{Classified}
 use Rattle.pb_graph.specs.declared.records.Witness.{Witness}
 use Rattle.pb_graph.specs.declared.records.Witness.TheVariants.{Cut, Cycle}
 use Rattle.pb_graph.specs.ProcessGraph.{ProcessGraph, IsProcessGraph}
 use Rattle.pb_graph.specs.Walk.{is_in}
 use Rattle.pb_graph.specs.Balance.{IsBalanced}
 use Rattle.pb_graph.specs.Boundary.{sign_at, member_by, with_first, members_from}
-use Rattle.pb_graph.specs.Certificates.{CutsOff, Shows}
+use Rattle.pb_graph.specs.Certificates.{CutsOff, IsCertified, Shows}
 use Rattle.pb_graph.specs.Squares.{Fractional, IsNoWorse, whole_flows}
-use Rattle.pb_balance.specs.PricedSums.{signed_sum}
-use Rattle.pb_balance.proofs.BalanceLaws.{boundary_sum}
+use Rattle.pb_graph.specs.PricedSums.{signed_sum}
+use Rattle.pb_graph.proofs.BalanceLaws.{boundary_sum}
 use Rattle.pb_gap.specs.Gap.{gap_of}
-use Rattle.pb_gap.specs.Bounds.{IsSigned, bounds_of}
+use Rattle.pb_gap.specs.Bounds.{AreSigned, IsSigned, bounds_of}
 use Rattle.pb_gap.specs.StreamBounds.{IsStreamWithin, sign_in, others_times, sum_for}
 use Rattle.pb_gap.specs.Laws.{IsDualPair, SumsTo, StreamSumLaw, StreamLaw}
 use Rattle.pb_gap.proofs.Enclosure.{enclosure}
@@ -167,6 +168,18 @@ found s x sum h none =
     ∙ ring (x ∷ []) (times (lit (pos 1)) (var 0)) (var 0) refl
 
 -- ---- one stream
+-- the other members of a cut are measured, each at most once
+others_measured : (g : ProcessGraph) (j : ℕ) (side : List Bool) (members : List Member) → CutsOff g j side members → AreSigned g (others_times j (neg_ℤ (sign_in j members)) members)
+others_measured g j side members cuts =
+    let same : (k : ℕ) → slice_get g.streams (0 + k) ≡ slice_get g.streams k = λ k. ap (slice_get g.streams) (omega arith) in
+    let places : AllByRecursion (IsPlaced g.streams 0) members = subst (AllByRecursion (IsPlaced g.streams 0)) (sym cuts.cut.boundary) (placed g.streams side 0 g.streams same) in
+    let apart : AreDistinctBy (λ (m : Member). m.stream) members = subst (AreDistinctBy (λ (m : Member). m.stream)) (sym cuts.cut.boundary) (distinct g.streams side 0 g.streams same) in
+    let sign = sign_is g.streams j members places cuts.has in
+    record {
+      each = others_signed g j (neg_ℤ (sign_in j members)) members (neg_sign (sign_in j members) sign) places cuts.others;
+      distinct = others_distinct j (neg_ℤ (sign_in j members)) members apart;
+    }
+
 observed : (g : ProcessGraph) (j : ℕ) (side : List Bool) (members : List Member) → IsProcessGraph g → CutsOff g j side members → SumsTo g j (others_times j (neg_ℤ (sign_in j members)) members)
 observed g j side members is cuts =
     let same : (k : ℕ) → slice_get g.streams (0 + k) ≡ slice_get g.streams k = λ k. ap (slice_get g.streams) (omega arith) in
@@ -174,10 +187,7 @@ observed g j side members is cuts =
     let apart : AreDistinctBy (λ (m : Member). m.stream) members = subst (AreDistinctBy (λ (m : Member). m.stream)) (sym cuts.cut.boundary) (distinct g.streams side 0 g.streams same) in
     let sign = sign_is g.streams j members places cuts.has in
     record {
-      signed = record {
-        each = others_signed g j (neg_ℤ (sign_in j members)) members (neg_sign (sign_in j members) sign) places cuts.others;
-        distinct = others_distinct j (neg_ℤ (sign_in j members)) members apart;
-      };
+      signed = others_measured g j side members cuts;
       sum = λ xs even.
           others_sum j (neg_ℤ (sign_in j members)) members xs apart
           ∙ found (sign_in j members) (item xs j) (signed_sum members xs) (sign_square (sign_in j members) sign) (boundary_sum g side members xs is cuts.cut even);
@@ -204,6 +214,20 @@ by_class g j s Unobservable (Cycle steps) is at h = tt
 
 pub stream_sum : StreamSumLaw
 stream_sum g j c is (s, at, h) = by_class g j s c.class c.witness is at h
+
+-- the members of the sum are measured, each at most once, whatever the graph
+signed_by : (g : ProcessGraph) (j : ℕ) (s : Stream) (class : Class) (witness : Witness) → slice_get g.streams j ≡ Some s → Shows g j s class witness → IfSome (sum_for j class witness) (AreSigned g)
+signed_by g j s Redundant (Cut side members) at h = (measured g j s at h.0).signed
+signed_by g j s Nonredundant (Cycle steps) at h = (measured g j s at h.0).signed
+signed_by g j s Observable (Cut side members) at h = others_measured g j side members h.1
+signed_by g j s Redundant (Cycle steps) at h = absurd h
+signed_by g j s Nonredundant (Cut side members) at h = absurd h
+signed_by g j s Observable (Cycle steps) at h = tt
+signed_by g j s Unobservable (Cut side members) at h = tt
+signed_by g j s Unobservable (Cycle steps) at h = tt
+
+pub stream_signed : (g : ProcessGraph) (j : ℕ) (c : Classified) → IsCertified g j c → IfSome (sum_for j c.class c.witness) (AreSigned g)
+stream_signed g j c (s, at, h) = signed_by g j s c.class c.witness at h
 
 within : (g : ProcessGraph) (price : ℕ → ℤ) (ps : List ℤ) (x : Fractional) (j : ℕ) (o : Option (List Member)) → IsDualPair g price x → IsBalanced g ps → IsNoWorse g x (whole_flows ps)
     → IfSome o (SumsTo g j) → IfSome (option_map (bounds_of price g.streams (gap_of price g.streams ps)) o) (IsStreamWithin x j)

@@ -5,17 +5,17 @@ use Rattle.std.specs.Int.{int_div_euclid}
 use Rattle.std.specs.List.{All, AllByRecursion}
 use Rattle.std.proofs.lemmas.Int.{by_lt_z, ints}
 use Rattle.std.proofs.lemmas.Option.{slice_get-get_or}
-use Rattle.pb_integers.proofs.Lists.{AllByRecursion-from_all, All-from_recursion, AllByRecursion-map}
-use Rattle.pb_integers.proofs.Order.{mul_mono, mul_positive}
-use Rattle.pb_integers.proofs.Ring.{var, times, ring}
-use Rattle.pb_integers.proofs.RingLaws.{one_mul}
+use Rattle.pb_fixed.proofs.Lists.{AllByRecursion-from_all, All-from_recursion, AllByRecursion-map}
+use Rattle.pb_fixed.proofs.Order.{mul_mono, mul_positive}
+use Rattle.pb_fixed.proofs.Ring.{var, times, ring}
+use Rattle.pb_fixed.proofs.RingLaws.{one_mul}
 use Rattle.pb_fixed.proofs.QuotientLaws.{floor_multiple}
 use Rattle.pb_graph.specs.declared.records.Meas.{Meas}
 use Rattle.pb_graph.specs.declared.records.Stream.{Stream}
 use Rattle.pb_graph.specs.ProcessGraph.{ProcessGraph, IsProcessGraph, IsMeasurement, IsWithinLimits, is_measured}
 use Rattle.pb_graph.specs.Squares.{variance_or_one, variance_product}
 use Rattle.pb_graph.specs.Prices.{PricesFit, rise_of}
-use Rattle.pb_merge.proofs.GroupLaws.{stream_joins}
+use Rattle.pb_graph.proofs.GroupLaws.{stream_joins}
 use Rattle.pb_gap.specs.Laws.{WeightLaw}
 
 -- a variance, and the weight that l over it is

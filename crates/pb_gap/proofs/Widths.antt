@@ -4,7 +4,7 @@ use Rattle.std.specs.Prelude.{IfSome, int_lt, true, false}
 use Rattle.std.proofs.lemmas.Bool.{cases_Bool}
 use Rattle.std.proofs.lemmas.Int.{ints}
 use Rattle.pb_limits.specs.Limits.{most_variance}
-use Rattle.pb_integers.proofs.Order.{root_strict}
+use Rattle.pb_fixed.proofs.Order.{root_strict}
 use Rattle.pb_fixed.specs.Quotients.{floor_div, ceil_div}
 use Rattle.pb_fixed.specs.Roots.{scaled_root_of}
 use Rattle.pb_fixed.specs.Blocks.{IsBlockItem}

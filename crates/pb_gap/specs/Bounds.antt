@@ -1,18 +1,18 @@
 -- Statement. Bounds of a signed sum of measured flows.
 use Rattle.std.specs.Prelude.{◌≡◌, ◌⊎◌, ℕ, ℤ, pos, negsuc, ◌+ℤ◌, ◌-ℤ◌, ◌*ℤ◌, ◌≤ℤ◌, List, [], ◌∷◌, Option, Some, None, slice_get}
 use Rattle.std.specs.List.{AllByRecursion}
-use Rattle.pb_integers.specs.Sums.{sum_over, AreDistinctBy}
+use Rattle.pb_fixed.specs.Sums.{sum_over, AreDistinctBy}
 use Rattle.pb_fixed.specs.Quotients.{floor_div, ceil_div}
 use Rattle.pb_fixed.specs.Roots.{scaled_root_of}
 use Rattle.pb_fixed.specs.Blocks.{half_width_of}
 use Rattle.pb_graph.specs.declared.records.Meas.{Meas}
 use Rattle.pb_graph.specs.declared.records.Stream.{Stream}
 use Rattle.pb_graph.specs.declared.records.Member.{Member}
-use Rattle.pb_graph.specs.declared.results.Bounds.{Bounds}
+use Rattle.pb_study.specs.declared.results.Bounds.{Bounds}
 use Rattle.pb_graph.specs.ProcessGraph.{ProcessGraph}
 use Rattle.pb_graph.specs.Squares.{Fractional}
-use Rattle.pb_balance.specs.PricedSums.{signed_sum}
-use Rattle.pb_merge.specs.Variance.{variance_of}
+use Rattle.pb_graph.specs.PricedSums.{signed_sum}
+use Rattle.pb_graph.specs.Variance.{variance_of}
 use Rattle.pb_dual.specs.DualValue.{scale, dual_flow}
 use Rattle.pb_gap.specs.Gap.{Gap}
 

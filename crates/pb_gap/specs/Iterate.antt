@@ -1,6 +1,6 @@
 -- Inside. What a solver keeps with a state.
 use Rattle.std.specs.Prelude.{◌≡◌, ◌<◌, ◌^◌, ℕ, ℤ, pos, ◌*ℤ◌, ◌≤ℤ◌, ◌<ℤ◌, List, length, get_or, take, All}
-use Rattle.pb_integers.specs.Sums.{item, sum_over}
+use Rattle.pb_fixed.specs.Sums.{item, sum_over}
 use Rattle.pb_graph.specs.ProcessGraph.{ProcessGraph, IsProcessGraph}
 use Rattle.pb_graph.specs.Balance.{IsBalanced}
 use Rattle.pb_graph.specs.Groups.{AreGroups, group_count}
@@ -8,8 +8,8 @@ use Rattle.pb_graph.specs.Prices.{PricesFit}
 use Rattle.pb_graph.specs.WellFormed.{IsFlow}
 use Rattle.pb_forest.specs.Forest.{SpanningForest, IsForest}
 use Rattle.pb_forest.specs.Flows.{AgreeOffForest}
-use Rattle.pb_merge.specs.Grouping.{Grouping}
-use Rattle.pb_merge.specs.Variance.{group_variance}
+use Rattle.pb_graph.specs.Grouping.{Grouping}
+use Rattle.pb_graph.specs.Variance.{group_variance}
 use Rattle.pb_dual.specs.Priced.{Priced, price_of}
 use Rattle.pb_gap.specs.Gap.{Gap, standard_deviations_of}
 use Rattle.pb_gap.specs.GapRange.{IsGapInRange}

@@ -1,7 +1,7 @@
 -- Statement. What is proved of the weighted squares, the gap, the bounds and the statistic, for any prices that fit.
 use Rattle.std.specs.Prelude.{◌≡◌, ◌^◌, ℕ, ℤ, pos, ◌+ℤ◌, ◌*ℤ◌, ◌≤ℤ◌, List, length, All, IfSome}
 use Rattle.std.specs.Int.{int_div_euclid}
-use Rattle.pb_integers.specs.Sums.{item}
+use Rattle.pb_fixed.specs.Sums.{item}
 use Rattle.pb_graph.specs.declared.records.Member.{Member}
 use Rattle.pb_graph.specs.declared.records.Classified.{Classified}
 use Rattle.pb_graph.specs.ProcessGraph.{ProcessGraph, IsProcessGraph}
@@ -9,7 +9,7 @@ use Rattle.pb_graph.specs.Balance.{IsBalanced}
 use Rattle.pb_graph.specs.Squares.{Fractional, IsBalancedFractional, IsNoWorse, AreSquaresAtLeast, AreSquaresAtMost, variance_product, weighted_sum_of_squares, weighted_squares, squares_unit, whole_flows}
 use Rattle.pb_graph.specs.Prices.{PricesFit}
 use Rattle.pb_graph.specs.Certificates.{IsCertified}
-use Rattle.pb_balance.specs.PricedSums.{signed_sum}
+use Rattle.pb_graph.specs.PricedSums.{signed_sum}
 use Rattle.pb_dual.specs.DualValue.{scale, dual_value}
 use Rattle.pb_gap.specs.Residuals.{residual_squares}
 use Rattle.pb_gap.specs.Gap.{Gap, IsGap, gap_from, gap_of, gap_size}
@@ -30,8 +30,8 @@ WeightLaw = (graph : ProcessGraph) → IsProcessGraph graph → HasWeights graph
 
 -- The inequality of Cauchy and Schwarz: the square of a signed sum of errors of measured streams, each at most once, over the sum of
 -- their variances, is at most the weighted sum of squares of all errors.
-abbrev pub SchwarzLaw : Type 0
-SchwarzLaw = (graph : ProcessGraph) (errors : List ℤ) (members : List Member)
+abbrev pub SignedSchwarzLaw : Type 0
+SignedSchwarzLaw = (graph : ProcessGraph) (errors : List ℤ) (members : List Member)
     → IsProcessGraph graph → length errors ≡ length graph.streams → AreSigned graph members
     → (variance_product graph.streams *ℤ (signed_sum members errors *ℤ signed_sum members errors))
     ≤ℤ (variance_sum graph.streams members

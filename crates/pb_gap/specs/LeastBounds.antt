@@ -7,9 +7,9 @@ use Rattle.pb_fixed.specs.Quotients.{floor_div, ceil_div}
 use Rattle.pb_graph.specs.declared.records.Stream.{Stream}
 use Rattle.pb_graph.specs.declared.records.Member.{Member}
 use Rattle.pb_graph.specs.declared.records.Classified.{Classified}
-use Rattle.pb_graph.specs.declared.results.Bounds.{Bounds}
+use Rattle.pb_study.specs.declared.results.Bounds.{Bounds}
 use Rattle.pb_graph.specs.Squares.{Fractional, by_stream}
-use Rattle.pb_balance.specs.PricedSums.{signed_sum}
+use Rattle.pb_graph.specs.PricedSums.{signed_sum}
 use Rattle.pb_dual.specs.DualValue.{scale, dual_flow}
 use Rattle.pb_gap.specs.Gap.{Gap}
 use Rattle.pb_gap.specs.Bounds.{dual_flow_sum, half_width_in}

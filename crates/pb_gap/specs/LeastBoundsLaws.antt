@@ -9,7 +9,7 @@ use Rattle.pb_graph.specs.ProcessGraph.{ProcessGraph, IsProcessGraph}
 use Rattle.pb_graph.specs.Squares.{Fractional, IsLeast, whole_flows}
 use Rattle.pb_graph.specs.Prices.{PricesFit}
 use Rattle.pb_graph.specs.Certificates.{IsCertified}
-use Rattle.pb_graph.specs.WellFormed.{AreBoundsWithin}
+use Rattle.pb_study.specs.WellFormed.{AreBoundsWithin}
 use Rattle.pb_gap.specs.Residuals.{residual_squares}
 use Rattle.pb_gap.specs.Gap.{Gap, gap_of, gap_size}
 use Rattle.pb_gap.specs.Bounds.{AreSigned, IsWithin, variance_sum}

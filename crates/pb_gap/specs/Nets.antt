@@ -5,7 +5,7 @@ use Rattle.pb_graph.specs.ProcessGraph.{ProcessGraph, IsProcessGraph}
 use Rattle.pb_graph.specs.Balance.{IsBalanced}
 use Rattle.pb_graph.specs.Groups.{AreGroups}
 use Rattle.pb_graph.specs.Prices.{PricesFit}
-use Rattle.pb_merge.specs.Variance.{group_variance}
+use Rattle.pb_graph.specs.Variance.{group_variance}
 use Rattle.pb_dual.specs.Moves.{group_flow}
 use Rattle.pb_gap.specs.Gap.{MeetsGap, gap_of}
 

@@ -3,7 +3,8 @@ use Rattle.std.specs.Prelude.{ℕ, ℤ, pos, ◌≤ℤ◌, List, All, IfSome}
 use Rattle.pb_graph.specs.declared.records.Member.{Member}
 use Rattle.pb_graph.specs.ProcessGraph.{ProcessGraph, IsProcessGraph}
 use Rattle.pb_graph.specs.Prices.{PricesFit}
-use Rattle.pb_graph.specs.WellFormed.{AreBoundsWithin, IsFlow, IsWide}
+use Rattle.pb_study.specs.WellFormed.{AreBoundsWithin, IsWide}
+use Rattle.pb_graph.specs.WellFormed.{IsFlow}
 use Rattle.pb_gap.specs.Gap.{gap_of}
 use Rattle.pb_gap.specs.GapRange.{IsGapInRange}
 use Rattle.pb_gap.specs.Bounds.{AreSigned, bounds_of}

@@ -1,7 +1,7 @@
 -- Statement. The solution of a graph: sweeps until the gap is met, up to a greatest number of sweeps.
 use Rattle.std.specs.Prelude.{◌≡◌, ℕ, suc, ◌<◌, ◌≤◌, ℤ, pos, List, Option}
-use Rattle.pb_graph.specs.declared.results.Solved.{Solved}
-use Rattle.pb_graph.specs.declared.results.Solved.TheVariants.{Converged, Unconverged}
+use Rattle.pb_study.specs.declared.results.Solved.{Solved}
+use Rattle.pb_study.specs.declared.results.Solved.TheVariants.{Converged, Unconverged}
 use Rattle.pb_graph.specs.ProcessGraph.{ProcessGraph, IsProcessGraph}
 use Rattle.pb_gap.specs.Gap.{gap_of, MeetsGap}
 use Rattle.pb_gap.specs.State.{IsStateAfter}

@@ -3,7 +3,7 @@
 use Rattle.std.specs.Prelude.{◌^◌, ℤ, pos, ◌+ℤ◌, ◌-ℤ◌, ◌*ℤ◌, int_lt, nat_lt, unsigned_abs, List, [], ◌∷◌, Option, Some, None, if◌then◌else◌}
 use Rattle.std.specs.Int.{int_max, int_min}
 use Rattle.std.specs.List.{list_any}
-use Rattle.pb_integers.specs.Sums.{sum_over}
+use Rattle.pb_fixed.specs.Sums.{sum_over}
 use Rattle.pb_fixed.specs.Quotients.{floor_div, ceil_div}
 use Rattle.pb_fixed.specs.Roots.{scaled_root_of}
 use Rattle.pb_graph.specs.declared.records.Meas.{Meas}

@@ -1,6 +1,6 @@
 -- Statement. The bounds of one stream, according to its class and its certificate.
 use Rattle.std.specs.Prelude.{◌==◌, ℕ, ℤ, pos, neg_ℤ, ◌*ℤ◌, ◌≤ℤ◌, List, [], ◌∷◌, Option, Some, None, option_map, if◌then◌else◌}
-use Rattle.pb_integers.specs.Sums.{item}
+use Rattle.pb_fixed.specs.Sums.{item}
 use Rattle.pb_graph.specs.declared.records.Stream.{Stream}
 use Rattle.pb_graph.specs.declared.records.Member.{Member}
 use Rattle.pb_graph.specs.declared.records.Class.{Class}
@@ -8,7 +8,7 @@ use Rattle.pb_graph.specs.declared.records.Class.TheVariants.{Observable, Unobse
 use Rattle.pb_graph.specs.declared.records.Witness.{Witness}
 use Rattle.pb_graph.specs.declared.records.Witness.TheVariants.{Cut, Cycle}
 use Rattle.pb_graph.specs.declared.records.Classified.{Classified}
-use Rattle.pb_graph.specs.declared.results.Bounds.{Bounds}
+use Rattle.pb_study.specs.declared.results.Bounds.{Bounds}
 use Rattle.pb_graph.specs.Squares.{Fractional}
 use Rattle.pb_gap.specs.Gap.{Gap}
 use Rattle.pb_gap.specs.Bounds.{bounds_of}

@@ -4,7 +4,8 @@ ghost use Rattle.std.specs.Prelude.{◌≡◌, ◌*◌, ◌<◌, ◌≤◌, ◌^
 ghost use Rattle.std.specs.List.{list_any};
 ghost use Rattle.pb_limits.specs.Limits.{most_streams};
 ghost use Rattle.pb_graph.specs.ProcessGraph.{IsWithinLimits};
-ghost use Rattle.pb_graph.specs.WellFormed.{IsFlow, IsWide};
+ghost use Rattle.pb_graph.specs.WellFormed.{IsFlow};
+ghost use Rattle.pb_study.specs.WellFormed.{IsWide};
 ghost use Rattle.pb_gap.specs.Statistic.{adjustment_below, adjustment_above, adjustments_by, adjustment_cap, capped_squares, full_squares, low_of, high_of};
 ghost use Rattle.pb_gap.specs.Gap.{standard_deviation_of};
 ghost use Rattle.pb_gap.specs.GapRange.{IsGapInRange};

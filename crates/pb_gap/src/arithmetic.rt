@@ -6,7 +6,8 @@ ghost use Rattle.pb_forest.specs.Flows.{most_given_flow};
 ghost use Rattle.pb_fixed.specs.Quotients.{floor_div, ceil_div, nearest_div};
 ghost use Rattle.pb_fixed.specs.Blocks.{IsBlockItem};
 ghost use Rattle.pb_limits.specs.Limits.{most_streams, most_value};
-ghost use Rattle.pb_graph.specs.WellFormed.{IsFlow, IsWide};
+ghost use Rattle.pb_graph.specs.WellFormed.{IsFlow};
+ghost use Rattle.pb_study.specs.WellFormed.{IsWide};
 ghost use Rattle.pb_dual.specs.DualValue.{scale, most_dual_flow};
 ghost use Rattle.pb_gap.specs.Statistic.{adjustment_cap};
 

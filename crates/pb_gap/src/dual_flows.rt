@@ -2,7 +2,7 @@
 
 ghost use Rattle.std.specs.Prelude.{◌≡◌, ◌≤◌, ◌^◌, length, unsigned_abs, All};
 ghost use Rattle.pb_graph.specs.Prices.{IsInBox};
-ghost use Rattle.pb_integers.specs.Sums.{item};
+ghost use Rattle.pb_fixed.specs.Sums.{item};
 ghost use Rattle.pb_graph.specs.WellFormed.{IsPrice};
 ghost use Rattle.pb_dual.specs.DualValue.{dual_flows_of, most_dual_flow};
 

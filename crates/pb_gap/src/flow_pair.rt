@@ -1,7 +1,7 @@
 // The flows of a graph together with the dual flows of prices, and the numbers that follow from them.
 
 ghost use Rattle.std.specs.Prelude.{◌≡◌, ◌↔◌, ◌≤◌, ◌^◌, ℕ, ℤ, pos, ◌≤ℤ◌, length, unsigned_abs, IsTrue, IfSome};
-ghost use Rattle.pb_graph.specs.WellFormed.{IsWide};
+ghost use Rattle.pb_study.specs.WellFormed.{IsWide};
 ghost use Rattle.pb_gap.specs.Gap.{MeetsGap, gap_of};
 ghost use Rattle.pb_gap.specs.GapRange.{IsGapInRange};
 ghost use Rattle.pb_gap.specs.Bounds.{AreSigned, bounds_of};
@@ -14,7 +14,8 @@ use crate::deviations::{write_deviations, write_near_deviations};
 use crate::gap::{Gap, gap_from, is_met, most_deviation};
 use crate::least::{about_middle, flow_sum};
 use crate::sums::{dual_flow_sum, half_width_of, outward};
-use pb_graph::{Bounds, Graph, Member};
+use pb_graph::{Graph, Member};
+use pb_study::Bounds;
 use std::marker::Model;
 
 /// The flows of a graph together with the dual flows of prices.

@@ -20,8 +20,8 @@ use crate::measurements::standard_deviations;
 use crate::nets::{imbalance_roots, is_beyond};
 use pb_dual::Dual;
 use pb_forest::Forest;
-use pb_graph::{Graph, Solved};
-use pb_merge::Groups;
+use pb_graph::{Graph, Groups};
+use pb_study::Solved;
 use std::alloc::{AllocError, Global};
 use std::marker::Model;
 

@@ -1,6 +1,6 @@
 // What is proved of the definitions alone. The functions are empty: the contract of each is a law.
 
-ghost use Rattle.pb_gap.specs.Laws.{WeightLaw, SchwarzLaw, IdentityLaw, DualityLaw, AreGaps, GapLaw, EnclosureLaw, StreamSumLaw, StreamLaw, LowLaw, HighLaw};
+ghost use Rattle.pb_gap.specs.Laws.{WeightLaw, SignedSchwarzLaw, IdentityLaw, DualityLaw, AreGaps, GapLaw, EnclosureLaw, StreamSumLaw, StreamLaw, LowLaw, HighLaw};
 ghost use Rattle.pb_gap.specs.Nets.{NetLaw};
 ghost use Rattle.pb_gap.specs.Least.{OrthogonalityLaw, ExcessLaw, DistanceLaw};
 ghost use Rattle.pb_gap.specs.LeastBoundsLaws.{HypercircleLaw, LeastWidthLaw, LeastBoundsLaw, LeastStreamLaw, LeastRangeLaw};
@@ -21,7 +21,7 @@ pub fn duality_law()
 
 /// The inequality of Cauchy and Schwarz for errors of the streams, summed with signs over some measured ones, each at most once.
 pub fn schwarz_law()
-    ensures { SchwarzLaw }
+    ensures { SignedSchwarzLaw }
 {}
 
 /// The gap that is computed from a list of deviations has the properties that define it, and only that gap has them. It bounds how far

@@ -2,16 +2,18 @@
 
 ghost use Rattle.std.specs.Prelude.{◌≡◌, ◌<◌, ◌≤◌, ◌^◌, pos, ◌≤ℤ◌, ◌+ℤ◌, ◌-ℤ◌, length, unsigned_abs, All};
 ghost use Rattle.pb_limits.specs.Limits.{most_streams};
-ghost use Rattle.pb_balance.specs.PricedSums.{signed_sum};
+ghost use Rattle.pb_graph.specs.PricedSums.{signed_sum};
 ghost use Rattle.pb_fixed.specs.Quotients.{floor_div, ceil_div};
-ghost use Rattle.pb_graph.specs.WellFormed.{IsFlow, IsWide};
+ghost use Rattle.pb_graph.specs.WellFormed.{IsFlow};
+ghost use Rattle.pb_study.specs.WellFormed.{IsWide};
 ghost use Rattle.pb_dual.specs.DualValue.{scale};
 ghost use Rattle.pb_gap.specs.Members.{AreMembers};
 
 use crate::arithmetic::signed;
 use pb_dual::SCALE;
 use pb_fixed::{div_ceil, div_floor};
-use pb_graph::{Bounds, Member, Stream};
+use pb_graph::{Member, Stream};
+use pb_study::Bounds;
 
 /// The signed sum of the flows, in grams.
 pub fn flow_sum(streams: &[Stream], flows: &[i128], members: &[Member]) -> i128

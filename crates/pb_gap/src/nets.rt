@@ -2,7 +2,7 @@
 
 ghost use Rattle.std.specs.Prelude.{◌≡◌, ◌↔◌, ◌^◌, ◌<◌, ◌≤◌, pos, ◌*ℤ◌, ◌≤ℤ◌, ◌<ℤ◌, List as Seq, ℤ, unsigned_abs, IsTrue, IfOk};
 ghost use Rattle.pb_graph.specs.Balance.{IsBalanced};
-ghost use Rattle.pb_merge.specs.Variance.{most_group_variance};
+ghost use Rattle.pb_graph.specs.Variance.{most_group_variance};
 ghost use Rattle.pb_dual.specs.Priced.{price_of};
 ghost use Rattle.pb_gap.specs.Gap.{MeetsGap, gap_of};
 ghost use Rattle.pb_gap.specs.Nets.{imbalance_root};
@@ -11,7 +11,7 @@ ghost use Rattle.pb_gap.specs.Iterate.{AreImbalanceRoots, HaveRoots, IsSmallRoot
 use crate::gap::most_deviation;
 use pb_dual::Dual;
 use pb_fixed::scaled_root;
-use pb_merge::Groups;
+use pb_graph::Groups;
 use std::alloc::{AllocError, Global};
 
 // The standard deviation of an imbalance of this variance in units of 2^-20 gram, rounded up.

@@ -3,9 +3,9 @@
 ghost use Rattle.std.specs.Prelude.{◌≡◌, ◌<◌, ◌≤◌, ◌^◌, ℕ, ℤ, pos, ◌≤ℤ◌, ◌<ℤ◌, ◌+ℤ◌, ◌-ℤ◌, length, unsigned_abs, All};
 ghost use Rattle.pb_limits.specs.Limits.{most_streams, most_variance};
 ghost use Rattle.pb_graph.specs.ProcessGraph.{IsWithinLimits};
-ghost use Rattle.pb_merge.specs.Variance.{variance_of};
+ghost use Rattle.pb_graph.specs.Variance.{variance_of};
 ghost use Rattle.pb_fixed.specs.Quotients.{floor_div, ceil_div};
-ghost use Rattle.pb_graph.specs.WellFormed.{IsWide};
+ghost use Rattle.pb_study.specs.WellFormed.{IsWide};
 ghost use Rattle.pb_dual.specs.DualValue.{scale, dual_flows_of};
 ghost use Rattle.pb_gap.specs.GapRange.{IsGapInRange};
 ghost use Rattle.pb_gap.specs.FlowPair.{AreDualFlows};
@@ -16,7 +16,8 @@ use crate::arithmetic::signed;
 use crate::gap::Gap;
 use pb_dual::SCALE;
 use pb_fixed::{div_ceil, div_floor, half_width, scaled_root};
-use pb_graph::{Bounds, Member, Stream};
+use pb_graph::{Member, Stream};
+use pb_study::Bounds;
 
 /// The signed sum of the dual flows, in units of 2^-56 gram.
 pub fn dual_flow_sum(streams: &[Stream], dual_flows: &[i128], members: &[Member]) -> i128

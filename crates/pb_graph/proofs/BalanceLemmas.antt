@@ -1,7 +1,7 @@
 -- One more stream in a net flow.
 use Rattle.std.proofs.Common.{◌≡◌, ℕ, ◌+◌, ◌<◌, ℤ, ◌+ℤ◌, List, length, get_or, drop, ap₂, arith}
 use Rattle.std.proofs.lemmas.Int.{ints}
-use Rattle.pb_integers.proofs.Lists.{drop_next}
+use Rattle.pb_fixed.proofs.Lists.{drop_next}
 use Rattle.pb_graph.specs.declared.records.Stream.{Stream}
 use Rattle.pb_graph.specs.Balance.{brought_to, net_of}
 

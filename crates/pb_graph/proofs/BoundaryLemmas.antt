@@ -5,7 +5,7 @@ use Rattle.std.proofs.lemmas.Option.{slice_get-get_or, get_or_from_slice_get}
 use Rattle.pb_graph.specs.declared.records.Stream.{Stream}
 use Rattle.pb_graph.specs.declared.records.Member.{Member}
 use Rattle.pb_graph.specs.Boundary.{member_at, with_first, members_from, boundary_of}
-use Rattle.pb_integers.proofs.Lists.{drop_next}
+use Rattle.pb_fixed.proofs.Lists.{drop_next}
 
 members_next : (side : List Bool) (ss : List Stream) (j : ℕ) (s : Stream) → j < length ss
     → members_from side j (drop j ss) ≡ with_first (member_at side j (get_or ss j s)) (members_from side (j + 1) (drop (j + 1) ss))

@@ -3,7 +3,7 @@ use Rattle.std.proofs.Common.{◌≡◌, ◌≢◌, ◌⊎◌, ◌∙◌, ℕ, z
 use Rattle.std.specs.List.{list_any}
 use Rattle.std.proofs.lemmas.Bool.{cases_Bool, cases_eq, and_parts, or_right, eq-eqb, ne_eqb, not-true}
 use Rattle.std.proofs.lemmas.List.{take_more, take-append-drop, get_or-set_same, get_or-set_other, length-set, length-replicate}
-use Rattle.pb_integers.proofs.Lists.{drop_next}
+use Rattle.pb_fixed.proofs.Lists.{drop_next}
 use Rattle.pb_graph.specs.declared.records.Stream.{Stream}
 use Rattle.pb_graph.specs.declared.records.Step.{Step}
 use Rattle.pb_graph.specs.ProcessGraph.{ProcessGraph, IsStream}

@@ -1,7 +1,7 @@
 -- Walks: one step, one walk after another, the same walk back, the same walk if more streams may be taken.
 use Rattle.std.proofs.Common.{◌≡◌, ◌∙◌, ℕ, ◌<◌, Bool, true, false, not, List, [], ◌∷◌, ◌++◌, Option, Some, None, slice_get, ap, sym, refl, subst, inl, inr, arith}
 use Rattle.std.proofs.lemmas.Bool.{cases_Bool}
-pub use Rattle.pb_integers.proofs.Lists.{some_same}
+pub use Rattle.pb_fixed.proofs.Lists.{some_same}
 use Rattle.pb_graph.specs.declared.records.Stream.{Stream}
 use Rattle.pb_graph.specs.declared.records.Step.{Step}
 use Rattle.pb_graph.specs.ProcessGraph.{IsStream}

@@ -15,7 +15,13 @@ pub mod WellFormed
 pub mod Parts
 pub mod Alike
 pub mod Laws
+pub mod PricedSums
+pub mod BalanceLaws
+pub mod Variance
+pub mod Grouping
+pub mod GroupLaws
 -- Inside
 pub mod Search
 pub mod Labels
 pub mod Steps
+pub mod Numbers

@@ -16,8 +16,8 @@ pub record SinkInMemory : Type 0 where
   pub faults : ℕ
 
 -- what the sink has been seen to do: it shows its bytes
-abbrev pub seen_in_memory : SinkInMemory → SinkSeen
-seen_in_memory sink =
+abbrev pub sink_seen_in_memory : SinkInMemory → SinkSeen
+sink_seen_in_memory sink =
     record { contents = Some sink.contents; written = sink.written; calls = sink.calls; idle = sink.idle; faults = sink.faults }
 
 -- the list names the next call, or no room is left
@@ -31,5 +31,5 @@ after_appending sink bytes =
     record sink { contents = sink.contents ++ bytes; written = counted sink.written n; calls = counted sink.calls 1; idle = counted sink.idle (1 - n) }
 
 -- the sink after a call that failed
-abbrev pub after_fault : SinkInMemory → SinkInMemory
-after_fault sink = record sink { calls = counted sink.calls 1; faults = counted sink.faults 1 }
+abbrev pub sink_after_fault : SinkInMemory → SinkInMemory
+sink_after_fault sink = record sink { calls = counted sink.calls 1; faults = counted sink.faults 1 }

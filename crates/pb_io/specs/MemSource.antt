@@ -15,8 +15,8 @@ pub record SourceInMemory : Type 0 where
   pub faults : ℕ
 
 -- what the source has been seen to do: it shows its bytes
-abbrev pub seen_in_memory : SourceInMemory → SourceSeen
-seen_in_memory source =
+abbrev pub source_seen_in_memory : SourceInMemory → SourceSeen
+source_seen_in_memory source =
     record { remaining = Some source.remaining; taken = source.taken; calls = source.calls; idle = source.idle; faults = source.faults }
 
 -- the list names the next call
@@ -29,5 +29,5 @@ after_giving source n =
     record source { remaining = drop n source.remaining; taken = counted source.taken n; calls = counted source.calls 1; idle = counted source.idle (1 - n) }
 
 -- the source after a call that failed
-abbrev pub after_fault : SourceInMemory → SourceInMemory
-after_fault source = record source { calls = counted source.calls 1; faults = counted source.faults 1 }
+abbrev pub source_after_fault : SourceInMemory → SourceInMemory
+source_after_fault source = record source { calls = counted source.calls 1; faults = counted source.faults 1 }

@@ -16,6 +16,6 @@ seen_without_fault source =
     record { remaining = Some source.remaining; taken = source.taken; calls = source.calls; idle = source.idle; faults = 0 }
 
 -- the source after a call that gave the next n bytes
-abbrev pub after_giving : SourceWithoutFault → ℕ → SourceWithoutFault
-after_giving source n =
+abbrev pub sure_after_giving : SourceWithoutFault → ℕ → SourceWithoutFault
+sure_after_giving source n =
     record { remaining = drop n source.remaining; taken = counted source.taken n; calls = counted source.calls 1; idle = counted source.idle (1 - n) }

@@ -1,7 +1,7 @@
 // A sink in memory.
 ghost use Rattle.std.specs.Prelude.{◌≡◌, ◌-◌, ◌<◌, ◌↔◌, [], length, take, min, IfOk, IsErr, OnErr};
 ghost use Rattle.pb_io.specs.Counts.{Rose};
-ghost use Rattle.pb_io.specs.MemSink.{RefusesNext, after_appending, after_fault, seen_in_memory};
+ghost use Rattle.pb_io.specs.MemSink.{RefusesNext, after_appending, sink_after_fault, sink_seen_in_memory};
 
 use crate::counts::{is_named, saturating_count};
 use crate::writing::{Sink, SinkFailed};
@@ -85,13 +85,13 @@ impl MemSink {
 }
 
 impl Sink for MemSink {
-    ghost seen = { λ s. seen_in_memory s };
+    ghost seen = { λ s. sink_seen_in_memory s };
 
     fn put(&mut self, piece: &[u8]) -> Result<usize, SinkFailed>
         // It fails exactly when the piece isn't empty, and the list names the call or no room is left.
         // Then only its counts go up.
         ensures fails { IsErr result ↔ ((0 < length piece.now) × RefusesNext self.old) }
-        ensures err { OnErr result (self.new ≡ after_fault self.old) }
+        ensures err { OnErr result (self.new ≡ sink_after_fault self.old) }
         ensures cause { OnErr result (Rose self.old.faults self.new.faults) }
 
         // Otherwise it appends as many bytes as the piece, `most` and the room left allow.

@@ -1,7 +1,7 @@
 // A source in memory.
 ghost use Rattle.std.specs.Prelude.{◌≡◌, ◌<◌, ◌↔◌, [], ◌++◌, length, take, min, IfOk, IsErr, OnErr};
 ghost use Rattle.pb_io.specs.Counts.{Rose};
-ghost use Rattle.pb_io.specs.MemSource.{FailsNext, after_giving, after_fault, seen_in_memory};
+ghost use Rattle.pb_io.specs.MemSource.{FailsNext, after_giving, source_after_fault, source_seen_in_memory};
 
 use crate::copying::copy_front;
 use crate::counts::{idle_calls, is_named, saturating_count};
@@ -70,12 +70,12 @@ impl MemSource {
 }
 
 impl Source for MemSource {
-    ghost seen = { λ s. seen_in_memory s };
+    ghost seen = { λ s. source_seen_in_memory s };
 
     fn take(&mut self, buf: &mut [u8]) -> Result<usize, SourceFailed>
         // It fails exactly at the calls that the list names, and then only its counts go up.
         ensures fails { IsErr result ↔ FailsNext self.old }
-        ensures err { OnErr result (self.new ≡ after_fault self.old) }
+        ensures err { OnErr result (self.new ≡ source_after_fault self.old) }
         ensures cause { OnErr result (Rose self.old.faults self.new.faults) }
 
         // Otherwise it gives as many bytes as `most`, the bytes left and the buffer allow.

@@ -1,6 +1,6 @@
 // A source that never fails.
 ghost use Rattle.std.specs.Prelude.{◌≡◌, ◌<◌, [], ◌++◌, length, take, min, Ok, IfOk};
-ghost use Rattle.pb_io.specs.SureSource.{after_giving, seen_without_fault};
+ghost use Rattle.pb_io.specs.SureSource.{seen_without_fault, sure_after_giving};
 
 use crate::copying::copy_front;
 use crate::counts::{idle_calls, saturating_count};
@@ -60,7 +60,7 @@ impl Source for SureSource {
         ensures sure { result ≡ Ok (min (length self.old.remaining) (length buf.new)) }
         ensures bytes { IfOk result
             (λ n. self.old.remaining ≡ take n buf.new ++ self.new.remaining) }
-        ensures ok { IfOk result (λ n. self.new ≡ after_giving self.old n) }
+        ensures ok { IfOk result (λ n. self.new ≡ sure_after_giving self.old n) }
         ensures end { IfOk result (λ n. n ≡ 0 → 0 < length buf.new → self.old.remaining ≡ []) }
     {
         self.calls = saturating_count(self.calls, 1);

@@ -5,3 +5,4 @@ mod RequestLemmas
 mod CostLemmas
 mod WrittenLemmas
 mod ReadingLemmas
+pub mod KindLaws

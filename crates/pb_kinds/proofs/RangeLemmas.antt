@@ -8,7 +8,7 @@ use Rattle.pb_limits.specs.Ranges.{IsGrams}
 use Rattle.pb_rows.specs.Date.{IsDay}
 use Rattle.pb_rows.specs.Name.{is_name}
 use Rattle.pb_site.specs.Service.{IsService}
-use Rattle.pb_facts.specs.Fact.{IsInRange as IsFactInRange}
+use Rattle.pb_facts.specs.Fact.{IsFactInRange}
 use Rattle.pb_form.specs.Columns.{Column, column}
 use Rattle.pb_form.specs.Holds as holds
 use Rattle.pb_form.specs.SessionRows.{dip_columns, reading_columns, session_columns, transfer_columns}

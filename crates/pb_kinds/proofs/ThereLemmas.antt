@@ -9,19 +9,19 @@ use Rattle.pb_form.specs.Columns.{Column, column}
 use Rattle.pb_form.specs.Holds as holds
 use Rattle.pb_form.specs.Value.{Value, Missing, Word, Name, Reason, Number, Date, Items}
 use Rattle.pb_form.specs.Values.{day_in, name_in, number_in, reason_in}
-use Rattle.pb_form.specs.Writing.{FitEach, Fits, FitsIn}
+use Rattle.pb_form.specs.Writing.{FitEach, FitsColumn, FitsIn}
 use Rattle.pb_kinds.specs.There.{IsDayThere, IsLongThere, IsNameThere, IsNumberThere, IsReasonThere}
 
 -- ---- one place
 
 -- the value at a place fits the column at that place
 fit_at : (columns : List Column) (values : List Value) (place : ℕ) (one : Column) → FitEach columns values → slice_get columns place ≡ Some one
-    → (value : Value) × ((slice_get values place ≡ Some value) × Fits one value)
+    → (value : Value) × ((slice_get values place ≡ Some value) × FitsColumn one value)
 fit_at [] values place one fit has = cc has
 fit_at (first ∷ columns) [] place one fit has = absurd fit
 fit_at (first ∷ columns) (value ∷ values) zero one fit has =
     let same : first ≡ one = cc has in
-    (value, (refl, subst (λ (c : Column). Fits c value) same fit.0))
+    (value, (refl, subst (λ (c : Column). FitsColumn c value) same fit.0))
 fit_at (first ∷ columns) (value ∷ values) (suc place) one fit has = fit_at columns values place one fit.1 has
 
 -- what stands at a place after others
@@ -34,7 +34,7 @@ after (value ∷ values) (suc at) place zero same = absurd (omega (arith, same))
 after (value ∷ values) (suc at) place (suc sum) same = after values at place sum (omega (arith, same))
 
 there : (columns : List Column) (values : List Value) (at place sum : ℕ) (one : Column) → FitEach columns (drop at values) → at + place ≡ sum → slice_get columns place ≡ Some one
-    → (value : Value) × ((slice_get values sum ≡ Some value) × Fits one value)
+    → (value : Value) × ((slice_get values sum ≡ Some value) × FitsColumn one value)
 there columns values at place sum one fit same has =
     let it = fit_at columns (drop at values) place one fit has in
     (it.0, (sym (after values at place sum same) ∙ it.1.0, it.1.1))

@@ -1,20 +1,15 @@
 -- Statement. The ranges of the numbers and days of what a record asks to store.
-use Rattle.std.specs.Prelude.{ℕ}
 use Rattle.pb_rows.specs.Date.{IsDay}
-use Rattle.pb_site.specs.Row.{IsInRange as IsDeclaredInRange}
+use Rattle.pb_site.specs.Row.{IsDeclaredInRange}
 use Rattle.pb_facts.specs.Changes.{IsChangeInRange}
-use Rattle.pb_facts.specs.Fact.{IsInRange as IsFactInRange}
-use Rattle.pb_assay.specs.Grade.{IsGrade}
+use Rattle.pb_facts.specs.Fact.{IsFactInRange}
+use Rattle.pb_facts.specs.Grade.{IsGrade}
 use Rattle.pb_kinds.specs.declared.rows.Edit.{Edit}
 use Rattle.pb_kinds.specs.declared.rows.Edit.TheVariants.{Change, Strike}
 use Rattle.pb_kinds.specs.declared.rows.Effect.{Effect}
 use Rattle.pb_kinds.specs.declared.rows.Effect.TheVariants.{Declares, Opens, Books, Edits, Closes, Assays}
 use Rattle.pb_kinds.specs.declared.rows.Request.{Request}
 use Rattle.pb_kinds.specs.declared.rows.Request.TheVariants.{Store}
-
--- the most assays that a book can have
-abbrev pub most_assays : ℕ
-most_assays = 20000
 
 -- the new values of a fact lie in their ranges
 abbrev pub IsEditInRange : Edit → Type 0

@@ -10,7 +10,7 @@ use Rattle.pb_form.specs.declared.fault.FormFault.{FormFault}
 use Rattle.pb_form.specs.declared.session.SessionKind.{SessionKind}
 use Rattle.pb_form.specs.declared.session.SessionKind.TheVariants as kind
 use Rattle.pb_site.specs.declared.declared.Declared.{Declared}
-use Rattle.pb_site.specs.declared.declared.Declared.TheVariants.{Version2, Unit as UnitDeclared, Boundary, Tank, Strap, Stream, CritGlobal, CritNodal, CritMeasure}
+use Rattle.pb_site.specs.declared.declared.Declared.TheVariants.{Version2, Boundary, Tank, Strap, Stream, CritGlobal, CritNodal, CritMeasure}
 use Rattle.pb_site.specs.declared.declared.Kind.{Kind}
 use Rattle.pb_site.specs.declared.declared.Kind.TheVariants.{Metered, Batch, Plain}
 use Rattle.pb_site.specs.declared.declared.Service.{Service}
@@ -19,7 +19,7 @@ use Rattle.pb_site.specs.declared.declared.Version.TheVariants.{One, Two}
 use Rattle.pb_facts.specs.declared.fact.Change.TheVariants.{Amount, Level}
 use Rattle.pb_facts.specs.declared.fact.Fact.{Fact}
 use Rattle.pb_facts.specs.declared.fact.Fact.TheVariants.{Reading, Transfer, Dip}
-use Rattle.pb_kinds.specs.declared.rows.Assay.{Assay}
+use Rattle.pb_facts.specs.declared.assays.Assay.{Assay}
 use Rattle.pb_kinds.specs.declared.rows.Edit.{Edit}
 use Rattle.pb_kinds.specs.declared.rows.Edit.TheVariants.{Change, Strike}
 use Rattle.pb_kinds.specs.declared.rows.Effect.TheVariants.{Declares, Opens, Books, Edits, Closes, Assays}
@@ -94,7 +94,7 @@ request_of kind.TankInService values =
 request_of kind.MeteredInService values = declares (stream_of Metered (Some (service_from values 6)) values)
 request_of kind.BatchInService values = declares (stream_of Batch (Some (service_from values 6)) values)
 request_of kind.PlainInService values = declares (stream_of Plain (Some (service_from values 6)) values)
-request_of kind.Unit values = declares (UnitDeclared (name_there values 1))
+request_of kind.Unit values = declares (Declared.Unit (name_there values 1))
 request_of kind.Tank values = declares (Tank (name_there values 1) (number_there values 2) None)
 request_of kind.Strap values = declares (Strap (name_there values 1) (number_there values 2) (number_there values 3))
 request_of kind.StreamMetered values = declares (stream_of Metered None values)

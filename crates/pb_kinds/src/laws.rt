@@ -1,11 +1,8 @@
 // Laws about what records ask for.
 
-ghost use Rattle.std.specs.Prelude.{◌≡◌};
 ghost use Rattle.pb_kinds.specs.Laws.{AskingLaw, NamedCostsLaw, StoredLaw};
-ghost use Rattle.pb_kinds.specs.Ranges.{most_assays};
-ghost use Rattle.pb_kinds.specs.declared.rows.TheConstants.{MOST_ASSAYS};
 
-use pb_form::{fitting_law, one_kind_law};
+use pb_form::fitting_law;
 
 /// The law that the numbers and days of what a record asks to store lie in their ranges, that its names have the form of names, and
 /// that a row of a session of the version may do it.
@@ -14,11 +11,6 @@ pub fn stored_law()
 {
     fitting_law();
 }
-
-/// The law that the constant for the most assays is the number in its definition.
-pub fn most_assays_law()
-    ensures { MOST_ASSAYS ≡ most_assays }
-{}
 
 /// The law that each cost named by a record that asks for advice is a cost that a meter may have.
 pub fn named_costs_law()
@@ -31,6 +23,4 @@ pub fn named_costs_law()
 /// session that has rows of the kind.
 pub fn asking_law()
     ensures { AskingLaw }
-{
-    one_kind_law();
-}
+{}

@@ -14,7 +14,8 @@ mod there;
 mod writing;
 
 pub use costs::{NamedCost, NamedCosts};
-pub use laws::{asking_law, most_assays_law, named_costs_law, stored_law};
-pub use reading::read_request;
-pub use rows::{Assay, Edit, Effect, MOST_ASSAYS, Request};
+pub use laws::{asking_law, named_costs_law, stored_law};
+pub use pb_facts::Assay;
+pub use reading::{read_reading, read_request};
+pub use rows::{Edit, Effect, Request};
 pub use writing::write_effect;

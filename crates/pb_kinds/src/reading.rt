@@ -1,6 +1,6 @@
 // What a record asks for, by the table of kinds.
 
-ghost use Rattle.std.specs.Prelude.{◌≡◌, ◌≤◌, IfOk, None, Some, true};
+ghost use Rattle.std.specs.Prelude.{◌≡◌, ◌≤◌, IfOk, IfSome, None, Ok, Some, false, true};
 ghost use Rattle.pb_form.specs.Reading.{row_read};
 ghost use Rattle.pb_form.specs.SessionRows.{session_columns, session_schema, session_told};
 ghost use Rattle.pb_form.specs.Telling.{is_of};
@@ -12,10 +12,9 @@ ghost use Rattle.pb_kinds.specs.There.{IsNameThere};
 ghost use Rattle.pb_kinds.specs.Versions.{may_ask};
 
 use crate::facts::{dip_from, reading_from, reading_in, transfer_from};
-use crate::rows::{Assay, Edit, Effect, Request};
+use crate::rows::{Edit, Effect, Request};
 use crate::there::{day_there, dof_there, long_there, name_there, number_there, reason_there};
-use pb_assay::Grade;
-use pb_facts::{Change, Fact};
+use pb_facts::{Assay, Change, Fact, Grade};
 use pb_form::{
     Fields, FormFault, SessionKind, Values, is_of_kind, kind_of_version_1, kind_of_version_2, read,
     session_schema,
@@ -34,6 +33,23 @@ pub fn read_request(version: Option<Version>, row: &Row) -> Result<Request, Form
     match version {
         None => read_first(&fields),
         Some(version) => read_fields(version, &fields),
+    }
+}
+
+/// The reading that a record books in a session of a version, if it is a row of one and its fields have no fault. `None` says nothing
+/// about the record. Most records are such readings: this way they need no request.
+pub fn read_reading(version: Option<Version>, row: &Row) -> Option<Fact>
+    ensures value { IfSome result (λ fact. request_in version row.now ≡ Ok (books false fact)) }
+    ensures in_range { IfSome result (λ fact. IsRequestInRange (books false fact)) }
+    ensures may { IfSome result (λ fact. may_ask version (books false fact) ≡ true) }
+{
+    let fields = Fields::filled(row);
+    match version {
+        None => None,
+        Some(version) => match kind_of(version, &fields) {
+            Ok(SessionKind::Reading) => reading_in(&fields),
+            _ => None,
+        },
     }
 }
 

@@ -1,12 +1,8 @@
 // What a record asks for, and what a stored row does.
 
-use pb_assay::Grade;
-use pb_facts::{Change, Fact};
+use pb_facts::{Assay, Change, Fact};
 use pb_rows::{Name, Reason};
 use pb_site::Declared;
-
-/// The most assays that a book can have.
-pub const MOST_ASSAYS: usize = 20_000;
 
 /// What a stored row does.
 #[derive(Clone, Copy)]
@@ -34,15 +30,6 @@ pub enum Effect {
     Closes(Name),
     /// The grade of a component in a stream over a period is known.
     Assays(Assay),
-}
-
-/// The grade of a component in a stream, or in what a tank gains, over a period.
-#[derive(Clone, Copy)]
-pub struct Assay {
-    pub component: Name,
-    pub stream: Name,
-    pub period: Name,
-    pub grade: Grade,
 }
 
 /// What becomes of a fact: it gets new values, or it no longer counts.

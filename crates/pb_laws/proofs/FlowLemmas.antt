@@ -4,24 +4,24 @@ use Rattle.std.specs.Prelude.{is_some, ◌||◌, IfSome, MatchOption}
 use Rattle.std.specs.Option.{option_map}
 use Rattle.std.proofs.lemmas.Int.{ints}
 use Rattle.std.proofs.lemmas.Option.{get_or_from_slice_get, slice_get-map}
-use Rattle.pb_integers.specs.Sums.{item}
-use Rattle.pb_integers.proofs.Lists.{some_same}
+use Rattle.pb_fixed.specs.Sums.{item}
+use Rattle.pb_fixed.proofs.Lists.{some_same}
 use Rattle.pb_fixed.specs.Quotients.{ceil_div, floor_div}
 use Rattle.pb_fixed.proofs.QuotientLaws.{ceiling_is, floor_is}
 use Rattle.pb_graph.specs.declared.records.Classified.{Classified}
 use Rattle.pb_graph.specs.declared.records.Member.{Member}
-use Rattle.pb_graph.specs.declared.results.Bounds.{Bounds}
-use Rattle.pb_graph.specs.declared.results.Stage.{Stage}
-use Rattle.pb_graph.specs.declared.results.StreamResult.{StreamResult}
+use Rattle.pb_study.specs.declared.results.Bounds.{Bounds}
+use Rattle.pb_study.specs.declared.results.Stage.{Stage}
+use Rattle.pb_study.specs.declared.results.StreamResult.{StreamResult}
 use Rattle.pb_graph.specs.Squares.{whole_flows}
-use Rattle.pb_balance.specs.PricedSums.{signed_sum}
+use Rattle.pb_graph.specs.PricedSums.{signed_sum}
 use Rattle.pb_dual.specs.DualValue.{scale}
 use Rattle.pb_gap.specs.Bounds.{bounds_of, dual_flow_sum, half_width_in}
 use Rattle.pb_gap.specs.Laws.{StreamSumLaw, SumsTo}
 use Rattle.pb_gap.specs.LeastBounds.{least_bounds_of}
 use Rattle.pb_gap.specs.StreamBounds.{IsStreamWithin, sum_for}
-use Rattle.pb_elim.specs.Printed.{have_least, printed_flows, printed_gap, printed_price, HasLeastBounds}
-use Rattle.pb_elim.specs.Certified.{IsAsGood, IsCertifiedStage}
+use Rattle.pb_stage.specs.Printed.{have_least, printed_flows, printed_gap, printed_price, HasLeastBounds}
+use Rattle.pb_stage.specs.Certified.{IsAsGood, IsCertifiedStage}
 use Rattle.pb_laws.specs.Flows.{IsFlowWithin, OwnBoundsLaw, OwnLeastBoundsLaw}
 
 -- ---- bounds

@@ -6,13 +6,13 @@ use Rattle.std.proofs.lemmas.List.{append-nil}
 use Rattle.std.proofs.lemmas.List.Elements.{All-push}
 use Rattle.std.proofs.lemmas.List.Quantifiers.{all_pairs_push}
 use Rattle.std.proofs.lemmas.Option.{get_or_from_slice_get, slice_get-get_or, slice_get_within}
-use Rattle.pb_graph.specs.declared.results.NodalTest.{NodalTest}
+use Rattle.pb_study.specs.declared.results.NodalTest.{NodalTest}
 use Rattle.pb_graph.specs.ProcessGraph.{ProcessGraph}
 use Rattle.pb_graph.specs.Groups.{AreGroups, group_at, group_count, is_free_group}
-use Rattle.pb_merge.specs.Grouping.{IsLeastNode}
-use Rattle.pb_merge.proofs.GroupLaws.{number_node}
-use Rattle.pb_tests.specs.Nodal.{AreNodalTests, least_node, nodal_test, nodal_tests_below}
-use Rattle.pb_tests.specs.Laws.{AreOfFreeGroups, FreeGroupsLaw, IsOfFreeGroup}
+use Rattle.pb_graph.specs.Grouping.{IsLeastNode}
+use Rattle.pb_graph.proofs.GroupLaws.{number_node}
+use Rattle.pb_stage.specs.Nodal.{AreNodalTests, least_node, nodal_test, nodal_tests_below}
+use Rattle.pb_stage.specs.Laws.{AreOfFreeGroups, FreeGroupsLaw, IsOfFreeGroup}
 use Rattle.pb_laws.specs.Nodal.{AreInOrder, IsTestOfGroup, NodalOrderLaw, OneTestLaw}
 
 -- ---- the least nodes of groups are in order

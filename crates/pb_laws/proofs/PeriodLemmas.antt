@@ -9,20 +9,21 @@ use Rattle.std.proofs.lemmas.List.Quantifiers.{Any-push}
 use Rattle.std.proofs.lemmas.List.Sums.{fold_push}
 use Rattle.std.proofs.lemmas.Option.{get_or_from_slice_get, slice_get-get_or, slice_get_within}
 use Rattle.std.proofs.Math.Seq.{get_or-append_seam, take-append_seam}
-use Rattle.pb_integers.proofs.Lists.{AllByRecursion-map, all_at}
+use Rattle.pb_fixed.proofs.Lists.{AllByRecursion-map, all_at}
 use Rattle.pb_rows.proofs.TextLaws.{same_self}
 use Rattle.pb_kinds.specs.declared.rows.Effect.{Effect}
 use Rattle.pb_kinds.specs.declared.rows.Effect.TheVariants.{Declares, Opens, Books, Edits, Closes, Assays}
 use Rattle.pb_book.specs.declared.answer.Refused.{Refused}
 use Rattle.pb_book.specs.declared.answer.Refused.TheVariants.{Unknown}
-use Rattle.pb_book.specs.declared.rows.Period.{Period}
+use Rattle.pb_periods.specs.declared.period.Period.{Period}
 use Rattle.pb_book.specs.declared.rows.StoredRow.{StoredRow}
 use Rattle.pb_book.specs.Accepted.{AreAccepted, IsAcceptable}
-use Rattle.pb_book.specs.Apart.{AreApart, is_named}
+use Rattle.pb_periods.specs.Apart.{AreApart, is_named}
 use Rattle.pb_book.specs.Laws.{AcceptedLaw}
 use Rattle.pb_book.specs.Plain.{opened}
-use Rattle.pb_book.specs.Refusals.{is_closed_named, refusal_of}
-use Rattle.pb_book.specs.Rows.{closed_if_named, open_period, periods_after, periods_of}
+use Rattle.pb_periods.specs.Closing.{closed_if_named, is_closed_named}
+use Rattle.pb_book.specs.Refusals.{refusal_of}
+use Rattle.pb_book.specs.Rows.{open_period, periods_after, periods_of}
 use Rattle.pb_laws.specs.Closing.{ClosedLaw, OpenedLaw, SomeRowCloses, opened_by}
 
 -- ---- rows that were accepted one after another

@@ -4,7 +4,7 @@ use Rattle.std.specs.List.{AllByRecursion, cons_option, fold, list_all}
 use Rattle.std.proofs.Common.{◌≡◌, ◌∙◌, ℕ, suc, ◌+◌, ℤ, pos, negsuc, neg_ℤ, ◌≤ℤ◌, Bool, true, false, List, [], ◌∷◌, ◌++◌, slice_get, Option, Some, None, Result, Ok, refl, sym, ap, subst, inl, inr, arith}
 use Rattle.std.proofs.lemmas.Bool.{cases_Bool}
 use Rattle.std.proofs.lemmas.Int.{ints}
-use Rattle.pb_integers.proofs.Lists.{AllByRecursion-from_all}
+use Rattle.pb_fixed.proofs.Lists.{AllByRecursion-from_all}
 use Rattle.pb_limits.specs.Limits.{most_grams}
 use Rattle.pb_limits.specs.Ranges.{IsGrams}
 use Rattle.pb_rows.specs.Name.{is_name}
@@ -20,13 +20,13 @@ use Rattle.pb_form.specs.declared.fault.FormFault.{FormFault}
 use Rattle.pb_form.specs.declared.session.SessionKind.{SessionKind}
 use Rattle.pb_form.specs.declared.session.SessionKind.TheVariants as kind
 use Rattle.pb_site.specs.declared.declared.Declared.{Declared}
-use Rattle.pb_site.specs.declared.declared.Declared.TheVariants.{Version2, Unit as UnitDeclared, Boundary, Tank, Strap, Stream, CritGlobal, CritNodal, CritMeasure}
+use Rattle.pb_site.specs.declared.declared.Declared.TheVariants.{Version2, Boundary, Tank, Strap, Stream, CritGlobal, CritNodal, CritMeasure}
 use Rattle.pb_site.specs.declared.declared.Kind.TheVariants.{Metered, Batch, Plain}
 use Rattle.pb_site.specs.declared.declared.Version.{Version}
 use Rattle.pb_site.specs.declared.declared.Version.TheVariants.{One, Two}
-use Rattle.pb_site.specs.Row.{IsInRange as IsDeclaredInRange}
+use Rattle.pb_site.specs.Row.{IsDeclaredInRange}
 use Rattle.pb_facts.specs.Changes.{changed}
-use Rattle.pb_facts.specs.Fact.{IsInRange as IsFactInRange}
+use Rattle.pb_facts.specs.Fact.{IsFactInRange}
 use Rattle.pb_facts.specs.Facts.{has_id, is_live_with, live_facts}
 use Rattle.pb_facts.specs.declared.fact.Change.{Change}
 use Rattle.pb_facts.specs.declared.fact.Change.TheVariants.{Amount, Level}
@@ -87,7 +87,7 @@ three_names a b c is =
 
 declared_values : (declared : Declared) → IsDeclaredInRange declared → list_all is_name (declared_names declared) ≡ true → HasValues (Declares declared)
 declared_values Version2 range names = record { it = kind.Version; values = Word 0 ∷ Word 0 ∷ []; fit = ((refl, refl), ((refl, refl), tt)); asks = refl; begins = refl }
-declared_values (UnitDeclared name) range names =
+declared_values (Declared.Unit name) range names =
     let n = one_name name names in
     record { it = kind.Unit; values = Word 0 ∷ Name name ∷ []; fit = ((refl, refl), (n, tt)); asks = rw n refl; begins = refl }
 declared_values (Boundary name) range names =

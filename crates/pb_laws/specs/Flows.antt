@@ -1,9 +1,9 @@
 -- Statement. Each printed flow is within its bounds, and within its least bounds.
 use Rattle.std.specs.Prelude.{ℤ, ◌≤ℤ◌, IfSome}
-use Rattle.pb_graph.specs.declared.results.Bounds.{Bounds}
-use Rattle.pb_graph.specs.declared.results.Stage.{Stage}
-use Rattle.pb_elim.specs.Printed.{EachStream}
-use Rattle.pb_elim.specs.Certified.{IsCertifiedStage}
+use Rattle.pb_study.specs.declared.results.Bounds.{Bounds}
+use Rattle.pb_study.specs.declared.results.Stage.{Stage}
+use Rattle.pb_stage.specs.Printed.{EachStream}
+use Rattle.pb_stage.specs.Certified.{IsCertifiedStage}
 
 -- a flow in whole grams is within the bounds
 pub record IsFlowWithin (flow : ℤ) (bounds : Bounds) : Type 0 where

@@ -1,9 +1,9 @@
 -- Statement. Each free group has exactly one nodal test, and the tests are in order of the least nodes of their groups.
 use Rattle.std.specs.Prelude.{◌≡◌, ℕ, ◌<◌, ℤ, List, AllPairs, Option, Some, slice_get}
-use Rattle.pb_graph.specs.declared.results.NodalTest.{NodalTest}
+use Rattle.pb_study.specs.declared.results.NodalTest.{NodalTest}
 use Rattle.pb_graph.specs.ProcessGraph.{ProcessGraph, IsProcessGraph}
 use Rattle.pb_graph.specs.Groups.{IsFreeGroup, SameGroup}
-use Rattle.pb_tests.specs.Nodal.{AreNodalTests}
+use Rattle.pb_stage.specs.Nodal.{AreNodalTests}
 
 -- the node of each test is below those of the later ones
 abbrev pub AreInOrder : List NodalTest → Type 0

@@ -3,7 +3,7 @@ use Rattle.std.specs.Prelude.{ℕ, List}
 use Rattle.pb_rows.specs.Records.{records_of}
 use Rattle.pb_book.specs.declared.rows.StoredRow.{StoredRow}
 use Rattle.pb_book.specs.Accepted.{AreAccepted}
-use Rattle.pb_book.specs.Named.{HaveNames}
+use Rattle.pb_book.specs.Named.{HaveWellFormedNames}
 use Rattle.pb_book.specs.Plain.{plain_rows}
 use Rattle.pb_book.specs.Written.{WriteRows}
 
@@ -11,4 +11,4 @@ use Rattle.pb_book.specs.Written.{WriteRows}
 -- session has an edited file.
 abbrev pub SomePlainTextLaw : Type 0
 SomePlainTextLaw =
-    (rows : List StoredRow) → AreAccepted rows → HaveNames rows → (text : List ℕ) × WriteRows (records_of text) (plain_rows rows)
+    (rows : List StoredRow) → AreAccepted rows → HaveWellFormedNames rows → (text : List ℕ) × WriteRows (records_of text) (plain_rows rows)

@@ -2,7 +2,7 @@
 
 ghost use Rattle.pb_laws.specs.Nodal.{NodalOrderLaw, OneTestLaw};
 
-use pb_tests::free_groups_law;
+use pb_stage::free_groups_law;
 
 /// The law that each free group of a graph has exactly one nodal test, and that these are in order of the least nodes of the groups.
 pub fn nodal_order_law()

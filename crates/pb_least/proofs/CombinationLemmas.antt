@@ -1,16 +1,16 @@
 -- Combinations of balanced flows: their length, their flow at a place, and that they are balanced.
 use Rattle.std.proofs.Common.{◌≡◌, ◌≢◌, ◌∙◌, ◌==◌, ℕ, zero, suc, ◌<◌, ℤ, pos, ◌+ℤ◌, ◌*ℤ◌, cond, List, [], ◌∷◌, length, refl, sym, ap, ap₂, arith}
 use Rattle.std.proofs.lemmas.Bool.{eq-eqb, ne_eqb}
-use Rattle.pb_integers.specs.Sums.{item}
-use Rattle.pb_integers.proofs.Ring.{var, lit, plus, times, ring}
-use Rattle.pb_integers.proofs.RingLaws.{one_mul, zero_mul}
-use Rattle.pb_integers.proofs.Sums.{sum_below-single}
+use Rattle.pb_fixed.specs.Sums.{item}
+use Rattle.pb_fixed.proofs.Ring.{var, lit, plus, times, ring}
+use Rattle.pb_fixed.proofs.RingLaws.{one_mul, zero_mul}
+use Rattle.pb_fixed.proofs.Sums.{sum_below-single}
 use Rattle.pb_graph.specs.declared.records.Stream.{Stream}
 use Rattle.pb_graph.specs.ProcessGraph.{ProcessGraph, IsProcessGraph}
 use Rattle.pb_graph.specs.Balance.{net_of, IsBalanced}
 use Rattle.pb_graph.specs.Prices.{rise_of}
-use Rattle.pb_balance.specs.PricedSums.{priced_streams}
-use Rattle.pb_balance.proofs.BalanceLaws.{priced_sums, balanced_sum}
+use Rattle.pb_graph.specs.PricedSums.{priced_streams}
+use Rattle.pb_graph.proofs.BalanceLaws.{priced_sums, balanced_sum}
 use Rattle.pb_gap.specs.Least.{combination}
 
 -- ---- the combination of two numbers

@@ -4,11 +4,11 @@ use Rattle.std.specs.Prelude.{IfSome}
 use Rattle.std.specs.Int.{int_div_euclid}
 use Rattle.std.specs.List.{AllByRecursion}
 use Rattle.std.proofs.lemmas.Int.{by_lt_z, ints}
-use Rattle.pb_integers.specs.Sums.{item}
-use Rattle.pb_integers.proofs.Lists.{AllByRecursion-from_all, some_same}
-use Rattle.pb_integers.proofs.Order.{mul_mono, mul_nonneg, neg_square, root_mono, square_pos}
-use Rattle.pb_integers.proofs.Ring.{var, lit, plus, times, ring}
-use Rattle.pb_integers.proofs.RingLaws.{mul_comm}
+use Rattle.pb_fixed.specs.Sums.{item}
+use Rattle.pb_fixed.proofs.Lists.{AllByRecursion-from_all, some_same}
+use Rattle.pb_fixed.proofs.Order.{mul_mono, mul_nonneg, neg_square, root_mono, square_pos}
+use Rattle.pb_fixed.proofs.Ring.{var, lit, plus, times, ring}
+use Rattle.pb_fixed.proofs.RingLaws.{mul_comm}
 use Rattle.pb_graph.specs.declared.records.Meas.{Meas}
 use Rattle.pb_graph.specs.declared.records.Stream.{Stream}
 use Rattle.pb_graph.specs.ProcessGraph.{ProcessGraph, IsProcessGraph, IsMeasurement, IsWithinLimits}

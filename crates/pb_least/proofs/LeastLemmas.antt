@@ -3,9 +3,9 @@
 use Rattle.std.proofs.Common.{◌≡◌, ◌≢◌, ◌∙◌, ℕ, ℤ, pos, neg_ℤ, ◌+ℤ◌, ◌-ℤ◌, ◌*ℤ◌, ◌≤ℤ◌, List, [], ◌∷◌, length, map, Some, slice_get, IsSome, refl, sym, ap, ap₂, arith}
 use Rattle.std.proofs.lemmas.Int.{ints}
 use Rattle.std.proofs.lemmas.List.{length-map}
-use Rattle.pb_integers.specs.Sums.{item}
-use Rattle.pb_integers.proofs.Order.{le_by_eq, mul_cancel, mul_mono}
-use Rattle.pb_integers.proofs.Ring.{var, lit, plus, times, minus, less, square, ring}
+use Rattle.pb_fixed.specs.Sums.{item}
+use Rattle.pb_fixed.proofs.Order.{le_by_eq, mul_cancel, mul_mono}
+use Rattle.pb_fixed.proofs.Ring.{var, lit, plus, times, minus, less, square, ring}
 use Rattle.pb_graph.specs.declared.records.Stream.{Stream}
 use Rattle.pb_graph.specs.declared.records.Class.{Class}
 use Rattle.pb_graph.specs.declared.records.Class.TheVariants.{Observable, Unobservable, Redundant, Nonredundant}

@@ -1,10 +1,10 @@
 -- What circulates unseen, added to a least vector, makes another one.
 use Rattle.std.proofs.Common.{◌≡◌, ◌≢◌, ◌∙◌, ℕ, ℤ, pos, neg_ℤ, ◌+ℤ◌, ◌*ℤ◌, ◌≤ℤ◌, List, [], ◌∷◌, length, Some, None, slice_get, IsSome, refl, sym, ap, subst, arith}
 use Rattle.std.proofs.lemmas.Int.{ints}
-use Rattle.pb_integers.specs.Sums.{item}
-use Rattle.pb_integers.proofs.Lists.{some_same}
-use Rattle.pb_integers.proofs.Order.{mul_cancel_eq}
-use Rattle.pb_integers.proofs.Ring.{var, lit, plus, times, ring}
+use Rattle.pb_fixed.specs.Sums.{item}
+use Rattle.pb_fixed.proofs.Lists.{some_same}
+use Rattle.pb_fixed.proofs.Order.{mul_cancel_eq}
+use Rattle.pb_fixed.proofs.Ring.{var, lit, plus, times, ring}
 use Rattle.pb_graph.specs.declared.records.Stream.{Stream}
 use Rattle.pb_graph.specs.ProcessGraph.{ProcessGraph}
 use Rattle.pb_graph.specs.Classes.{TellsApart}

@@ -5,13 +5,13 @@ use Rattle.std.specs.List.{AllByRecursion, range_with_len}
 use Rattle.std.proofs.lemmas.Bool.{cases_Bool, eqb-false, eqb-true, leb-false, leb-true, ltb-false, ltb-true, ne_eqb}
 use Rattle.std.proofs.lemmas.Int.{ints}
 use Rattle.std.proofs.lemmas.List.Elements.{recursion_from_All}
-use Rattle.pb_integers.specs.Sums.{sum_over}
-use Rattle.pb_integers.proofs.Sums.{sum_over-append}
+use Rattle.pb_fixed.specs.Sums.{sum_over}
+use Rattle.pb_fixed.proofs.Sums.{sum_over-append}
 use Rattle.pb_limits.specs.Limits.{most_made_streams}
 use Rattle.pb_make.specs.declared.plant.MadeStream.{MadeStream}
 use Rattle.pb_make.specs.Bounds.{IsSide}
-use Rattle.pb_make.specs.Laws.{brought_to}
-use Rattle.pb_make.specs.Plant.{change_of, least_streams, line_grams, line_stream, line_streams, line_truth, made_streams, side_streams, sides_of, units_of}
+use Rattle.pb_make.specs.Laws.{truth_brought_to}
+use Rattle.pb_make.specs.Plant.{added_to, least_streams, line_grams, line_stream, line_streams, line_truth, made_streams, side_streams, sides_of, units_of}
 use Rattle.pb_make.proofs.PlantLemmas.{AreSides, plant_sides}
 
 -- ---- tests of numbers
@@ -86,7 +86,7 @@ on_even from to u f on other some = elim (compared from u) [
   ]
 ]
 
-side_even : (units u : ℕ) (side : MadeStream) → IsSide units side → 1 ≤ u → (change_of u side -ℤ change_of (u + 1) side) +ℤ brought_to u side ≡ pos 0
+side_even : (units u : ℕ) (side : MadeStream) → IsSide units side → 1 ≤ u → (added_to u side -ℤ added_to (u + 1) side) +ℤ truth_brought_to u side ≡ pos 0
 side_even units u side fits some = elim (cases_Bool (side.to == 0)) [
   | inl out ↦ out_even side.from side.to u side.truth (eqb-true side.to 0 out) some
   | inr on ↦ on_even side.from side.to u side.truth (eqb-false side.to 0 on) fits.apart some
@@ -95,10 +95,10 @@ side_even units u side fits some = elim (cases_Bool (side.to == 0)) [
 -- ---- all side streams
 
 sides_even : (units u : ℕ) (sides : List MadeStream) → AllByRecursion (IsSide units) sides → 1 ≤ u
-    → (sum_over (change_of u) sides -ℤ sum_over (change_of (u + 1)) sides) +ℤ sum_over (brought_to u) sides ≡ pos 0
+    → (sum_over (added_to u) sides -ℤ sum_over (added_to (u + 1)) sides) +ℤ sum_over (truth_brought_to u) sides ≡ pos 0
 sides_even units u [] fit some = refl
 sides_even units u (side ∷ sides) fit some =
-    by (change_of u side) (change_of (u + 1) side) (brought_to u side) (sum_over (change_of u) sides) (sum_over (change_of (u + 1)) sides) (sum_over (brought_to u) sides)
+    by (added_to u side) (added_to (u + 1) side) (truth_brought_to u side) (sum_over (added_to u) sides) (sum_over (added_to (u + 1)) sides) (sum_over (truth_brought_to u) sides)
     (side_even units u side fit.0 some) (sides_even units u sides fit.1 some)
   where
     by : (a b c d e f : ℤ) → (a -ℤ b) +ℤ c ≡ pos 0 → (d -ℤ e) +ℤ f ≡ pos 0 → ((a +ℤ d) -ℤ (b +ℤ e)) +ℤ (c +ℤ f) ≡ pos 0
@@ -107,10 +107,10 @@ sides_even units u (side ∷ sides) fit some =
 -- ---- the line
 
 -- the streams after both ends bring nothing
-line_behind : (units u from count : ℕ) (sides : List MadeStream) → u + 2 ≤ from → 1 ≤ u → from + count ≤ units + 2 → sum_over (brought_to u) (map (line_stream units sides) (range_with_len from count)) ≡ pos 0
+line_behind : (units u from count : ℕ) (sides : List MadeStream) → u + 2 ≤ from → 1 ≤ u → from + count ≤ units + 2 → sum_over (truth_brought_to u) (map (line_stream units sides) (range_with_len from count)) ≡ pos 0
 line_behind units u from zero sides behind some fits = refl
 line_behind units u from (suc count) sides behind some fits =
-    let none : brought_to u (line_stream units sides from) ≡ pos 0 = by (from == units + 1) in
+    let none : truth_brought_to u (line_stream units sides from) ≡ pos 0 = by (from == units + 1) in
     add_zero _ _ none (line_behind units u (from + 1) count sides (omega arith) some (omega (arith, fits)))
   where
     add_zero : (a b : ℤ) → a ≡ pos 0 → b ≡ pos 0 → a +ℤ b ≡ pos 0
@@ -121,11 +121,11 @@ line_behind units u from (suc count) sides behind some fits =
     by false = rw (apart from u (λ e. absurd (omega (arith, e, behind))), apart (from - 1) u (λ e. absurd (omega (arith, e, behind)))) refl
 
 -- the stream into a unit brings its flow, and the stream out of it takes its flow
-into_unit : (units u : ℕ) (sides : List MadeStream) → 1 ≤ u → u ≤ units → brought_to u (line_stream units sides u) ≡ line_truth sides u
+into_unit : (units u : ℕ) (sides : List MadeStream) → 1 ≤ u → u ≤ units → truth_brought_to u (line_stream units sides u) ≡ line_truth sides u
 into_unit units u sides some within =
     rw (apart u (units + 1) (λ e. absurd (omega (arith, e, within))), same u u refl, apart (u - 1) u (λ e. absurd (omega (arith, e, some)))) (omega (arith, ints))
 
-out_of_unit : (units u : ℕ) (sides : List MadeStream) → 1 ≤ u → brought_to u (line_stream units sides (u + 1)) ≡ neg_ℤ (line_truth sides (u + 1))
+out_of_unit : (units u : ℕ) (sides : List MadeStream) → 1 ≤ u → truth_brought_to u (line_stream units sides (u + 1)) ≡ neg_ℤ (line_truth sides (u + 1))
 out_of_unit units u sides some = by (u + 1 == units + 1)
   where
     by : (last : Bool) → ((if (if last then 0 else u + 1) == u then line_truth sides (u + 1) else pos 0) -ℤ (if u + 1 - 1 == u then line_truth sides (u + 1) else pos 0))
@@ -134,10 +134,10 @@ out_of_unit units u sides some = by (u + 1 == units + 1)
     by false = rw (apart (u + 1) u (λ e. absurd (omega (arith, e))), same (u + 1 - 1) u (omega arith)) (omega (arith, ints))
 
 line_here : (units u count : ℕ) (sides : List MadeStream) → 1 ≤ u → u ≤ units → u + suc count ≡ units + 2
-    → sum_over (brought_to u) (map (line_stream units sides) (range_with_len u (suc count))) ≡ line_truth sides u -ℤ line_truth sides (u + 1)
+    → sum_over (truth_brought_to u) (map (line_stream units sides) (range_with_len u (suc count))) ≡ line_truth sides u -ℤ line_truth sides (u + 1)
 line_here units u zero sides some within fits = absurd (omega (arith, within, fits))
 line_here units u (suc count) sides some within fits =
-    by (brought_to u (line_stream units sides u)) (brought_to u (line_stream units sides (u + 1))) (sum_over (brought_to u) (map (line_stream units sides) (range_with_len (u + 1 + 1) count)))
+    by (truth_brought_to u (line_stream units sides u)) (truth_brought_to u (line_stream units sides (u + 1))) (sum_over (truth_brought_to u) (map (line_stream units sides) (range_with_len (u + 1 + 1) count)))
     (line_truth sides u) (line_truth sides (u + 1)) (into_unit units u sides some within) (out_of_unit units u sides some)
     (line_behind units u (u + 1 + 1) count sides (omega arith) some (omega (arith, fits)))
   where
@@ -145,20 +145,20 @@ line_here units u (suc count) sides some within fits =
     by a b c t v a_is b_is c_is = omega (arith, ints, a_is, b_is, c_is)
 
 -- a stream before it brings nothing
-before_unit : (units u i : ℕ) (sides : List MadeStream) → i < u → u ≤ units → brought_to u (line_stream units sides i) ≡ pos 0
+before_unit : (units u i : ℕ) (sides : List MadeStream) → i < u → u ≤ units → truth_brought_to u (line_stream units sides i) ≡ pos 0
 before_unit units u i sides before within =
     rw (apart i (units + 1) (λ e. absurd (omega (arith, e, before, within))), apart i u (λ e. absurd (omega (arith, e, before))), apart (i - 1) u (λ e. absurd (omega (arith, e, before)))) refl
 
 line_even : (units u from count : ℕ) (sides : List MadeStream) → from ≤ u → 1 ≤ u → u ≤ units → from + count ≡ units + 2
-    → sum_over (brought_to u) (map (line_stream units sides) (range_with_len from count)) ≡ line_truth sides u -ℤ line_truth sides (u + 1)
+    → sum_over (truth_brought_to u) (map (line_stream units sides) (range_with_len from count)) ≡ line_truth sides u -ℤ line_truth sides (u + 1)
 line_even units u from zero sides before some within fits = absurd (omega (arith, before, within, fits))
 line_even units u from (suc count) sides before some within fits = elim (cases_Bool (from == u)) [
   | inl here ↦
       let is : from ≡ u = eqb-true from u here in
-      ap (λ (i : ℕ). sum_over (brought_to u) (map (line_stream units sides) (range_with_len i (suc count)))) is ∙ line_here units u count sides some within (omega (arith, is, fits))
+      ap (λ (i : ℕ). sum_over (truth_brought_to u) (map (line_stream units sides) (range_with_len i (suc count)))) is ∙ line_here units u count sides some within (omega (arith, is, fits))
   | inr other ↦
       let less_than : from < u = omega (arith, before, eqb-false from u other) in
-      by (brought_to u (line_stream units sides from)) (sum_over (brought_to u) (map (line_stream units sides) (range_with_len (from + 1) count)))
+      by (truth_brought_to u (line_stream units sides from)) (sum_over (truth_brought_to u) (map (line_stream units sides) (range_with_len (from + 1) count)))
       (line_truth sides u -ℤ line_truth sides (u + 1)) (before_unit units u from sides less_than within)
       (line_even units u (from + 1) count sides (omega (arith, less_than)) some within (omega (arith, fits)))
 ]
@@ -168,13 +168,13 @@ line_even units u from (suc count) sides before some within fits = elim (cases_B
 
 -- ---- the plant
 
-pub balanced : (number streams unit : ℕ) → least_streams ≤ streams → streams ≤ most_made_streams → 1 ≤ unit → unit ≤ units_of streams → sum_over (brought_to unit) (made_streams number streams) ≡ pos 0
+pub balanced : (number streams unit : ℕ) → least_streams ≤ streams → streams ≤ most_made_streams → 1 ≤ unit → unit ≤ units_of streams → sum_over (truth_brought_to unit) (made_streams number streams) ≡ pos 0
 balanced number streams unit least most_are some within =
     let n = units_of streams in
     let sides = side_streams number streams in
     let are : AreSides number streams sides = plant_sides number streams n (sides_of streams) sides least most_are refl refl refl in
-    sum_over-append (brought_to unit) (line_streams n sides) sides
-    ∙ by (sum_over (brought_to unit) (line_streams n sides)) (sum_over (brought_to unit) sides) line_grams (sum_over (change_of unit) sides) (sum_over (change_of (unit + 1)) sides)
+    sum_over-append (truth_brought_to unit) (line_streams n sides) sides
+    ∙ by (sum_over (truth_brought_to unit) (line_streams n sides)) (sum_over (truth_brought_to unit) sides) line_grams (sum_over (added_to unit) sides) (sum_over (added_to (unit + 1)) sides)
     (line_even n unit 1 (n + 1) sides some some within (omega arith)) (sides_even n unit sides (recursion_from_All (IsSide n) sides are.fit) some)
   where
     by : (l b g s t : ℤ) → l ≡ (g +ℤ s) -ℤ (g +ℤ t) → (s -ℤ t) +ℤ b ≡ pos 0 → l +ℤ b ≡ pos 0

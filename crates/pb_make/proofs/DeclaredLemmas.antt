@@ -10,13 +10,12 @@ use Rattle.std.proofs.lemmas.List.Sums.{position_or_len_is}
 use Rattle.pb_rows.specs.Name.{same_name}
 use Rattle.pb_site.specs.declared.declared.Arc.{Arc}
 use Rattle.pb_site.specs.declared.declared.Declared.{Declared}
-use Rattle.pb_site.specs.declared.declared.Declared.TheVariants.{Unit as UnitDeclared, Stream as StreamDeclared}
 use Rattle.pb_site.specs.declared.declared.Version.TheVariants.{One}
-use Rattle.pb_site.specs.Row.{arc_in, arc_kind, boundary_name, is_among, node_name as declared_node}
+use Rattle.pb_site.specs.Row.{arc_in, arc_kind, boundary_name, names_include, node_name}
 use Rattle.pb_site.specs.Site.{boundary_names, node_names, version_of}
 use Rattle.pb_site.specs.Faults.{is_one_node}
 use Rattle.pb_make.specs.declared.plant.MadeStream.{MadeStream}
-use Rattle.pb_make.specs.Rows.{node_name, stream_name}
+use Rattle.pb_make.specs.Rows.{made_node_name, stream_name}
 use Rattle.pb_rows.proofs.TextLaws.{same_self}
 use Rattle.pb_make.proofs.NameLemmas.{nodes_apart, stream_no_node, streams_apart}
 use Rattle.pb_make.proofs.RequestLemmas.{base_at, kind_at}
@@ -24,13 +23,13 @@ use Rattle.pb_make.proofs.RequestLemmas.{base_at, kind_at}
 -- ---- the declarations
 
 abbrev pub declared_unit : ℕ → Declared
-declared_unit i = UnitDeclared (node_name i)
+declared_unit i = Declared.Unit (made_node_name i)
 
 abbrev pub units : ℕ → ℕ → List Declared
 units from count = map declared_unit (range_with_len from count)
 
 abbrev pub declared_stream : ℕ → MadeStream → Declared
-declared_stream i stream = StreamDeclared (stream_name i) (node_name stream.from) (node_name stream.to) (kind_at i) (base_at i) None
+declared_stream i stream = Declared.Stream (stream_name i) (made_node_name stream.from) (made_node_name stream.to) (kind_at i) (base_at i) None
 
 abbrev pub streams_from : ℕ → List MadeStream → List Declared
 streams_from i [] = []
@@ -75,11 +74,11 @@ skip {Y} h no_unit no_stream n streams more =
     none_of_streams i (s ∷ streams) = ap (λ (o : Option Y). cons_option o (filter_map h (streams_from (i + 1) streams))) (no_stream i s) ∙ none_of_streams (i + 1) streams
 
 -- the names of the nodes of units
-unit_nodes : (from count : ℕ) → filter_map declared_node (units from count) ≡ map node_name (range_with_len from count)
+unit_nodes : (from count : ℕ) → filter_map node_name (units from count) ≡ map made_node_name (range_with_len from count)
 unit_nodes from zero = refl
-unit_nodes from (suc count) = ap (λ (l : List (List ℕ)). node_name from ∷ l) (unit_nodes (from + 1) count)
+unit_nodes from (suc count) = ap (λ (l : List (List ℕ)). made_node_name from ∷ l) (unit_nodes (from + 1) count)
 
-stream_nodes : (i : ℕ) (streams : List MadeStream) → filter_map declared_node (streams_from i streams) ≡ []
+stream_nodes : (i : ℕ) (streams : List MadeStream) → filter_map node_name (streams_from i streams) ≡ []
 stream_nodes i [] = refl
 stream_nodes i (s ∷ streams) = stream_nodes (i + 1) streams
 
@@ -90,19 +89,19 @@ unit_arcs boundaries nodes from (suc count) = unit_arcs boundaries nodes (from +
 -- declarations after the plant that are of no node, no boundary and no arc
 pub record AreOther (more : List Declared) : Type 0 where
   pub first : version_of more ≡ One
-  pub no_node : filter_map declared_node more ≡ []
+  pub no_node : filter_map node_name more ≡ []
   pub no_boundary : filter_map boundary_name more ≡ []
   pub no_arc : (boundaries nodes : List (List ℕ)) → filter_map (arc_in boundaries nodes) more ≡ []
 
-pub unit_names : (n : ℕ) (streams : List MadeStream) (more : List Declared) → AreOther more → filter_map declared_node (plant_of n streams more) ≡ map node_name (range_with_len 1 n)
+pub unit_names : (n : ℕ) (streams : List MadeStream) (more : List Declared) → AreOther more → filter_map node_name (plant_of n streams more) ≡ map made_node_name (range_with_len 1 n)
 unit_names n streams more other =
-    filter_map-append declared_node (units 1 n) (streams_from 1 streams ++ more)
+    filter_map-append node_name (units 1 n) (streams_from 1 streams ++ more)
     ∙ ap₂ (λ (a b : List (List ℕ)). a ++ b) (unit_nodes 1 n)
-    (filter_map-append declared_node (streams_from 1 streams) more ∙ ap₂ (λ (a b : List (List ℕ)). a ++ b) (stream_nodes 1 streams) other.no_node)
-    ∙ append-nil (map node_name (range_with_len 1 n))
+    (filter_map-append node_name (streams_from 1 streams) more ∙ ap₂ (λ (a b : List (List ℕ)). a ++ b) (stream_nodes 1 streams) other.no_node)
+    ∙ append-nil (map made_node_name (range_with_len 1 n))
 
 -- the names of the nodes: that of the environment and those of the units
-pub names_are : (n : ℕ) (streams : List MadeStream) (more : List Declared) → AreOther more → node_names (plant_of n streams more) ≡ map node_name (range_with_len 0 (suc n))
+pub names_are : (n : ℕ) (streams : List MadeStream) (more : List Declared) → AreOther more → node_names (plant_of n streams more) ≡ map made_node_name (range_with_len 0 (suc n))
 names_are n streams more other = ap (λ (l : List (List ℕ)). codes "env" ∷ l) (unit_names n streams more other)
 
 pub arcs_are : (n : ℕ) (streams : List MadeStream) (more : List Declared) (boundaries nodes : List (List ℕ)) → AreOther more
@@ -163,24 +162,24 @@ position_at f test count k d within before here =
 -- ---- nodes
 
 -- the environment and each unit are nodes
-pub node_there : (n a : ℕ) (names : List (List ℕ)) → a ≤ n → names ≡ map node_name (range_with_len 0 (suc n)) → is_among names (node_name a) ≡ true
+pub node_there : (n a : ℕ) (names : List (List ℕ)) → a ≤ n → names ≡ map made_node_name (range_with_len 0 (suc n)) → names_include names (made_node_name a) ≡ true
 node_there n a names within are =
-    ap (λ (l : List (List ℕ)). is_among l (node_name a)) are ∙ some_any node_name (same_name (node_name a)) 0 (suc n) a (omega arith) (omega arith) (same_self (node_name a))
+    ap (λ (l : List (List ℕ)). names_include l (made_node_name a)) are ∙ some_any made_node_name (same_name (made_node_name a)) 0 (suc n) a (omega arith) (omega arith) (same_self (made_node_name a))
 
 -- no stream has a node's name
-pub stream_not_there : (n i : ℕ) (names : List (List ℕ)) → names ≡ map node_name (range_with_len 0 (suc n)) → is_among names (stream_name i) ≡ false
+pub stream_not_there : (n i : ℕ) (names : List (List ℕ)) → names ≡ map made_node_name (range_with_len 0 (suc n)) → names_include names (stream_name i) ≡ false
 stream_not_there n i names are =
-    ap (λ (l : List (List ℕ)). is_among l (stream_name i)) are ∙ none_any node_name (same_name (stream_name i)) 0 (suc n) (λ k low high. stream_no_node i k)
+    ap (λ (l : List (List ℕ)). names_include l (stream_name i)) are ∙ none_any made_node_name (same_name (stream_name i)) 0 (suc n) (λ k low high. stream_no_node i k)
 
 -- the place of a node
-node_place : (n a : ℕ) (names : List (List ℕ)) → a ≤ n → n < 2 ^ 31 → names ≡ map node_name (range_with_len 0 (suc n)) → position (same_name (node_name a)) names ≡ Some a
+node_place : (n a : ℕ) (names : List (List ℕ)) → a ≤ n → n < 2 ^ 31 → names ≡ map made_node_name (range_with_len 0 (suc n)) → position (same_name (made_node_name a)) names ≡ Some a
 node_place n a names within small are =
-    ap (λ (l : List (List ℕ)). position (same_name (node_name a)) l) are
-    ∙ position_at node_name (same_name (node_name a)) (suc n) a [] (omega arith) (λ j lt. nodes_apart a j (λ e. absurd (omega (arith, e)))) (same_self (node_name a))
+    ap (λ (l : List (List ℕ)). position (same_name (made_node_name a)) l) are
+    ∙ position_at made_node_name (same_name (made_node_name a)) (suc n) a [] (omega arith) (λ j lt. nodes_apart a j (λ e. absurd (omega (arith, e)))) (same_self (made_node_name a))
 
 -- two nodes are two
-pub two_nodes : (n a b : ℕ) (names : List (List ℕ)) → a ≤ n → b ≤ n → n < 2 ^ 31 → a ≢ b → names ≡ map node_name (range_with_len 0 (suc n))
-    → is_one_node (position (same_name (node_name a)) names) (position (same_name (node_name b)) names) ≡ false
+pub two_nodes : (n a b : ℕ) (names : List (List ℕ)) → a ≤ n → b ≤ n → n < 2 ^ 31 → a ≢ b → names ≡ map made_node_name (range_with_len 0 (suc n))
+    → is_one_node (position (same_name (made_node_name a)) names) (position (same_name (made_node_name b)) names) ≡ false
 two_nodes n a b names a_in b_in small other are =
     ap₂ (λ (p q : Option ℕ). is_one_node p q) (node_place n a names a_in small are) (node_place n b names b_in small are) ∙ ne_eqb a b other
 
@@ -192,7 +191,7 @@ count_arcs boundaries nodes i (s ∷ streams) = ap suc (count_arcs boundaries no
 
 -- no stream so far has the name
 pub no_arc_named : (boundaries nodes : List (List ℕ)) (i : ℕ) (streams : List MadeStream) (name : List ℕ) → ((k : ℕ) → i ≤ k → k < i + length streams → same_name name (stream_name k) ≡ false)
-    → is_among (map (λ (arc : Arc). arc.name) (filter_map (arc_in boundaries nodes) (streams_from i streams))) name ≡ false
+    → names_include (map (λ (arc : Arc). arc.name) (filter_map (arc_in boundaries nodes) (streams_from i streams))) name ≡ false
 no_arc_named boundaries nodes i [] name fails = refl
 no_arc_named boundaries nodes i (s ∷ streams) name fails =
     rw (fails i (omega arith) (omega arith)) (no_arc_named boundaries nodes (i + 1) streams name (λ k low high. fails k (omega arith) (omega arith)))

@@ -9,3 +9,4 @@ mod RequestLemmas
 mod RowsLemmas
 mod SessionLemmas
 mod TakenLemmas
+pub mod MakeLaws

@@ -9,20 +9,20 @@ use Rattle.pb_rows.specs.Name.{same_name}
 use Rattle.pb_site.specs.declared.declared.Arc.{Arc}
 use Rattle.pb_site.specs.declared.declared.Declared.{Declared}
 use Rattle.pb_site.specs.declared.declared.Declared.TheVariants.{CritNodal, CritMeasure}
-use Rattle.pb_site.specs.Row.{is_among, measure_value, nodal_value, node_name as declared_node}
+use Rattle.pb_site.specs.Row.{measure_value, names_include, nodal_value, node_name}
 use Rattle.pb_site.specs.Site.{arc_names, arcs_of, boundary_names, node_names}
 use Rattle.pb_site.specs.Faults.{is_node}
 use Rattle.pb_facts.specs.declared.facts.KeptFact.{KeptFact}
 use Rattle.pb_form.specs.declared.session.SessionKind.TheVariants as kind
 use Rattle.pb_kinds.specs.declared.rows.Effect.TheVariants.{Declares, Opens}
-use Rattle.pb_book.specs.declared.rows.Period.{Period}
+use Rattle.pb_periods.specs.declared.period.Period.{Period}
 use Rattle.pb_book.specs.Answer.{after}
 use Rattle.pb_book.specs.Rows.{version_at}
 use Rattle.pb_book.specs.declared.rows.StoredRow.{StoredRow}
 use Rattle.pb_make.specs.declared.plant.MadeStream.{MadeStream}
 use Rattle.pb_make.specs.Bounds.{IsMade}
 use Rattle.pb_make.specs.Laws.{AreTaken}
-use Rattle.pb_make.specs.Rows.{critical_row, january, made_period, middle_rows, node_name, period_row, stream_name, stream_row, stream_rows, unit_row}
+use Rattle.pb_make.specs.Rows.{january, made_critical_row, made_node_name, made_period, made_period_row, made_stream_row, middle_rows, stream_name, stream_rows, unit_row}
 use Rattle.pb_make.proofs.DeclaredLemmas.{AreOther, arcs_are, count_arcs, declared_stream, declared_unit, names_are, no_arc_named, no_boundaries, node_there, none_any, plant_of, plant_push, skip, stream_not_there, streams_from, two_nodes, unit_arcs, unit_boundaries, units}
 use Rattle.pb_make.proofs.NameLemmas.{is_node_name, is_stream_name, nodes_apart, streams_apart}
 use Rattle.pb_make.proofs.RequestLemmas.{Asks, measure_asks, nodal_asks, period_asks, stream_asks, unit_asks}
@@ -33,13 +33,13 @@ use Rattle.pb_make.proofs.TakenLemmas.{HasNoCause, IsAt, fewer, store_declaratio
 -- no cause to refuse the next unit
 unit_fine : (k : ℕ) → k < 1000 → HasNoCause (units 1 k) [] [] (Declares (declared_unit (k + 1)))
 unit_fine k few =
-    let name = node_name (k + 1) in
-    let nodes : filter_map declared_node (units 1 k) ≡ map node_name (range_with_len 1 k) = nodes_of 1 k in
-    let names : node_names (units 1 k) ≡ map node_name (range_with_len 0 (suc k)) = ap (λ (l : List (List ℕ)). codes "env" ∷ l) nodes in
-    let no_node : is_node (units 1 k) name ≡ false = ap₂ (λ (b l : List (List ℕ)). is_among b name || is_among l name) (unit_boundaries 1 k) names
-    ∙ none_any node_name (same_name name) 0 (suc k) (λ j low high. nodes_apart (k + 1) j (λ e. absurd (omega (arith, e)))) in
-    let no_arc : is_among (arc_names (units 1 k)) name ≡ false = ap (λ (l : List Arc). is_among (map (λ (arc : Arc). arc.name) l) name) (unit_arcs (boundary_names (units 1 k)) (node_names (units 1 k)) 1 k) in
-    let many : length (filter_map declared_node (units 1 k)) ≡ k = ap (λ (l : List (List ℕ)). length l) nodes ∙ length-map-range_with_len node_name 1 k in
+    let name = made_node_name (k + 1) in
+    let nodes : filter_map node_name (units 1 k) ≡ map made_node_name (range_with_len 1 k) = nodes_of 1 k in
+    let names : node_names (units 1 k) ≡ map made_node_name (range_with_len 0 (suc k)) = ap (λ (l : List (List ℕ)). codes "env" ∷ l) nodes in
+    let no_node : is_node (units 1 k) name ≡ false = ap₂ (λ (b l : List (List ℕ)). names_include b name || names_include l name) (unit_boundaries 1 k) names
+    ∙ none_any made_node_name (same_name name) 0 (suc k) (λ j low high. nodes_apart (k + 1) j (λ e. absurd (omega (arith, e)))) in
+    let no_arc : names_include (arc_names (units 1 k)) name ≡ false = ap (λ (l : List Arc). names_include (map (λ (arc : Arc). arc.name) l) name) (unit_arcs (boundary_names (units 1 k)) (node_names (units 1 k)) 1 k) in
+    let many : length (filter_map node_name (units 1 k)) ≡ k = ap (λ (l : List (List ℕ)). length l) nodes ∙ length-map-range_with_len made_node_name 1 k in
     record {
       known = refl;
       new = ap₂ (λ (a b : Bool). a || b) no_node no_arc;
@@ -48,12 +48,12 @@ unit_fine k few =
       unsealed = refl;
       still_open = refl;
       in_range = refl;
-      room = fewer most_units_and_tanks (length (filter_map declared_node (units 1 k))) (omega (arith, many, few));
+      room = fewer most_units_and_tanks (length (filter_map node_name (units 1 k))) (omega (arith, many, few));
     }
   where
-    nodes_of : (from count : ℕ) → filter_map declared_node (units from count) ≡ map node_name (range_with_len from count)
+    nodes_of : (from count : ℕ) → filter_map node_name (units from count) ≡ map made_node_name (range_with_len from count)
     nodes_of from zero = refl
-    nodes_of from (suc count) = ap (λ (l : List (List ℕ)). node_name from ∷ l) (nodes_of (from + 1) count)
+    nodes_of from (suc count) = ap (λ (l : List (List ℕ)). made_node_name from ∷ l) (nodes_of (from + 1) count)
 
 -- what is to be shown of the remaining rows
 abbrev pub Rest : (List StoredRow → Type 0) → List Declared → List KeptFact → List Period → List (List (List ℕ)) → Type 0
@@ -91,10 +91,10 @@ stream_fine n i streams stream few less is made =
     let boundaries = boundary_names declared in
     let bare = no_boundaries n streams [] none_other in
     let arcs = arcs_are n streams [] boundaries names none_other in
-    let from : is_node declared (node_name stream.from) ≡ true = rw bare (node_there n stream.from names made.within names_is) in
-    let to : is_node declared (node_name stream.to) ≡ true = rw bare (node_there n stream.to names made.ends names_is) in
+    let from : is_node declared (made_node_name stream.from) ≡ true = rw bare (node_there n stream.from names made.within names_is) in
+    let to : is_node declared (made_node_name stream.to) ≡ true = rw bare (node_there n stream.to names made.ends names_is) in
     let no_node : is_node declared name ≡ false = rw bare (stream_not_there n i names names_is) in
-    let no_arc : is_among (arc_names declared) name ≡ false = ap (λ (l : List Arc). is_among (map (λ (arc : Arc). arc.name) l) name) arcs
+    let no_arc : names_include (arc_names declared) name ≡ false = ap (λ (l : List Arc). names_include (map (λ (arc : Arc). arc.name) l) name) arcs
     ∙ no_arc_named boundaries names 1 streams name (λ k low high. streams_apart i k (λ e. absurd (omega (arith, e, is, high)))) in
     let many : length (arcs_of declared) ≡ length streams = ap (λ (l : List Arc). length l) arcs ∙ count_arcs boundaries names 1 streams in
     record {
@@ -115,7 +115,7 @@ streams_taken law Holds n i before [] records few less is made rest rows at here
     rest rows at (subst (λ (l : List MadeStream). IsAt rows (plant_of n l []) [] []) (sym (append-nil before)) here)
 streams_taken law Holds n i before (stream ∷ streams) records few less is made rest rows at here =
     let next = before ++ stream ∷ [] in
-    let row = stream_row i stream in
+    let row = made_stream_row i stream in
     let small : i < 2 ^ 32 = omega (arith, is, less) in
     let taken = store_declaration rows at row (declared_stream i stream) (plant_of n before []) [] [] here
     (stream_asks law (version_at rows) i stream (is_stream_name i small) (is_node_name stream.from (omega (arith, made.0.within, few)))
@@ -175,13 +175,13 @@ plant_more n streams more row =
 pub middle_taken : Asks → (Holds : List StoredRow → Type 0) → (n : ℕ) (streams : List MadeStream) (records : List (List (List ℕ))) → Rest Holds (plant_of n streams (nodal ∷ measure ∷ [])) [] (the_period ∷ []) records
     → Rest Holds (plant_of n streams []) [] [] (middle_rows ++ records)
 middle_taken law Holds n streams records rest rows at is =
-    let first = store_period rows at period_row made_period (january 1) (january 30) (plant_of n streams []) [] [] is (period_asks law (version_at rows)) (period_fine (plant_of n streams [])) in
-    let one = after rows at period_row in
-    let second = store_declaration one (at + 1) (critical_row kind.CriticalNodal) nodal (plant_of n streams []) [] (the_period ∷ []) first.next (nodal_asks law (version_at one)) (nodal_fine n streams (the_period ∷ [])) refl in
-    let two = after one (at + 1) (critical_row kind.CriticalNodal) in
+    let first = store_period rows at made_period_row made_period (january 1) (january 30) (plant_of n streams []) [] [] is (period_asks law (version_at rows)) (period_fine (plant_of n streams [])) in
+    let one = after rows at made_period_row in
+    let second = store_declaration one (at + 1) (made_critical_row kind.CriticalNodal) nodal (plant_of n streams []) [] (the_period ∷ []) first.next (nodal_asks law (version_at one)) (nodal_fine n streams (the_period ∷ [])) refl in
+    let two = after one (at + 1) (made_critical_row kind.CriticalNodal) in
     let two_is = subst (λ (d : List Declared). IsAt two d [] (the_period ∷ [])) (plant_more n streams [] nodal) second.next in
-    let third = store_declaration two (at + 1 + 1) (critical_row kind.CriticalMeasure) measure (plant_of n streams (nodal ∷ [])) [] (the_period ∷ []) two_is (measure_asks law (version_at two))
+    let third = store_declaration two (at + 1 + 1) (made_critical_row kind.CriticalMeasure) measure (plant_of n streams (nodal ∷ [])) [] (the_period ∷ []) two_is (measure_asks law (version_at two))
     (measure_fine n streams (the_period ∷ [])) refl in
-    let three = after two (at + 1 + 1) (critical_row kind.CriticalMeasure) in
+    let three = after two (at + 1 + 1) (made_critical_row kind.CriticalMeasure) in
     let three_is = subst (λ (d : List Declared). IsAt three d [] (the_period ∷ [])) (plant_more n streams (nodal ∷ []) measure) third.next in
     (first.fine, (second.fine, (third.fine, rest three (at + 1 + 1 + 1) three_is)))

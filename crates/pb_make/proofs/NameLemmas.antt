@@ -5,12 +5,12 @@ use Rattle.std.proofs.lemmas.Bool.{ne_eqb}
 use Rattle.pb_rows.specs.Name.{is_name, same_name}
 use Rattle.pb_rows.specs.Number.{decimal_text}
 use Rattle.pb_rows.proofs.TextLaws.{decimal_one, names_apart, numbered_name}
-use Rattle.pb_make.specs.Rows.{node_name, reading_id, stream_name}
+use Rattle.pb_make.specs.Rows.{made_node_name, reading_id, stream_name}
 
-pub unit_is : (i : ℕ) → 1 ≤ i → node_name i ≡ 117 ∷ decimal_text i
+pub unit_is : (i : ℕ) → 1 ≤ i → made_node_name i ≡ 117 ∷ decimal_text i
 unit_is i some = rw (ne_eqb i 0 (λ e. absurd (omega (arith, e, some)))) refl
 
-pub is_node_name : (i : ℕ) → i < 2 ^ 32 → is_name (node_name i) ≡ true
+pub is_node_name : (i : ℕ) → i < 2 ^ 32 → is_name (made_node_name i) ≡ true
 is_node_name zero small = refl
 is_node_name (suc i) small = rw (unit_is (suc i) (omega arith)) (numbered_name 117 (suc i) refl small)
 
@@ -30,7 +30,7 @@ is_read None field good read = cc (good, read)
 numbered_apart : (letter m n : ℕ) → m ≢ n → same_name (letter ∷ decimal_text m) (letter ∷ decimal_text n) ≡ false
 numbered_apart letter m n other = names_apart (letter ∷ decimal_text m) (letter ∷ decimal_text n) (λ same. other (decimal_one m n (cc same)))
 
-pub nodes_apart : (m n : ℕ) → m ≢ n → same_name (node_name m) (node_name n) ≡ false
+pub nodes_apart : (m n : ℕ) → m ≢ n → same_name (made_node_name m) (made_node_name n) ≡ false
 nodes_apart zero zero other = absurd (other refl)
 nodes_apart zero (suc n) other = rw (unit_is (suc n) (omega arith)) refl
 nodes_apart (suc m) zero other = rw (unit_is (suc m) (omega arith)) refl
@@ -44,6 +44,6 @@ pub ids_apart : (m n : ℕ) → m ≢ n → same_name (reading_id m) (reading_id
 ids_apart m n other = numbered_apart 114 (m + 1) (n + 1) (λ same. other (omega (arith, same)))
 
 -- a stream has no node's name
-pub stream_no_node : (i node : ℕ) → same_name (stream_name i) (node_name node) ≡ false
+pub stream_no_node : (i node : ℕ) → same_name (stream_name i) (made_node_name node) ≡ false
 stream_no_node i zero = refl
 stream_no_node i (suc node) = rw (unit_is (suc node) (omega arith)) refl

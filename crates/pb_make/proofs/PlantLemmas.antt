@@ -7,11 +7,11 @@ use Rattle.std.proofs.lemmas.Int.{ints}
 use Rattle.std.proofs.lemmas.List.Elements.{All-append, All-from_recursion, All-same, All-weaker, recursion_from_All}
 use Rattle.std.proofs.lemmas.List.FromFn.{length-map-range_with_len}
 use Rattle.pb_limits.specs.Limits.{most_made_streams}
-use Rattle.pb_integers.specs.Sums.{sum_over}
-use Rattle.pb_integers.proofs.Sums.{sum_over-bound, sum_over-take_more}
+use Rattle.pb_fixed.specs.Sums.{sum_over}
+use Rattle.pb_fixed.proofs.Sums.{sum_over-bound, sum_over-take_more}
 use Rattle.pb_make.specs.declared.plant.MadeStream.{MadeStream}
 use Rattle.pb_make.specs.Bounds.{IsMade, IsSide, most_side_grams}
-use Rattle.pb_make.specs.Plant.{change_of, end_from, leads_back, least_streams, line_grams, line_stream, line_streams, line_truth, made_streams, passes_by, side_at, side_by, side_streams, sides_of, units_of}
+use Rattle.pb_make.specs.Plant.{added_to, end_from, leads_back, least_streams, line_grams, line_stream, line_streams, line_truth, made_streams, passes_by, side_at, side_by, side_streams, sides_of, units_of}
 
 -- ---- side streams
 
@@ -63,7 +63,7 @@ sides_fit number units more count some le =
 -- ---- the line
 
 -- what a side stream adds is at most its flow
-pub change_within : (units i : ℕ) (side : MadeStream) → IsSide units side → unsigned_abs (change_of i side) ≤ most_side_grams
+pub change_within : (units i : ℕ) (side : MadeStream) → IsSide units side → unsigned_abs (added_to i side) ≤ most_side_grams
 change_within units i side fits = by (passes_by side i) (leads_back side i)
   where
     by : (passes back : Bool) → unsigned_abs (if passes then neg_ℤ side.truth else if back then side.truth else pos 0) ≤ most_side_grams
@@ -71,7 +71,7 @@ change_within units i side fits = by (passes_by side i) (leads_back side i)
     by false true = omega (arith, ints, fits.least, fits.most)
     by false false = omega (arith, ints)
 
-each_change : (units i : ℕ) (sides : List MadeStream) → AllByRecursion (IsSide units) sides → AllByRecursion (λ side. unsigned_abs (change_of i side) ≤ most_side_grams) sides
+each_change : (units i : ℕ) (sides : List MadeStream) → AllByRecursion (IsSide units) sides → AllByRecursion (λ side. unsigned_abs (added_to i side) ≤ most_side_grams) sides
 each_change units i [] fit = tt
 each_change units i (side ∷ sides) fit = (change_within units i side fit.0, each_change units i sides fit.1)
 
@@ -79,8 +79,8 @@ each_change units i (side ∷ sides) fit = (change_within units i side fit.0, ea
 pub truth_within : (units i : ℕ) (sides : List MadeStream) → length sides ≤ 2000 → All (IsSide units) sides
     → (pos 30000000000 ≤ℤ line_truth sides i) × (line_truth sides i ≤ℤ pos 70000000000)
 truth_within units i sides few fit =
-    let bound = sum_over-bound (change_of i) most_side_grams sides (each_change units i sides (recursion_from_All (IsSide units) sides fit)) in
-    by (sum_over (change_of i) sides) (length sides) bound few
+    let bound = sum_over-bound (added_to i) most_side_grams sides (each_change units i sides (recursion_from_All (IsSide units) sides fit)) in
+    by (sum_over (added_to i) sides) (length sides) bound few
   where
     by : (sum : ℤ) (n : ℕ) → unsigned_abs sum ≤ n * most_side_grams → n ≤ 2000 → (pos 30000000000 ≤ℤ (line_grams +ℤ sum)) × ((line_grams +ℤ sum) ≤ℤ pos 70000000000)
     by sum n bound few_are = (omega (arith, ints, bound, few_are), omega (arith, ints, bound, few_are))
@@ -147,11 +147,11 @@ abbrev pub no_stream : MadeStream
 no_stream = record { from = 0; to = 0; truth = pos 0 }
 
 -- one more side stream counts
-pub truth_more : (i : ℕ) (sides : List MadeStream) (k : ℕ) (truth part : ℤ) → k < length sides → truth ≡ line_truth (take k sides) i → part ≡ change_of i (get_or sides k no_stream)
+pub truth_more : (i : ℕ) (sides : List MadeStream) (k : ℕ) (truth part : ℤ) → k < length sides → truth ≡ line_truth (take k sides) i → part ≡ added_to i (get_or sides k no_stream)
     → truth +ℤ part ≡ line_truth (take (k + 1) sides) i
 truth_more i sides k truth part here so_far value =
-    ap₂ (λ (x y : ℤ). x +ℤ y) so_far value ∙ add_assoc line_grams (sum_over (change_of i) (take k sides)) (change_of i (get_or sides k no_stream))
-    ∙ ap (λ (s : ℤ). line_grams +ℤ s) (sym (sum_over-take_more (change_of i) sides k no_stream here))
+    ap₂ (λ (x y : ℤ). x +ℤ y) so_far value ∙ add_assoc line_grams (sum_over (added_to i) (take k sides)) (added_to i (get_or sides k no_stream))
+    ∙ ap (λ (s : ℤ). line_grams +ℤ s) (sym (sum_over-take_more (added_to i) sides k no_stream here))
   where
     add_assoc : (a b c : ℤ) → (a +ℤ b) +ℤ c ≡ a +ℤ (b +ℤ c)
     add_assoc a b c = omega (arith, ints)

@@ -9,12 +9,11 @@ use Rattle.std.proofs.lemmas.Bool.{cases_Bool, eqb-false, eqb-true, ne_eqb}
 use Rattle.std.proofs.lemmas.Bool.Decides.{Decides-int_eq}
 use Rattle.std.proofs.lemmas.Int.{ints}
 use Rattle.std.proofs.lemmas.List.FromFn.{length-map-range_with_len, map-range_with_len_more}
-use Rattle.pb_integers.proofs.Order.{le_trans, mul_mono_left, square_mono, square_pos}
+use Rattle.pb_fixed.proofs.Order.{le_trans, mul_mono_left, square_mono, square_pos}
 use Rattle.pb_limits.specs.Limits.{most_facts, most_grams, most_row_variance, most_made_streams}
 use Rattle.pb_rows.specs.Name.{same_name}
 use Rattle.pb_site.specs.declared.declared.Arc.{Arc}
 use Rattle.pb_site.specs.declared.declared.ArcKind.{ArcKind}
-use Rattle.pb_site.specs.declared.declared.ArcKind.TheVariants.{Metered as MeteredArc}
 use Rattle.pb_site.specs.declared.declared.Kind.TheVariants.{Metered, Plain}
 use Rattle.pb_site.specs.declared.declared.Declared.{Declared}
 use Rattle.pb_site.specs.Row.{arc_kind}
@@ -25,17 +24,17 @@ use Rattle.pb_facts.specs.declared.facts.KeptFact.{KeptFact}
 use Rattle.pb_facts.specs.Facts.{is_repeat}
 use Rattle.pb_kinds.specs.declared.rows.Effect.TheVariants.{Books}
 use Rattle.pb_kinds.specs.Costs.{named_costs}
-use Rattle.pb_book.specs.declared.rows.Period.{Period}
+use Rattle.pb_periods.specs.declared.period.Period.{Period}
 use Rattle.pb_book.specs.Answer.{after, answer_if, is_refused, report_or_refused}
-use Rattle.pb_book.specs.Apart.{is_named}
+use Rattle.pb_periods.specs.Apart.{is_named}
 use Rattle.pb_book.specs.Rows.{version_at}
 use Rattle.pb_book.specs.Refusals.{is_of_other_kind, names_other}
 use Rattle.pb_book.specs.declared.rows.StoredRow.{StoredRow}
 use Rattle.pb_make.specs.declared.plant.MadeStream.{MadeStream}
 use Rattle.pb_make.specs.Bounds.{IsMade}
 use Rattle.pb_make.specs.Laws.{Anything}
-use Rattle.pb_make.specs.Readings.{day_read, deviation_of, error_of, is_plain, metered_at, metered_of, reading_draw, readings_of, shown_grams, stream_read, truth_at, variance_of}
-use Rattle.pb_make.specs.Rows.{january, made_period, reading_id, reading_row_at, report_row, stream_name}
+use Rattle.pb_make.specs.Readings.{day_read, error_of_draw, is_plain_stream, meter_deviation, meter_variance, metered_at, metered_of, reading_draw, readings_of, shown_grams, stream_read, truth_at}
+use Rattle.pb_make.specs.Rows.{january, made_period, made_report_row, reading_id, reading_row_at, stream_name}
 use Rattle.pb_make.proofs.DeclaredLemmas.{AreOther, arcs_are, kind_found, none_any, plant_of}
 use Rattle.pb_make.proofs.MadeLemmas.{Rest, measure, nodal, the_period}
 use Rattle.pb_make.proofs.NameLemmas.{ids_apart, is_reading_id, is_stream_name, streams_apart}
@@ -45,7 +44,7 @@ use Rattle.pb_make.proofs.TakenLemmas.{HasNoCause, IsAt, fewer, store_fact}
 -- ---- which streams are metered
 
 -- each stream at a place is
-pub metered : (place : ℕ) → is_plain (metered_at place) ≡ false
+pub metered : (place : ℕ) → is_plain_stream (metered_at place) ≡ false
 metered place = ne_eqb (metered_at place % 7) 0 (λ e. absurd (omega (arith, e)))
 
 pub metered_rises : (place : ℕ) → metered_at place < metered_at (place + 1)
@@ -54,7 +53,7 @@ metered_rises place = omega arith
 pub metered_within : (streams place : ℕ) → place < metered_of streams → metered_at place ≤ streams
 metered_within streams place lt = omega (arith, lt)
 
-pub metered_each : (streams i : ℕ) → 1 ≤ i → i ≤ streams → is_plain i ≡ false → (place : ℕ) × (place < metered_of streams) × (metered_at place ≡ i)
+pub metered_each : (streams i : ℕ) → 1 ≤ i → i ≤ streams → is_plain_stream i ≡ false → (place : ℕ) × (place < metered_of streams) × (metered_at place ≡ i)
 metered_each streams i from to metered_is =
     let other = eqb-false (i % 7) 0 metered_is in
     (i - 1 - i / 7, omega (arith, from, to, other), omega (arith, from, to, other))
@@ -76,8 +75,8 @@ two_readings p q other same = λ day.
 pub record AreShown (truth error : ℤ) : Type 0 where
   pub low : neg_ℤ (pos most_grams) ≤ℤ shown_grams truth error
   pub high : shown_grams truth error ≤ℤ pos most_grams
-  pub least : pos 0 ≤ℤ variance_of truth
-  pub most : variance_of truth ≤ℤ pos most_row_variance
+  pub least : pos 0 ≤ℤ meter_variance truth
+  pub most : meter_variance truth ≤ℤ pos most_row_variance
 
 pub shown : (truth error : ℤ) → pos 1 ≤ℤ truth → truth ≤ℤ pos 100000000000 → neg_ℤ (pos 1000) ≤ℤ error → error ≤ℤ pos 1000 → AreShown truth error
 shown truth error least most low high =
@@ -85,12 +84,12 @@ shown truth error least most low high =
     let down = mul_mono_left (neg_ℤ (pos 1000)) error truth low (omega (arith, ints, least)) in
     let part = div_within (truth *ℤ error) (omega (arith, ints, down, most)) (omega (arith, ints, up, most)) in
     let deviation = deviation_within truth least most in
-    let square = square_mono (deviation_of truth) (pos 500000000) deviation.0 deviation.1 in
+    let square = square_mono (meter_deviation truth) (pos 500000000) deviation.0 deviation.1 in
     record {
       low = omega (arith, ints, part.0, least);
       high = omega (arith, ints, part.1, most);
-      least = square_pos (deviation_of truth);
-      most = le_trans (variance_of truth) (pos 250000000000000000) (pos most_row_variance) square (omega (arith, ints));
+      least = square_pos (meter_deviation truth);
+      most = le_trans (meter_variance truth) (pos 250000000000000000) (pos most_row_variance) square (omega (arith, ints));
     }
   where
     div_within : (p : ℤ) → neg_ℤ (pos 100000000000000) ≤ℤ p → p ≤ℤ pos 100000000000000
@@ -98,7 +97,7 @@ shown truth error least most low high =
     div_within (pos a) from to = (omega (arith, ints, from, to), omega (arith, ints, from, to))
     div_within (negsuc a) from to = (omega (arith, ints, from, to), omega (arith, ints, from, to))
 
-    deviation_within : (t : ℤ) → pos 1 ≤ℤ t → t ≤ℤ pos 100000000000 → (pos 0 ≤ℤ deviation_of t) × (deviation_of t ≤ℤ pos 500000000)
+    deviation_within : (t : ℤ) → pos 1 ≤ℤ t → t ≤ℤ pos 100000000000 → (pos 0 ≤ℤ meter_deviation t) × (meter_deviation t ≤ℤ pos 500000000)
     deviation_within (pos a) from to = (omega (arith, ints, from, to), omega (arith, ints, from, to))
     deviation_within (negsuc a) from to = absurd (omega (arith, ints, from))
 
@@ -108,7 +107,7 @@ shown truth error least most low high =
 abbrev pub fact_at : ℕ → ℕ → List MadeStream → ℕ → Fact
 fact_at number sides streams place =
     let truth = truth_at streams (stream_read place) in
-    Reading (reading_id place) (stream_name (stream_read place)) (january (day_read place)) (shown_grams truth (error_of (reading_draw number sides place))) (variance_of truth)
+    Reading (reading_id place) (stream_name (stream_read place)) (january (day_read place)) (shown_grams truth (error_of_draw (reading_draw number sides place))) (meter_variance truth)
 
 abbrev pub kept_at : ℕ → ℕ → List MadeStream → ℕ → KeptFact
 kept_at number sides streams place = record { fact = fact_at number sides streams place; struck = false }
@@ -147,7 +146,7 @@ criticals = record { first = refl; no_node = refl; no_boundary = refl; no_arc = 
 
 -- the stream of a reading is metered
 kind_is : (n place : ℕ) (streams : List MadeStream) → length streams ≤ most_made_streams → place < readings_of (length streams)
-    → kind_of (plant_of n streams (nodal ∷ measure ∷ [])) (stream_name (stream_read place)) ≡ Some MeteredArc
+    → kind_of (plant_of n streams (nodal ∷ measure ∷ [])) (stream_name (stream_read place)) ≡ Some ArcKind.Metered
 kind_is n place streams few within =
     let declared = plant_of n streams (nodal ∷ measure ∷ []) in
     let boundaries = boundary_names declared in
@@ -184,7 +183,7 @@ truth_fits n i streams made from to =
     let fits = made (i - 1) (record { from = 0; to = 0; truth = pos 0 }) (omega (arith, from, to)) in
     (fits.least, fits.most)
 
-pub error_fits : (draw : ℕ) → (neg_ℤ (pos 1000) ≤ℤ error_of draw) × (error_of draw ≤ℤ pos 1000)
+pub error_fits : (draw : ℕ) → (neg_ℤ (pos 1000) ≤ℤ error_of_draw draw) × (error_of_draw draw ≤ℤ pos 1000)
 error_fits draw =
     let small : draw % 2001 < 2001 = omega arith in
     (omega (arith, ints, small), omega (arith, ints, small))
@@ -204,12 +203,12 @@ readings_taken law Holds number sides n place (suc left) streams records few mad
     let here : place < readings_of (length streams) = omega (arith, within) in
     let there : j ≤ length streams = metered_within (length streams) (place / 30) (omega (arith, here)) in
     let truth = truth_at streams j in
-    let error = error_of (reading_draw number sides place) in
+    let error = error_of_draw (reading_draw number sides place) in
     let truth_is = truth_fits n j streams made (omega arith) there in
     let error_is = error_fits (reading_draw number sides place) in
     let are = shown truth error truth_is.0 truth_is.1 error_is.0 error_is.1 in
     let taken = store_fact rows at row (fact_at number sides streams place) declared (kept_to number sides streams place) (the_period ∷ []) is
-    (reading_asks law (version_at rows) (reading_id place) (stream_name j) (day_read place) (shown_grams truth error) (variance_of truth) (is_reading_id place (omega (arith, here, few)))
+    (reading_asks law (version_at rows) (reading_id place) (stream_name j) (day_read place) (shown_grams truth error) (meter_variance truth) (is_reading_id place (omega (arith, here, few)))
     (is_stream_name j (omega (arith, there, few))) (omega arith) (omega arith) are.low are.high are.least are.most)
     (reading_fine number sides n place streams few here) in
     let more : kept_to number sides streams place ++ kept_at number sides streams place ∷ [] ≡ kept_to number sides streams (place + 1) =
@@ -223,9 +222,9 @@ readings_taken law Holds number sides n place (suc left) streams records few mad
 
 -- ---- the report
 
-pub report_taken : Asks → (declared : List Declared) (kept : List KeptFact) → Rest Anything declared kept (the_period ∷ []) (report_row ∷ [])
+pub report_taken : Asks → (declared : List Declared) (kept : List KeptFact) → Rest Anything declared kept (the_period ∷ []) (made_report_row ∷ [])
 report_taken law declared kept rows at is = (
-  ap (λ r. is_refused (answer_if rows (named_costs report_row) r)) (report_asks law (version_at rows))
+  ap (λ r. is_refused (answer_if rows (named_costs made_report_row) r)) (report_asks law (version_at rows))
       ∙ ap (λ (p : List Period). is_refused (report_or_refused (position (is_named made_period) p))) is.periods_is,
   tt,
 )

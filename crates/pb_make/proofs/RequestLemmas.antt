@@ -12,20 +12,22 @@ use Rattle.pb_form.specs.Value as value
 use Rattle.pb_form.specs.Writing.{FitEach}
 use Rattle.pb_form.specs.declared.session.SessionKind.{SessionKind}
 use Rattle.pb_form.specs.declared.session.SessionKind.TheVariants as kind
-use Rattle.pb_site.specs.declared.declared.Declared.TheVariants.{Unit as UnitDeclared, Stream as StreamDeclared, CritNodal, CritMeasure}
+use Rattle.pb_site.specs.declared.declared.Declared.TheVariants.{CritNodal, CritMeasure}
+use Rattle.pb_site.specs.declared.declared.Declared.{Declared}
 use Rattle.pb_site.specs.declared.declared.Kind.{Kind}
 use Rattle.pb_site.specs.declared.declared.Kind.TheVariants.{Metered, Plain}
 use Rattle.pb_site.specs.declared.declared.Version.{Version}
 use Rattle.pb_site.specs.declared.declared.Version.TheVariants.{One, Two}
-use Rattle.pb_facts.specs.declared.fact.Fact.TheVariants.{Reading as ReadingFact}
+use Rattle.pb_facts.specs.declared.fact.Fact.{Fact}
 use Rattle.pb_kinds.specs.declared.rows.Effect.TheVariants.{Declares, Opens, Books}
-use Rattle.pb_kinds.specs.declared.rows.Request.TheVariants.{Store, Report as ReportAsked}
+use Rattle.pb_kinds.specs.declared.rows.Request.TheVariants.{Store}
+use Rattle.pb_kinds.specs.declared.rows.Request.{Request}
 use Rattle.pb_kinds.specs.Laws.{AskingLaw}
 use Rattle.pb_kinds.specs.Requests.{request_in, request_of}
 use Rattle.pb_kinds.specs.Versions.{has_kind, may_begin}
 use Rattle.pb_make.specs.declared.plant.MadeStream.{MadeStream}
-use Rattle.pb_make.specs.Readings.{is_plain}
-use Rattle.pb_make.specs.Rows.{critical_row, january, made_period, made_row, node_name, period_row, report_row, stream_name, stream_row, stream_values, unit_row}
+use Rattle.pb_make.specs.Readings.{is_plain_stream}
+use Rattle.pb_make.specs.Rows.{january, made_critical_row, made_node_name, made_period, made_period_row, made_report_row, made_row, made_stream_row, stream_name, stream_values, unit_row}
 
 -- a row of a kind asks what its values ask, if they fit
 abbrev pub Asks : Type 0
@@ -44,22 +46,22 @@ of_each kind first second begins (Some Two) = second
 
 -- ---- declarations
 
-pub unit_asks : Asks → (version : Option Version) (i : ℕ) → is_name (node_name i) ≡ true → request_in version (unit_row i) ≡ Ok (Store (Declares (UnitDeclared (node_name i))))
-unit_asks law version i good = law version kind.Unit (value.Name (node_name i) ∷ []) (of_each kind.Unit refl refl refl version) ((refl, refl), (good, tt)) ∙ rw good refl
+pub unit_asks : Asks → (version : Option Version) (i : ℕ) → is_name (made_node_name i) ≡ true → request_in version (unit_row i) ≡ Ok (Store (Declares (Declared.Unit (made_node_name i))))
+unit_asks law version i good = law version kind.Unit (value.Name (made_node_name i) ∷ []) (of_each kind.Unit refl refl refl version) ((refl, refl), (good, tt)) ∙ rw good refl
 
 -- the kind of a stream, and its base variance
 abbrev pub kind_at : ℕ → Kind
-kind_at i = if is_plain i then Plain else Metered
+kind_at i = if is_plain_stream i then Plain else Metered
 
 abbrev pub base_at : ℕ → ℤ
-base_at i = if is_plain i then pos 0 else pos 1
+base_at i = if is_plain_stream i then pos 0 else pos 1
 
-pub stream_asks : Asks → (version : Option Version) (i : ℕ) (stream : MadeStream) → is_name (stream_name i) ≡ true → is_name (node_name stream.from) ≡ true → is_name (node_name stream.to) ≡ true
-    → request_in version (stream_row i stream) ≡ Ok (Store (Declares (StreamDeclared (stream_name i) (node_name stream.from) (node_name stream.to) (kind_at i) (base_at i) None)))
-stream_asks law version i stream name_is from_is to_is = by (is_plain i)
+pub stream_asks : Asks → (version : Option Version) (i : ℕ) (stream : MadeStream) → is_name (stream_name i) ≡ true → is_name (made_node_name stream.from) ≡ true → is_name (made_node_name stream.to) ≡ true
+    → request_in version (made_stream_row i stream) ≡ Ok (Store (Declares (Declared.Stream (stream_name i) (made_node_name stream.from) (made_node_name stream.to) (kind_at i) (base_at i) None)))
+stream_asks law version i stream name_is from_is to_is = by (is_plain_stream i)
   where
     by : (plain : Bool) → request_in version (if plain then made_row kind.StreamPlain (stream_values i stream (pos 0)) else made_row kind.StreamMetered (stream_values i stream (pos 1)))
-        ≡ Ok (Store (Declares (StreamDeclared (stream_name i) (node_name stream.from) (node_name stream.to) (if plain then Plain else Metered) (if plain then pos 0 else pos 1) None)))
+        ≡ Ok (Store (Declares (Declared.Stream (stream_name i) (made_node_name stream.from) (made_node_name stream.to) (if plain then Plain else Metered) (if plain then pos 0 else pos 1) None)))
     by true =
         let base : (pos 0 ≤ℤ pos 0) × (pos 0 ≤ℤ pos 0) = (omega (arith, ints), omega (arith, ints)) in
         law version kind.StreamPlain (stream_values i stream (pos 0)) (of_each kind.StreamPlain refl refl refl version) ((refl, refl), (name_is, (from_is, (to_is, ((refl, refl), (base, tt)))))) ∙ rw (name_is, from_is, to_is) refl
@@ -86,18 +88,18 @@ days_apart m n m_from n_from other = λ same.
     let numbers : pos (19722 + m) ≡ pos (19722 + n) = january_is m m_from ∙ same ∙ sym (january_is n n_from) in
     other (omega (arith, ints, numbers))
 
-pub period_asks : Asks → (version : Option Version) → request_in version period_row ≡ Ok (Store (Opens made_period (january 1) (january 30)))
+pub period_asks : Asks → (version : Option Version) → request_in version made_period_row ≡ Ok (Store (Opens made_period (january 1) (january 30)))
 period_asks law version =
     law version kind.Period (value.Name made_period ∷ value.Date (january 1) ∷ value.Date (january 30) ∷ []) (of_each kind.Period refl refl refl version)
     ((refl, refl), (refl, (january_fits 1 (omega arith) (omega arith), (january_fits 30 (omega arith) (omega arith), tt))))
 
-pub nodal_asks : Asks → (version : Option Version) → request_in version (critical_row kind.CriticalNodal) ≡ Ok (Store (Declares (CritNodal (pos 3841))))
+pub nodal_asks : Asks → (version : Option Version) → request_in version (made_critical_row kind.CriticalNodal) ≡ Ok (Store (Declares (CritNodal (pos 3841))))
 nodal_asks law version = law version kind.CriticalNodal (value.Word 0 ∷ value.Number (pos 3841) ∷ []) (of_each kind.CriticalNodal refl refl refl version) ((refl, refl), ((refl, refl), ((omega (arith, ints), omega (arith, ints)), tt)))
 
-pub measure_asks : Asks → (version : Option Version) → request_in version (critical_row kind.CriticalMeasure) ≡ Ok (Store (Declares (CritMeasure (pos 3841))))
+pub measure_asks : Asks → (version : Option Version) → request_in version (made_critical_row kind.CriticalMeasure) ≡ Ok (Store (Declares (CritMeasure (pos 3841))))
 measure_asks law version = law version kind.CriticalMeasure (value.Word 0 ∷ value.Number (pos 3841) ∷ []) (of_each kind.CriticalMeasure refl refl refl version) ((refl, refl), ((refl, refl), ((omega (arith, ints), omega (arith, ints)), tt)))
 
-pub report_asks : Asks → (version : Option Version) → request_in version report_row ≡ Ok (ReportAsked made_period)
+pub report_asks : Asks → (version : Option Version) → request_in version made_report_row ≡ Ok (Request.Report made_period)
 report_asks law version = law version kind.Report (value.Name made_period ∷ []) (of_each kind.Report refl refl refl version) ((refl, refl), (refl, tt))
 
 -- ---- readings
@@ -105,7 +107,7 @@ report_asks law version = law version kind.Report (value.Name made_period ∷ []
 pub reading_asks : Asks → (version : Option Version) (id stream : List ℕ) (day : ℕ) (grams variance : ℤ) → is_name id ≡ true → is_name stream ≡ true → 1 ≤ day → day ≤ 31
     → neg_ℤ (pos most_grams) ≤ℤ grams → grams ≤ℤ pos most_grams → pos 0 ≤ℤ variance → variance ≤ℤ pos most_row_variance
     → request_in version (made_row kind.Reading (value.Name id ∷ value.Name stream ∷ value.Date (january day) ∷ value.Number grams ∷ value.Number variance ∷ []))
-    ≡ Ok (Store (Books (ReadingFact id stream (january day) grams variance) false))
+    ≡ Ok (Store (Books (Fact.Reading id stream (january day) grams variance) false))
 reading_asks law version id stream day grams variance id_is stream_is from to grams_low grams_high variance_low variance_high =
     law version kind.Reading (value.Name id ∷ value.Name stream ∷ value.Date (january day) ∷ value.Number grams ∷ value.Number variance ∷ []) (of_each kind.Reading refl refl refl version)
     ((refl, refl), (id_is, (stream_is, (january_fits day from to, ((grams_low, grams_high), ((variance_low, variance_high), tt))))))

@@ -4,10 +4,10 @@ use Rattle.std.specs.Prelude.{map}
 use Rattle.std.specs.List.{range_with_len}
 use Rattle.std.proofs.lemmas.Grind.{flat_map-append}
 use Rattle.std.proofs.lemmas.List.FromFn.{map-range_with_len_more}
-use Rattle.pb_integers.proofs.Lists.{drop_next}
+use Rattle.pb_fixed.proofs.Lists.{drop_next}
 use Rattle.pb_rows.specs.Written.{AddsLine, line_of, text_of_rows}
 use Rattle.pb_make.specs.declared.plant.MadeStream.{MadeStream}
-use Rattle.pb_make.specs.Rows.{reading_row, reading_row_at, stream_row, stream_rows}
+use Rattle.pb_make.specs.Rows.{made_stream_row, reading_row, reading_row_at, stream_rows}
 use Rattle.pb_make.specs.Readings.{reading_draw, stream_read, truth_at}
 
 -- one more row at the end
@@ -24,11 +24,11 @@ made_more f first n j front old new at adds so_far =
     ∙ ap (λ (rows : List (List (List ℕ))). front ++ text_of_rows rows) (sym (map-range_with_len_more f first n j at))
 
 -- one remaining row fewer
-pub stream_next : (front old new : List ℕ) (streams : List MadeStream) (k : ℕ) (d : MadeStream) → k < length streams → AddsLine old new (stream_row (k + 1) (get_or streams k d))
+pub stream_next : (front old new : List ℕ) (streams : List MadeStream) (k : ℕ) (d : MadeStream) → k < length streams → AddsLine old new (made_stream_row (k + 1) (get_or streams k d))
     → old ++ text_of_rows (stream_rows (k + 1) (drop k streams)) ≡ front
     → new ++ text_of_rows (stream_rows (k + 1 + 1) (drop (k + 1) streams)) ≡ front
 stream_next front old new streams k d within adds so_far =
-    let line = line_of (stream_row (k + 1) (get_or streams k d)) in
+    let line = line_of (made_stream_row (k + 1) (get_or streams k d)) in
     let rest = text_of_rows (stream_rows (k + 1 + 1) (drop (k + 1) streams)) in
     ap (λ (t : List ℕ). t ++ rest) adds ∙ append_assoc old line rest
     ∙ ap (λ (left : List MadeStream). old ++ text_of_rows (stream_rows (k + 1) left)) (sym (drop_next streams k d within)) ∙ so_far

@@ -15,8 +15,8 @@ use Rattle.pb_make.specs.Bounds.{IsMade}
 use Rattle.pb_make.specs.Laws.{Anything, AreTaken, HasMadePeriod}
 use Rattle.pb_make.specs.Plant.{least_streams, made_streams, side_streams, sides_of, units_of}
 use Rattle.pb_form.specs.declared.session.SessionKind.TheVariants as kind
-use Rattle.pb_make.specs.Readings.{is_plain, readings_of}
-use Rattle.pb_make.specs.Rows.{made_row, middle_rows, reading_row_at, reading_rows, report_row, session_rows, stored_rows, stream_rows, stream_values, unit_row, unit_rows}
+use Rattle.pb_make.specs.Readings.{is_plain_stream, readings_of}
+use Rattle.pb_make.specs.Rows.{made_report_row, made_row, middle_rows, reading_row_at, reading_rows, session_rows, stored_rows, stream_rows, stream_values, unit_row, unit_rows}
 use Rattle.pb_make.proofs.DeclaredLemmas.{plant_of, units}
 use Rattle.pb_make.proofs.MadeLemmas.{Rest, measure, middle_taken, nodal, streams_taken, the_period, units_taken}
 use Rattle.pb_make.proofs.PlantLemmas.{AreSides, IsPlant, plant_sides, plant_whole}
@@ -38,7 +38,7 @@ made_words f words from (suc count) = rw (words from) (made_words f words (from 
 
 stream_words : (i : ℕ) (streams : List MadeStream) → list_all begins_with_word (stream_rows i streams) ≡ true
 stream_words i [] = refl
-stream_words i (stream ∷ streams) = rw (by (is_plain i)) (stream_words (i + 1) streams)
+stream_words i (stream ∷ streams) = rw (by (is_plain_stream i)) (stream_words (i + 1) streams)
   where
     by : (plain : Bool) → begins_with_word (if plain then made_row kind.StreamPlain (stream_values i stream (pos 0)) else made_row kind.StreamMetered (stream_values i stream (pos 1))) ≡ true
     by true = refl
@@ -49,7 +49,7 @@ pub session_words : (number streams : ℕ) → list_all begins_with_word (sessio
 session_words number streams =
     let plant = made_streams number streams in
     let readings = reading_rows number streams in
-    both (stored_rows number streams) (report_row ∷ [])
+    both (stored_rows number streams) (made_report_row ∷ [])
     (both (unit_rows (units_of streams)) (stream_rows 1 plant ++ (middle_rows ++ readings)) (made_words unit_row (λ k. refl) 1 (units_of streams))
     (both (stream_rows 1 plant) (middle_rows ++ readings) (stream_words 1 plant)
     (both middle_rows readings refl (made_words (reading_row_at number (sides_of streams) plant) (λ k. refl) 0 (readings_of streams)))))
@@ -110,7 +110,7 @@ taken_then Before After rows at (fields ∷ first) rest taken more = (taken.0, t
 pub session_taken : Asks → (number streams : ℕ) → least_streams ≤ streams → streams ≤ most_made_streams
     → AreTaken Anything [] 1 (session_rows number streams)
 session_taken law number streams least most =
-    taken_then (IsMadeOf number streams) Anything [] 1 (stored_rows number streams) (report_row ∷ []) (stored_taken law number streams least most)
+    taken_then (IsMadeOf number streams) Anything [] 1 (stored_rows number streams) (made_report_row ∷ []) (stored_taken law number streams least most)
     (report_taken law (plant_of (units_of streams) (made_streams number streams) (nodal ∷ measure ∷ [])) (kept_to number (sides_of streams) (made_streams number streams) (0 + readings_of streams)))
 
 -- its period
@@ -134,7 +134,7 @@ row_count number streams least most =
     let units_are : length (unit_rows n) ≡ n = length-map-range_with_len unit_row 1 n in
     let streams_are : length (stream_rows 1 plant) ≡ streams = stream_count 1 plant ∙ (plant_is number streams least most).count in
     let readings_count : length readings ≡ readings_of streams = length-map-range_with_len (reading_row_at number (sides_of streams) plant) 0 (readings_of streams) in
-    let last = length-append (stored_rows number streams) (report_row ∷ []) in
+    let last = length-append (stored_rows number streams) (made_report_row ∷ []) in
     let first = length-append (unit_rows n) (stream_rows 1 plant ++ (middle_rows ++ readings)) in
     let second = length-append (stream_rows 1 plant) (middle_rows ++ readings) in
     let third = length-append middle_rows readings in

@@ -11,16 +11,16 @@ use Rattle.pb_site.specs.declared.declared.Version.TheVariants.{One}
 use Rattle.pb_site.specs.Site.{version_of}
 use Rattle.pb_facts.specs.declared.fact.Fact.{Fact}
 use Rattle.pb_facts.specs.declared.facts.KeptFact.{KeptFact}
-use Rattle.pb_kinds.specs.declared.rows.Assay.{Assay}
+use Rattle.pb_facts.specs.declared.assays.Assay.{Assay}
 use Rattle.pb_kinds.specs.declared.rows.Effect.{Effect}
 use Rattle.pb_kinds.specs.declared.rows.Effect.TheVariants.{Declares, Opens, Books}
 use Rattle.pb_kinds.specs.declared.rows.Request.TheVariants.{Store}
 use Rattle.pb_kinds.specs.Costs.{named_costs}
 use Rattle.pb_kinds.specs.Requests.{request_in}
-use Rattle.pb_book.specs.declared.rows.Period.{Period}
+use Rattle.pb_periods.specs.declared.period.Period.{Period}
 use Rattle.pb_book.specs.Assays.{assay_by, assays_of}
-use Rattle.pb_book.specs.Answer.{Stored, after, after_answer, answer_if, answer_of, is_refused, stored_or_refused}
-use Rattle.pb_book.specs.Refusals.{is_closed, is_duplicate, is_full, is_mismatch, is_out_of_order, is_out_of_range, is_sealed, is_unknown, refusal_behind, refusal_of}
+use Rattle.pb_book.specs.Answer.{Stores, after, after_answer, answer_if, answer_of, is_refused, stored_or_refused}
+use Rattle.pb_book.specs.Refusals.{is_book_full, is_closed, is_duplicate, is_mismatch, is_out_of_order, is_out_of_range, is_sealed, is_unknown, refusal_behind, refusal_of}
 use Rattle.pb_book.specs.declared.rows.StoredRow.{StoredRow}
 use Rattle.pb_book.specs.Rows.{declaration_in, declared_of, facts_after, facts_of, periods_after, periods_of, version_at}
 
@@ -44,7 +44,7 @@ pub record HasNoCause (declared : List Declared) (kept : List KeptFact) (periods
   pub unsealed : is_sealed One periods effect ≡ false
   pub still_open : is_closed One declared periods effect ≡ false
   pub in_range : is_out_of_range One declared kept periods effect ≡ false
-  pub room : is_full One declared kept periods [] effect ≡ false
+  pub room : is_book_full One declared kept periods [] effect ≡ false
 
 no_refusal : (declared : List Declared) (kept : List KeptFact) (periods : List Period) (effect : Effect) → HasNoCause declared kept periods effect → refusal_behind One declared kept periods [] effect ≡ None
 no_refusal declared kept periods effect none = rw (none.known, none.new, none.ordered, none.matching, none.unsealed, none.still_open, none.in_range, none.room) refl
@@ -89,7 +89,7 @@ store : (rows : List StoredRow) (at : ℕ) (fields : List (List ℕ)) (effect : 
     → request_in (version_at rows) fields ≡ Ok (Store effect) → HasNoCause declared kept periods effect → declared_of (record { at = at; effect = effect } ∷ []) ≡ more
     → assays_of (record { at = at; effect = effect } ∷ []) ≡ [] → version_of more ≡ One → IsTaken rows at fields (declared ++ more) (facts_after kept effect) (periods_after periods effect)
 store rows at fields effect declared more kept periods is asks none declared_is bare first =
-    let answer : answer_of rows fields ≡ Stored effect =
+    let answer : answer_of rows fields ≡ Stores effect =
     ap (answer_if rows (named_costs fields)) asks ∙ ap (stored_or_refused effect) (none_behind rows declared kept periods effect is none) in
     let joined : after rows at fields ≡ rows ++ record { at = at; effect = effect } ∷ [] = ap (after_answer rows at) answer in
     record {

@@ -6,9 +6,9 @@ abbrev pub next_state : ℕ → ℕ
 next_state state = (state * 6364136223846793005 + 1442695040888963407) % 2 ^ 64
 
 -- the state after this many draws; it begins at a number
-abbrev pub state_after : ℕ → ℕ → ℕ
-state_after number zero = number
-state_after number (suc draws) = next_state (state_after number draws)
+abbrev pub state_after_draws : ℕ → ℕ → ℕ
+state_after_draws number zero = number
+state_after_draws number (suc draws) = next_state (state_after_draws number draws)
 
 -- what a state gives: its upper 31 bits
 abbrev pub upper_bits : ℕ → ℕ
@@ -16,4 +16,4 @@ upper_bits state = state / 2 ^ 33
 
 -- the draw at a place, counted from 0
 abbrev pub draw_at : ℕ → ℕ → ℕ
-draw_at number place = upper_bits (state_after number (suc place))
+draw_at number place = upper_bits (state_after_draws number (suc place))

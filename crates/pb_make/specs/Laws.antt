@@ -1,14 +1,14 @@
 -- Statement. Each row of a made session is accepted, and its text reads back as its rows.
 use Rattle.std.specs.Prelude.{◌≡◌, ℕ, ◌+◌, ◌≤◌, ◌<◌, ◌==◌, ℤ, pos, ◌-ℤ◌, if◌then◌else◌, false, List, [], ◌∷◌, length}
 use Rattle.pb_limits.specs.Limits.{most_made_streams}
-use Rattle.pb_integers.specs.Sums.{sum_over}
+use Rattle.pb_fixed.specs.Sums.{sum_over}
 use Rattle.pb_rows.specs.Records.{records_of}
 use Rattle.pb_book.specs.Answer.{after, answer_of, is_refused}
 use Rattle.pb_book.specs.declared.rows.StoredRow.{StoredRow}
 use Rattle.pb_book.specs.Rows.{periods_of}
 use Rattle.pb_make.specs.declared.plant.MadeStream.{MadeStream}
 use Rattle.pb_make.specs.Plant.{least_streams, made_streams, units_of}
-use Rattle.pb_make.specs.Readings.{is_plain, metered_at, metered_of, readings_of}
+use Rattle.pb_make.specs.Readings.{is_plain_stream, metered_at, metered_of, readings_of}
 use Rattle.pb_make.specs.Rows.{january, made_period, session_rows, session_text, stored_rows}
 
 -- none of these records, which are numbered from `at`, is refused after these stored rows and the records before it, and `Holds` is true of
@@ -41,8 +41,8 @@ ReadsBackLaw =
     (number streams : ℕ) → records_of (session_text number streams) ≡ session_rows number streams
 
 -- The session that is made from a number: none of its records is refused.
-abbrev pub AcceptedLaw : Type 0
-AcceptedLaw =
+abbrev pub NoneRefusedLaw : Type 0
+NoneRefusedLaw =
     (number streams : ℕ) → least_streams ≤ streams → streams ≤ most_made_streams
     → AreTaken Anything [] 1 (records_of (session_text number streams))
 
@@ -59,8 +59,8 @@ CountLaw =
     → length (session_rows number streams) ≡ units_of streams + streams + readings_of streams + 4
 
 -- what a stream brings to a node: its true flow if it ends there, less its true flow if it begins there
-abbrev pub brought_to : ℕ → MadeStream → ℤ
-brought_to node stream =
+abbrev pub truth_brought_to : ℕ → MadeStream → ℤ
+truth_brought_to node stream =
     (if stream.to == node then stream.truth else pos 0)
     -ℤ (if stream.from == node then stream.truth else pos 0)
 
@@ -68,12 +68,12 @@ brought_to node stream =
 abbrev pub BalanceLaw : Type 0
 BalanceLaw =
     (number streams unit : ℕ) → least_streams ≤ streams → streams ≤ most_made_streams → 1 ≤ unit
-    → unit ≤ units_of streams → sum_over (brought_to unit) (made_streams number streams) ≡ pos 0
+    → unit ≤ units_of streams → sum_over (truth_brought_to unit) (made_streams number streams) ≡ pos 0
 
 -- the metered streams in order: each place has a metered stream, they rise, and each metered stream has a place
 pub record AreMetered : Type 0 where
-  pub metered : (place : ℕ) → is_plain (metered_at place) ≡ false
+  pub metered : (place : ℕ) → is_plain_stream (metered_at place) ≡ false
   pub rise : (place : ℕ) → metered_at place < metered_at (place + 1)
   pub within : (streams place : ℕ) → place < metered_of streams → metered_at place ≤ streams
-  pub each : (streams i : ℕ) → 1 ≤ i → i ≤ streams → is_plain i ≡ false
+  pub each : (streams i : ℕ) → 1 ≤ i → i ≤ streams → is_plain_stream i ≡ false
       → (place : ℕ) × (place < metered_of streams) × (metered_at place ≡ i)

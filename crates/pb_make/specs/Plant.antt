@@ -2,7 +2,7 @@
 -- flows of its streams balance at each unit.
 use Rattle.std.specs.Prelude.{ℕ, ◌+◌, ◌*◌, ◌-◌, ◌/◌, ◌%◌, ◌==◌, ◌&&◌, ◌||◌, not, nat_le, nat_lt, Bool, ℤ, pos, neg_ℤ, ◌+ℤ◌, List, ◌++◌, map, if◌then◌else◌}
 use Rattle.std.specs.List.{range_with_len}
-use Rattle.pb_integers.specs.Sums.{sum_over}
+use Rattle.pb_fixed.specs.Sums.{sum_over}
 use Rattle.pb_make.specs.declared.plant.MadeStream.{MadeStream}
 use Rattle.pb_make.specs.Draws.{draw_at}
 
@@ -54,15 +54,15 @@ abbrev pub leads_back : MadeStream → ℕ → Bool
 leads_back side i = not (side.to == 0) && nat_lt side.to i && nat_le i side.from
 
 -- what a side stream adds to the true flow of the stream of the line with this number, counted from 1
-abbrev pub change_of : ℕ → MadeStream → ℤ
-change_of i side =
+abbrev pub added_to : ℕ → MadeStream → ℤ
+added_to i side =
     if passes_by side i then neg_ℤ side.truth
     else if leads_back side i then side.truth
     else pos 0
 
 -- the true flow of the stream of the line with this number, in grams per day
 abbrev pub line_truth : List MadeStream → ℕ → ℤ
-line_truth sides i = line_grams +ℤ sum_over (change_of i) sides
+line_truth sides i = line_grams +ℤ sum_over (added_to i) sides
 
 -- the stream of the line with this number: from the unit before to the unit of its number; the last one leads out of the plant
 abbrev pub line_stream : ℕ → List MadeStream → ℕ → MadeStream

@@ -5,8 +5,8 @@ use Rattle.pb_make.specs.declared.plant.MadeStream.{MadeStream}
 use Rattle.pb_make.specs.Draws.{draw_at}
 
 -- every seventh stream is plain, and the others are metered
-abbrev pub is_plain : ℕ → Bool
-is_plain i = i % 7 == 0
+abbrev pub is_plain_stream : ℕ → Bool
+is_plain_stream i = i % 7 == 0
 
 -- the number of the metered stream at a place, counted from 0
 abbrev pub metered_at : ℕ → ℕ
@@ -38,20 +38,20 @@ truth_at streams i =
     (slice_index_or streams (i - 1) (record { from = 0; to = 0; truth = pos 0 })).truth
 
 -- the error of a draw, in hundred-thousandths of the true flow: at most one percent
-abbrev pub error_of : ℕ → ℤ
-error_of draw = pos (draw % 2001) -ℤ pos 1000
+abbrev pub error_of_draw : ℕ → ℤ
+error_of_draw draw = pos (draw % 2001) -ℤ pos 1000
 
 -- what a meter with this error shows: the true flow and its error, rounded down, in grams
 abbrev pub shown_grams : ℤ → ℤ → ℤ
 shown_grams truth error = truth +ℤ int_div_euclid (truth *ℤ error) (pos 100000)
 
 -- the standard deviation of a meter: half a percent of the true flow, rounded down, in grams
-abbrev pub deviation_of : ℤ → ℤ
-deviation_of truth = int_div_euclid truth (pos 200)
+abbrev pub meter_deviation : ℤ → ℤ
+meter_deviation truth = int_div_euclid truth (pos 200)
 
 -- its variance, in squared grams
-abbrev pub variance_of : ℤ → ℤ
-variance_of truth = deviation_of truth *ℤ deviation_of truth
+abbrev pub meter_variance : ℤ → ℤ
+meter_variance truth = meter_deviation truth *ℤ meter_deviation truth
 
 -- the draw of the reading at a place: the side streams have taken three each before
 abbrev pub reading_draw : ℕ → ℕ → ℕ → ℕ

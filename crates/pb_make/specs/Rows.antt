@@ -11,11 +11,11 @@ use Rattle.pb_form.specs.declared.session.SessionKind.{SessionKind}
 use Rattle.pb_form.specs.declared.session.SessionKind.TheVariants as kind
 use Rattle.pb_make.specs.declared.plant.MadeStream.{MadeStream}
 use Rattle.pb_make.specs.Plant.{made_streams, sides_of, units_of}
-use Rattle.pb_make.specs.Readings.{day_read, error_of, is_plain, reading_draw, readings_of, shown_grams, stream_read, truth_at, variance_of}
+use Rattle.pb_make.specs.Readings.{day_read, error_of_draw, is_plain_stream, meter_variance, reading_draw, readings_of, shown_grams, stream_read, truth_at}
 
 -- the name of a node: `env`, or `u` and the number of the unit
-abbrev pub node_name : ℕ → List ℕ
-node_name node = if node == 0 then codes "env" else codes "u" ++ decimal_text node
+abbrev pub made_node_name : ℕ → List ℕ
+made_node_name node = if node == 0 then codes "env" else codes "u" ++ decimal_text node
 
 -- the name of a stream: `s` and its number
 abbrev pub stream_name : ℕ → List ℕ
@@ -39,36 +39,36 @@ made_row kind values = texts_of (session_columns kind) (Word 0 ∷ values)
 
 -- the row of a unit
 abbrev pub unit_row : ℕ → List (List ℕ)
-unit_row i = made_row kind.Unit (Name (node_name i) ∷ [])
+unit_row i = made_row kind.Unit (Name (made_node_name i) ∷ [])
 
 -- the values of a stream with this number and this base variance
 abbrev pub stream_values : ℕ → MadeStream → ℤ → List Value
 stream_values i stream base =
-    Name (stream_name i) ∷ Name (node_name stream.from) ∷ Name (node_name stream.to) ∷ Word 0 ∷ Number base ∷ []
+    Name (stream_name i) ∷ Name (made_node_name stream.from) ∷ Name (made_node_name stream.to) ∷ Word 0 ∷ Number base ∷ []
 
 -- the row of a stream: the base variance of a metered one is 1 squared gram
-abbrev pub stream_row : ℕ → MadeStream → List (List ℕ)
-stream_row i stream =
-    if is_plain i then made_row kind.StreamPlain (stream_values i stream (pos 0))
+abbrev pub made_stream_row : ℕ → MadeStream → List (List ℕ)
+made_stream_row i stream =
+    if is_plain_stream i then made_row kind.StreamPlain (stream_values i stream (pos 0))
     else made_row kind.StreamMetered (stream_values i stream (pos 1))
 
 -- the row of the period: 30 days
-abbrev pub period_row : List (List ℕ)
-period_row = made_row kind.Period (Name made_period ∷ Date (january 1) ∷ Date (january 30) ∷ [])
+abbrev pub made_period_row : List (List ℕ)
+made_period_row = made_row kind.Period (Name made_period ∷ Date (january 1) ∷ Date (january 30) ∷ [])
 
 -- the row of a critical value: 3.841, the 95 percent point of the chi-square distribution with one degree of freedom
-abbrev pub critical_row : SessionKind → List (List ℕ)
-critical_row kind = made_row kind (Word 0 ∷ Number (pos 3841) ∷ [])
+abbrev pub made_critical_row : SessionKind → List (List ℕ)
+made_critical_row kind = made_row kind (Word 0 ∷ Number (pos 3841) ∷ [])
 
 -- the row of the reading at a place, of a stream with this true flow, with this draw
 abbrev pub reading_row : ℕ → ℤ → ℕ → List (List ℕ)
 reading_row place truth draw =
     made_row kind.Reading (Name (reading_id place) ∷ Name (stream_name (stream_read place)) ∷ Date (january (day_read place))
-    ∷ Number (shown_grams truth (error_of draw)) ∷ Number (variance_of truth) ∷ [])
+    ∷ Number (shown_grams truth (error_of_draw draw)) ∷ Number (meter_variance truth) ∷ [])
 
 -- the row that asks for the report
-abbrev pub report_row : List (List ℕ)
-report_row = made_row kind.Report (Name made_period ∷ [])
+abbrev pub made_report_row : List (List ℕ)
+made_report_row = made_row kind.Report (Name made_period ∷ [])
 
 -- the rows of the units
 abbrev pub unit_rows : ℕ → List (List (List ℕ))
@@ -77,11 +77,11 @@ unit_rows units = map unit_row (range_with_len 1 units)
 -- the rows of streams, which are numbered from i
 abbrev pub stream_rows : ℕ → List MadeStream → List (List (List ℕ))
 stream_rows i [] = []
-stream_rows i (stream ∷ streams) = stream_row i stream ∷ stream_rows (i + 1) streams
+stream_rows i (stream ∷ streams) = made_stream_row i stream ∷ stream_rows (i + 1) streams
 
 -- the rows between the plant and its readings
 abbrev pub middle_rows : List (List (List ℕ))
-middle_rows = period_row ∷ critical_row kind.CriticalNodal ∷ critical_row kind.CriticalMeasure ∷ []
+middle_rows = made_period_row ∷ made_critical_row kind.CriticalNodal ∷ made_critical_row kind.CriticalMeasure ∷ []
 
 -- the row of the reading at a place, in a plant of these streams, this many of which are side streams
 abbrev pub reading_row_at : ℕ → ℕ → List MadeStream → ℕ → List (List ℕ)
@@ -102,7 +102,7 @@ stored_rows number streams =
 
 -- The rows of the session made from a number, with this many streams: those that are stored, and the row that asks for the report.
 abbrev pub session_rows : ℕ → ℕ → List (List (List ℕ))
-session_rows number streams = stored_rows number streams ++ report_row ∷ []
+session_rows number streams = stored_rows number streams ++ made_report_row ∷ []
 
 -- Its text, each row as `csv` writes it.
 abbrev pub session_text : ℕ → ℕ → List ℕ

@@ -3,8 +3,8 @@
 ghost use Rattle.std.specs.Prelude.{◌≡◌, ◌≤◌, ◌+◌, ◌*◌, ◌++◌, ℕ, length, unsigned_abs, All, IfOk, OnOk, map};
 ghost use Rattle.std.specs.List.{range_with_len};
 ghost use Rattle.pb_limits.specs.Limits.{most_made_streams};
-ghost use Rattle.pb_make.specs.Draws.{state_after};
-ghost use Rattle.pb_make.specs.Plant.{change_of, leads_back, least_streams, line_stream, line_streams, line_truth, made_streams, passes_by, side_at, side_by, sides_of, units_of};
+ghost use Rattle.pb_make.specs.Draws.{state_after_draws};
+ghost use Rattle.pb_make.specs.Plant.{added_to, leads_back, least_streams, line_stream, line_streams, line_truth, made_streams, passes_by, side_at, side_by, sides_of, units_of};
 ghost use Rattle.pb_make.specs.Bounds.{IsMade, IsSide, most_side_grams};
 
 use crate::draws::Draws;
@@ -49,10 +49,10 @@ fn side_by(units: u32, first: u32, second: u32, third: u32) -> MadeStream
 fn next_side(draws: &mut Draws, units: u32) -> MadeStream
     requires some { 1 ≤ units }
     requires few { units ≤ most_made_streams }
-    ensures value { (number place : ℕ) → draws.old.state ≡ state_after number (3 * place)
+    ensures value { (number place : ℕ) → draws.old.state ≡ state_after_draws number (3 * place)
         → result ≡ side_at number units place }
-    ensures state { (number place : ℕ) → draws.old.state ≡ state_after number (3 * place)
-        → draws.new.state ≡ state_after number (3 * (place + 1)) }
+    ensures state { (number place : ℕ) → draws.old.state ≡ state_after_draws number (3 * place)
+        → draws.new.state ≡ state_after_draws number (3 * (place + 1)) }
 {
     let first = draws.draw();
     let second = draws.draw();
@@ -71,7 +71,7 @@ fn side_streams(
     requires few { units ≤ most_made_streams }
     ensures value { IfOk result (λ sides. sides.items
         ≡ map (side_at draws.old.state units) (range_with_len 0 count)) }
-    ensures state { OnOk result (draws.new.state ≡ state_after draws.old.state (3 * count)) }
+    ensures state { OnOk result (draws.new.state ≡ state_after_draws draws.old.state (3 * count)) }
 {
     let mut sides = Vec::new(alloc);
     for _k in 0..count {
@@ -97,7 +97,7 @@ fn leads_back(side: &MadeStream, i: u32) -> bool
 // What a side stream adds to the true flow of a stream of the line.
 fn change_of(side: &MadeStream, i: u32) -> i128
     requires { IsSide most_made_streams side.now }
-    ensures value { result ≡ change_of i side.now }
+    ensures value { result ≡ added_to i side.now }
     ensures within { unsigned_abs result ≤ most_side_grams }
 {
     if passes_by(side, i) {
@@ -166,7 +166,7 @@ pub fn made_plant(
     requires most { streams ≤ most_made_streams }
     ensures value { IfOk result (λ plant. plant.items ≡ made_streams draws.old.state streams) }
     ensures state { OnOk result
-        (draws.new.state ≡ state_after draws.old.state (3 * sides_of streams)) }
+        (draws.new.state ≡ state_after_draws draws.old.state (3 * sides_of streams)) }
     ensures count { IfOk result (λ plant. length plant.items ≡ streams) }
     ensures made { IfOk result (λ plant. All (IsMade most_made_streams) plant.items) }
 {

@@ -2,14 +2,14 @@
 
 ghost use Rattle.std.specs.Prelude.{◌≡◌, ◌<◌, ◌≤◌, ◌≤ℤ◌, ◌*◌, pos};
 ghost use Rattle.pb_limits.specs.Limits.{most_made_streams};
-ghost use Rattle.pb_make.specs.Readings.{day_read, error_of, is_plain, made_days, metered_at, readings_of, shown_grams, stream_read, variance_of};
+ghost use Rattle.pb_make.specs.Readings.{day_read, error_of_draw, is_plain_stream, made_days, meter_variance, metered_at, readings_of, shown_grams, stream_read};
 
 /// The number of days.
 pub const MADE_DAYS: u32 = 30;
 
 /// Whether the stream of this number is plain: every seventh is.
 pub fn is_plain(i: u32) -> bool
-    ensures { result ≡ is_plain i }
+    ensures { result ≡ is_plain_stream i }
 {
     i % 7 == 0
 }
@@ -47,7 +47,7 @@ pub fn day_read(place: u32) -> u8
 
 // The error of a draw, in hundred-thousandths.
 fn error_of(draw: u32) -> i128
-    ensures { result ≡ error_of draw }
+    ensures { result ≡ error_of_draw draw }
 {
     i128::from(draw % 2_001) - 1_000
 }
@@ -56,7 +56,7 @@ fn error_of(draw: u32) -> i128
 pub fn shown_grams(truth: i128, draw: u32) -> i128
     requires least { pos 1 ≤ℤ truth }
     requires most { truth ≤ℤ pos 100000000000 }
-    ensures value { result ≡ shown_grams truth (error_of draw) }
+    ensures value { result ≡ shown_grams truth (error_of_draw draw) }
 {
     truth + (truth * error_of(draw)).div_euclid(100_000)
 }
@@ -65,7 +65,7 @@ pub fn shown_grams(truth: i128, draw: u32) -> i128
 pub fn variance_of(truth: i128) -> i128
     requires least { pos 1 ≤ℤ truth }
     requires most { truth ≤ℤ pos 100000000000 }
-    ensures value { result ≡ variance_of truth }
+    ensures value { result ≡ meter_variance truth }
 {
     let deviation = truth.div_euclid(200);
     deviation * deviation

@@ -11,7 +11,7 @@ ghost use Rattle.pb_form.specs.Texts.{texts_of};
 ghost use Rattle.pb_form.specs.Writing.{FitEach};
 ghost use Rattle.pb_form.specs.declared.session.SessionKind.TheVariants as kinds;
 ghost use Rattle.pb_make.specs.Readings.{made_days};
-ghost use Rattle.pb_make.specs.Rows.{critical_row, january, made_period, node_name, period_row, reading_row, report_row, stream_row, unit_row};
+ghost use Rattle.pb_make.specs.Rows.{january, made_critical_row, made_node_name, made_period, made_period_row, made_report_row, made_stream_row, reading_row, unit_row};
 
 use crate::plant::MadeStream;
 use crate::readings::{day_read, is_plain, shown_grams, stream_read, variance_of};
@@ -38,7 +38,7 @@ fn numbered(alloc: Global, letter: u8, number: u32) -> Result<Name, AllocError>
 
 // The name of a node.
 fn node_name(alloc: Global, node: u32) -> Result<Name, AllocError>
-    ensures { IfOk result (λ name. name ≡ node_name node) }
+    ensures { IfOk result (λ name. name ≡ made_node_name node) }
 {
     if node == 0 {
         Ok(Name::read(b"env").unwrap())
@@ -86,7 +86,7 @@ pub fn write_unit(text: &mut Vec<u8>, i: u32) -> Result<(), AllocError>
 
 /// Appends the row of the stream with this number.
 pub fn write_stream(text: &mut Vec<u8>, i: u32, stream: &MadeStream) -> Result<(), AllocError>
-    ensures ok { OnOk result (AddsLine text.old.items text.new.items (stream_row i stream.now)) }
+    ensures ok { OnOk result (AddsLine text.old.items text.new.items (made_stream_row i stream.now)) }
 {
     let alloc = *text.allocator();
     let name = numbered(alloc, b's', i)?;
@@ -113,7 +113,7 @@ pub fn write_stream(text: &mut Vec<u8>, i: u32, stream: &MadeStream) -> Result<(
 
 /// Appends the row of the period.
 pub fn write_period(text: &mut Vec<u8>) -> Result<(), AllocError>
-    ensures ok { OnOk result (AddsLine text.old.items text.new.items period_row) }
+    ensures ok { OnOk result (AddsLine text.old.items text.new.items made_period_row) }
 {
     write_row(
         text,
@@ -130,7 +130,7 @@ pub fn write_period(text: &mut Vec<u8>) -> Result<(), AllocError>
 /// Appends the row of the critical value of nodal tests.
 pub fn write_nodal(text: &mut Vec<u8>) -> Result<(), AllocError>
     ensures ok { OnOk result
-        (AddsLine text.old.items text.new.items (critical_row kinds.CriticalNodal)) }
+        (AddsLine text.old.items text.new.items (made_critical_row kinds.CriticalNodal)) }
 {
     write_row(
         text,
@@ -142,7 +142,7 @@ pub fn write_nodal(text: &mut Vec<u8>) -> Result<(), AllocError>
 /// Appends the row of the critical value of measurement tests.
 pub fn write_measure(text: &mut Vec<u8>) -> Result<(), AllocError>
     ensures ok { OnOk result
-        (AddsLine text.old.items text.new.items (critical_row kinds.CriticalMeasure)) }
+        (AddsLine text.old.items text.new.items (made_critical_row kinds.CriticalMeasure)) }
 {
     write_row(
         text,
@@ -183,7 +183,7 @@ pub fn write_reading(
 
 /// Appends the row that asks for the report.
 pub fn write_report(text: &mut Vec<u8>) -> Result<(), AllocError>
-    ensures ok { OnOk result (AddsLine text.old.items text.new.items report_row) }
+    ensures ok { OnOk result (AddsLine text.old.items text.new.items made_report_row) }
 {
     write_row(
         text,

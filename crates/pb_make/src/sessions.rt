@@ -5,7 +5,7 @@ ghost use Rattle.std.specs.List.{range_with_len};
 ghost use Rattle.pb_limits.specs.Limits.{most_made_streams};
 ghost use Rattle.pb_rows.specs.Written.{text_of_rows};
 ghost use Rattle.pb_make.specs.Bounds.{IsMade};
-ghost use Rattle.pb_make.specs.Draws.{state_after};
+ghost use Rattle.pb_make.specs.Draws.{state_after_draws};
 ghost use Rattle.pb_make.specs.Plant.{least_streams};
 ghost use Rattle.pb_make.specs.Readings.{readings_of, truth_at};
 ghost use Rattle.pb_make.specs.Rows.{middle_rows, reading_row_at, session_text, stream_rows, unit_rows};
@@ -80,7 +80,7 @@ fn write_readings(
     requires few { length plant.now ≤ most_made_streams }
     requires count { count ≡ readings_of (length plant.now) }
     requires made { All (IsMade most_made_streams) plant.now }
-    ensures { (number sides : ℕ) → draws.state ≡ state_after number (3 * sides) → OnOk result
+    ensures { (number sides : ℕ) → draws.state ≡ state_after_draws number (3 * sides) → OnOk result
         (text.new.items ≡ text.old.items ++ text_of_rows
         (map (reading_row_at number sides plant.now) (range_with_len 0 count))) }
 {

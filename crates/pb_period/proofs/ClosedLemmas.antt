@@ -15,18 +15,18 @@ use Rattle.pb_graph.specs.declared.records.Meas.{Meas}
 use Rattle.pb_graph.specs.ProcessGraph.{ProcessGraph}
 use Rattle.pb_site.specs.declared.declared.Arc.{Arc}
 use Rattle.pb_site.specs.declared.declared.ArcKind.{ArcKind}
-use Rattle.pb_site.specs.declared.declared.ArcKind.TheVariants.{Metered, Batch, Plain, Tank as TankArc}
+use Rattle.pb_site.specs.declared.declared.ArcKind.TheVariants.{Metered, Batch, Plain}
 use Rattle.pb_site.specs.declared.declared.Declared.{Declared}
-use Rattle.pb_site.specs.declared.declared.Declared.TheVariants.{Version2, Unit as UnitRow, Boundary, Tank, Strap, Stream, CritGlobal, CritNodal, CritMeasure}
+use Rattle.pb_site.specs.declared.declared.Declared.TheVariants.{Version2, Boundary, Tank, Strap, Stream, CritGlobal, CritNodal, CritMeasure}
 use Rattle.pb_site.specs.declared.declared.Service.{Service}
 use Rattle.pb_site.specs.declared.declared.Version.{Version}
 use Rattle.pb_site.specs.declared.declared.Version.TheVariants.{Two}
-use Rattle.pb_site.specs.Faults.{fault_of, is_duplicate as is_duplicate_declared, is_full as is_full_declared, is_mismatch as is_mismatch_declared, is_out_of_order as is_out_of_order_declared, is_unknown as is_unknown_declared}
+use Rattle.pb_site.specs.Faults.{is_declaration_out_of_order, is_duplicate_declaration, is_mismatched_declaration, is_plant_full, refers_to_unknown, site_fault_of}
 use Rattle.pb_site.specs.Laws.{IsSamePart, PlantLaw, SamePartLaw}
 use Rattle.pb_site.specs.OnDays.{arcs_on, declares_in_service, names_on, nodes_on}
 use Rattle.pb_site.specs.Row.{point_of}
 use Rattle.pb_site.specs.Service.{day_of_closing, day_of_opening}
-use Rattle.pb_site.specs.Site.{is_tank, points_of, version_of}
+use Rattle.pb_site.specs.Site.{is_tank, points_of_tank, version_of}
 use Rattle.pb_facts.specs.declared.fact.Fact.{Fact}
 use Rattle.pb_facts.specs.declared.fact.Fact.TheVariants.{Reading, Transfer, Dip}
 use Rattle.pb_facts.specs.declared.facts.KeptFact.{KeptFact}
@@ -34,22 +34,22 @@ use Rattle.pb_facts.specs.Fact.{is_dip_on}
 use Rattle.pb_facts.specs.Facts.{live_facts}
 use Rattle.pb_kinds.specs.declared.rows.Effect.TheVariants.{Declares}
 use Rattle.pb_book.specs.declared.answer.Refused.TheVariants.{Unknown, Duplicate, Order, Mismatch, Sealed, Closed, Range, Full}
-use Rattle.pb_book.specs.declared.rows.Period.{Period}
+use Rattle.pb_periods.specs.declared.period.Period.{Period}
 use Rattle.pb_book.specs.declared.rows.StoredRow.{StoredRow}
 use Rattle.pb_book.specs.Accepted.{AreAccepted, IsAcceptable}
-use Rattle.pb_book.specs.Laws.{AcceptedLaw}
+use Rattle.pb_book.proofs.BookLaws.{consistent}
 use Rattle.pb_book.specs.Refusals.{is_outside_table, is_sealed, serves_closed}
 use Rattle.pb_book.specs.Rows.{declaration_in, declared_of, facts_after, facts_of, periods_of, with_row}
-use Rattle.pb_book.specs.Touching.{is_closed_in_service}
+use Rattle.pb_periods.specs.Touching.{is_closed_in_service}
 use Rattle.pb_period.specs.declared.amount.Amount.{Amount}
 use Rattle.pb_period.specs.declared.days.Days.{Days}
 use Rattle.pb_period.specs.Days.{days_of}
 use Rattle.pb_period.specs.Facts.{content_of}
 use Rattle.pb_period.specs.Laws.{ClosedGraphsLaw}
-use Rattle.pb_period.specs.Measurement.{amount_of, change_of, difference_of, measurement}
+use Rattle.pb_period.specs.Measurement.{amount_of, change_of, closing_less_opening, measurement}
 use Rattle.pb_period.specs.PeriodGraph.{measured_served, period_graph, served_graph, stream_among, within_limits}
 use Rattle.pb_period.proofs.PlainLemmas.{graph_by, graph_is}
-use Rattle.pb_period.proofs.PlantLemmas.{no_fault, ready}
+use Rattle.pb_period.proofs.PlantLemmas.{no_fault, plant_of}
 use Rattle.pb_period.proofs.VarianceLemmas.{live_have}
 
 -- ---- what a tank holds by a table that grows
@@ -59,42 +59,42 @@ up true e = refl
 up false e = cc e
 
 -- a volume by the old table is a volume by the table with one more declaration
-volume_more : TableGrowsLaw → (declared : List Declared) (row : Declared) (tank : List ℕ) (level volume : ℤ) → is_out_of_order_declared declared row ≡ false
-    → volume_of (points_of declared tank) level ≡ Some volume → volume_of (points_of declared tank ++ filter_map (point_of tank) (row ∷ [])) level ≡ Some volume
+volume_more : TableGrowsLaw → (declared : List Declared) (row : Declared) (tank : List ℕ) (level volume : ℤ) → is_declaration_out_of_order declared row ≡ false
+    → volume_of (points_of_tank declared tank) level ≡ Some volume → volume_of (points_of_tank declared tank ++ filter_map (point_of tank) (row ∷ [])) level ≡ Some volume
 volume_more grows declared (Strap name mm ml) tank level volume order at = elim (cases_Bool (same_name name tank)) [
   | inl same ↦
       let is : name ≡ tank = (bytes_decides name tank).0 same in
-      let rising : rises (points_of declared tank) mm ml ≡ true = up (rises (points_of declared tank) mm ml) (subst (λ (t : List ℕ). not (rises (points_of declared t) mm ml) ≡ false) is order) in
-      rw same (grows (points_of declared tank) mm ml level volume rising at)
-  | inr other ↦ rw (other, append-nil (points_of declared tank)) at
+      let rising : rises (points_of_tank declared tank) mm ml ≡ true = up (rises (points_of_tank declared tank) mm ml) (subst (λ (t : List ℕ). not (rises (points_of_tank declared t) mm ml) ≡ false) is order) in
+      rw same (grows (points_of_tank declared tank) mm ml level volume rising at)
+  | inr other ↦ rw (other, append-nil (points_of_tank declared tank)) at
 ]
-volume_more grows declared Version2 tank level volume order at = rw (append-nil (points_of declared tank)) at
-volume_more grows declared (UnitRow name) tank level volume order at = rw (append-nil (points_of declared tank)) at
-volume_more grows declared (Boundary name) tank level volume order at = rw (append-nil (points_of declared tank)) at
-volume_more grows declared (Tank name base service) tank level volume order at = rw (append-nil (points_of declared tank)) at
-volume_more grows declared (Stream name from to kind base service) tank level volume order at = rw (append-nil (points_of declared tank)) at
-volume_more grows declared (CritGlobal dof value) tank level volume order at = rw (append-nil (points_of declared tank)) at
-volume_more grows declared (CritNodal value) tank level volume order at = rw (append-nil (points_of declared tank)) at
-volume_more grows declared (CritMeasure value) tank level volume order at = rw (append-nil (points_of declared tank)) at
+volume_more grows declared Version2 tank level volume order at = rw (append-nil (points_of_tank declared tank)) at
+volume_more grows declared (Declared.Unit name) tank level volume order at = rw (append-nil (points_of_tank declared tank)) at
+volume_more grows declared (Boundary name) tank level volume order at = rw (append-nil (points_of_tank declared tank)) at
+volume_more grows declared (Tank name base service) tank level volume order at = rw (append-nil (points_of_tank declared tank)) at
+volume_more grows declared (Stream name from to kind base service) tank level volume order at = rw (append-nil (points_of_tank declared tank)) at
+volume_more grows declared (CritGlobal dof value) tank level volume order at = rw (append-nil (points_of_tank declared tank)) at
+volume_more grows declared (CritNodal value) tank level volume order at = rw (append-nil (points_of_tank declared tank)) at
+volume_more grows declared (CritMeasure value) tank level volume order at = rw (append-nil (points_of_tank declared tank)) at
 
 -- so is that of a dip that lies in its table
-same_volume : TableGrowsLaw → (declared : List Declared) (row : Declared) (tank : List ℕ) (id : List ℕ) (day mm density variance : ℤ) → is_out_of_order_declared declared row ≡ false
-    → is_outside_table declared (Dip id tank day mm density variance) ≡ false → volume_of (points_of (declared ++ row ∷ []) tank) mm ≡ volume_of (points_of declared tank) mm
+same_volume : TableGrowsLaw → (declared : List Declared) (row : Declared) (tank : List ℕ) (id : List ℕ) (day mm density variance : ℤ) → is_declaration_out_of_order declared row ≡ false
+    → is_outside_table declared (Dip id tank day mm density variance) ≡ false → volume_of (points_of_tank (declared ++ row ∷ []) tank) mm ≡ volume_of (points_of_tank declared tank) mm
 same_volume grows declared row tank id day mm density variance order inside = elim (cases_Bool (is_tank declared tank)) [
-  | inl is ↦ by (volume_of (points_of declared tank) mm) refl (rw is at inside)
+  | inl is ↦ by (volume_of (points_of_tank declared tank) mm) refl (rw is at inside)
   | inr none ↦ cc (rw none at inside)
 ]
   where
-    by : (o : Option ℤ) → volume_of (points_of declared tank) mm ≡ o → is_none o ≡ false → volume_of (points_of (declared ++ row ∷ []) tank) mm ≡ volume_of (points_of declared tank) mm
+    by : (o : Option ℤ) → volume_of (points_of_tank declared tank) mm ≡ o → is_none o ≡ false → volume_of (points_of_tank (declared ++ row ∷ []) tank) mm ≡ volume_of (points_of_tank declared tank) mm
     by None at inside = cc inside
     by (Some volume) at inside =
         ap (λ (points : List Point). volume_of points mm) (filter_map-append (point_of tank) declared (row ∷ []))
         ∙ volume_more grows declared row tank mm volume order at ∙ sym at
 
 -- the content by a dip of a tank
-same_content : TableGrowsLaw → (declared : List Declared) (row : Declared) (tank : List ℕ) (day : ℤ) → is_out_of_order_declared declared row ≡ false
+same_content : TableGrowsLaw → (declared : List Declared) (row : Declared) (tank : List ℕ) (day : ℤ) → is_declaration_out_of_order declared row ≡ false
     → (fact : Fact) → is_dip_on tank day fact ≡ true → is_outside_table declared fact ≡ false
-    → content_of (points_of (declared ++ row ∷ []) tank) fact ≡ content_of (points_of declared tank) fact
+    → content_of (points_of_tank (declared ++ row ∷ []) tank) fact ≡ content_of (points_of_tank declared tank) fact
 same_content grows declared row tank day order (Reading id own d grams variance) is inside = refl
 same_content grows declared row tank day order (Transfer id own first last grams variance) is inside = refl
 same_content grows declared row tank day order (Dip id own d mm density variance) is inside =
@@ -116,21 +116,21 @@ same_change : (content other : Fact → Amount) (opening closing : Option Fact) 
 same_change content other None closing before after = refl
 same_change content other (Some opening) None before after = refl
 same_change content other (Some opening) (Some closing) before after =
-    ap₂ (λ (a b : Amount). Some (difference_of a b)) before after
+    ap₂ (λ (a b : Amount). Some (closing_less_opening a b)) before after
 
 abbrev IsInTable : List Declared → Fact → Type 0
 IsInTable declared fact = is_outside_table declared fact ≡ false
 
 -- what facts say about an arc, if their dips lie in their tables, they still say after one more declaration
 same_amount : TableGrowsLaw → (declared : List Declared) (row : Declared) (facts : List Fact) (days : Days) (service : Option Service) (kind : ArcKind) (name : List ℕ)
-    → is_out_of_order_declared declared row ≡ false → All (IsInTable declared) facts
+    → is_declaration_out_of_order declared row ≡ false → All (IsInTable declared) facts
     → amount_of (declared ++ row ∷ []) facts days service kind name ≡ amount_of declared facts days service kind name
 same_amount grows declared row facts days service Metered name order inside = refl
 same_amount grows declared row facts days service Batch name order inside = refl
 same_amount grows declared row facts days service Plain name order inside = refl
-same_amount grows declared row facts days service TankArc name order inside =
-    let content = content_of (points_of (declared ++ row ∷ []) name) in
-    let other = content_of (points_of declared name) in
+same_amount grows declared row facts days service ArcKind.Tank name order inside =
+    let content = content_of (points_of_tank (declared ++ row ∷ []) name) in
+    let other = content_of (points_of_tank declared name) in
     let Same : Fact → Type 0 = λ fact. content fact ≡ other fact in
     let opening = day_of_opening service days.first in
     let closing = day_of_closing service days.last in
@@ -139,7 +139,7 @@ same_amount grows declared row facts days service TankArc name order inside =
     (found_has (IsInTable declared) Same (is_dip_on name closing) facts (same_content grows declared row name closing order) inside)
 
 -- the graph of the part in service, if that is the same
-same_served : TableGrowsLaw → (declared : List Declared) (row : Declared) (facts : List Fact) (days : Days) → is_out_of_order_declared declared row ≡ false → All (IsInTable declared) facts
+same_served : TableGrowsLaw → (declared : List Declared) (row : Declared) (facts : List Fact) (days : Days) → is_declaration_out_of_order declared row ≡ false → All (IsInTable declared) facts
     → IsSamePart declared (declared ++ row ∷ []) days.first days.last → served_graph (declared ++ row ∷ []) facts days ≡ served_graph declared facts days
 same_served grows declared row facts days order inside same =
     let grown = declared ++ row ∷ [] in
@@ -194,7 +194,7 @@ away : (declared : Declared) (periods : List Period) (i : ℕ) (period : Period)
 away (Tank name base service) periods i period none at closed = rw closed at (none_at (is_closed_in_service service) periods i period none at)
 away (Stream name from to kind base service) periods i period none at closed = rw closed at (none_at (is_closed_in_service service) periods i period none at)
 away Version2 periods i period none at closed = refl
-away (UnitRow name) periods i period none at closed = refl
+away (Declared.Unit name) periods i period none at closed = refl
 away (Boundary name) periods i period none at closed = refl
 away (Strap tank mm ml) periods i period none at closed = refl
 away (CritGlobal dof value) periods i period none at closed = refl
@@ -205,7 +205,7 @@ away (CritMeasure value) periods i period none at closed = refl
 still_two : (declared more : List Declared) → version_of declared ≡ Two → version_of (declared ++ more) ≡ Two
 still_two [] more is = cc is
 still_two (Version2 ∷ declared) more is = refl
-still_two (UnitRow name ∷ declared) more is = cc is
+still_two (Declared.Unit name ∷ declared) more is = cc is
 still_two (Boundary name ∷ declared) more is = cc is
 still_two (Tank name base service ∷ declared) more is = cc is
 still_two (Strap tank mm ml ∷ declared) more is = cc is
@@ -214,28 +214,28 @@ still_two (CritGlobal dof value ∷ declared) more is = cc is
 still_two (CritNodal value ∷ declared) more is = cc is
 still_two (CritMeasure value ∷ declared) more is = cc is
 
-pub closed_graphs : PlantLaw → SamePartLaw → TableGrowsLaw → AcceptedLaw → ClosedGraphsLaw
-closed_graphs plant_law same_part grows accepted_law rows at declared i period accepted two there closed =
+pub closed_graphs : PlantLaw → SamePartLaw → TableGrowsLaw → ClosedGraphsLaw
+closed_graphs plant_law same_part grows rows at declared i period accepted two there closed =
     let stored : StoredRow = record { at = at; effect = Declares declared } in
     let new = with_row rows at (Declares declared) in
     let days = days_of period in
     let before = declared_of rows in
     let ones = before_last rows stored accepted in
     let one = the_last rows stored accepted in
-    let right = ready plant_law accepted_law rows ones in
-    let consistent = accepted_law.consistent rows ones in
+    let plant = plant_of plant_law rows ones in
+    let sound = consistent rows ones in
     let version = version_of before in
     let cause : _ = one.no_cause in
-    let parts = fine (is_unknown_declared before declared) (is_duplicate_declared before declared) (is_out_of_order_declared before declared) (is_mismatch_declared before declared)
-    (is_sealed version (periods_of rows) (Declares declared)) (is_full_declared version before declared) cause in
-    let none : fault_of version before declared ≡ None = no_fault (is_unknown_declared before declared) (is_duplicate_declared before declared) (is_out_of_order_declared before declared)
-    (is_mismatch_declared before declared) (is_sealed version (periods_of rows) (Declares declared)) (is_full_declared version before declared) cause in
+    let parts = fine (refers_to_unknown before declared) (is_duplicate_declaration before declared) (is_declaration_out_of_order before declared) (is_mismatched_declaration before declared)
+    (is_sealed version (periods_of rows) (Declares declared)) (is_plant_full version before declared) cause in
+    let none : site_fault_of version before declared ≡ None = no_fault (refers_to_unknown before declared) (is_duplicate_declaration before declared) (is_declaration_out_of_order before declared)
+    (is_mismatched_declaration before declared) (is_sealed version (periods_of rows) (Declares declared)) (is_plant_full version before declared) cause in
     let open_ones : serves_closed (periods_of rows) declared ≡ false = subst (λ (v : Version). is_sealed v (periods_of rows) (Declares declared) ≡ false) two parts.1 in
-    let same = same_part before declared period.first period.last right.plant none (away declared (periods_of rows) i period open_ones there closed) in
+    let same = same_part before declared period.first period.last plant none (away declared (periods_of rows) i period open_ones there closed) in
     let declared_is : declared_of new ≡ before ++ declared ∷ [] = filter_map-append (λ (s : StoredRow). declaration_in s.effect) rows (stored ∷ []) in
     let facts_is : facts_of new ≡ facts_of rows = fold_push (λ (kept : List KeptFact) (s : StoredRow). facts_after kept s.effect) [] rows stored in
     let two_now : version_of (declared_of new) ≡ Two = ap version_of declared_is ∙ still_two before (declared ∷ []) two in
-    let inside = live_have (IsInTable before) (facts_of rows) consistent.in_tables in
+    let inside = live_have (IsInTable before) (facts_of rows) sound.in_tables in
     let graph : period_graph new days ≡ period_graph rows days =
     graph_is (version_of (declared_of new)) new days
     ∙ ap (λ (v : Version). graph_by v (declared_of new) (live_facts (facts_of new)) days) two_now

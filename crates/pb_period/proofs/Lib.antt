@@ -8,3 +8,4 @@ mod VarianceLemmas
 mod UntouchedLemmas
 mod ClosedLemmas
 mod WindowLemmas
+pub mod GraphLaws

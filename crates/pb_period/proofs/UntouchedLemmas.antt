@@ -24,9 +24,9 @@ use Rattle.pb_site.specs.declared.declared.Version.{Version}
 use Rattle.pb_site.specs.declared.declared.Version.TheVariants.{One, Two}
 use Rattle.pb_site.specs.OnDays.{arcs_on, is_arc_in_service, nodes_on, place_among}
 use Rattle.pb_site.specs.Service.{day_of_closing, day_of_opening, is_in_service_within}
-use Rattle.pb_site.specs.Site.{AreDistinct, arc_names, arcs_of, node_names, points_of, service_in, version_of}
+use Rattle.pb_site.specs.Site.{AreDistinct, arc_names, arcs_of, node_names, points_of_tank, service_in, version_of}
 use Rattle.pb_facts.specs.declared.fact.Change.{Change}
-use Rattle.pb_facts.specs.declared.fact.Change.TheVariants.{Amount as AmountChange, Level}
+use Rattle.pb_facts.specs.declared.fact.Change.TheVariants.{Level}
 use Rattle.pb_facts.specs.declared.fact.Fact.{Fact}
 use Rattle.pb_facts.specs.declared.fact.Fact.TheVariants.{Reading, Transfer, Dip}
 use Rattle.pb_facts.specs.declared.facts.KeptFact.{KeptFact}
@@ -36,12 +36,12 @@ use Rattle.pb_facts.specs.Facts.{NoRepeats, has_id, is_live_with, is_repeat, liv
 use Rattle.pb_kinds.specs.declared.rows.Effect.{Effect}
 use Rattle.pb_kinds.specs.declared.rows.Edit.TheVariants as edits
 use Rattle.pb_kinds.specs.declared.rows.Effect.TheVariants.{Declares, Opens, Books, Edits, Closes, Assays}
-use Rattle.pb_book.specs.declared.rows.Period.{Period}
-use Rattle.pb_book.specs.Apart.{shares_a_day}
+use Rattle.pb_periods.specs.declared.period.Period.{Period}
+use Rattle.pb_periods.specs.Apart.{shares_a_day}
 use Rattle.pb_book.specs.TakenOut.{takes_out, touches_by_id, touching_of}
 use Rattle.pb_book.specs.declared.rows.StoredRow.{StoredRow}
 use Rattle.pb_book.specs.Rows.{declaration_in, declared_of, facts_after, facts_of, live}
-use Rattle.pb_book.specs.Touching.{is_boundary_of, touches, touches_in}
+use Rattle.pb_periods.specs.Touching.{is_boundary_of, touches_in, touches_period}
 use Rattle.pb_period.specs.declared.amount.Amount.{Amount}
 use Rattle.pb_period.specs.declared.days.Days.{Days}
 use Rattle.pb_period.specs.Days.{day_count, days_from, days_of, each_of}
@@ -144,10 +144,10 @@ dip_touches version declared period service tank day own serves boundary (Dip id
     let on = and_parts (same_name other tank) (int_eq d day) is in
     let same : d ≡ day = (Decides-int_eq d day).0 on.1 in
     let named : other ≡ tank = (bytes_decides other tank).0 on.0 in
-    let here : touches service (Dip id other day mm density variance) period ≡ true = rw serves boundary in
+    let here : touches_period service (Dip id other day mm density variance) period ≡ true = rw serves boundary in
     let own_here : service_in version declared other ≡ service = ap (service_in version declared) named ∙ own in
-    subst (λ (s : Option Service). touches s (Dip id other d mm density variance) period ≡ true) (sym own_here)
-    (subst (λ (e : ℤ). touches service (Dip id other e mm density variance) period ≡ true) (sym same) here)
+    subst (λ (s : Option Service). touches_period s (Dip id other d mm density variance) period ≡ true) (sym own_here)
+    (subst (λ (e : ℤ). touches_period service (Dip id other e mm density variance) period ≡ true) (sym same) here)
 
 no_share : (period : Period) (first last : ℤ) (amount : Amount) → shares_a_day first last period ≡ false
     → share_on first last amount (int_max period.first first) (int_min period.last last) ≡ None
@@ -215,7 +215,7 @@ amount_among version declared period facts service Tank name own serves =
     let touch = λ (fact : Fact). touches_in version declared fact period in
     let opening = day_of_opening service period.first in
     let closing = day_of_closing service period.last in
-    ap₂ (change_of (content_of (points_of declared name)))
+    ap₂ (change_of (content_of (points_of_tank declared name)))
     (find_among (is_dip_on name opening) touch facts (dip_touches version declared period service name opening own serves (opens_before service period)))
     (find_among (is_dip_on name closing) touch facts (dip_touches version declared period service name closing own serves (ends_with service period)))
 
@@ -343,9 +343,9 @@ put_away touch period k facts away = elim (cases_Bool k.struck) [ inl gone ↦ r
 
 -- a fact keeps its id, its name and its days, whatever its values
 same_id : (change : Change) (fact : Fact) → id_of (changed change fact) ≡ id_of fact
-same_id (AmountChange grams variance) (Reading id stream day old_grams old_variance) = refl
-same_id (AmountChange grams variance) (Transfer id stream first last old_grams old_variance) = refl
-same_id (AmountChange grams variance) (Dip id tank day mm density old_variance) = refl
+same_id (Change.Amount grams variance) (Reading id stream day old_grams old_variance) = refl
+same_id (Change.Amount grams variance) (Transfer id stream first last old_grams old_variance) = refl
+same_id (Change.Amount grams variance) (Dip id tank day mm density old_variance) = refl
 same_id (Level mm density variance) (Reading id stream day grams old_variance) = refl
 same_id (Level mm density variance) (Transfer id stream first last grams old_variance) = refl
 same_id (Level mm density variance) (Dip id tank day old_mm old_density old_variance) = refl
@@ -355,9 +355,9 @@ abbrev IsSteady : (Fact → Period → Bool) → Type 0
 IsSteady touch = (change : Change) (fact : Fact) (period : Period) → touch (changed change fact) period ≡ touch fact period
 
 same_touch : (version : Version) (declared : List Declared) → IsSteady (touches_in version declared)
-same_touch version declared (AmountChange grams variance) (Reading id stream day old_grams old_variance) period = refl
-same_touch version declared (AmountChange grams variance) (Transfer id stream first last old_grams old_variance) period = refl
-same_touch version declared (AmountChange grams variance) (Dip id tank day mm density old_variance) period = refl
+same_touch version declared (Change.Amount grams variance) (Reading id stream day old_grams old_variance) period = refl
+same_touch version declared (Change.Amount grams variance) (Transfer id stream first last old_grams old_variance) period = refl
+same_touch version declared (Change.Amount grams variance) (Dip id tank day mm density old_variance) period = refl
 same_touch version declared (Level mm density variance) (Reading id stream day grams old_variance) period = refl
 same_touch version declared (Level mm density variance) (Transfer id stream first last grams old_variance) period = refl
 same_touch version declared (Level mm density variance) (Dip id tank day old_mm old_density old_variance) period = refl

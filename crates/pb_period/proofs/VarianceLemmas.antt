@@ -23,15 +23,15 @@ use Rattle.pb_site.specs.declared.declared.Declared.{Declared}
 use Rattle.pb_site.specs.declared.declared.Service.{Service}
 use Rattle.pb_site.specs.declared.declared.Version.{Version}
 use Rattle.pb_site.specs.declared.declared.Version.TheVariants.{One, Two}
-use Rattle.pb_site.specs.Laws.{IsPartOnDays, IsPlant, JoinsPlaces}
+use Rattle.pb_site.specs.Laws.{IsDeclaredPlant, IsPartOnDays, JoinsPlaces}
 use Rattle.pb_site.specs.OnDays.{arcs_on, is_arc_in_service, name_at_node, names_on, nodes_on}
 use Rattle.pb_site.specs.Service.{day_of_closing, day_of_opening}
 use Rattle.pb_site.specs.Row.{IsArcBase}
-use Rattle.pb_site.specs.Site.{IsArc, arcs_of, node_names, points_of}
+use Rattle.pb_site.specs.Site.{IsArc, arcs_of, node_names, points_of_tank}
 use Rattle.pb_facts.specs.declared.fact.Fact.{Fact}
 use Rattle.pb_facts.specs.declared.fact.Fact.TheVariants.{Reading, Transfer, Dip}
 use Rattle.pb_facts.specs.declared.facts.KeptFact.{KeptFact}
-use Rattle.pb_facts.specs.Fact.{IsInRange, is_dip_on, is_reading_on}
+use Rattle.pb_facts.specs.Fact.{IsFactInRange, is_dip_on, is_reading_on}
 use Rattle.pb_facts.specs.Facts.{live_facts}
 use Rattle.pb_facts.specs.Share.{share_of}
 use Rattle.pb_book.specs.declared.rows.StoredRow.{StoredRow}
@@ -85,18 +85,18 @@ total_fair f (x ∷ xs) each = by (f x) (each x) (total_fair f xs each)
     by None one rest = rest
     by (Some amount) one rest = omega (arith, ints, one, rest)
 
-total_fair_all : (f : Fact → Option Amount) (facts : List Fact) → ((fact : Fact) → IsInRange fact → IfSome (f fact) IsFair) → All IsInRange facts → IsFair (total_of (filter_map f facts))
+total_fair_all : (f : Fact → Option Amount) (facts : List Fact) → ((fact : Fact) → IsFactInRange fact → IfSome (f fact) IsFair) → All IsFactInRange facts → IsFair (total_of (filter_map f facts))
 total_fair_all f [] each all = omega (arith, ints)
-total_fair_all f (x ∷ xs) each all = by (f x) (each x (head IsInRange x xs all)) (total_fair_all f xs each (tail IsInRange x xs all))
+total_fair_all f (x ∷ xs) each all = by (f x) (each x (head IsFactInRange x xs all)) (total_fair_all f xs each (tail IsFactInRange x xs all))
   where
     by : (o : Option Amount) → IfSome o IsFair → IsFair (total_of (filter_map f xs)) → IsFair (total_of (cons_option o (filter_map f xs)))
     by None one rest = rest
     by (Some amount) one rest = omega (arith, ints, one, rest)
 
-read_fair : (facts : List Fact) (stream : List ℕ) (day : ℤ) → All IsInRange facts → IfSome (read_on facts stream day) IsFair
-read_fair facts stream day all = by (find (is_reading_on stream day) facts) (find_has IsInRange (is_reading_on stream day) facts all)
+read_fair : (facts : List Fact) (stream : List ℕ) (day : ℤ) → All IsFactInRange facts → IfSome (read_on facts stream day) IsFair
+read_fair facts stream day all = by (find (is_reading_on stream day) facts) (find_has IsFactInRange (is_reading_on stream day) facts all)
   where
-    by : (o : Option Fact) → IfSome o IsInRange → IfSome (option_and_then read_amount o) IsFair
+    by : (o : Option Fact) → IfSome o IsFactInRange → IfSome (option_and_then read_amount o) IsFair
     by None range = tt
     by (Some (Reading id own d grams variance)) range = range.2.0
     by (Some (Transfer id own first last grams variance)) range = tt
@@ -131,7 +131,7 @@ share_on_fair first last amount from to fair begins ends = elim (cases_Bool (int
   | inr none ↦ rw none tt
 ]
 
-transferred_fair : (days : Days) (stream : List ℕ) (fact : Fact) → IsInRange fact → IfSome (transferred days stream fact) IsFair
+transferred_fair : (days : Days) (stream : List ℕ) (fact : Fact) → IsFactInRange fact → IfSome (transferred days stream fact) IsFair
 transferred_fair days stream (Reading id own day grams variance) range = tt
 transferred_fair days stream (Dip id tank day mm density variance) range = tt
 transferred_fair days stream (Transfer id own first last grams variance) range = elim (cases_Bool (same_name own stream)) [
@@ -143,25 +143,25 @@ transferred_fair days stream (Transfer id own first last grams variance) range =
   | inr other ↦ rw other tt
 ]
 
-pub content_fair : (points : List Point) (fact : Fact) → IsInRange fact → IsFair (content_of points fact)
+pub content_fair : (points : List Point) (fact : Fact) → IsFactInRange fact → IsFair (content_of points fact)
 content_fair points (Reading id own day grams variance) range = omega (arith, ints)
 content_fair points (Transfer id own first last grams variance) range = omega (arith, ints)
 content_fair points (Dip id tank day mm density variance) range = range.3.0
 
-change_fair : (content : Fact → Amount) (opening closing : Option Fact) → ((fact : Fact) → IsInRange fact → IsFair (content fact)) → IfSome opening IsInRange → IfSome closing IsInRange
+change_fair : (content : Fact → Amount) (opening closing : Option Fact) → ((fact : Fact) → IsFactInRange fact → IsFair (content fact)) → IfSome opening IsFactInRange → IfSome closing IsFactInRange
     → IfSome (change_of content opening closing) IsFair
 change_fair content None closing each before after = tt
 change_fair content (Some opening) None each before after = tt
 change_fair content (Some opening) (Some closing) each before after = let one = each opening before in let other = each closing after in omega (arith, ints, one, other)
 
-amount_fair : (declared : List Declared) (facts : List Fact) (days : Days) (service : Option Service) (kind : ArcKind) (name : List ℕ) → All IsInRange facts
+amount_fair : (declared : List Declared) (facts : List Fact) (days : Days) (service : Option Service) (kind : ArcKind) (name : List ℕ) → All IsFactInRange facts
     → IfSome (amount_of declared facts days service kind name) IsFair
 amount_fair declared facts days service Metered name all = read_total_fair (read_on facts name) (each_of (served_days service days)) (λ day. read_fair facts name day all)
 amount_fair declared facts days service Batch name all = total_fair_all (transferred days name) facts (transferred_fair days name) all
 amount_fair declared facts days service Plain name all = tt
 amount_fair declared facts days service Tank name all =
-    change_fair (content_of (points_of declared name)) _ _ (content_fair (points_of declared name))
-    (find_has IsInRange (is_dip_on name (day_of_opening service days.first)) facts all) (find_has IsInRange (is_dip_on name (day_of_closing service days.last)) facts all)
+    change_fair (content_of (points_of_tank declared name)) _ _ (content_fair (points_of_tank declared name))
+    (find_has IsFactInRange (is_dip_on name (day_of_opening service days.first)) facts all) (find_has IsFactInRange (is_dip_on name (day_of_closing service days.last)) facts all)
 
 -- ---- streams
 
@@ -170,7 +170,7 @@ abbrev pub HasLeast : Stream → Type 0
 HasLeast s = IfSome s.meas (λ meas. pos 1 ≤ℤ meas.variance)
 
 -- what is measured has a variance of at least 1
-pub measured_least : (declared : List Declared) (facts : List Fact) (days : Days) (service : Option Service) (arc : Arc) → All IsInRange facts → IsArcBase arc.kind arc.base
+pub measured_least : (declared : List Declared) (facts : List Fact) (days : Days) (service : Option Service) (arc : Arc) → All IsFactInRange facts → IsArcBase arc.kind arc.base
     → IfSome (measured declared facts days service arc) (λ meas. pos 1 ≤ℤ meas.variance)
 measured_least declared facts days service arc all limits = by arc.kind limits (amount_fair declared facts days service arc.kind arc.name all)
   where
@@ -197,7 +197,7 @@ pub all_map : {A B : Type 0} (P : A → Type 0) (Q : B → Type 0) (f : A → B)
 all_map P Q f [] each all = All-nil Q
 all_map P Q f (x ∷ xs) each all = All-cons Q (f x) (map f xs) (each x (head P x xs all)) (all_map P Q f xs each (tail P x xs all))
 
-graph_of : (measure : Arc → Option Meas) (rows : List StoredRow) → IsPlant (declared_of rows) → All IsWithinLimits (map (stream_with measure) (arcs_of (declared_of rows)))
+graph_of : (measure : Arc → Option Meas) (rows : List StoredRow) → IsDeclaredPlant (declared_of rows) → All IsWithinLimits (map (stream_with measure) (arcs_of (declared_of rows)))
     → IsProcessGraph (graph_with measure rows)
 graph_of measure rows plant limits =
     let declared = declared_of rows in
@@ -212,7 +212,7 @@ graph_of measure rows plant limits =
       limits = limits;
     }
 
-pub design_right : (rows : List StoredRow) → IsPlant (declared_of rows) → IsProcessGraph (design_graph rows)
+pub design_right : (rows : List StoredRow) → IsDeclaredPlant (declared_of rows) → IsProcessGraph (design_graph rows)
 design_right rows plant =
     graph_of base_of rows plant
     (all_map (IsArc (length (node_names (declared_of rows)))) IsWithinLimits (stream_with base_of) (arcs_of (declared_of rows))
@@ -254,7 +254,7 @@ few_pass p (x ∷ xs) =
     elim (cases_Bool (p x)) [ inl passes ↦ rw passes (omega (arith, rest)) | inr fails ↦ rw fails (omega (arith, rest)) ]
 
 -- the graph of the part in service
-served_of : (declared : List Declared) (facts : List Fact) (days : Days) → IsPlant declared → IsPartOnDays Two declared days.first days.last
+served_of : (declared : List Declared) (facts : List Fact) (days : Days) → IsDeclaredPlant declared → IsPartOnDays Two declared days.first days.last
     → All IsWithinLimits (served_graph declared facts days).streams → IsProcessGraph (served_graph declared facts days)
 served_of declared facts days plant part limits =
     let nodes = nodes_on Two declared days.first days.last in
@@ -279,22 +279,22 @@ within_right graph right least = by (position is_over graph.streams) refl
     by (Some stream) at = tt
     by None none = right (both_all (λ (s : Stream). is_over s ≡ false) HasLeast IsWithinLimits graph.streams within (none_passes is_over graph.streams none) least)
 
-pub graph_right : (version : Version) (rows : List StoredRow) (days : Days) → IsPlant (declared_of rows) → IsPartOnDays version (declared_of rows) days.first days.last
-    → All (λ (k : KeptFact). IsInRange k.fact) (facts_of rows) → IfOk (within_limits (graph_in version rows days)) IsProcessGraph
+pub graph_right : (version : Version) (rows : List StoredRow) (days : Days) → IsDeclaredPlant (declared_of rows) → IsPartOnDays version (declared_of rows) days.first days.last
+    → All (λ (k : KeptFact). IsFactInRange k.fact) (facts_of rows) → IfOk (within_limits (graph_in version rows days)) IsProcessGraph
 graph_right One rows days plant part ranges =
     let facts = live_facts (facts_of rows) in
     let declared = declared_of rows in
     let measure = measured declared facts days None in
     within_right (graph_in One rows days) (graph_of measure rows plant)
     (all_map (IsArc (length (node_names declared))) HasLeast (stream_with measure) (arcs_of declared)
-    (λ arc right. measured_least declared facts days None arc (live_have IsInRange (facts_of rows) ranges) right.limits) plant.joined)
+    (λ arc right. measured_least declared facts days None arc (live_have IsFactInRange (facts_of rows) ranges) right.limits) plant.joined)
 graph_right Two rows days plant part ranges =
     let facts = live_facts (facts_of rows) in
     let declared = declared_of rows in
     let nodes = length (node_names declared) in
     within_right (graph_in Two rows days) (served_of declared facts days plant part)
     (all_map (IsArc nodes) HasLeast (stream_among (nodes_on Two declared days.first days.last) (measured_served declared facts days)) (arcs_on Two declared days.first days.last)
-    (λ arc right. measured_least declared facts days arc.service arc (live_have IsInRange (facts_of rows) ranges) right.limits)
+    (λ arc right. measured_least declared facts days arc.service arc (live_have IsFactInRange (facts_of rows) ranges) right.limits)
     (all_filter (IsArc nodes) (is_arc_in_service days.first days.last) (arcs_of declared) plant.joined))
 
 -- ---- names

@@ -15,24 +15,24 @@ use Rattle.pb_window.specs.declared.window.Source.{Source}
 use Rattle.pb_window.specs.declared.window.Source.TheVariants.{Content, Flow}
 use Rattle.pb_window.specs.declared.window.Window.{Window}
 use Rattle.pb_window.specs.declared.window.WindowStream.{WindowStream}
-use Rattle.pb_window.specs.Graph.{IsOutside, graph_stream, graph_streams}
+use Rattle.pb_window.specs.Graph.{IsFirstStreamOutside, graph_stream, graph_streams}
 use Rattle.pb_window.specs.Window.{IsWindow, IsWindowStream}
 use Rattle.pb_site.specs.declared.declared.Arc.{Arc}
 use Rattle.pb_site.specs.declared.declared.ArcKind.{ArcKind}
 use Rattle.pb_site.specs.declared.declared.ArcKind.TheVariants.{Metered, Batch, Plain, Tank}
 use Rattle.pb_site.specs.declared.declared.Version.{Version}
 use Rattle.pb_site.specs.declared.declared.Version.TheVariants.{One, Two}
-use Rattle.pb_site.specs.Laws.{IsPlant}
+use Rattle.pb_site.specs.Laws.{IsDeclaredPlant}
 use Rattle.pb_site.specs.Row.{IsArcBase}
-use Rattle.pb_site.specs.Site.{IsArc, arcs_of, node_names, points_of, table_of_kind, version_of}
+use Rattle.pb_site.specs.Site.{IsArc, arcs_of, node_names, points_of_tank, table_of_kind, version_of}
 use Rattle.pb_facts.specs.declared.fact.Fact.{Fact}
 use Rattle.pb_facts.specs.declared.facts.KeptFact.{KeptFact}
-use Rattle.pb_facts.specs.Fact.{IsInRange, is_dip_on}
+use Rattle.pb_facts.specs.Fact.{IsFactInRange, is_dip_on}
 use Rattle.pb_facts.specs.Facts.{live_facts}
-use Rattle.pb_book.specs.declared.rows.Period.{Period}
+use Rattle.pb_periods.specs.declared.period.Period.{Period}
 use Rattle.pb_book.specs.declared.rows.StoredRow.{StoredRow}
 use Rattle.pb_book.specs.Rows.{declared_of, facts_of, periods_of}
-use Rattle.pb_book.specs.Windows.{names_of_periods}
+use Rattle.pb_periods.specs.Windows.{names_of_periods}
 use Rattle.pb_period.specs.declared.amount.Amount.{Amount}
 use Rattle.pb_period.specs.declared.graph.Assembly.TheVariants.{Over}
 use Rattle.pb_period.specs.Days.{days_of}
@@ -112,7 +112,7 @@ content_is rows periods stream arc day found at holds is =
 abbrev pub IsLeast : Option Meas → Type 0
 IsLeast found = IfSome found (λ meas. pos 1 ≤ℤ meas.variance)
 
-flow_least : (rows : List StoredRow) (arc : Arc) (found : Option Period) → All IsInRange (live_facts (facts_of rows)) → IsArcBase arc.kind arc.base
+flow_least : (rows : List StoredRow) (arc : Arc) (found : Option Period) → All IsFactInRange (live_facts (facts_of rows)) → IsArcBase arc.kind arc.base
     → IsLeast (option_and_then (flow_measured rows arc) found)
 flow_least rows arc None facts base = tt
 flow_least rows arc (Some period) facts base = by (version_of (declared_of rows))
@@ -121,20 +121,20 @@ flow_least rows arc (Some period) facts base = by (version_of (declared_of rows)
     by One = measured_least (declared_of rows) (live_facts (facts_of rows)) (days_of period) None arc facts base
     by Two = measured_least (declared_of rows) (live_facts (facts_of rows)) (days_of period) arc.service arc facts base
 
-content_least : (rows : List StoredRow) (arc : Arc) (day : ℤ) → All IsInRange (live_facts (facts_of rows)) → (kind : ArcKind) → IsArcBase kind arc.base
+content_least : (rows : List StoredRow) (arc : Arc) (day : ℤ) → All IsFactInRange (live_facts (facts_of rows)) → (kind : ArcKind) → IsArcBase kind arc.base
     → IsLeast (option_map (measurement arc.base) (option_and_then (held_at (live_facts (facts_of rows)) arc.name day) (table_of_kind (declared_of rows) arc.name kind)))
 content_least rows arc day facts Metered base = tt
 content_least rows arc day facts Batch base = tt
 content_least rows arc day facts Plain base = tt
-content_least rows arc day facts Tank base = by (find (is_dip_on arc.name day) (live_facts (facts_of rows))) (find_has IsInRange (is_dip_on arc.name day) (live_facts (facts_of rows)) facts)
+content_least rows arc day facts Tank base = by (find (is_dip_on arc.name day) (live_facts (facts_of rows))) (find_has IsFactInRange (is_dip_on arc.name day) (live_facts (facts_of rows)) facts)
   where
-    by : (o : Option Fact) → IfSome o IsInRange → IsLeast (option_map (measurement arc.base) (option_map (content_of (points_of (declared_of rows) arc.name)) o))
+    by : (o : Option Fact) → IfSome o IsFactInRange → IsLeast (option_map (measurement arc.base) (option_map (content_of (points_of_tank (declared_of rows) arc.name)) o))
     by None range = tt
     by (Some dip) range =
-        let fair : IsFair (content_of (points_of (declared_of rows) arc.name) dip) = content_fair (points_of (declared_of rows) arc.name) dip range in
+        let fair : IsFair (content_of (points_of_tank (declared_of rows) arc.name) dip) = content_fair (points_of_tank (declared_of rows) arc.name) dip range in
         omega (arith, ints, fair, base.0)
 
-stream_least : (rows : List StoredRow) (periods : List Period) (stream : WindowStream) → All IsInRange (live_facts (facts_of rows))
+stream_least : (rows : List StoredRow) (periods : List Period) (stream : WindowStream) → All IsFactInRange (live_facts (facts_of rows))
     → All (IsArc (length (node_names (declared_of rows)))) (arcs_of (declared_of rows)) → IsLeast (stream_measured rows periods stream)
 stream_least rows periods stream facts arcs = by (slice_get (arcs_of (declared_of rows)) stream.arc) refl
   where
@@ -169,7 +169,7 @@ pub none_over_of : (graph : ProcessGraph) → IsProcessGraph graph → All (λ (
 none_over_of graph right = All-weaker IsWithinLimits (λ (s : Stream). is_over s ≡ false) not_over graph.streams right.limits
 
 -- the first stream outside the limits is the first that is over them
-pub outside_over : (graph : ProcessGraph) (j : ℕ) → All HasLeast graph.streams → IsOutside graph j → Err (Over j) ≡ within_limits graph
+pub outside_over : (graph : ProcessGraph) (j : ℕ) → All HasLeast graph.streams → IsFirstStreamOutside graph j → Err (Over j) ≡ within_limits graph
 outside_over graph j least outside =
     let streams = graph.streams in
     let d = outside.stream in
@@ -186,18 +186,18 @@ pub as_many_streams : (f : WindowStream → Option Meas) (streams : List WindowS
 as_many_streams f streams = ap length (streams_are f streams) ∙ length-map streams (λ (s : WindowStream). graph_stream s (f s))
 
 -- a stream outside the limits is one of the graph's
-pub outside_within : (graph : ProcessGraph) (j : ℕ) → IsOutside graph j → j < length graph.streams
+pub outside_within : (graph : ProcessGraph) (j : ℕ) → IsFirstStreamOutside graph j → j < length graph.streams
 outside_within graph j outside = slice_get_within graph.streams j outside.stream outside.there
 
 -- the graph of a window is within the limits, if it has one
-pub window_right : (rows : List StoredRow) (periods : List Period) (window : Window) → IsPlant (declared_of rows) → All (λ (k : KeptFact). IsInRange k.fact) (facts_of rows)
+pub window_right : (rows : List StoredRow) (periods : List Period) (window : Window) → IsDeclaredPlant (declared_of rows) → All (λ (k : KeptFact). IsFactInRange k.fact) (facts_of rows)
     → IsWindow window → IfOk (window_assembly rows periods window) IsProcessGraph
 window_right rows periods window plant ranges form =
     let n = 1 + length window.nodes in
     let f = stream_measured rows periods in
     let stream : WindowStream → Stream = λ s. graph_stream s (f s) in
     let same = streams_are f window.streams in
-    let facts = live_have IsInRange (facts_of rows) ranges in
+    let facts = live_have IsFactInRange (facts_of rows) ranges in
     let many = length-map window.streams stream in
     within_right (measured_window rows periods window)
     (λ limits. record {

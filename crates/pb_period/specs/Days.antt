@@ -1,9 +1,9 @@
 -- Statement. The days of a period.
 use Rattle.std.specs.Prelude.{ℕ, zero, suc, ℤ, pos, ◌+ℤ◌, ◌-ℤ◌, ◌≤ℤ◌, ◌<ℤ◌, List, [], ◌∷◌}
 use Rattle.std.specs.Int.{int_gap}
+use Rattle.pb_rows.specs.Date.{IsDay}
 use Rattle.pb_limits.specs.Limits.{most_days_of_period}
-use Rattle.pb_facts.specs.Fact.{IsDay}
-use Rattle.pb_book.specs.declared.rows.Period.{Period}
+use Rattle.pb_periods.specs.declared.period.Period.{Period}
 use Rattle.pb_period.specs.declared.days.Days.{Days}
 
 -- the days of a period, without its name and whether it is closed

@@ -1,7 +1,7 @@
 -- Statement. What facts say about a day, the end of a day, and a range of days: amounts of mass with their variances.
 use Rattle.std.specs.Prelude.{ℕ, ℤ, pos, List, find, Option, Some, None, if◌then◌else◌, int_le, option_and_then, unwrap_or}
 use Rattle.std.specs.Int.{int_gap, int_max, int_min}
-use Rattle.pb_integers.specs.Sums.{sum_over}
+use Rattle.pb_fixed.specs.Sums.{sum_over}
 use Rattle.pb_rows.specs.Name.{same_name}
 use Rattle.pb_strap.specs.declared.strap.Point.{Point}
 use Rattle.pb_strap.specs.Table.{grams_of}

@@ -1,7 +1,7 @@
 -- Statement. The grades of a component in the streams of the graph of a period.
 use Rattle.std.specs.Prelude.{ℕ, List, map, Option}
-use Rattle.pb_assay.specs.declared.grade.Grade.{Grade}
-use Rattle.pb_book.specs.declared.rows.Period.{Period}
+use Rattle.pb_facts.specs.declared.grade.Grade.{Grade}
+use Rattle.pb_periods.specs.declared.period.Period.{Period}
 use Rattle.pb_book.specs.declared.rows.StoredRow.{StoredRow}
 use Rattle.pb_book.specs.Assays.{grade_of}
 use Rattle.pb_period.specs.Days.{days_of}

@@ -9,7 +9,7 @@ use Rattle.pb_site.specs.declared.declared.Version.TheVariants.{Two}
 use Rattle.pb_site.specs.Site.{AreDistinct, HasDistinctNames, version_of}
 use Rattle.pb_facts.specs.Facts.{NoRepeats}
 use Rattle.pb_kinds.specs.declared.rows.Effect.TheVariants.{Declares}
-use Rattle.pb_book.specs.declared.rows.Period.{Period}
+use Rattle.pb_periods.specs.declared.period.Period.{Period}
 use Rattle.pb_book.specs.Accepted.{AreAccepted}
 use Rattle.pb_book.specs.TakenOut.{takes_out, touching_of}
 use Rattle.pb_book.specs.Plain.{plain_stored}

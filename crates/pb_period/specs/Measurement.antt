@@ -8,7 +8,7 @@ use Rattle.pb_site.specs.declared.declared.ArcKind.{ArcKind}
 use Rattle.pb_site.specs.declared.declared.ArcKind.TheVariants.{Metered, Batch, Plain, Tank}
 use Rattle.pb_site.specs.declared.declared.Service.{Service}
 use Rattle.pb_site.specs.Service.{day_of_closing, day_of_opening, first_served, last_served}
-use Rattle.pb_site.specs.Site.{points_of}
+use Rattle.pb_site.specs.Site.{points_of_tank}
 use Rattle.pb_facts.specs.declared.fact.Fact.{Fact}
 use Rattle.pb_facts.specs.Fact.{is_dip_on}
 use Rattle.pb_period.specs.declared.amount.Amount.{Amount}
@@ -22,13 +22,13 @@ read_total read days =
     if list_all (λ day. is_some (read day)) days then Some (total_of (filter_map read days)) else None
 
 -- the closing content less the opening content
-abbrev pub difference_of : Amount → Amount → Amount
-difference_of opening closing =
+abbrev pub closing_less_opening : Amount → Amount → Amount
+closing_less_opening opening closing =
     record { grams = closing.grams -ℤ opening.grams; variance = opening.variance +ℤ closing.variance }
 
 -- the change of a tank's content, if there are both dips: the closing content less the opening content
 abbrev pub change_of : (Fact → Amount) → Option Fact → Option Fact → Option Amount
-change_of content (Some opening) (Some closing) = Some (difference_of (content opening) (content closing))
+change_of content (Some opening) (Some closing) = Some (closing_less_opening (content opening) (content closing))
 change_of content opening closing = None
 
 -- those of some days on which something is in service; if it has no days of service, all of them
@@ -44,7 +44,7 @@ amount_of declared facts days service Metered stream = read_total (read_on facts
 amount_of declared facts days service Batch stream = Some (total_of (filter_map (transferred days stream) facts))
 amount_of declared facts days service Plain stream = None
 amount_of declared facts days service Tank tank =
-    change_of (content_of (points_of declared tank))
+    change_of (content_of (points_of_tank declared tank))
     (find (is_dip_on tank (day_of_opening service days.first)) facts)
     (find (is_dip_on tank (day_of_closing service days.last)) facts)
 

@@ -16,7 +16,7 @@ use Rattle.pb_site.specs.Site.{arcs_of, table_of_arc, version_of}
 use Rattle.pb_facts.specs.declared.fact.Fact.{Fact}
 use Rattle.pb_facts.specs.Fact.{is_dip_on}
 use Rattle.pb_facts.specs.Facts.{live_facts}
-use Rattle.pb_book.specs.declared.rows.Period.{Period}
+use Rattle.pb_periods.specs.declared.period.Period.{Period}
 use Rattle.pb_book.specs.declared.rows.StoredRow.{StoredRow}
 use Rattle.pb_book.specs.Rows.{declared_of, facts_of, periods_of}
 use Rattle.pb_period.specs.declared.amount.Amount.{Amount}

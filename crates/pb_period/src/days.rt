@@ -2,7 +2,7 @@
 
 ghost use Rattle.std.specs.Prelude.{◌≡◌, ◌≤ℤ◌};
 ghost use Rattle.std.specs.Int.{int_gap};
-ghost use Rattle.pb_facts.specs.Fact.{IsDay};
+ghost use Rattle.pb_rows.specs.Date.{IsDay};
 ghost use Rattle.pb_period.specs.Days.{day_count, days_of};
 
 use pb_book::Period;

@@ -3,8 +3,7 @@
 ghost use Rattle.pb_period.specs.Laws.{ClosedGraphsLaw, GraphsLaw, PlainGraphsLaw, UntouchedLaw, WindowGraphsLaw};
 
 use pb_book::{accepted_law, plain_law};
-use pb_site::{days_law, plant_law, same_part_law};
-use pb_strap::tables_law;
+use pb_site::{days_law, plant_law};
 
 /// The law that the names of accepted rows are distinct, that the names on any days are those of the graph of these days, and that
 /// the graph of the design and that of each period that has one are within the limits.
@@ -35,16 +34,9 @@ pub fn plain_graphs_law()
 /// The law that a stored row which doesn't take out a period changes neither what is declared nor the graph of the period.
 pub fn untouched_law()
     ensures { UntouchedLaw }
-{
-    plant_law();
-}
+{}
 
 /// The law that in a session of version 2 a stored declaration changes neither the graph of a closed period nor its names.
 pub fn closed_graphs_law()
     ensures { ClosedGraphsLaw }
-{
-    plant_law();
-    same_part_law();
-    tables_law();
-    accepted_law();
-}
+{}

@@ -3,12 +3,12 @@
 ghost use Rattle.std.specs.Prelude.{◌≡◌, find, IfSome, Some};
 ghost use Rattle.pb_limits.specs.Limits.{most_days_of_period};
 ghost use Rattle.pb_site.specs.Service.{day_of_closing, day_of_opening};
-ghost use Rattle.pb_facts.specs.Fact.{IsInRange, is_dip_on, is_reading_on};
+ghost use Rattle.pb_facts.specs.Fact.{IsFactInRange, is_dip_on, is_reading_on};
 ghost use Rattle.pb_facts.specs.Facts.{live_facts};
 ghost use Rattle.pb_period.specs.Amounts.{IsAmount};
 ghost use Rattle.pb_period.specs.Days.{AreDays, each_of};
 ghost use Rattle.pb_period.specs.Facts.{content_of, read_amount, read_on};
-ghost use Rattle.pb_period.specs.Measurement.{change_of, difference_of, read_total, served_days};
+ghost use Rattle.pb_period.specs.Measurement.{change_of, closing_less_opening, read_total, served_days};
 ghost use Rattle.pb_period.specs.WindowGraph.{held_at};
 
 use crate::amount::Amount;
@@ -21,7 +21,7 @@ use pb_strap::Strap;
 // The live reading of a stream on a day.
 fn reading_on(facts: &Facts, stream: &Name, day: i32) -> Option<Fact>
     ensures found { result ≡ find (is_reading_on stream.now day) (live_facts facts.now) }
-    ensures in_range { IfSome result IsInRange }
+    ensures in_range { IfSome result IsFactInRange }
 {
     facts.live(facts.reading_on(stream, day)?)
 }
@@ -29,14 +29,14 @@ fn reading_on(facts: &Facts, stream: &Name, day: i32) -> Option<Fact>
 // The live dip of a tank at the end of a day.
 fn dip_on(facts: &Facts, tank: &Name, day: i32) -> Option<Fact>
     ensures found { result ≡ find (is_dip_on tank.now day) (live_facts facts.now) }
-    ensures in_range { IfSome result IsInRange }
+    ensures in_range { IfSome result IsFactInRange }
 {
     facts.live(facts.dip_on(tank, day)?)
 }
 
 // The amount of a reading.
 fn read_amount(fact: &Fact) -> Option<Amount>
-    requires { IsInRange fact.now }
+    requires { IsFactInRange fact.now }
     ensures value { result ≡ read_amount fact.now }
     ensures within { IfSome result (IsAmount 1) }
 {
@@ -85,7 +85,7 @@ pub fn read_total(
 
 // What a tank holds according to a dip.
 fn content_of(strap: &Strap, dip: &Fact) -> Amount
-    requires { IsInRange dip.now }
+    requires { IsFactInRange dip.now }
     ensures value { result ≡ content_of strap.now dip.now }
     ensures within { IsAmount 1 result }
 {
@@ -136,7 +136,7 @@ pub fn change(
 fn difference(opening: Amount, closing: Amount) -> Amount
     requires opening { IsAmount 1 opening }
     requires closing { IsAmount 1 closing }
-    ensures value { result ≡ difference_of opening closing }
+    ensures value { result ≡ closing_less_opening opening closing }
     ensures within { IsAmount 2 result }
 {
     Amount {

@@ -1,8 +1,9 @@
 // What transfers moved.
 
 ghost use Rattle.std.specs.Prelude.{◌≡◌, ◌+◌, ◌<◌, ◌≤ℤ◌, ◌<ℤ◌, ◌-ℤ◌, pos, ℕ, length, false, IfSome, filter_map, option_and_then};
+ghost use Rattle.pb_rows.specs.Date.{IsDay};
 ghost use Rattle.pb_limits.specs.Limits.{most_days_of_transfer, most_facts};
-ghost use Rattle.pb_facts.specs.Fact.{IsDay, IsInRange, is_too_long};
+ghost use Rattle.pb_facts.specs.Fact.{IsFactInRange, is_too_long};
 ghost use Rattle.pb_facts.specs.Facts.{live_at, live_facts};
 ghost use Rattle.pb_period.specs.Amounts.{IsAmount, IsSmall, IsSpan, with_more};
 ghost use Rattle.pb_period.specs.Days.{AreDays};
@@ -49,7 +50,7 @@ fn with_live(total: Amount, facts: &Facts, place: u32, stream: &Name, days: Days
 // What a fact moved in a stream on some days.
 fn transferred_by(fact: &Fact, stream: &Name, days: Days) -> Option<Amount>
     requires days { AreDays days }
-    requires in_range { IsInRange fact.now }
+    requires in_range { IsFactInRange fact.now }
     requires short { is_too_long fact.now ≡ false }
     ensures value { result ≡ transferred days stream.now fact.now }
     ensures within { IfSome result (IsAmount 1) }

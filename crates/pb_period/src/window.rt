@@ -4,7 +4,7 @@ ghost use Rattle.std.specs.Prelude.{◌≡◌, ◌≢◌, ◌<◌, ◌≤ℤ◌,
 ghost use Rattle.pb_site.specs.Row.{IsArcBase};
 ghost use Rattle.pb_site.specs.Site.{arcs_of, names_of};
 ghost use Rattle.pb_book.specs.Rows.{declared_of, periods_of};
-ghost use Rattle.pb_book.specs.Windows.{names_of_periods};
+ghost use Rattle.pb_periods.specs.Windows.{names_of_periods};
 ghost use Rattle.pb_window.specs.Places.{HasStreamNames};
 ghost use Rattle.pb_window.specs.Window.{IsWindow};
 ghost use Rattle.pb_period.specs.declared.graph.Assembly.TheVariants.{NoMemory};

@@ -11,12 +11,13 @@ use Rattle.std.proofs.lemmas.List.Elements.{All-cons, All-head, All-map, All-nil
 use Rattle.pb_limits.specs.Limits.{most_critical, most_freedom, most_gap, most_nodes, most_price, most_rounds, most_streams, most_sweeps, most_value, most_variance}
 use Rattle.pb_limits.specs.Ranges.{IsCriticalValue}
 use Rattle.pb_rows.specs.Name.{is_name}
-use Rattle.pb_graph.specs.declared.results.NodalTest.{NodalTest}
-use Rattle.pb_graph.specs.declared.results.MeasureTest.{MeasureTest}
-use Rattle.pb_graph.specs.declared.results.Solved.TheVariants.{Converged, Unconverged}
-use Rattle.pb_graph.specs.declared.results.Tests.{Tests}
+use Rattle.pb_study.specs.declared.results.NodalTest.{NodalTest}
+use Rattle.pb_study.specs.declared.results.MeasureTest.{MeasureTest}
+use Rattle.pb_study.specs.declared.results.Solved.TheVariants.{Converged, Unconverged}
+use Rattle.pb_study.specs.declared.results.Tests.{Tests}
 use Rattle.pb_graph.specs.ProcessGraph.{IsMeasurement, IsStream, IsWithinLimits, ProcessGraph}
-use Rattle.pb_graph.specs.WellFormed.{AreBoundsWithin, AreTestsWithin, IsFlow, IsMeasureWithin, IsMember, IsNodalWithin, IsPrice, IsResultWithin, IsSign, IsStep, IsWide, IsWitnessWithin, sweeps_of}
+use Rattle.pb_study.specs.WellFormed.{AreBoundsWithin, AreTestsWithin, IsMeasureWithin, IsNodalWithin, IsResultWithin, IsWide, sweeps_of}
+use Rattle.pb_graph.specs.WellFormed.{IsFlow, IsMember, IsPrice, IsSign, IsStep, IsWitnessWithin}
 use Rattle.pb_form.specs.OutputRows.{output_schema}
 use Rattle.pb_form.specs.Reading.{row_read}
 use Rattle.pb_form.specs.Value.{Value}
@@ -25,7 +26,7 @@ use Rattle.pb_form.specs.declared.fault.FormFault.{FormFault}
 use Rattle.pb_form.specs.declared.output.OutputKind.{OutputKind}
 use Rattle.pb_form.specs.declared.output.OutputKind.TheVariants.{Report, Node, Stream, StreamBefore, Solved, Global, Nodal, Measure, End}
 use Rattle.pb_blocks.specs.declared.fault.RowFault.{RowFault}
-use Rattle.pb_blocks.specs.declared.fault.RowFault.TheVariants.{Number as NumberFault, Unknown, Duplicate, Shape, Count, Env}
+use Rattle.pb_blocks.specs.declared.fault.RowFault.TheVariants.{Unknown, Duplicate, Shape, Count, Env}
 use Rattle.pb_blocks.specs.declared.rows.Heading.{Heading}
 use Rattle.pb_choices.specs.Places.{placed_truth}
 use Rattle.pb_choices.specs.declared.places.Shape.{Shape as ShapeKind}
@@ -33,13 +34,12 @@ use Rattle.pb_choices.specs.declared.places.Shape.TheVariants.{Cut, Cycle}
 use Rattle.pb_blocks.specs.declared.rows.Solution.{Solution}
 use Rattle.pb_blocks.specs.declared.rows.StreamRow.{StreamRow}
 use Rattle.pb_blocks.specs.Beside.{are_miscounted, form_fault, has_bad_list, has_unknown_node, heading_fault, is_half_told, opening_fault}
-use Rattle.pb_blocks.specs.Held.{leads_to_itself, heading_in}
+use Rattle.pb_blocks.specs.Held.{leads_to_itself, heading_in, names_no_stream, side_of}
 use Rattle.pb_blocks.specs.Codes.{lowest}
 use Rattle.pb_blocks.specs.Counts.{IsHeading}
 use Rattle.pb_blocks.specs.Kinds.{kind_among}
 use Rattle.pb_blocks.specs.Laws.{LiesWithin}
 use Rattle.pb_blocks.specs.Lists.{is_among, is_plus, items, member_of, part_name, step_of}
-use Rattle.pb_blocks.specs.Held.{names_no_stream, side_of}
 use Rattle.pb_blocks.specs.Results.{has_unknown_part, result_of, witness_by}
 use Rattle.pb_blocks.specs.Texts.{name_field, side_field}
 use Rattle.pb_blocks.specs.Values.{said_arc, both_bounds, both_meas, chosen_at, said_measure, natural_at, said_nodal, number_at, optional_at, said_stream, values_in}
@@ -47,12 +47,11 @@ use Rattle.pb_blocks.proofs.NameLemmas.{some_found}
 use Rattle.pb_blocks.proofs.RowLaws.{name_read, number_read, optional_read, word_read}
 use Rattle.pb_readback.specs.declared.draft.Draft.{Draft}
 use Rattle.pb_readback.specs.Blocks.{block_of}
-use Rattle.pb_readback.specs.Drafts.{kinds_next, with_measure, with_nodal, with_row, with_rows, with_stream}
-use Rattle.pb_readback.specs.Reading.{told_with}
-use Rattle.pb_readback.specs.Faults.{fault_behind, fault_beside, fault_of, first_unknown}
-use Rattle.pb_readback.specs.Laws.{FormedLaw}
-use Rattle.pb_readback.specs.Next.{AreSound, opened}
-use Rattle.pb_readback.specs.Reading.{AwaitsStreams, IsUnderWay, MayCome}
+use Rattle.pb_readback.specs.Drafts.{draft_with_row, kinds_next, with_measure, with_nodal, with_rows, with_stream}
+use Rattle.pb_readback.specs.Reading.{told_with, AwaitsStreams, IsUnderWay, MayCome}
+use Rattle.pb_readback.specs.Faults.{fault_behind, fault_beside, first_unknown, row_fault_of}
+use Rattle.pb_readback.specs.Laws.{FormedBlockLaw}
+use Rattle.pb_readback.specs.Next.{AreSound, opened_draft}
 use Rattle.pb_readback.specs.WellFormed.{AreNames, IsWellFormedBlock}
 use Rattle.pb_readback.proofs.StreamLemmas.{arc_joins, names_more, not_false, place_within}
 use Rattle.pb_readback.proofs.ReadingLemmas.{all_nodes, begins_under_way, fault_if, may_come, one_more, opening_by, still_under, stream_under, told_if}
@@ -87,7 +86,7 @@ bounds_in (Some lo) (Some hi) h k = record { lo = h; hi = k }
 
 -- a stream's row has none of its faults, a node's row neither of its two, and what a test names is known
 none_of_five : (a b c d e : Bool)
-    → (if a then Some NumberFault else if b then Some Unknown else if c then Some Duplicate else if d then Some Shape else if e then Some Count else None) ≡ None
+    → (if a then Some RowFault.Number else if b then Some Unknown else if c then Some Duplicate else if d then Some Shape else if e then Some Count else None) ≡ None
     → (b ≡ false) × (c ≡ false) × (e ≡ false) × (let same : Bool = false in same ≡ false)
 none_of_five true b c d e is = cc is
 none_of_five false true c d e is = cc is
@@ -165,7 +164,7 @@ pub record IsFine (kind : OutputKind) (draft : Draft) (row : List (List ℕ)) : 
   pub apart : is_loop kind row ≡ false
   pub env : is_other_env kind draft row ≡ false
 
-pub fine : (kind : OutputKind) (draft : Draft) (row : List (List ℕ)) → fault_of kind draft row ≡ None → IsFine kind draft row
+pub fine : (kind : OutputKind) (draft : Draft) (row : List (List ℕ)) → row_fault_of kind draft row ≡ None → IsFine kind draft row
 fine kind draft row none =
     let both = none_lowest (form_fault (row_read (output_schema kind) row)) (fault_beside kind draft row) none in
     let each = beside_fine kind draft row both.1 in
@@ -451,7 +450,7 @@ kind_formed draft End row formed may fine = record {
 }
 kind_formed draft kind row formed may fine = absurd may
 
-row_formed : (draft : Draft) (row : List (List ℕ)) → IsFormed draft → fault_behind draft row ≡ None → IsFormed (with_row draft row)
+row_formed : (draft : Draft) (row : List (List ℕ)) → IsFormed draft → fault_behind draft row ≡ None → IsFormed (draft_with_row draft row)
 row_formed draft row formed none = by (kind_among (kinds_next draft) row) refl none
   where
     by : (kind : Result OutputKind RowFault) → kind_among (kinds_next draft) row ≡ kind → fault_if kind draft row ≡ None → IsFormed (told_if kind draft row)
@@ -460,7 +459,7 @@ row_formed draft row formed none = by (kind_among (kinds_next draft) row) refl n
 
 rows_formed : (draft : Draft) (rows : List (List (List ℕ))) → IsFormed draft → AreSound draft rows → IsFormed (with_rows draft rows)
 rows_formed draft [] formed sound = formed
-rows_formed draft (row ∷ rows) formed sound = rows_formed (with_row draft row) rows (row_formed draft row formed sound.1) sound.2
+rows_formed draft (row ∷ rows) formed sound = rows_formed (draft_with_row draft row) rows (row_formed draft row formed sound.1) sound.2
 
 -- ---- the heading
 
@@ -498,7 +497,7 @@ heading_counts row fine =
     let s = count_within 0 most_streams streams b.1 c.1 in
     record { env = n.0; few_nodes = n.1; few_streams = s.1 }
 
-opened_formed : (row : List (List ℕ)) → opening_fault row ≡ None → IsFormed (opened row)
+opened_formed : (row : List (List ℕ)) → opening_fault row ≡ None → IsFormed (opened_draft row)
 opened_formed row opens =
     let fine = heading_fine row opens in
     let values = values_in Report row in
@@ -642,9 +641,9 @@ block_formed draft formed known nodes streams =
       greatest_sweeps = formed.heading.greatest_sweeps;
     }
 
-pub formed_holds : FormedLaw
+pub formed_holds : FormedBlockLaw
 formed_holds records rest block found =
     let whole = found in
-    let formed = rows_formed (opened found.first) found.rows (opened_formed found.first whole.opens) whole.sound in
+    let formed = rows_formed (opened_draft found.first) found.rows (opened_formed found.first whole.opens) whole.sound in
     let complete = ended_complete found.first found.rows whole.sound whole.ends in
-    rw (whole.value) (block_formed (with_rows (opened found.first) found.rows) formed whole.known complete.0 complete.1)
+    rw (whole.value) (block_formed (with_rows (opened_draft found.first) found.rows) formed whole.known complete.0 complete.1)

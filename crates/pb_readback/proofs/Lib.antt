@@ -16,3 +16,4 @@ mod WrittenStudyLemmas
 mod WrittenOtherLemmas
 mod WrittenWordLemmas
 mod WrittenTextLemmas
+pub mod ReadbackLaws

@@ -16,10 +16,10 @@ use Rattle.pb_blocks.specs.Kinds.{is_passed_over, kind_among}
 use Rattle.pb_readback.specs.declared.block.Block.{Block}
 use Rattle.pb_readback.specs.declared.draft.Draft.{Draft}
 use Rattle.pb_readback.specs.Blocks.{block_of}
-use Rattle.pb_readback.specs.Drafts.{kinds_next, with_row, with_rows}
+use Rattle.pb_readback.specs.Drafts.{draft_with_row, kinds_next, with_rows}
 use Rattle.pb_readback.specs.Faults.{fault_behind, first_unknown}
 use Rattle.pb_readback.specs.Laws.{JoinLaw, NextLaw}
-use Rattle.pb_readback.specs.Next.{AreBlocks, ArePassedOver, AreSound, Found, IsFault, IsFound, IsNext, IsNoBlock, Next, NoBlock, Refused, fault_next, opened}
+use Rattle.pb_readback.specs.Next.{AreBlocks, ArePassedOver, AreSound, Found, IsFault, IsFound, IsNext, IsNoBlock, Next, NoBlock, Refused, fault_next, opened_draft}
 use Rattle.pb_readback.specs.Reading.{HasAll, IsReadWhole, MayCome}
 use Rattle.pb_readback.proofs.ReadingLemmas.{fault_if, is_row_of, may_come, not_below, opening_by, sound_more, told_if, unended, with_rows_more}
 
@@ -65,7 +65,7 @@ abbrev outcome : Draft → ℕ → List (List (List ℕ)) → Outcome
 outcome draft rows [] = by_known (first_unknown draft) draft [] (by_end (is_end draft.last) draft [] (inr (rows + 2, (Ended, []))))
 outcome draft rows (row ∷ rest) =
     by_known (first_unknown draft) draft (row ∷ rest)
-    (by_end (is_end draft.last) draft (row ∷ rest) (by_fault (fault_behind draft row) rows rest (outcome (with_row draft row) (rows + 1) rest)))
+    (by_end (is_end draft.last) draft (row ∷ rest) (by_fault (fault_behind draft row) rows rest (outcome (draft_with_row draft row) (rows + 1) rest)))
 
 -- a draft whose last row is the end has all its nodes and streams
 abbrev pub EndsComplete : Draft → Type 0
@@ -83,7 +83,7 @@ complete_after draft Nodal row may = λ ends. cc ends
 complete_after draft Measure row may = λ ends. cc ends
 complete_after draft kind row may = absurd may
 
-stays_complete : (draft : Draft) (row : List (List ℕ)) → EndsComplete draft → fault_behind draft row ≡ None → EndsComplete (with_row draft row)
+stays_complete : (draft : Draft) (row : List (List ℕ)) → EndsComplete draft → fault_behind draft row ≡ None → EndsComplete (draft_with_row draft row)
 stays_complete draft row complete none = by (kind_among (kinds_next draft) row) refl none
   where
     by : (kind : Result OutputKind RowFault) → kind_among (kinds_next draft) row ≡ kind → fault_if kind draft row ≡ None → EndsComplete (told_if kind draft row)
@@ -113,11 +113,11 @@ goes_on : (draft : Draft) (n : ℕ) (rows rest : List (List (List ℕ))) → End
     → outcome draft n (rows ++ rest) ≡ outcome (with_rows draft rows) (n + length rows) rest
 goes_on draft n [] rest complete sound = let e : n ≡ n + 0 = omega arith in ap (λ m. outcome draft m rest) e
 goes_on draft n (row ∷ rows) rest complete sound =
-    let more = goes_on (with_row draft row) (n + 1) rows rest (stays_complete draft row complete sound.1) sound.2 in
+    let more = goes_on (draft_with_row draft row) (n + 1) rows rest (stays_complete draft row complete sound.1) sound.2 in
     let e : n + 1 + length rows ≡ n + length (row ∷ rows) = omega arith in
-    step ∙ more ∙ ap (λ m. outcome (with_rows (with_row draft row) rows) m rest) e
+    step ∙ more ∙ ap (λ m. outcome (with_rows (draft_with_row draft row) rows) m rest) e
   where
-    step : outcome draft n (row ∷ (rows ++ rest)) ≡ outcome (with_row draft row) (n + 1) (rows ++ rest)
+    step : outcome draft n (row ∷ (rows ++ rest)) ≡ outcome (draft_with_row draft row) (n + 1) (rows ++ rest)
     step = rw (sound.0, not_ended draft row complete sound.1, sound.1) refl
 
 -- at the end the outcome is the block
@@ -147,7 +147,7 @@ told_by at (inr broken) = Refused (at + broken.0) broken.1.0 broken.1.1
 
 abbrev by_opening : Option RowFault → ℕ → List (List ℕ) → List (List (List ℕ)) → Next
 by_opening (Some fault) at row rest = Refused (at + 1) fault rest
-by_opening None at row rest = told_by at (outcome (opened row) 0 rest)
+by_opening None at row rest = told_by at (outcome (opened_draft row) 0 rest)
 
 -- what comes next, by a walk
 abbrev next_of : ℕ → List (List (List ℕ)) → Next
@@ -187,21 +187,21 @@ opens_new row opens = by (kind_among (Report ∷ []) row) refl opens
       | inr other ↦ let none = rw other at is in cc none
     ]
 
-complete_at_first : (row : List (List ℕ)) → EndsComplete (opened row)
+complete_at_first : (row : List (List ℕ)) → EndsComplete (opened_draft row)
 complete_at_first row = λ ends. cc ends
 
 pub rows_complete : (draft : Draft) (rows : List (List (List ℕ))) → EndsComplete draft → AreSound draft rows → EndsComplete (with_rows draft rows)
 rows_complete draft [] complete sound = complete
-rows_complete draft (row ∷ rows) complete sound = rows_complete (with_row draft row) rows (stays_complete draft row complete sound.1) sound.2
+rows_complete draft (row ∷ rows) complete sound = rows_complete (draft_with_row draft row) rows (stays_complete draft row complete sound.1) sound.2
 
 -- a block that ends has all its nodes and streams
-pub ended_complete : (first : List (List ℕ)) (rows : List (List (List ℕ))) → AreSound (opened first) rows → (with_rows (opened first) rows).last ≡ End
-    → ((with_rows (opened first) rows).heading.nodes ≤ length (with_rows (opened first) rows).nodes)
-    × ((with_rows (opened first) rows).heading.streams ≤ length (with_rows (opened first) rows).streams)
+pub ended_complete : (first : List (List ℕ)) (rows : List (List (List ℕ))) → AreSound (opened_draft first) rows → (with_rows (opened_draft first) rows).last ≡ End
+    → ((with_rows (opened_draft first) rows).heading.nodes ≤ length (with_rows (opened_draft first) rows).nodes)
+    × ((with_rows (opened_draft first) rows).heading.streams ≤ length (with_rows (opened_draft first) rows).streams)
 ended_complete first rows sound ends =
-    let counts = rows_complete (opened first) rows (complete_at_first first) sound (ap is_end ends) in (
-      not_below (length (with_rows (opened first) rows).nodes) (with_rows (opened first) rows).heading.nodes counts.0,
-      not_below (length (with_rows (opened first) rows).streams) (with_rows (opened first) rows).heading.streams counts.1,
+    let counts = rows_complete (opened_draft first) rows (complete_at_first first) sound (ap is_end ends) in (
+      not_below (length (with_rows (opened_draft first) rows).nodes) (with_rows (opened_draft first) rows).heading.nodes counts.0,
+      not_below (length (with_rows (opened_draft first) rows).streams) (with_rows (opened_draft first) rows).heading.streams counts.1,
     )
 
 -- what comes next is what the walk gives
@@ -210,8 +210,8 @@ is_walked at records NoBlock skipped = sym (ap (next_of at) (sym (append_nil rec
 is_walked at records (Found block rest) found =
     let w = found in
     let opens = w.opens in
-    let on = goes_on (opened found.first) 0 found.rows rest (complete_at_first found.first) w.sound in
-    let ends = ends_whole (with_rows (opened found.first) found.rows) (0 + length found.rows) rest w.known w.ends in
+    let on = goes_on (opened_draft found.first) 0 found.rows rest (complete_at_first found.first) w.sound in
+    let ends = ends_whole (with_rows (opened_draft found.first) found.rows) (0 + length found.rows) rest w.known w.ends in
     let all = on ∙ ends in
     sym (ap (next_of at) found.split ∙ over at found.passed (found.first ∷ (found.rows ++ rest)) found.skipped
     ∙ rw (opens_new found.first opens, opens, all) (ap (λ (b : Block). Found b rest) (sym w.value)))
@@ -222,8 +222,8 @@ is_walked at records (Refused number fault left) refused =
     here : ℕ
     here = at + length refused.passed
 
-    count : (rows rest : List (List (List ℕ))) → IsFault (with_rows (opened refused.first) rows) (length rows) rest refused.within fault left
-        → IsFault (with_rows (opened refused.first) rows) (0 + length rows) rest refused.within fault left
+    count : (rows rest : List (List (List ℕ))) → IsFault (with_rows (opened_draft refused.first) rows) (length rows) rest refused.within fault left
+        → IsFault (with_rows (opened_draft refused.first) rows) (0 + length rows) rest refused.within fault left
     count rows rest h = let e : length rows ≡ 0 + length rows = omega arith in rw (← e) h
 
     by : IsNoBlock refused.first refused.behind refused.within fault left
@@ -234,9 +234,9 @@ is_walked at records (Refused number fault left) refused =
         let same : here + 1 ≡ number = omega (arith, one, place) in
         rw (opening.0) (ap₂ (λ (n : ℕ) (l : List (List (List ℕ))). Refused n fault l) same (sym opening.2))
     by (inr w) =
-        let on = goes_on (opened refused.first) 0 w.1 w.2 (complete_at_first refused.first) w.4 in
-        let ends = ends_broken (with_rows (opened refused.first) w.1) (0 + length w.1) w.2 refused.within fault left (count w.1 w.2 w.5) in
-        let all = ap (outcome (opened refused.first) 0) w.3 ∙ on ∙ ends in
+        let on = goes_on (opened_draft refused.first) 0 w.1 w.2 (complete_at_first refused.first) w.4 in
+        let ends = ends_broken (with_rows (opened_draft refused.first) w.1) (0 + length w.1) w.2 refused.within fault left (count w.1 w.2 w.5) in
+        let all = ap (outcome (opened_draft refused.first) 0) w.3 ∙ on ∙ ends in
         rw (w.0, all) (ap (λ (n : ℕ). Refused n fault left) (sym refused.place))
 
 -- ---- one thing comes next
@@ -293,12 +293,12 @@ broken_at start draft all left n fault s known on cause = record {
 }
 
 sound_next : (start draft : Draft) (all left : List (List (List ℕ))) (row : List (List ℕ)) (n : ℕ) → IsSoundTo start all draft (row ∷ left) n → first_unknown draft ≡ None
-    → fault_behind draft row ≡ None → IsSoundTo start all (with_row draft row) left (n + 1)
+    → fault_behind draft row ≡ None → IsSoundTo start all (draft_with_row draft row) left (n + 1)
 sound_next start draft all left row n s known fine = record {
   rows = s.rows ++ row ∷ [];
   split = s.split ∙ sym (append_assoc s.rows (row ∷ []) left);
   sound = sound_more start s.rows row s.sound (ap first_unknown (sym s.told) ∙ known) (ap (λ (d : Draft). fault_behind d row) (sym s.told) ∙ fine);
-  told = ap (λ (d : Draft). with_row d row) s.told ∙ sym (with_rows_more start s.rows row);
+  told = ap (λ (d : Draft). draft_with_row d row) s.told ∙ sym (with_rows_more start s.rows row);
   count = let long = length-append s.rows (row ∷ []) in let n_is = s.count in omega (arith, long, n_is);
 }
 
@@ -312,23 +312,23 @@ gives start all [] draft n s = by (first_unknown draft) refl
     by : (k : Option ℕ) → first_unknown draft ≡ k → IsOutcome start all (by_known k draft [] (by_end (is_end draft.last) draft [] (inr (n + 2, (Ended, [])))))
     by (Some stream) unknown = broken_before start draft all [] n stream s unknown
     by None known = by_last (is_end draft.last) refl known
-gives start all (row ∷ left) draft n s = by (gives start all left (with_row draft row) (n + 1)) (first_unknown draft) refl
+gives start all (row ∷ left) draft n s = by (gives start all left (draft_with_row draft row) (n + 1)) (first_unknown draft) refl
   where
-    by_row : (IsSoundTo start all (with_row draft row) left (n + 1) → IsOutcome start all (outcome (with_row draft row) (n + 1) left))
+    by_row : (IsSoundTo start all (draft_with_row draft row) left (n + 1) → IsOutcome start all (outcome (draft_with_row draft row) (n + 1) left))
         → (f : Option RowFault) → fault_behind draft row ≡ f → first_unknown draft ≡ None → draft.last ≢ End
-        → IsOutcome start all (by_fault f n left (outcome (with_row draft row) (n + 1) left))
+        → IsOutcome start all (by_fault f n left (outcome (draft_with_row draft row) (n + 1) left))
     by_row more None fine known on = more (sound_next start draft all left row n s known fine)
     by_row more (Some fault) cause known on = broken_at start draft all (row ∷ left) n fault s known on cause
 
-    by_last : (IsSoundTo start all (with_row draft row) left (n + 1) → IsOutcome start all (outcome (with_row draft row) (n + 1) left))
+    by_last : (IsSoundTo start all (draft_with_row draft row) left (n + 1) → IsOutcome start all (outcome (draft_with_row draft row) (n + 1) left))
         → (b : Bool) → is_end draft.last ≡ b → first_unknown draft ≡ None
-        → IsOutcome start all (by_end b draft (row ∷ left) (by_fault (fault_behind draft row) n left (outcome (with_row draft row) (n + 1) left)))
+        → IsOutcome start all (by_end b draft (row ∷ left) (by_fault (fault_behind draft row) n left (outcome (draft_with_row draft row) (n + 1) left)))
     by_last more true last known = whole_at start draft all (row ∷ left) n s known (at_end draft.last last)
     by_last more false last known = by_row more (fault_behind draft row) refl known (not_at_end draft.last last)
 
-    by : (IsSoundTo start all (with_row draft row) left (n + 1) → IsOutcome start all (outcome (with_row draft row) (n + 1) left))
+    by : (IsSoundTo start all (draft_with_row draft row) left (n + 1) → IsOutcome start all (outcome (draft_with_row draft row) (n + 1) left))
         → (k : Option ℕ) → first_unknown draft ≡ k
-        → IsOutcome start all (by_known k draft (row ∷ left) (by_end (is_end draft.last) draft (row ∷ left) (by_fault (fault_behind draft row) n left (outcome (with_row draft row) (n + 1) left))))
+        → IsOutcome start all (by_known k draft (row ∷ left) (by_end (is_end draft.last) draft (row ∷ left) (by_fault (fault_behind draft row) n left (outcome (draft_with_row draft row) (n + 1) left))))
     by more (Some stream) unknown = broken_before start draft all (row ∷ left) n stream s unknown
     by more None known = by_last more (is_end draft.last) refl known
 
@@ -360,7 +360,7 @@ one_over at row rest (Refused number fault left) holds refused = record {
 }
 
 -- a block, or a fault, after a row that opens one
-by_outcome : (at : ℕ) (row : List (List ℕ)) (rest : List (List (List ℕ))) (o : Outcome) → opening_fault row ≡ None → IsOutcome (opened row) rest o → IsNext at (row ∷ rest) (told_by at o)
+by_outcome : (at : ℕ) (row : List (List ℕ)) (rest : List (List (List ℕ))) (o : Outcome) → opening_fault row ≡ None → IsOutcome (opened_draft row) rest o → IsNext at (row ∷ rest) (told_by at o)
 by_outcome at row rest (inl found) opens whole = record {
   passed = [];
   first = row;
@@ -403,8 +403,8 @@ comes_next at (row ∷ rest) = by (comes_next (at + 1) rest) (is_passed_over row
           place = omega arith;
         }
     by_first None opens other =
-        by_outcome at row rest (outcome (opened row) 0 rest) opens
-        (gives (opened row) rest rest (opened row) 0 (record { rows = []; split = refl; sound = tt; told = refl; count = refl }))
+        by_outcome at row rest (outcome (opened_draft row) 0 rest) opens
+        (gives (opened_draft row) rest rest (opened_draft row) 0 (record { rows = []; split = refl; sound = tt; told = refl; count = refl }))
 
     by : IsNext (at + 1) rest (next_of (at + 1) rest) → (b : Bool) → is_passed_over row ≡ b
         → IsNext at (row ∷ rest) (if b then next_of (at + 1) rest else by_opening (opening_fault row) at row rest)

@@ -16,7 +16,6 @@ use Rattle.pb_blocks.specs.declared.fault.RowFault.TheVariants.{Unknown, Ended}
 use Rattle.pb_blocks.specs.declared.rows.Heading.{Heading}
 use Rattle.pb_blocks.specs.Counts.{IsHeading}
 use Rattle.pb_blocks.specs.Beside.{fault_as, heading_fault}
-use Rattle.pb_blocks.specs.declared.fault.RowFault.TheVariants.{Fields as OtherFields, Kind as OtherKind}
 use Rattle.pb_blocks.specs.Kinds.{has_word_of, is_passed_over, kind_among}
 use Rattle.pb_blocks.specs.Texts.{name_field}
 use Rattle.pb_blocks.specs.Values.{said_arc, said_stream, values_in}
@@ -25,11 +24,10 @@ use Rattle.pb_readback.specs.declared.draft.Draft.{Draft}
 use Rattle.pb_readback.specs.declared.reading.ReadRefused.{ReadRefused}
 use Rattle.pb_readback.specs.declared.reading.ReadRefused.TheVariants.{At, NoMemory}
 use Rattle.pb_readback.specs.Blocks.{block_of}
-use Rattle.pb_readback.specs.Drafts.{draft_of, kinds_after, kinds_next, stream_kinds, with_row, with_rows, with_stream}
-use Rattle.pb_readback.specs.Reading.{told_with}
-use Rattle.pb_readback.specs.Faults.{fault_behind, fault_of, first_unknown}
-use Rattle.pb_readback.specs.Next.{AreCounted, ArePassedOver, AreSound, IsFound, IsWithinGiven, Tells, opened}
-use Rattle.pb_readback.specs.Reading.{AwaitsNodes, AwaitsStreams, Breaks, BreaksFrom, Ends, HasAll, IsBroken, IsReadFrom, IsReadTo, IsReadWhole, IsUnderWay, MayCome, RefusesPart, RefusesRow, Skips, is_stream_kind}
+use Rattle.pb_readback.specs.Drafts.{draft_of, draft_with_row, kinds_after, kinds_next, stream_kinds, with_rows, with_stream}
+use Rattle.pb_readback.specs.Reading.{told_with, AwaitsNodes, AwaitsStreams, Breaks, BreaksFrom, Ends, HasAll, IsBroken, IsReadFrom, IsReadTo, IsReadWhole, IsUnderWay, MayCome, RefusesPart, RefusesRow, Skips, is_stream_kind}
+use Rattle.pb_readback.specs.Faults.{fault_behind, first_unknown, row_fault_of}
+use Rattle.pb_readback.specs.Next.{AreCounted, ArePassedOver, AreSound, IsFound, IsReadRefused, IsWithinGiven, opened_draft}
 
 -- ---- a row whose kind was looked up
 
@@ -42,7 +40,7 @@ abbrev pub told_if : Result OutputKind RowFault → Draft → List (List ℕ) �
 told_if kind draft row = option_map_or (λ (k : OutputKind). told_with k draft row) (result_ok kind) draft
 
 abbrev pub fault_if : Result OutputKind RowFault → Draft → List (List ℕ) → Option RowFault
-fault_if kind draft row = fault_as (λ k. fault_of k draft row) kind
+fault_if kind draft row = fault_as (λ k. row_fault_of k draft row) kind
 
 -- the fault of a row that opens a block, or should open one
 abbrev pub opening_by : Result OutputKind RowFault → List (List ℕ) → Option RowFault
@@ -62,7 +60,7 @@ found_among P row (first ∷ kinds) kind all found = elim (cases_Bool (is_row_of
 ]
 
 told_among : (P : OutputKind → Type 0) (row : List (List ℕ)) (kinds : List OutputKind) (kind : OutputKind) → AllByRecursion P kinds → kind_among kinds row ≡ Ok kind → P kind
-told_among P row kinds kind all told = by (find (is_row_of row) kinds) refl (if list_any (has_word_of row) kinds then OtherFields else OtherKind) told
+told_among P row kinds kind all told = by (find (is_row_of row) kinds) refl (if list_any (has_word_of row) kinds then RowFault.Fields else RowFault.Kind) told
   where
     by : (found : Option OutputKind) → find (is_row_of row) kinds ≡ found → (fault : RowFault) → ok_or found fault ≡ Ok kind → P kind
     by None is fault told = cc told
@@ -165,7 +163,7 @@ still_under draft kind row way may = record {
 }
 
 -- a draft in progress is still in progress after a row without a fault
-pub still_under_way : (draft : Draft) (row : List (List ℕ)) → IsUnderWay draft → fault_behind draft row ≡ None → IsUnderWay (with_row draft row)
+pub still_under_way : (draft : Draft) (row : List (List ℕ)) → IsUnderWay draft → fault_behind draft row ≡ None → IsUnderWay (draft_with_row draft row)
 still_under_way draft row way none = by (kind_among (kinds_next draft) row) refl none
   where
     by : (kind : Result OutputKind RowFault) → kind_among (kinds_next draft) row ≡ kind → fault_if kind draft row ≡ None → IsUnderWay (told_if kind draft row)
@@ -191,8 +189,8 @@ begins_known heading = by (nat_eq 0 heading.streams)
     by false = refl
 
 -- once all parts are known, they stay so: parts are looked up only after a stream
-pub known_after : (draft : Draft) (row : List (List ℕ)) → first_unknown draft ≡ None → (is_stream_kind (with_row draft row).last ≡ true → first_unknown (with_row draft row) ≡ None)
-    → first_unknown (with_row draft row) ≡ None
+pub known_after : (draft : Draft) (row : List (List ℕ)) → first_unknown draft ≡ None → (is_stream_kind (draft_with_row draft row).last ≡ true → first_unknown (draft_with_row draft row) ≡ None)
+    → first_unknown (draft_with_row draft row) ≡ None
 known_after draft row known at = by (kind_among (kinds_next draft) row) at
   where
     by : (kind : Result OutputKind RowFault) → (is_stream_kind (told_if kind draft row).last ≡ true → first_unknown (told_if kind draft row) ≡ None)
@@ -204,14 +202,14 @@ known_after draft row known at = by (kind_among (kinds_next draft) row) at
 
 -- ---- rows
 
-pub with_rows_more : (draft : Draft) (rows : List (List (List ℕ))) (row : List (List ℕ)) → with_rows draft (rows ++ row ∷ []) ≡ with_row (with_rows draft rows) row
+pub with_rows_more : (draft : Draft) (rows : List (List (List ℕ))) (row : List (List ℕ)) → with_rows draft (rows ++ row ∷ []) ≡ draft_with_row (with_rows draft rows) row
 with_rows_more draft [] row = refl
-with_rows_more draft (r ∷ rows) row = with_rows_more (with_row draft r) rows row
+with_rows_more draft (r ∷ rows) row = with_rows_more (draft_with_row draft r) rows row
 
 pub sound_more : (draft : Draft) (rows : List (List (List ℕ))) (row : List (List ℕ)) → AreSound draft rows → first_unknown (with_rows draft rows) ≡ None
     → fault_behind (with_rows draft rows) row ≡ None → AreSound draft (rows ++ row ∷ [])
 sound_more draft [] row sound known fine = (known, fine, tt)
-sound_more draft (r ∷ rows) row sound known fine = (sound.0, sound.1, sound_more (with_row draft r) rows row sound.2 known fine)
+sound_more draft (r ∷ rows) row sound known fine = (sound.0, sound.1, sound_more (draft_with_row draft r) rows row sound.2 known fine)
 
 -- nothing is read yet
 pub read_none : (draft : Draft) (all : List (List (List ℕ))) → first_unknown draft ≡ None → IsReadTo draft all draft all
@@ -219,12 +217,12 @@ read_none draft all known = record { rows = []; split = refl; sound = tt; told =
 
 -- one more row
 pub read_more : (start draft : Draft) (all left : List (List (List ℕ))) (row : List (List ℕ)) → IsReadTo start all draft (row ∷ left) → fault_behind draft row ≡ None
-    → first_unknown (with_row draft row) ≡ None → IsReadTo start all (with_row draft row) left
+    → first_unknown (draft_with_row draft row) ≡ None → IsReadTo start all (draft_with_row draft row) left
 read_more start draft all left row read fine known = record {
   rows = read.rows ++ row ∷ [];
   split = read.split ∙ sym (append_assoc read.rows (row ∷ []) left);
   sound = sound_more start read.rows row read.sound (ap first_unknown (sym read.told) ∙ read.known) (ap (λ (d : Draft). fault_behind d row) (sym read.told) ∙ fine);
-  told = ap (λ (d : Draft). with_row d row) read.told ∙ sym (with_rows_more start read.rows row);
+  told = ap (λ (d : Draft). draft_with_row d row) read.told ∙ sym (with_rows_more start read.rows row);
   known = known;
 }
 
@@ -241,18 +239,18 @@ read_whole start draft all left block read ends value = record {
 }
 
 -- how many rows were read after the first
-pub rows_read : (all rows left : List (List (List ℕ))) (opened taken : ℕ) → all ≡ rows ++ left → taken + length left ≡ opened + length all → taken ≡ opened + length rows
-rows_read all rows left opened taken split counted =
+pub rows_read : (all rows left : List (List (List ℕ))) (opened_draft taken : ℕ) → all ≡ rows ++ left → taken + length left ≡ opened_draft + length all → taken ≡ opened_draft + length rows
+rows_read all rows left opened_draft taken split counted =
     let long = ap length split ∙ length-append rows left in omega (arith, long, counted)
 
 pub unended : (start draft : Draft) (rows : List (List (List ℕ))) → draft ≡ with_rows start rows → draft.last ≢ End → (with_rows start rows).last ≢ End
 unended start draft rows told on = λ ends. on (ap (λ (d : Draft). d.last) told ∙ ends)
 
 -- the records end within the block
-pub breaks_ended : (start draft : Draft) (all : List (List (List ℕ))) (opened taken : ℕ) → IsReadTo start all draft [] → draft.last ≢ End → taken + 0 ≡ opened + length all
-    → IsBroken start all opened (taken + 1) Ended []
-breaks_ended start draft all opened taken read on counted =
-    let behind = rows_read all read.rows [] opened taken read.split counted in
+pub breaks_ended : (start draft : Draft) (all : List (List (List ℕ))) (opened_draft taken : ℕ) → IsReadTo start all draft [] → draft.last ≢ End → taken + 0 ≡ opened_draft + length all
+    → IsBroken start all opened_draft (taken + 1) Ended []
+breaks_ended start draft all opened_draft taken read on counted =
+    let behind = rows_read all read.rows [] opened_draft taken read.split counted in
     record {
       rows = read.rows;
       rest = [];
@@ -264,10 +262,10 @@ breaks_ended start draft all opened taken read on counted =
     }
 
 -- the next row has a fault
-pub breaks_at : (start draft : Draft) (all left : List (List (List ℕ))) (row : List (List ℕ)) (fault : RowFault) (opened taken : ℕ)
-    → IsReadTo start all draft (row ∷ left) → draft.last ≢ End → fault_behind draft row ≡ Some fault → taken + length left ≡ opened + length all
-    → IsBroken start all opened taken fault left
-breaks_at start draft all left row fault opened taken read on cause counted =
+pub breaks_at : (start draft : Draft) (all left : List (List (List ℕ))) (row : List (List ℕ)) (fault : RowFault) (opened_draft taken : ℕ)
+    → IsReadTo start all draft (row ∷ left) → draft.last ≢ End → fault_behind draft row ≡ Some fault → taken + length left ≡ opened_draft + length all
+    → IsBroken start all opened_draft taken fault left
+breaks_at start draft all left row fault opened_draft taken read on cause counted =
     let long = ap length read.split ∙ length-append read.rows (row ∷ left) in
     record {
       rows = read.rows;
@@ -280,15 +278,15 @@ breaks_at start draft all left row fault opened taken read on cause counted =
     }
 
 -- the last of the streams is read, and the parts of one name a stream that isn't there
-pub breaks_before : (start draft : Draft) (all left : List (List (List ℕ))) (row : List (List ℕ)) (stream opened : ℕ) → IsReadTo start all draft (row ∷ left)
-    → fault_behind draft row ≡ None → first_unknown (with_row draft row) ≡ Some stream
-    → IsBroken start all opened (opened + (with_row draft row).heading.nodes + stream + 1) Unknown left
-breaks_before start draft all left row stream opened read fine unknown =
-    let told = ap (λ (d : Draft). with_row d row) read.told ∙ sym (with_rows_more start read.rows row) in
+pub breaks_before : (start draft : Draft) (all left : List (List (List ℕ))) (row : List (List ℕ)) (stream opened_draft : ℕ) → IsReadTo start all draft (row ∷ left)
+    → fault_behind draft row ≡ None → first_unknown (draft_with_row draft row) ≡ Some stream
+    → IsBroken start all opened_draft (opened_draft + (draft_with_row draft row).heading.nodes + stream + 1) Unknown left
+breaks_before start draft all left row stream opened_draft read fine unknown =
+    let told = ap (λ (d : Draft). draft_with_row d row) read.told ∙ sym (with_rows_more start read.rows row) in
     record {
       rows = read.rows ++ row ∷ [];
       rest = left;
-      within = (with_row draft row).heading.nodes + stream + 2;
+      within = (draft_with_row draft row).heading.nodes + stream + 2;
       split = read.split ∙ sym (append_assoc read.rows (row ∷ []) left);
       sound = sound_more start read.rows row read.sound (ap first_unknown (sym read.told) ∙ read.known) (ap (λ (d : Draft). fault_behind d row) (sym read.told) ∙ fine);
       cause = inl (stream, ap first_unknown (sym told) ∙ unknown, ap (λ (d : Draft). d.heading.nodes + stream + 2) told, refl, refl);
@@ -330,7 +328,7 @@ broke_at start draft old now new row number (At at fault) read on next is counte
     rw (breaks.1, is) (breaks_at start draft old.left new.left row fault old.taken new.taken here on breaks.0 counted, counted)
 
 pub broke_before : (start draft after : Draft) (old now new : RecordsLeft) (row : List (List ℕ)) (refused : ReadRefused) → IsReadTo start old.left draft now.left
-    → now.left ≡ row ∷ new.left → fault_behind draft row ≡ None → after ≡ with_row draft row → AreCounted old new → RefusesPart after old.taken refused → Breaks start old new refused
+    → now.left ≡ row ∷ new.left → fault_behind draft row ≡ None → after ≡ draft_with_row draft row → AreCounted old new → RefusesPart after old.taken refused → Breaks start old new refused
 broke_before start draft after old now new row NoMemory read next fine told counted breaks =
     let here : IsReadTo start old.left draft (row ∷ new.left) = rw (← next) read in
     counted_within start draft old new row here counted
@@ -341,13 +339,13 @@ broke_before start draft after old now new row (At number fault) read next fine 
 
 -- one more row is read
 pub read_one : (start draft after : Draft) (all left rest : List (List (List ℕ))) (row : List (List ℕ)) → IsReadTo start all draft left → left ≡ row ∷ rest
-    → fault_behind draft row ≡ None → after ≡ with_row draft row → (is_stream_kind after.last ≡ true → first_unknown after ≡ None) → IsReadTo start all after rest
+    → fault_behind draft row ≡ None → after ≡ draft_with_row draft row → (is_stream_kind after.last ≡ true → first_unknown after ≡ None) → IsReadTo start all after rest
 read_one start draft after all left rest row read next fine told at =
     let now : IsReadTo start all draft (row ∷ rest) = rw (← next) read in
-    let known : first_unknown (with_row draft row) ≡ None = known_after draft row read.known (rw told at at) in
+    let known : first_unknown (draft_with_row draft row) ≡ None = known_after draft row read.known (rw told at at) in
     rw told (read_more start draft all rest row now fine known)
 
-pub still_way : (draft after : Draft) (row : List (List ℕ)) → IsUnderWay draft → fault_behind draft row ≡ None → after ≡ with_row draft row → IsUnderWay after
+pub still_way : (draft after : Draft) (row : List (List ℕ)) → IsUnderWay draft → fault_behind draft row ≡ None → after ≡ draft_with_row draft row → IsUnderWay after
 still_way draft after row way fine told = rw told (still_under_way draft row way fine)
 
 -- a row keeps the heading
@@ -361,7 +359,7 @@ heading_kept draft Nodal row = refl
 heading_kept draft Measure row = refl
 heading_kept draft kind row = refl
 
-pub same_heading : (draft after : Draft) (row : List (List ℕ)) (heading : Heading) → draft.heading ≡ heading → after ≡ with_row draft row → after.heading ≡ heading
+pub same_heading : (draft after : Draft) (row : List (List ℕ)) (heading : Heading) → draft.heading ≡ heading → after ≡ draft_with_row draft row → after.heading ≡ heading
 same_heading draft after row heading same told = ap (λ (d : Draft). d.heading) told ∙ by (kind_among (kinds_next draft) row) ∙ same
   where
     by : (kind : Result OutputKind RowFault) → (told_if kind draft row).heading ≡ draft.heading
@@ -403,7 +401,7 @@ found_from all rest left row block skips read = record {
 }
 
 pub tells_from : (old now new : RecordsLeft) (row : List (List ℕ)) (refused : ReadRefused) → Skips old.left now.left (Some row) → AreCounted old now
-    → BreaksFrom row now new refused → Tells old new refused
+    → BreaksFrom row now new refused → IsReadRefused old new refused
 tells_from old now new row NoMemory skips counted breaks =
     let long = ap length skips.1 ∙ behind skips.0 now.left row in
     let more = breaks.0 in

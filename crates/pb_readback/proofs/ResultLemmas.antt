@@ -7,7 +7,7 @@ use Rattle.std.proofs.lemmas.List.{length-map}
 use Rattle.pb_rows.specs.Name.{same_name}
 use Rattle.pb_graph.specs.declared.records.Member.{Member}
 use Rattle.pb_graph.specs.declared.records.Step.{Step}
-use Rattle.pb_graph.specs.declared.results.StreamResult.{StreamResult}
+use Rattle.pb_study.specs.declared.results.StreamResult.{StreamResult}
 use Rattle.pb_form.specs.declared.output.OutputKind.{OutputKind}
 use Rattle.pb_form.specs.declared.output.OutputKind.TheVariants.{Stream, StreamBefore, End}
 use Rattle.pb_blocks.specs.declared.fault.RowFault.{RowFault}
@@ -21,7 +21,7 @@ use Rattle.pb_blocks.specs.Held.{names_no_stream}
 use Rattle.pb_blocks.specs.Results.{has_unknown_part, result_of, witness_by}
 use Rattle.pb_blocks.proofs.NameLemmas.{any_place, none_place}
 use Rattle.pb_readback.specs.declared.draft.Draft.{Draft}
-use Rattle.pb_readback.specs.Drafts.{draft_of, kinds_next, with_row, with_rows}
+use Rattle.pb_readback.specs.Drafts.{draft_of, draft_with_row, kinds_next, with_rows}
 use Rattle.pb_readback.specs.Faults.{first_unknown}
 use Rattle.pb_readback.specs.Reading.{IsReadTo, IsUnderWay, KeepsResults, has_stream, is_on_stream, is_stream_kind}
 use Rattle.pb_readback.proofs.NextLemmas.{is_end, rows_complete}
@@ -90,7 +90,7 @@ pub begins_kept : (heading : Heading) → KeepsResults (draft_of heading) []
 begins_kept heading = λ all. refl
 
 -- a row that isn't a stream's keeps them
-pub still_kept : (draft after : Draft) (row : List (List ℕ)) (results : List StreamResult) → KeepsResults draft results → after ≡ with_row draft row → is_stream_kind after.last ≡ false
+pub still_kept : (draft after : Draft) (row : List (List ℕ)) (results : List StreamResult) → KeepsResults draft results → after ≡ draft_with_row draft row → is_stream_kind after.last ≡ false
     → KeepsResults after results
 still_kept draft after row results kept told other =
     rw told (by (kind_among (kinds_next draft) row) (rw told at other))

@@ -9,9 +9,8 @@ use Rattle.pb_graph.specs.ProcessGraph.{IsStream}
 use Rattle.pb_form.specs.declared.output.OutputKind.{OutputKind}
 use Rattle.pb_form.specs.Value.{Value}
 use Rattle.pb_blocks.specs.Beside.{has_unknown_node}
-use Rattle.pb_blocks.specs.Held.{leads_to_itself}
+use Rattle.pb_blocks.specs.Held.{leads_to_itself, is_unknown_item}
 use Rattle.pb_blocks.specs.Lists.{is_among, items, place_of}
-use Rattle.pb_blocks.specs.Held.{is_unknown_item}
 use Rattle.pb_blocks.specs.Texts.{from_field, side_field, to_field}
 use Rattle.pb_blocks.specs.Values.{said_arc}
 use Rattle.pb_blocks.proofs.NameLemmas.{all_more, any_place, differ_more}

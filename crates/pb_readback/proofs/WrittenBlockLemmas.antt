@@ -16,7 +16,7 @@ use Rattle.pb_form.specs.declared.output.OutputKind.TheVariants.{Node}
 use Rattle.pb_blocks.specs.Lists.{is_among}
 use Rattle.pb_blocks.specs.Values.{number_at}
 use Rattle.pb_readback.specs.declared.draft.Draft.{Draft}
-use Rattle.pb_readback.specs.Drafts.{with_row, with_rows}
+use Rattle.pb_readback.specs.Drafts.{draft_with_row, with_rows}
 use Rattle.pb_readback.specs.Faults.{fault_behind, first_unknown}
 use Rattle.pb_readback.specs.Next.{AreSound}
 use Rattle.pb_readback.specs.Written.{records_in}
@@ -33,7 +33,7 @@ pub tells_none : (draft : Draft) → Tells draft [] draft
 tells_none draft = record { sound = tt; told = refl }
 
 pub tells_more : (draft next : Draft) (row : List (List ℕ)) (rows : List (List (List ℕ))) (after : Draft) → first_unknown draft ≡ None
-    → fault_behind draft row ≡ None → with_row draft row ≡ next → Tells next rows after → Tells draft (row ∷ rows) after
+    → fault_behind draft row ≡ None → draft_with_row draft row ≡ next → Tells next rows after → Tells draft (row ∷ rows) after
 tells_more draft next row rows after unknown fault leaves rest =
     record {
       sound = (unknown, fault, subst (λ (d : Draft). AreSound d rows) (sym leaves) rest.sound);
@@ -43,8 +43,8 @@ tells_more draft next row rows after unknown fault leaves rest =
 pub tells_append : (draft next : Draft) (front back : List (List (List ℕ))) (after : Draft) → Tells draft front next → Tells next back after → Tells draft (front ++ back) after
 tells_append draft next [] back after first second = subst (λ (d : Draft). Tells d back after) (sym first.told) second
 tells_append draft next (row ∷ front) back after first second =
-    let inner : Tells (with_row draft row) front next = record { sound = first.sound.2; told = first.told } in
-    let rest = tells_append (with_row draft row) next front back after inner second in
+    let inner : Tells (draft_with_row draft row) front next = record { sound = first.sound.2; told = first.told } in
+    let rest = tells_append (draft_with_row draft row) next front back after inner second in
     record { sound = (first.sound.0, first.sound.1, rest.sound); told = rest.told }
 
 pub tells_to : (draft one other : Draft) (rows : List (List (List ℕ))) → one ≡ other → Tells draft rows one → Tells draft rows other
@@ -95,7 +95,7 @@ nodes_tell written i draft (name ∷ names) (price ∷ prices) long fine ranges 
       read = row_back written.texts (node_row name price) ((refl, refl), (fine.0, (abs_between most_price price ranges.0, tt)));
       beside = node_beside draft name price (record { new = fine.1; env = fine.2 });
     } in
-    let leaves : with_row draft row ≡ next =
+    let leaves : draft_with_row draft row ≡ next =
     row_leaves draft Node row values sound
     ∙ ap (λ (said : List Value). record draft { last = Node; nodes = draft.nodes ++ name ∷ []; prices = draft.prices ++ number_at said 2 ∷ [] })
     (values_back Node row values sound.read) in

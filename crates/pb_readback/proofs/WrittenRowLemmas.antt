@@ -5,10 +5,10 @@ use Rattle.std.proofs.Common.{◌≡◌, ◌∙◌, ℕ, ℤ, pos, List, [], ◌
 use Rattle.std.proofs.lemmas.Int.{ints}
 use Rattle.pb_limits.specs.Limits.{most_nodes, most_streams}
 use Rattle.pb_rows.specs.declared.name.Names.{Names}
-use Rattle.pb_graph.specs.declared.results.GlobalTest.{GlobalTest}
-use Rattle.pb_graph.specs.declared.results.MeasureTest.{MeasureTest}
-use Rattle.pb_graph.specs.declared.results.NodalTest.{NodalTest}
-use Rattle.pb_graph.specs.declared.results.Stage.{Stage}
+use Rattle.pb_study.specs.declared.results.GlobalTest.{GlobalTest}
+use Rattle.pb_study.specs.declared.results.MeasureTest.{MeasureTest}
+use Rattle.pb_study.specs.declared.results.NodalTest.{NodalTest}
+use Rattle.pb_study.specs.declared.results.Stage.{Stage}
 use Rattle.pb_form.specs.OutputRows.{output_columns, output_schema}
 use Rattle.pb_form.specs.Reading.{row_read}
 use Rattle.pb_form.specs.TextLaws.{TextLaw}
@@ -21,7 +21,7 @@ use Rattle.pb_report.specs.Block.{end_row, node_row, solved_row}
 use Rattle.pb_report.specs.Row.{OutputRow, fields_of}
 use Rattle.pb_report.specs.Tests.{global_row, measure_row, nodal_row}
 use Rattle.pb_blocks.specs.declared.fault.RowFault.{RowFault}
-use Rattle.pb_blocks.specs.declared.fault.RowFault.TheVariants.{Number as NumberFault, Unknown, Duplicate, Shape, Count}
+use Rattle.pb_blocks.specs.declared.fault.RowFault.TheVariants.{Unknown, Duplicate, Shape, Count}
 use Rattle.pb_blocks.specs.Beside.{are_miscounted, form_fault, has_bad_list, has_unknown_node, heading_fault, is_half_told, opening_fault}
 use Rattle.pb_blocks.specs.Held.{leads_to_itself}
 use Rattle.pb_blocks.specs.Codes.{lowest}
@@ -30,10 +30,9 @@ use Rattle.pb_blocks.specs.Lists.{is_among}
 use Rattle.pb_blocks.specs.Texts.{name_field}
 use Rattle.pb_blocks.specs.Values.{number_at, values_in}
 use Rattle.pb_readback.specs.declared.draft.Draft.{Draft}
-use Rattle.pb_readback.specs.Drafts.{kinds_after, kinds_next, stream_kinds, with_row}
-use Rattle.pb_readback.specs.Reading.{told_with}
+use Rattle.pb_readback.specs.Drafts.{draft_with_row, kinds_after, kinds_next, stream_kinds}
+use Rattle.pb_readback.specs.Reading.{told_with, AwaitsNodes, AwaitsStreams, HasAll}
 use Rattle.pb_readback.specs.Faults.{fault_behind, fault_beside}
-use Rattle.pb_readback.specs.Reading.{AwaitsNodes, AwaitsStreams, HasAll}
 use Rattle.pb_readback.proofs.ReadingLemmas.{fault_if, is_row_of, opening_by, told_if}
 
 -- ---- a row reads as its values
@@ -59,7 +58,7 @@ row_sound draft kind row values sound =
     ap (λ (k : Result OutputKind RowFault). fault_if k draft row) sound.told
     ∙ ap₂ (λ (r : Result (List Value) FormFault) (b : Option RowFault). lowest (form_fault r) b) sound.read sound.beside
 
-pub row_leaves : (draft : Draft) (kind : OutputKind) (row : List (List ℕ)) (values : List Value) → IsSoundRow draft kind row values → with_row draft row ≡ told_with kind draft row
+pub row_leaves : (draft : Draft) (kind : OutputKind) (row : List (List ℕ)) (values : List Value) → IsSoundRow draft kind row values → draft_with_row draft row ≡ told_with kind draft row
 row_leaves draft kind row values sound = ap (λ (k : Result OutputKind RowFault). told_if k draft row) sound.told
 
 -- ---- which kinds may come
@@ -177,5 +176,5 @@ stream_beside draft row h =
     h.whole h.known h.new h.good h.apart
   where
     by : (a b c d e : Bool) → a ≡ false → b ≡ false → c ≡ false → d ≡ false → e ≡ false
-        → (if a then Some NumberFault else if b then Some Unknown else if c then Some Duplicate else if d then Some Shape else if e then Some Count else None) ≡ None
+        → (if a then Some RowFault.Number else if b then Some Unknown else if c then Some Duplicate else if d then Some Shape else if e then Some Count else None) ≡ None
     by a b c d e is_a is_b is_c is_d is_e = rw (is_a, is_b, is_c, is_d, is_e) refl

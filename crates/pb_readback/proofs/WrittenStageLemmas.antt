@@ -7,19 +7,19 @@ use Rattle.std.proofs.lemmas.List.{append-nil}
 use Rattle.std.proofs.Math.Seq.{get_or-append_seam}
 use Rattle.pb_rows.specs.declared.name.Names.{Names}
 use Rattle.pb_graph.specs.declared.records.Stream.{Stream}
-use Rattle.pb_graph.specs.declared.results.StreamResult.{StreamResult}
+use Rattle.pb_study.specs.declared.results.StreamResult.{StreamResult}
 use Rattle.pb_graph.specs.ProcessGraph.{ProcessGraph, IsStream, IsWithinLimits}
-use Rattle.pb_graph.specs.WellFormed.{IsResultWithin}
+use Rattle.pb_study.specs.WellFormed.{IsResultWithin}
 use Rattle.pb_report.specs.Block.{result_row}
 use Rattle.pb_report.specs.Names.{name_at}
 use Rattle.pb_report.specs.Rows.{rows_with}
 use Rattle.pb_form.specs.Value.{Value}
-use Rattle.pb_form.specs.declared.output.OutputKind.TheVariants.{Stream as StreamKind}
+use Rattle.pb_form.specs.declared.output.OutputKind.{OutputKind}
 use Rattle.pb_blocks.specs.declared.rows.StreamRow.{StreamRow}
 use Rattle.pb_blocks.specs.Lists.{is_among}
 use Rattle.pb_blocks.specs.Values.{said_arc, said_stream}
 use Rattle.pb_readback.specs.declared.draft.Draft.{Draft}
-use Rattle.pb_readback.specs.Drafts.{with_row}
+use Rattle.pb_readback.specs.Drafts.{draft_with_row}
 use Rattle.pb_readback.specs.Faults.{first_unknown}
 use Rattle.pb_readback.specs.Written.{records_in}
 use Rattle.pb_readback.proofs.WrittenFieldLemmas.{AreNew, AreWritten}
@@ -31,7 +31,7 @@ use Rattle.pb_readback.proofs.WrittenBlockLemmas.{Tells, last_of, tells_more, te
 abbrev pub behind_streams : Names → Draft → List (List ℕ) → List Stream → List StreamResult → Draft
 behind_streams names draft rest streams results =
     record draft {
-      last = last_of StreamKind draft.last streams;
+      last = last_of OutputKind.Stream draft.last streams;
       streams = draft.streams ++ rest;
       graph = record draft.graph { streams = draft.graph.streams ++ streams };
       rows = draft.rows ++ map (told_of names) results;
@@ -80,25 +80,25 @@ streams_tell written names graph known draft (name ∷ rest) (stream ∷ streams
       with_least = at.with_least;
     }) in
     let next : Draft = record draft {
-      last = StreamKind;
+      last = OutputKind.Stream;
       streams = draft.streams ++ name ∷ [];
       graph = record draft.graph { streams = draft.graph.streams ++ stream ∷ [] };
       rows = draft.rows ++ told_of names result ∷ [];
     } in
-    let told : said_stream draft.nodes StreamKind row values ≡ told_of names result =
-    ap (λ (nodes : List (List ℕ)). said_stream nodes StreamKind row values) at.nodes ∙ result_told written names graph i stream result known within.0 in
+    let told : said_stream draft.nodes OutputKind.Stream row values ≡ told_of names result =
+    ap (λ (nodes : List (List ℕ)). said_stream nodes OutputKind.Stream row values) at.nodes ∙ result_told written names graph i stream result known within.0 in
     let read : said_arc draft.nodes row values ≡ stream =
     ap (λ (nodes : List (List ℕ)). said_arc nodes row values) at.nodes ∙ stream_back names graph i stream result known joins.0 in
     let with = λ (said : List Value). record draft {
-      last = StreamKind;
+      last = OutputKind.Stream;
       streams = draft.streams ++ name_at names.streams i ∷ [];
       graph = record draft.graph { streams = draft.graph.streams ++ said_arc draft.nodes row said ∷ [] };
-      rows = draft.rows ++ said_stream draft.nodes StreamKind row said ∷ [];
+      rows = draft.rows ++ said_stream draft.nodes OutputKind.Stream row said ∷ [];
     } in
-    let leaves : with_row draft row ≡ next =
-    row_leaves draft StreamKind row values fine ∙ ap with (values_back StreamKind row values fine.read)
+    let leaves : draft_with_row draft row ≡ next =
+    row_leaves draft OutputKind.Stream row values fine ∙ ap with (values_back OutputKind.Stream row values fine.read)
     ∙ ap₂ (λ (n : List ℕ) (p : Stream × StreamRow). record draft {
-      last = StreamKind;
+      last = OutputKind.Stream;
       streams = draft.streams ++ n ∷ [];
       graph = record draft.graph { streams = draft.graph.streams ++ p.0 ∷ [] };
       rows = draft.rows ++ p.1 ∷ [];
@@ -113,11 +113,11 @@ streams_tell written names graph known draft (name ∷ rest) (stream ∷ streams
     } in
     let behind = streams_tell written names graph known next rest streams results (omega (arith, few)) (omega (arith, many)) joins.1 limits.1 within.1 after in
     let same : behind_streams names next rest streams results ≡ behind_streams names draft (name ∷ rest) (stream ∷ streams) (result ∷ results) =
-    ap₂ (λ (ns : List (List ℕ)) (p : List Stream × List StreamRow). record draft { last = last_of StreamKind StreamKind streams; streams = ns; graph = record draft.graph { streams = p.0 }; rows = p.1 })
+    ap₂ (λ (ns : List (List ℕ)) (p : List Stream × List StreamRow). record draft { last = last_of OutputKind.Stream OutputKind.Stream streams; streams = ns; graph = record draft.graph { streams = p.0 }; rows = p.1 })
     (append_assoc draft.streams (name ∷ []) rest)
     (ap₂ (λ (ss : List Stream) (rs : List StreamRow). (ss, rs)) (append_assoc draft.graph.streams (stream ∷ []) streams)
     (append_assoc draft.rows (told_of names result ∷ []) (map (told_of names) results))) in
     let all_rows = records_in (rows_with (result_row names) (i + 1) streams results) in
     let counted = subst (λ (n : ℕ). Tells next (records_in (rows_with (result_row names) n streams results)) (behind_streams names next rest streams results)) more behind in
-    tells_more draft next row all_rows (behind_streams names draft (name ∷ rest) (stream ∷ streams) (result ∷ results)) (unfinished draft below) (row_sound draft StreamKind row values fine) leaves
+    tells_more draft next row all_rows (behind_streams names draft (name ∷ rest) (stream ∷ streams) (result ∷ results)) (unfinished draft below) (row_sound draft OutputKind.Stream row values fine) leaves
     (tells_to next (behind_streams names next rest streams results) (behind_streams names draft (name ∷ rest) (stream ∷ streams) (result ∷ results)) all_rows same counted)

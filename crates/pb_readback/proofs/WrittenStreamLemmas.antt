@@ -14,11 +14,11 @@ use Rattle.pb_graph.specs.declared.records.Stream.{Stream}
 use Rattle.pb_graph.specs.declared.records.Member.{Member}
 use Rattle.pb_graph.specs.declared.records.Step.{Step}
 use Rattle.pb_graph.specs.declared.records.Witness.{Witness}
-use Rattle.pb_graph.specs.declared.records.Witness.TheVariants.{Cut as CutWitness, Cycle as CycleWitness}
-use Rattle.pb_graph.specs.declared.results.Bounds.{Bounds}
-use Rattle.pb_graph.specs.declared.results.StreamResult.{StreamResult}
+use Rattle.pb_study.specs.declared.results.Bounds.{Bounds}
+use Rattle.pb_study.specs.declared.results.StreamResult.{StreamResult}
 use Rattle.pb_graph.specs.ProcessGraph.{ProcessGraph, IsMeasurement, IsStream, IsWithinLimits}
-use Rattle.pb_graph.specs.WellFormed.{AreBoundsWithin, IsResultWithin, IsWitnessWithin}
+use Rattle.pb_study.specs.WellFormed.{AreBoundsWithin, IsResultWithin}
+use Rattle.pb_graph.specs.WellFormed.{IsWitnessWithin}
 use Rattle.pb_report.specs.Block.{high_end, low_end, result_row, written_least}
 use Rattle.pb_report.specs.Certificate.{parts_text, side_text}
 use Rattle.pb_report.specs.Names.{name_at}
@@ -30,7 +30,7 @@ use Rattle.pb_form.specs.Value.{Value, Number}
 use Rattle.pb_form.specs.Values.{number_in}
 use Rattle.pb_form.specs.Words.{class_words, shape_words}
 use Rattle.pb_form.specs.Writing.{FitEach, FitsIn, word_at}
-use Rattle.pb_form.specs.declared.output.OutputKind.TheVariants.{Stream as StreamKind}
+use Rattle.pb_form.specs.declared.output.OutputKind.{OutputKind}
 use Rattle.pb_choices.specs.Places.{class_place, placed_class, placed_shape, shape_place, witness_shape}
 use Rattle.pb_blocks.specs.declared.rows.StreamRow.{StreamRow}
 use Rattle.pb_blocks.specs.Beside.{has_bad_list, has_unknown_node, is_half}
@@ -133,8 +133,8 @@ stream_back names graph i stream result known joins =
 
 -- a certificate's side, as it is read: the side of a cycle has no node
 abbrev pub side_in : List (List ℕ) → Witness → List Bool
-side_in nodes (CutWitness side members) = side
-side_in nodes (CycleWitness steps) = side_of nodes []
+side_in nodes (Witness.Cut side members) = side
+side_in nodes (Witness.Cycle steps) = side_of nodes []
 
 -- what the row says about the result
 abbrev pub told_of : Names → StreamResult → StreamRow
@@ -150,12 +150,12 @@ told_of names result = record {
 
 side_told : (names : Names) (graph : ProcessGraph) (witness : Witness) → AreKnownNames names graph → IsWitnessWithin graph witness
     → side_of names.nodes (items (side_text names.nodes witness)) ≡ side_in names.nodes witness
-side_told names graph (CutWitness side members) known within =
+side_told names graph (Witness.Cut side members) known within =
     rw (side_items side names.nodes known.form_nodes) (side_back side names.nodes (within.0 ∙ sym known.each_node) known.apart_nodes)
-side_told names graph (CycleWitness steps) known within = refl
+side_told names graph (Witness.Cycle steps) known within = refl
 
 pub result_told : AreWritten → (names : Names) (graph : ProcessGraph) (i : ℕ) (stream : Stream) (result : StreamResult) → AreKnownNames names graph → IsResultWithin graph result
-    → said_stream names.nodes StreamKind (stream_fields names i stream result) (stream_values names i stream result) ≡ told_of names result
+    → said_stream names.nodes OutputKind.Stream (stream_fields names i stream result) (stream_values names i stream result) ≡ told_of names result
 result_told written names graph i stream result known within =
     rw (
       written.classes.there result.classified.class,
@@ -171,10 +171,10 @@ record AreGoodParts (names : Names) (witness : Witness) : Type 0 where
   pub known : list_any (names_no_stream names.streams) (items (parts_text names.streams witness)) ≡ false
 
 good_parts : (names : Names) (graph : ProcessGraph) (witness : Witness) → AreKnownNames names graph → IsWitnessWithin graph witness → AreGoodParts names witness
-good_parts names graph (CutWitness side members) known within =
+good_parts names graph (Witness.Cut side members) known within =
     let parts = members_back graph names.streams known.of_streams known.each_stream members within.1 in
     record { forms = parts.forms; known = parts.known }
-good_parts names graph (CycleWitness steps) known within =
+good_parts names graph (Witness.Cycle steps) known within =
     let parts = steps_back graph names.streams known.of_streams known.each_stream steps within in
     record { forms = parts.forms; known = parts.known }
 
@@ -185,14 +185,14 @@ record IsGoodSide (names : Names) (witness : Witness) : Type 0 where
   pub of_cut : (bytes_eq (word_at shape_words (shape_place (witness_shape witness))) (codes "cycle") && not (is_empty (side_text names.nodes witness))) ≡ false
 
 good_side : (names : Names) (graph : ProcessGraph) (witness : Witness) → AreKnownNames names graph → IsGoodSide names witness
-good_side names graph (CutWitness side members) known =
+good_side names graph (Witness.Cut side members) known =
     let read = side_items side names.nodes known.form_nodes in
     record {
       known = rw read (in_known [] side names.nodes);
       form = rw read (and_from _ _ (in_named side names.nodes known.form_nodes) (in_order 0 [] side names.nodes (omega arith) known.apart_nodes));
       of_cut = refl;
     }
-good_side names graph (CycleWitness steps) known = record { known = refl; form = refl; of_cut = refl }
+good_side names graph (Witness.Cycle steps) known = record { known = refl; form = refl; of_cut = refl }
 
 -- two nodes have two names
 ends_apart : (names : Names) (graph : ProcessGraph) (stream : Stream) → AreKnownNames names graph → IsStream graph.nodes stream
@@ -217,7 +217,7 @@ pub record IsAtStream (draft : Draft) (names : Names) (i : ℕ) : Type 0 where
 
 stream_fits : AreWritten → (names : Names) (graph : ProcessGraph) (i : ℕ) (stream : Stream) (result : StreamResult) → AreKnownNames names graph
     → IsStream graph.nodes stream → IsWithinLimits stream → IsResultWithin graph result → i < length names.streams
-    → FitEach (output_columns StreamKind) (stream_values names i stream result)
+    → FitEach (output_columns OutputKind.Stream) (stream_values names i stream result)
 stream_fits written names graph i stream result known joins limits within lt =
     let from : stream.from < length names.nodes = omega (arith, joins.from, known.each_node) in
     let to : stream.to < length names.nodes = omega (arith, joins.to, known.each_node) in
@@ -261,7 +261,7 @@ stream_fits written names graph i stream result known joins limits within lt =
 
 pub stream_fine : AreWritten → (draft : Draft) (names : Names) (graph : ProcessGraph) (i : ℕ) (stream : Stream) (result : StreamResult) → AreKnownNames names graph
     → IsStream graph.nodes stream → IsWithinLimits stream → IsResultWithin graph result → i < length names.streams → IsAtStream draft names i
-    → IsSoundRow draft StreamKind (stream_fields names i stream result) (stream_values names i stream result)
+    → IsSoundRow draft OutputKind.Stream (stream_fields names i stream result) (stream_values names i stream result)
 stream_fine written draft names graph i stream result known joins limits within lt at =
     let row = stream_fields names i stream result in
     let from : stream.from < length names.nodes = omega (arith, joins.from, known.each_node) in
@@ -269,9 +269,9 @@ stream_fine written draft names graph i stream result known joins limits within 
     let side = good_side names graph result.classified.witness known in
     let parts = good_parts names graph result.classified.witness known within.witness in
     let of_nodes = λ (P : List (List ℕ) → Type 0) (h : P names.nodes). subst P (sym at.nodes) h in
-    let ends : has_unknown_node names.nodes StreamKind row ≡ false =
+    let ends : has_unknown_node names.nodes OutputKind.Stream row ≡ false =
     rw (among_at names.nodes stream.from from, among_at names.nodes stream.to to) side.known in
-    let lists : has_bad_list names.nodes StreamKind row ≡ false = rw (side.form, side.of_cut, parts.forms) refl in
+    let lists : has_bad_list names.nodes OutputKind.Stream row ≡ false = rw (side.form, side.of_cut, parts.forms) refl in
     record {
       told = told_stream draft row at.awaits at.with_least refl;
       read = row_back written.texts (result_row names i stream result) (stream_fits written names graph i stream result known joins limits within lt);
@@ -279,9 +279,9 @@ stream_fine written draft names graph i stream result known joins limits within 
         whole = or_from _ _ (whole_meas written.numbers value_range variance_range stream.meas)
             (or_from _ _ (whole_bounds written.numbers wide_range wide_range result.bounds)
             (or_from _ _ (whole_bounds written.numbers wide_range wide_range (written_least result)) refl));
-        known = of_nodes (λ nodes. has_unknown_node nodes StreamKind row ≡ false) ends;
+        known = of_nodes (λ nodes. has_unknown_node nodes OutputKind.Stream row ≡ false) ends;
         new = at.new;
-        good = of_nodes (λ nodes. has_bad_list nodes StreamKind row ≡ false) lists;
+        good = of_nodes (λ nodes. has_bad_list nodes OutputKind.Stream row ≡ false) lists;
         apart = ends_apart names graph stream known joins;
       });
     }
@@ -312,7 +312,7 @@ result_back names graph result known within whole =
           side = side_in names.nodes witness;
           parts = parts_text names.streams witness;
         }) ≡ witness
-    by (CutWitness side members) h =
-        ap (λ (all : List Member). CutWitness side all) (members_back graph names.streams known.of_streams known.each_stream members h.1).value
-    by (CycleWitness steps) h =
-        ap (λ (all : List Step). CycleWitness all) (steps_back graph names.streams known.of_streams known.each_stream steps h).value
+    by (Witness.Cut side members) h =
+        ap (λ (all : List Member). Witness.Cut side all) (members_back graph names.streams known.of_streams known.each_stream members h.1).value
+    by (Witness.Cycle steps) h =
+        ap (λ (all : List Step). Witness.Cycle all) (steps_back graph names.streams known.of_streams known.each_stream steps h).value

@@ -10,13 +10,14 @@ use Rattle.std.proofs.lemmas.List.Sums.{position_or_len_is}
 use Rattle.pb_limits.specs.Limits.{most_gap, most_nodes, most_rounds, most_streams, most_sweeps, most_wide}
 use Rattle.pb_rows.specs.Name.{is_name}
 use Rattle.pb_rows.specs.declared.name.Names.{Names}
-use Rattle.pb_graph.specs.declared.results.Options.{Options}
-use Rattle.pb_graph.specs.declared.results.Stage.{Stage}
-use Rattle.pb_graph.specs.declared.results.Stop.{Stop}
-use Rattle.pb_graph.specs.declared.results.Taken.{Taken}
-use Rattle.pb_graph.specs.declared.results.StreamResult.{StreamResult}
+use Rattle.pb_study.specs.declared.results.Options.{Options}
+use Rattle.pb_study.specs.declared.results.Stage.{Stage}
+use Rattle.pb_study.specs.declared.results.Stop.{Stop}
+use Rattle.pb_study.specs.declared.results.Taken.{Taken}
+use Rattle.pb_study.specs.declared.results.StreamResult.{StreamResult}
 use Rattle.pb_graph.specs.ProcessGraph.{IsProcessGraph, IsStream, IsWithinLimits, ProcessGraph}
-use Rattle.pb_graph.specs.WellFormed.{HasShapeOf, IsPrice, IsResultWithin, IsWellFormed}
+use Rattle.pb_study.specs.WellFormed.{HasShapeOf, IsResultWithin, IsWellFormed}
+use Rattle.pb_graph.specs.WellFormed.{IsPrice}
 use Rattle.pb_report.specs.Block.{block_rows, end_row, node_row, report_row, result_row, solved_row}
 use Rattle.pb_report.specs.Names.{IsNamed}
 use Rattle.pb_report.specs.Row.{OutputRow, fields_of}
@@ -37,7 +38,7 @@ use Rattle.pb_readback.specs.declared.draft.Draft.{Draft}
 use Rattle.pb_readback.specs.Blocks.{block_of}
 use Rattle.pb_readback.specs.Drafts.{draft_of}
 use Rattle.pb_readback.specs.Faults.{first_unknown}
-use Rattle.pb_readback.specs.Next.{AreBlocks, ArePassedOver, IsFound, opened}
+use Rattle.pb_readback.specs.Next.{AreBlocks, ArePassedOver, IsFound, opened_draft}
 use Rattle.pb_readback.specs.Reading.{IsBlock}
 use Rattle.pb_readback.specs.Written.{AreBlockNames, AreOptionsWithin, HasBoundsForLeast, StudyRowsLaw, block_with, blocks_from, records_in}
 use Rattle.pb_readback.proofs.WrittenBlockLemmas.{Tells, all_nodes, behind_nodes, last_of, nodes_tell}
@@ -266,7 +267,7 @@ block_back written names period options round stage h =
     let rows = records_in (body_rows names period round stage) in
     let whole = whole_draft names period options round stage in
     let heading = heading_back written names period options round stage h in
-    let tells : Tells (opened first) rows whole =
+    let tells : Tells (opened_draft first) rows whole =
     subst (λ (head : Heading). Tells (draft_of head) rows whole) (sym heading) (body_tells written names period options round stage h) in
     record {
       opens = heading_fine written names period options round stage h;

@@ -11,17 +11,17 @@ use Rattle.pb_limits.specs.Limits.{most_critical, most_freedom, most_rounds, mos
 use Rattle.pb_limits.specs.Ranges.{IsCriticalValue}
 use Rattle.pb_rows.specs.Name.{is_name, same_name}
 use Rattle.pb_rows.specs.declared.name.Names.{Names}
-use Rattle.pb_graph.specs.declared.results.GlobalTest.{GlobalTest}
-use Rattle.pb_graph.specs.declared.results.NodalTest.{NodalTest}
-use Rattle.pb_graph.specs.declared.results.MeasureTest.{MeasureTest}
-use Rattle.pb_graph.specs.declared.results.Solved.{Solved as Met}
-use Rattle.pb_graph.specs.declared.results.Solved.TheVariants.{Converged, Unconverged}
-use Rattle.pb_graph.specs.declared.results.Stage.{Stage}
-use Rattle.pb_graph.specs.declared.results.Tests.{Tests}
-use Rattle.pb_graph.specs.declared.results.Verdict.{Verdict}
-use Rattle.pb_graph.specs.declared.results.Verdict.TheVariants.{NoTest}
+use Rattle.pb_study.specs.declared.results.GlobalTest.{GlobalTest}
+use Rattle.pb_study.specs.declared.results.NodalTest.{NodalTest}
+use Rattle.pb_study.specs.declared.results.MeasureTest.{MeasureTest}
+use Rattle.pb_study.specs.declared.results.Solved.{Solved as Met}
+use Rattle.pb_study.specs.declared.results.Solved.TheVariants.{Converged, Unconverged}
+use Rattle.pb_study.specs.declared.results.Stage.{Stage}
+use Rattle.pb_study.specs.declared.results.Tests.{Tests}
+use Rattle.pb_study.specs.declared.results.Verdict.{Verdict}
+use Rattle.pb_study.specs.declared.results.Verdict.TheVariants.{NoTest}
 use Rattle.pb_graph.specs.ProcessGraph.{ProcessGraph}
-use Rattle.pb_graph.specs.WellFormed.{AreTestsWithin, IsMeasureWithin, IsNodalWithin, IsWellFormed, IsWide, sweeps_of}
+use Rattle.pb_study.specs.WellFormed.{AreTestsWithin, IsMeasureWithin, IsNodalWithin, IsWellFormed, IsWide, sweeps_of}
 use Rattle.pb_report.specs.Block.{end_row, solved_row}
 use Rattle.pb_report.specs.Names.{name_at}
 use Rattle.pb_report.specs.Row.{OutputRow, fields_of, value_or_none}
@@ -40,7 +40,7 @@ use Rattle.pb_blocks.specs.Beside.{is_round}
 use Rattle.pb_blocks.specs.Lists.{is_among, place_of}
 use Rattle.pb_blocks.specs.Values.{said_global, said_measure, said_nodal, said_solution}
 use Rattle.pb_readback.specs.declared.draft.Draft.{Draft}
-use Rattle.pb_readback.specs.Drafts.{with_row}
+use Rattle.pb_readback.specs.Drafts.{draft_with_row}
 use Rattle.pb_readback.specs.Reading.{tests_begun}
 use Rattle.pb_readback.specs.Faults.{first_unknown}
 use Rattle.pb_readback.specs.Written.{records_in}
@@ -115,7 +115,7 @@ solved_tells written names draft stage at order formed =
     let state : met ≡ stage.solved = solved_back stage.solved (unwrap_or (placed_truth (truth_place (gap_met stage.solved))) false) (state_back written stage.solved) in
     let read : said_solution values ≡ solution_in stage =
     ap₂ (λ (s : Met) (h : Option ℤ). record { solved = s; g = stage.g; h = stage.h; dof = stage.dof; low = stage.low; high = h }) state (number_back stage.high) in
-    let leaves : with_row draft row ≡ next =
+    let leaves : draft_with_row draft row ≡ next =
     row_leaves draft Solved row values sound ∙ ap (λ (said : List Value). record draft { last = Solved; solution = said_solution said }) (values_back Solved row values sound.read)
     ∙ ap (λ (s : Solution). record draft { last = Solved; solution = s }) read in
     tells_more draft next row [] next at.known (row_sound draft Solved row values sound) leaves (tells_none next)
@@ -152,7 +152,7 @@ global_tells written names draft test at order range =
     } in
     let read : said_global values ≡ test =
     ap₂ (λ (c : Option ℤ) (v : Verdict). record { critical = c; verdict = v }) (number_back test.critical) (verdict_back written test.verdict) in
-    let leaves : with_row draft row ≡ next =
+    let leaves : draft_with_row draft row ≡ next =
     row_leaves draft Global row values sound ∙ ap (λ (said : List Value). with_tests draft Global (tests_begun said)) (values_back Global row values sound.read)
     ∙ ap (λ (t : GlobalTest). with_tests draft Global (only_global t)) read in
     tells_more draft next row [] next at.known (row_sound draft Global row values sound) leaves (tells_none next)
@@ -192,7 +192,7 @@ nodals_tell written names graph known draft kind tests (test ∷ todo) at order 
     ap₂ (λ (n : ℕ) (p : Option ℤ × Verdict). record { node = n; net = test.net; variance = test.variance; critical = p.0; verdict = p.1 }) place
     (ap₂ (λ (c : Option ℤ) (v : Verdict). (c, v)) (number_back test.critical) (verdict_back written test.verdict)) in
     let with = λ (t : NodalTest). with_tests draft Nodal (record tests { nodal = tests.nodal ++ t ∷ [] }) in
-    let leaves : with_row told row ≡ next =
+    let leaves : draft_with_row told row ≡ next =
     row_leaves told Nodal row values sound ∙ ap (λ (said : List Value). with (said_nodal draft.nodes row said)) (values_back Nodal row values sound.read) ∙ ap with read in
     let rest = nodals_tell written names graph known draft Nodal more todo at refl within.1 in
     let last = with_tests draft (last_of Nodal kind (test ∷ todo)) (record tests { nodal = tests.nodal ++ test ∷ todo }) in
@@ -240,7 +240,7 @@ measures_tell written names graph known draft kind tests (test ∷ todo) at orde
     ap₂ (λ (p : ℕ × Option ℤ) (q : Option ℤ × Verdict). record { stream = p.0; low = test.low; high = p.1; critical = q.0; verdict = q.1 })
     (ap₂ (λ (n : ℕ) (h : Option ℤ). (n, h)) place (number_back test.high)) (ap₂ (λ (c : Option ℤ) (v : Verdict). (c, v)) (number_back test.critical) (verdict_back written test.verdict)) in
     let with = λ (t : MeasureTest). with_tests draft Measure (record tests { measure = tests.measure ++ t ∷ [] }) in
-    let leaves : with_row told row ≡ next =
+    let leaves : draft_with_row told row ≡ next =
     row_leaves told Measure row values sound ∙ ap (λ (said : List Value). with (said_measure draft.streams row said)) (values_back Measure row values sound.read) ∙ ap with read in
     let rest = measures_tell written names graph known draft Measure more todo at refl within.1 in
     let last = with_tests draft (last_of Measure kind (test ∷ todo)) (record tests { measure = tests.measure ++ test ∷ todo }) in

@@ -8,11 +8,11 @@ use Rattle.std.proofs.lemmas.List.{map-append}
 use Rattle.std.proofs.lemmas.List.Folds.{list_all-append}
 use Rattle.pb_rows.specs.declared.name.Names.{Names}
 use Rattle.pb_rows.specs.Written.{begins_with_word}
-use Rattle.pb_graph.specs.declared.results.Options.{Options}
-use Rattle.pb_graph.specs.declared.results.Stage.{Stage}
-use Rattle.pb_graph.specs.declared.results.Stop.{Stop}
-use Rattle.pb_graph.specs.declared.results.Taken.{Taken}
-use Rattle.pb_graph.specs.declared.results.Tests.{Tests}
+use Rattle.pb_study.specs.declared.results.Options.{Options}
+use Rattle.pb_study.specs.declared.results.Stage.{Stage}
+use Rattle.pb_study.specs.declared.results.Stop.{Stop}
+use Rattle.pb_study.specs.declared.results.Taken.{Taken}
+use Rattle.pb_study.specs.declared.results.Tests.{Tests}
 use Rattle.pb_report.specs.Block.{block_rows, end_row, node_row, result_row, solved_row}
 use Rattle.pb_report.specs.Advice.{meter_row}
 use Rattle.pb_report.specs.Design.{class_row}

@@ -4,10 +4,10 @@ use Rattle.std.specs.Option.{option_map, option_map_or}
 use Rattle.std.specs.Result.{result_ok}
 use Rattle.pb_form.specs.declared.output.OutputKind.{OutputKind}
 use Rattle.pb_form.specs.declared.output.OutputKind.TheVariants.{Report, Node, Stream, StreamBefore, Solved, Global, Nodal, Measure, End}
-use Rattle.pb_graph.specs.declared.results.MeasureTest.{MeasureTest}
-use Rattle.pb_graph.specs.declared.results.NodalTest.{NodalTest}
-use Rattle.pb_graph.specs.declared.results.Solved.TheVariants.{Unconverged}
-use Rattle.pb_graph.specs.declared.results.Tests.{Tests}
+use Rattle.pb_study.specs.declared.results.MeasureTest.{MeasureTest}
+use Rattle.pb_study.specs.declared.results.NodalTest.{NodalTest}
+use Rattle.pb_study.specs.declared.results.Solved.TheVariants.{Unconverged}
+use Rattle.pb_study.specs.declared.results.Tests.{Tests}
 use Rattle.pb_blocks.specs.declared.rows.Heading.{Heading}
 use Rattle.pb_blocks.specs.Kinds.{kind_among}
 use Rattle.pb_blocks.specs.Texts.{name_field}
@@ -84,11 +84,11 @@ added Measure draft row =
 added kind draft row = draft
 
 -- the draft after one more row, if the row is of a kind that may come; this kind is then the kind of the last row
-abbrev pub with_row : Draft → List (List ℕ) → Draft
-with_row draft row =
+abbrev pub draft_with_row : Draft → List (List ℕ) → Draft
+draft_with_row draft row =
     option_map_or (λ kind. record (added kind draft row) { last = kind }) (result_ok (kind_among (kinds_next draft) row)) draft
 
 -- the draft after several more rows
 abbrev pub with_rows : Draft → List (List (List ℕ)) → Draft
 with_rows draft [] = draft
-with_rows draft (row ∷ rows) = with_rows (with_row draft row) rows
+with_rows draft (row ∷ rows) = with_rows (draft_with_row draft row) rows

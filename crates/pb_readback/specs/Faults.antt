@@ -44,12 +44,12 @@ fault_beside End draft row =
 fault_beside kind draft row = None
 
 -- The lowest fault of a row of a kind that may come next.
-abbrev pub fault_of : OutputKind → Draft → List (List ℕ) → Option RowFault
-fault_of kind draft row = lowest (form_fault (row_read (output_schema kind) row)) (fault_beside kind draft row)
+abbrev pub row_fault_of : OutputKind → Draft → List (List ℕ) → Option RowFault
+row_fault_of kind draft row = lowest (form_fault (row_read (output_schema kind) row)) (fault_beside kind draft row)
 
 -- The lowest fault of a row after the heading and the rows of a draft.
 abbrev pub fault_behind : Draft → List (List ℕ) → Option RowFault
-fault_behind draft row = fault_as (λ kind. fault_of kind draft row) (kind_among (kinds_next draft) row)
+fault_behind draft row = fault_as (λ kind. row_fault_of kind draft row) (kind_among (kinds_next draft) row)
 
 -- the first stream of a block whose parts name an unknown stream, once all streams are read
 abbrev pub first_unknown : Draft → Option ℕ

@@ -17,5 +17,5 @@ JoinLaw =
     → AreBlocks (front ++ back) (blocks ++ more)
 
 -- a block that is read is well formed
-abbrev pub FormedLaw : Type 0
-FormedLaw = (records rest : List (List (List ℕ))) (block : Block) → IsFound records block rest → IsWellFormedBlock block
+abbrev pub FormedBlockLaw : Type 0
+FormedBlockLaw = (records rest : List (List (List ℕ))) (block : Block) → IsFound records block rest → IsWellFormedBlock block

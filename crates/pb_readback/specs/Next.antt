@@ -12,7 +12,7 @@ use Rattle.pb_readback.specs.declared.block.Block.{Block}
 use Rattle.pb_readback.specs.declared.draft.Draft.{Draft}
 use Rattle.pb_readback.specs.declared.reading.ReadRefused.{ReadRefused}
 use Rattle.pb_readback.specs.declared.reading.ReadRefused.TheVariants.{At, NoMemory}
-use Rattle.pb_readback.specs.Drafts.{draft_of, with_row, with_rows}
+use Rattle.pb_readback.specs.Drafts.{draft_of, draft_with_row, with_rows}
 use Rattle.pb_readback.specs.Faults.{fault_behind, first_unknown}
 use Rattle.pb_readback.specs.Blocks.{block_of}
 
@@ -32,11 +32,11 @@ ArePassedOver rows = list_all is_passed_over rows ≡ true
 abbrev pub AreSound : Draft → List (List (List ℕ)) → Type 0
 AreSound draft [] = Unit {0}
 AreSound draft (row ∷ rows) =
-    (first_unknown draft ≡ None) × (fault_behind draft row ≡ None) × AreSound (with_row draft row) rows
+    (first_unknown draft ≡ None) × (fault_behind draft row ≡ None) × AreSound (draft_with_row draft row) rows
 
 -- what a row that opens a block says
-abbrev pub opened : List (List ℕ) → Draft
-opened row = draft_of (said_heading row (values_in Report row))
+abbrev pub opened_draft : List (List ℕ) → Draft
+opened_draft row = draft_of (said_heading row (values_in Report row))
 
 -- the fault after the rows of an incomplete block: the fault of the next row, or that there is no next row
 abbrev pub fault_next : Draft → List (List (List ℕ)) → Option RowFault
@@ -62,10 +62,10 @@ pub record IsFound (records : List (List (List ℕ))) (block : Block) (rest : Li
   pub split : records ≡ passed ++ first ∷ (rows ++ rest)
   pub skipped : ArePassedOver passed
   pub opens : opening_fault first ≡ None
-  pub sound : AreSound (opened first) rows
-  pub known : first_unknown (with_rows (opened first) rows) ≡ None
-  pub ends : (with_rows (opened first) rows).last ≡ End
-  pub value : block ≡ block_of (with_rows (opened first) rows)
+  pub sound : AreSound (opened_draft first) rows
+  pub known : first_unknown (with_rows (opened_draft first) rows) ≡ None
+  pub ends : (with_rows (opened_draft first) rows).last ≡ End
+  pub value : block ≡ block_of (with_rows (opened_draft first) rows)
 
 -- A first row that isn't passed over doesn't begin a block with the records after it: it doesn't open a block, or a row after it
 -- can't be read. This is the number of the first row that has a fault, counted from the first row, and these records are left.
@@ -73,7 +73,7 @@ abbrev pub IsNoBlock : List (List ℕ) → List (List (List ℕ)) → ℕ → Ro
 IsNoBlock first behind number fault left =
     ((opening_fault first ≡ Some fault) × (number ≡ 1) × (left ≡ behind))
     ⊎ ((opening_fault first ≡ None) × (rows : List (List (List ℕ))) × (rest : List (List (List ℕ))) × (behind ≡ rows ++ rest)
-    × AreSound (opened first) rows × IsFault (with_rows (opened first) rows) (length rows) rest number fault left)
+    × AreSound (opened_draft first) rows × IsFault (with_rows (opened_draft first) rows) (length rows) rest number fault left)
 
 -- after rows that are passed over comes another row, and no block begins with it
 pub record IsRefused (at : ℕ) (records : List (List (List ℕ))) (number : ℕ) (fault : RowFault) (left : List (List (List ℕ))) : Type 0 where
@@ -113,6 +113,6 @@ IsWithinGiven old new = (old.taken ≤ new.taken) × (new.taken + length new.lef
 
 -- if a row can't be read: what comes next, and that no record after it was taken; out of memory: that every record that counts
 -- was given
-abbrev pub Tells : RecordsLeft → RecordsLeft → ReadRefused → Type 0
-Tells old new (At number fault) = IsNext old.taken old.left (Refused number fault new.left) × AreCounted old new
-Tells old new NoMemory = IsWithinGiven old new
+abbrev pub IsReadRefused : RecordsLeft → RecordsLeft → ReadRefused → Type 0
+IsReadRefused old new (At number fault) = IsNext old.taken old.left (Refused number fault new.left) × AreCounted old new
+IsReadRefused old new NoMemory = IsWithinGiven old new

@@ -2,17 +2,16 @@
 use Rattle.std.specs.Prelude.{◌≡◌, ◌≢◌, ◌⊎◌, ◌≤◌, ◌+◌, ◌==◌, ℕ, pos, Bool, true, false, nat_lt, List, [], ◌∷◌, ◌++◌, length, map, Option, Some, None}
 use Rattle.std.specs.List.{list_any}
 use Rattle.pb_form.specs.declared.output.OutputKind.{OutputKind}
-use Rattle.pb_form.specs.declared.output.OutputKind.TheVariants.{Node, Stream as StreamKind, StreamBefore, Solved, Global, Nodal, Measure, End}
+use Rattle.pb_form.specs.declared.output.OutputKind.TheVariants.{Node, StreamBefore, Solved, Global, Nodal, Measure, End}
 use Rattle.pb_form.specs.Value.{Value}
 use Rattle.pb_rows.specs.RecordsLeft.{RecordsLeft}
 use Rattle.pb_graph.specs.declared.records.Member.{Member}
 use Rattle.pb_graph.specs.declared.records.Step.{Step}
 use Rattle.pb_graph.specs.declared.records.Stream.{Stream}
 use Rattle.pb_graph.specs.declared.records.Witness.{Witness}
-use Rattle.pb_graph.specs.declared.records.Witness.TheVariants.{Cut as CutWitness, Cycle as CycleWitness}
-use Rattle.pb_graph.specs.declared.results.Solved.TheVariants.{Unconverged}
-use Rattle.pb_graph.specs.declared.results.StreamResult.{StreamResult}
-use Rattle.pb_graph.specs.declared.results.Tests.{Tests}
+use Rattle.pb_study.specs.declared.results.Solved.TheVariants.{Unconverged}
+use Rattle.pb_study.specs.declared.results.StreamResult.{StreamResult}
+use Rattle.pb_study.specs.declared.results.Tests.{Tests}
 use Rattle.pb_graph.specs.ProcessGraph.{IsStream, IsWithinLimits}
 use Rattle.pb_blocks.specs.declared.fault.RowFault.{RowFault}
 use Rattle.pb_blocks.specs.declared.fault.RowFault.TheVariants.{Unknown, Ended}
@@ -29,7 +28,7 @@ use Rattle.pb_readback.specs.declared.reading.ReadRefused.TheVariants.{At, NoMem
 use Rattle.pb_readback.specs.Blocks.{block_of}
 use Rattle.pb_readback.specs.Drafts.{added, with_rows}
 use Rattle.pb_readback.specs.Faults.{fault_behind, first_unknown}
-use Rattle.pb_readback.specs.Next.{AreCounted, ArePassedOver, AreSound, IsFault, IsWithinGiven, opened}
+use Rattle.pb_readback.specs.Next.{AreCounted, ArePassedOver, AreSound, IsFault, IsWithinGiven, opened_draft}
 
 -- the solution before its row has come
 abbrev pub no_solution : Solution
@@ -62,7 +61,7 @@ HasAll draft =
 -- a row of this kind may come next
 abbrev pub MayCome : Draft → OutputKind → Type 0
 MayCome draft Node = AwaitsNodes draft
-MayCome draft StreamKind = AwaitsStreams draft
+MayCome draft OutputKind.Stream = AwaitsStreams draft
 MayCome draft StreamBefore = AwaitsStreams draft
 MayCome draft Solved = HasAll draft × (draft.last ≢ End)
 MayCome draft Global = HasAll draft × (draft.last ≢ End)
@@ -73,7 +72,7 @@ MayCome draft kind = ⊥
 
 -- the row of a stream, in either form
 abbrev pub is_stream_kind : OutputKind → Bool
-is_stream_kind StreamKind = true
+is_stream_kind OutputKind.Stream = true
 is_stream_kind StreamBefore = true
 is_stream_kind kind = false
 
@@ -93,8 +92,8 @@ pub record IsStreamOf (draft : Draft) (stream : Stream) : Type 0 where
 
 -- a certificate that has the stream of this number
 abbrev pub has_stream : ℕ → Witness → Bool
-has_stream stream (CutWitness side members) = list_any (λ (m : Member). m.stream == stream) members
-has_stream stream (CycleWitness steps) = list_any (λ (t : Step). t.stream == stream) steps
+has_stream stream (Witness.Cut side members) = list_any (λ (m : Member). m.stream == stream) members
+has_stream stream (Witness.Cycle steps) = list_any (λ (t : Step). t.stream == stream) steps
 
 -- a result whose certificate has the stream of this number
 abbrev pub is_on_stream : ℕ → StreamResult → Bool
@@ -108,10 +107,10 @@ KeepsResults draft results =
 -- the rows of a whole block: the row that opens it, and the rows after it up to the end
 pub record IsBlock (first : List (List ℕ)) (rows : List (List (List ℕ))) (block : Block) : Type 0 where
   pub opens : opening_fault first ≡ None
-  pub sound : AreSound (opened first) rows
-  pub known : first_unknown (with_rows (opened first) rows) ≡ None
-  pub ends : (with_rows (opened first) rows).last ≡ End
-  pub value : block ≡ block_of (with_rows (opened first) rows)
+  pub sound : AreSound (opened_draft first) rows
+  pub known : first_unknown (with_rows (opened_draft first) rows) ≡ None
+  pub ends : (with_rows (opened_draft first) rows).last ≡ End
+  pub value : block ≡ block_of (with_rows (opened_draft first) rows)
 
 -- after rows that are passed over comes another row, or none
 abbrev pub Skips : List (List (List ℕ)) → List (List (List ℕ)) → Option (List (List ℕ)) → Type 0
@@ -137,7 +136,7 @@ pub record IsReadWhole (start : Draft) (all rest : List (List (List ℕ))) (bloc
   pub value : block ≡ block_of (with_rows start rows)
 
 -- a block that breaks off after its first row, which has the number `opened`
-pub record IsBroken (start : Draft) (all : List (List (List ℕ))) (opened number : ℕ) (fault : RowFault)
+pub record IsBroken (start : Draft) (all : List (List (List ℕ))) (opened_draft number : ℕ) (fault : RowFault)
     (left : List (List (List ℕ))) : Type 0 where
   pub rows : List (List (List ℕ))
   pub rest : List (List (List ℕ))
@@ -145,7 +144,7 @@ pub record IsBroken (start : Draft) (all : List (List (List ℕ))) (opened numbe
   pub split : all ≡ rows ++ rest
   pub sound : AreSound start rows
   pub cause : IsFault (with_rows start rows) (length rows) rest within fault left
-  pub place : number + 1 ≡ opened + within
+  pub place : number + 1 ≡ opened_draft + within
 
 -- a refusal if no record is left
 abbrev pub Ends : RecordsLeft → RecordsLeft → ReadRefused → Type 0
@@ -159,9 +158,9 @@ RefusesRow draft row number NoMemory = Unit {0}
 
 -- a refusal of a stream of a draft for its parts; the block's first row has this number
 abbrev pub RefusesPart : Draft → ℕ → ReadRefused → Type 0
-RefusesPart draft opened (At number fault) =
-    (stream : ℕ) × (first_unknown draft ≡ Some stream) × (number ≡ opened + draft.heading.nodes + stream + 1) × (fault ≡ Unknown)
-RefusesPart draft opened NoMemory = Unit {0}
+RefusesPart draft opened_draft (At number fault) =
+    (stream : ℕ) × (first_unknown draft ≡ Some stream) × (number ≡ opened_draft + draft.heading.nodes + stream + 1) × (fault ≡ Unknown)
+RefusesPart draft opened_draft NoMemory = Unit {0}
 
 -- what a refusal after a first row says; the first row is the last one taken before
 abbrev pub Breaks : Draft → RecordsLeft → RecordsLeft → ReadRefused → Type 0
@@ -170,11 +169,11 @@ Breaks start old new NoMemory = IsWithinGiven old new
 
 -- a block whose first row is this one
 abbrev pub IsReadFrom : List (List ℕ) → List (List (List ℕ)) → List (List (List ℕ)) → Block → Type 0
-IsReadFrom first all rest block = (opening_fault first ≡ None) × IsReadWhole (opened first) all rest block
+IsReadFrom first all rest block = (opening_fault first ≡ None) × IsReadWhole (opened_draft first) all rest block
 
 -- what a refusal says about a first row, the last one taken before, and about the rows after it
 abbrev pub BreaksFrom : List (List ℕ) → RecordsLeft → RecordsLeft → ReadRefused → Type 0
 BreaksFrom first old new (At number fault) =
     ((opening_fault first ≡ Some fault) × (number ≡ old.taken) × (new ≡ old))
-    ⊎ ((opening_fault first ≡ None) × IsBroken (opened first) old.left old.taken number fault new.left × AreCounted old new)
+    ⊎ ((opening_fault first ≡ None) × IsBroken (opened_draft first) old.left old.taken number fault new.left × AreCounted old new)
 BreaksFrom first old new NoMemory = IsWithinGiven old new

@@ -4,7 +4,7 @@ use Rattle.std.specs.List.{list_all}
 use Rattle.pb_limits.specs.Limits.{most_gap, most_rounds, most_sweeps}
 use Rattle.pb_rows.specs.Name.{is_name}
 use Rattle.pb_graph.specs.ProcessGraph.{IsProcessGraph}
-use Rattle.pb_graph.specs.WellFormed.{IsWellFormed}
+use Rattle.pb_study.specs.WellFormed.{IsWellFormed}
 use Rattle.pb_report.specs.Names.{IsNamed}
 use Rattle.pb_readback.specs.declared.block.Block.{Block}
 use Rattle.pb_blocks.specs.Lists.{differ}

@@ -7,10 +7,10 @@ use Rattle.pb_rows.specs.Name.{is_name, same_name}
 use Rattle.pb_rows.specs.Records.{records_of}
 use Rattle.pb_rows.specs.Written.{begins_with_word}
 use Rattle.pb_graph.specs.declared.records.Classified.{Classified}
-use Rattle.pb_graph.specs.declared.results.Options.{Options}
-use Rattle.pb_graph.specs.declared.results.Stage.{Stage}
-use Rattle.pb_graph.specs.declared.results.StreamResult.{StreamResult}
-use Rattle.pb_graph.specs.declared.results.Study.{Study}
+use Rattle.pb_study.specs.declared.results.Options.{Options}
+use Rattle.pb_study.specs.declared.results.Stage.{Stage}
+use Rattle.pb_study.specs.declared.results.StreamResult.{StreamResult}
+use Rattle.pb_study.specs.declared.results.Study.{Study}
 use Rattle.pb_graph.specs.ProcessGraph.{IsProcessGraph, ProcessGraph}
 use Rattle.pb_advise.specs.declared.advice.Advice.{Advice}
 use Rattle.pb_window.specs.declared.names.WindowPlace.{WindowPlace}
@@ -36,15 +36,15 @@ abbrev pub records_in : List OutputRow → List (List (List ℕ))
 records_in rows = map fields_of rows
 
 -- no two of these names are the same
-abbrev pub AreDistinct : List (List ℕ) → Type 0
-AreDistinct names = AllPairs (λ one other. same_name one other ≡ false) names
+abbrev pub AreAllDifferent : List (List ℕ) → Type 0
+AreAllDifferent names = AllPairs (λ one other. same_name one other ≡ false) names
 
 -- names of nodes and of streams, none of which occurs twice; the first node is the environment
 pub record AreBlockNames (names : Names) : Type 0 where
   pub node_forms : list_all is_name names.nodes ≡ true
   pub stream_forms : list_all is_name names.streams ≡ true
-  pub nodes_differ : AreDistinct names.nodes
-  pub streams_differ : AreDistinct names.streams
+  pub nodes_differ : AreAllDifferent names.nodes
+  pub streams_differ : AreAllDifferent names.streams
   pub env : slice_index_or names.nodes 0 [] ≡ codes "env"
 
 -- the options of a study are within the limits

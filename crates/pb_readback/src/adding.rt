@@ -8,17 +8,14 @@ ghost use Rattle.pb_graph.specs.ProcessGraph.{IsStream};
 ghost use Rattle.pb_form.specs.OutputRows.{output_columns, output_schema};
 ghost use Rattle.pb_form.specs.Reading.{row_read};
 ghost use Rattle.pb_form.specs.Writing.{FitEach};
-ghost use Rattle.pb_form.specs.declared.output.OutputKind.TheVariants.{Global as GlobalKind, Node};
+ghost use Rattle.pb_form.specs.declared.output.OutputKind.TheVariants.{Node};
 ghost use Rattle.pb_blocks.specs.Counts.{IsHeading, IsStreamKind};
 ghost use Rattle.pb_blocks.specs.Lists.{is_among};
 ghost use Rattle.pb_blocks.specs.Texts.{name_field};
 ghost use Rattle.pb_blocks.specs.Values.{said_arc, values_in};
-ghost use Rattle.pb_readback.specs.Drafts.{draft_of, with_measure, with_nodal, with_row, with_stream};
-ghost use Rattle.pb_readback.specs.Reading.{no_solution};
-ghost use Rattle.pb_readback.specs.Reading.{with_node};
-ghost use Rattle.pb_readback.specs.Reading.{tests_begun, told_with};
-ghost use Rattle.pb_readback.specs.Faults.{fault_behind, fault_beside, fault_of};
-ghost use Rattle.pb_readback.specs.Reading.{IsUnderWay, MayCome};
+ghost use Rattle.pb_readback.specs.Drafts.{draft_of, draft_with_row, with_measure, with_nodal, with_stream};
+ghost use Rattle.pb_readback.specs.Reading.{no_solution, with_node, tests_begun, told_with, IsUnderWay, MayCome};
+ghost use Rattle.pb_readback.specs.Faults.{fault_behind, fault_beside, row_fault_of};
 
 use crate::draft::Draft;
 use pb_blocks::{
@@ -26,8 +23,9 @@ use pb_blocks::{
     said_global, said_measure, said_nodal, said_solution, said_stream,
 };
 use pb_form::{Fields, OutputKind, Values, output_schema, read};
-use pb_graph::{Graph, List, MeasureTest, NodalTest, Solved, Tests};
+use pb_graph::{Graph, List};
 use pb_rows::Row;
+use pb_study::{MeasureTest, NodalTest, Solved, Tests};
 use std::alloc::{AllocError, Global};
 
 impl Draft {
@@ -53,7 +51,7 @@ impl Draft {
     pub(crate) fn read(&mut self, alloc: Global, row: &Row) -> Result<Option<RowFault>, AllocError>
         requires { IsUnderWay self.old }
         ensures fault { IfOk result (λ fault. fault ≡ fault_behind self.old row.now) }
-        ensures told { IfOk result (λ fault. fault ≡ None → self.new ≡ with_row self.old row.now) }
+        ensures told { IfOk result (λ fault. fault ≡ None → self.new ≡ draft_with_row self.old row.now) }
     {
         let fields = Fields::all(row);
         match kind_among(self.kinds_next(), &fields) {
@@ -71,7 +69,7 @@ impl Draft {
     ) -> Result<Option<RowFault>, AllocError>
         requires way { IsUnderWay self.old }
         requires may { MayCome self.old kind }
-        ensures fault { IfOk result (λ fault. fault ≡ fault_of kind self.old fields.now) }
+        ensures fault { IfOk result (λ fault. fault ≡ row_fault_of kind self.old fields.now) }
         ensures told { IfOk result
             (λ fault. fault ≡ None → self.new ≡ told_with kind self.old fields.now) }
     {
@@ -179,7 +177,7 @@ fn no_solution() -> Solution
 
 // The global test, and no other test yet.
 fn no_tests(alloc: Global, values: &Values) -> Tests
-    requires { FitEach (output_columns GlobalKind) values.now }
+    requires { FitEach (output_columns OutputKind.Global) values.now }
     ensures { result ≡ tests_begun values.now }
 {
     Tests {

@@ -12,8 +12,9 @@ ghost use Rattle.pb_readback.specs.Reading.{has_stream, is_on_stream, is_stream_
 use crate::draft::Draft;
 use pb_blocks::{Known, StreamRow, result_of};
 use pb_form::OutputKind;
-use pb_graph::{List, Member, Stage, Step, StreamResult, Witness};
+use pb_graph::{List, Member, Step, Witness};
 use pb_rows::{Name, Names};
+use pb_study::{Stage, StreamResult};
 use std::alloc::{AllocError, Global};
 
 /// A stage of a report, with the names of its period, its nodes and its streams, its round, and the gap in thousandths and the

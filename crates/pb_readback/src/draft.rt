@@ -5,7 +5,8 @@ ghost use Rattle.pb_readback.specs.Drafts.{kinds_after, kinds_next, stream_kinds
 
 use pb_blocks::{Heading, Known, Solution, StreamRow};
 use pb_form::OutputKind;
-use pb_graph::{Graph, List, Tests};
+use pb_graph::{Graph, List};
+use pb_study::Tests;
 
 /// What the rows of a block have said so far, and the kind of the last row. The solution is what the `solved` row says, once it has
 /// come.

@@ -1,6 +1,6 @@
 // Laws about records that are read.
 
-ghost use Rattle.pb_readback.specs.Laws.{FormedLaw, JoinLaw, NextLaw};
+ghost use Rattle.pb_readback.specs.Laws.{FormedBlockLaw, JoinLaw, NextLaw};
 
 /// The law that exactly one thing comes next in records.
 pub fn next_law()
@@ -14,5 +14,5 @@ pub fn join_law()
 
 /// The law that a block that is read is well formed.
 pub fn formed_law()
-    ensures law { FormedLaw }
+    ensures law { FormedBlockLaw }
 {}

@@ -5,18 +5,19 @@ ghost use Rattle.pb_rows.specs.RecordsLeft.{TakesNext};
 ghost use Rattle.pb_limits.specs.Limits.{most_streams};
 ghost use Rattle.pb_blocks.specs.Counts.{IsHeading};
 ghost use Rattle.pb_blocks.specs.Results.{result_of};
-ghost use Rattle.pb_readback.specs.declared.reading.ReadRefused.TheVariants.{At};
+ghost use Rattle.pb_readback.specs.declared.reading.ReadRefused.TheVariants.{At, NoMemory};
 ghost use Rattle.pb_readback.specs.Faults.{fault_behind, first_unknown};
-ghost use Rattle.pb_readback.specs.Drafts.{draft_of, with_row};
-ghost use Rattle.pb_readback.specs.Next.{AreCounted, IsNext, IsWithinGiven, Tells, next_by};
+ghost use Rattle.pb_readback.specs.Drafts.{draft_of, draft_with_row};
+ghost use Rattle.pb_readback.specs.Next.{AreCounted, IsNext, IsReadRefused, IsWithinGiven, next_by};
 ghost use Rattle.pb_readback.specs.Reading.{Breaks, BreaksFrom, Ends, IsReadFrom, IsReadWhole, IsUnderWay, KeepsResults, RefusesPart, RefusesRow, Skips, is_stream_kind};
 ghost use Rattle.pb_readback.specs.WellFormed.{IsWellFormedBlock};
 
 use crate::block::{Block, first_on_stream};
 use crate::draft::Draft;
 use pb_blocks::{Heading, RowFault, heading_in, is_passed_over};
-use pb_graph::{List, StreamResult};
+use pb_graph::List;
 use pb_rows::{Records, Row};
+use pb_study::StreamResult;
 use std::alloc::{AllocError, Global};
 
 /// Why no block is read: the number of the first row that has a fault, and its fault; or out of memory.
@@ -24,6 +25,14 @@ use std::alloc::{AllocError, Global};
 pub enum ReadRefused {
     At { row: u32, fault: RowFault },
     NoMemory,
+}
+
+impl From<AllocError> for ReadRefused {
+    ghost from_gives = { λ _ refused. refused ≡ NoMemory };
+
+    fn from(_: AllocError) -> ReadRefused {
+        ReadRefused::NoMemory
+    }
 }
 
 /// Reads the next block. `Ok(None)` exactly when none follows and each record left is one that is passed over; `At` exactly at the
@@ -34,18 +43,14 @@ pub fn read(alloc: Global, records: &mut Records) -> Result<Option<Block>, ReadR
     requires few { records.old.taken + length records.old.left < 2 ^ 31 }
     ensures next { IfOk result
         (λ found. IsNext records.old.taken records.old.left (next_by found records.new.left)) }
-    ensures refused { IfErr result (Tells records.old records.new) }
+    ensures refused { IfErr result (IsReadRefused records.old records.new) }
     ensures counted { OnOk result (AreCounted records.old records.new) }
     ensures formed { IfOk result (λ found. IfSome found IsWellFormedBlock) }
 {
-    match first_row(records) {
-        Err(_) => Err(ReadRefused::NoMemory),
-        Ok(None) => Ok(None),
-        Ok(Some(row)) => match block_from(alloc, &row, records) {
-            Ok(block) => Ok(Some(block)),
-            Err(refused) => Err(refused),
-        },
-    }
+    let Some(row) = first_row(records)? else {
+        return Ok(None);
+    };
+    Ok(Some(block_from(alloc, &row, records)?))
 }
 
 // Takes the rows that are passed over, and the first row that isn't.
@@ -71,10 +76,7 @@ fn block_from(alloc: Global, first: &Row, records: &mut Records) -> Result<Block
 {
     match heading_in(first) {
         Ok(heading) => block_of(alloc, heading, records),
-        Err(fault) => Err(ReadRefused::At {
-            row: records.taken() as u32,
-            fault,
-        }),
+        Err(fault) => Err(refused(records.taken() as u32, fault)),
     }
 }
 
@@ -94,10 +96,7 @@ fn block_of(alloc: Global, heading: Heading, records: &mut Records) -> Result<Bl
         add_row(alloc, &mut draft, &row, records.taken() as u32)?;
         look_up(alloc, &draft, opened, &mut results)?;
     }
-    match draft.block(results, alloc) {
-        Ok(block) => Ok(block),
-        Err(_) => Err(ReadRefused::NoMemory),
-    }
+    Ok(draft.block(results, alloc)?)
 }
 
 // Takes the next row of a block that isn't at its end.
@@ -106,10 +105,9 @@ fn next_row(records: &mut Records) -> Result<Row, ReadRefused>
     ensures ok { IfOk result (λ row. TakesNext records.old records.new (Some row)) }
     ensures err { IfErr result (Ends records.old records.new) }
 {
-    match records.next() {
-        Ok(Some(row)) => Ok(row),
-        Ok(None) => Err(refused(records.taken() as u32 + 1, RowFault::Ended)),
-        Err(_) => Err(ReadRefused::NoMemory),
+    match records.next()? {
+        Some(row) => Ok(row),
+        None => Err(refused(records.taken() as u32 + 1, RowFault::Ended)),
     }
 }
 
@@ -117,13 +115,12 @@ fn next_row(records: &mut Records) -> Result<Row, ReadRefused>
 fn add_row(alloc: Global, draft: &mut Draft, row: &Row, number: u32) -> Result<(), ReadRefused>
     requires way { IsUnderWay draft.old }
     ensures fine { OnOk result (fault_behind draft.old row.now ≡ None) }
-    ensures told { OnOk result (draft.new ≡ with_row draft.old row.now) }
+    ensures told { OnOk result (draft.new ≡ draft_with_row draft.old row.now) }
     ensures err { IfErr result (RefusesRow draft.old row.now number) }
 {
-    match draft.read(alloc, row) {
-        Ok(None) => Ok(()),
-        Ok(Some(fault)) => Err(refused(number, fault)),
-        Err(_) => Err(ReadRefused::NoMemory),
+    match draft.read(alloc, row)? {
+        None => Ok(()),
+        Some(fault) => Err(refused(number, fault)),
     }
 }
 
@@ -146,10 +143,7 @@ fn look_up(
     if !draft.is_at_last_stream() {
         return Ok(());
     }
-    match draft.results(alloc) {
-        Ok(found) => *results = found,
-        Err(_) => return Err(ReadRefused::NoMemory),
-    }
+    *results = draft.results(alloc)?;
     match unknown_in(draft, results.as_slice()) {
         Some(stream) => {
             let row = opened + draft.heading.nodes + stream + 1;
@@ -167,10 +161,7 @@ fn unknown_in(draft: &Draft, results: &[StreamResult]) -> Option<u32>
     ensures value { result ≡ first_unknown draft.now }
     ensures few { IfSome result (λ stream. stream < most_streams) }
 {
-    match first_on_stream(results, draft.heading.streams) {
-        Some(stream) => Some(stream as u32),
-        None => None,
-    }
+    Some(first_on_stream(results, draft.heading.streams)? as u32)
 }
 
 fn refused(row: u32, fault: RowFault) -> ReadRefused

@@ -2,7 +2,7 @@
 use Rattle.std.specs.List.{flat_map}
 use Rattle.std.proofs.Common.{◌≡◌, ◌∙◌, ℕ, zero, suc, ◌+◌, ◌<◌, ◌≤◌, ◌==◌, List, [], ◌∷◌, ◌++◌, length, get_or, drop, Bool, true, false, codes, refl, sym, ap, append_assoc, append-nil, arith}
 use Rattle.std.proofs.lemmas.Bool.{ne_eqb}
-use Rattle.pb_integers.proofs.Lists.{drop_next}
+use Rattle.pb_fixed.proofs.Lists.{drop_next}
 use Rattle.pb_report.specs.Certificate.{spaced, names_in}
 use Rattle.pb_report.specs.Pieces.{gap_before}
 

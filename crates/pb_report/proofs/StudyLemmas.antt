@@ -2,13 +2,13 @@
 use Rattle.std.specs.Prelude.{All}
 use Rattle.std.proofs.Common.{◌≡◌, ◌∙◌, ℕ, ◌+◌, ◌<◌, List, ◌∷◌, ◌++◌, length, get_or, drop, slice_get, Some, [], refl, sym, ap, subst}
 use Rattle.std.proofs.lemmas.Option.{slice_get_within, get_or_from_slice_get}
-use Rattle.pb_integers.proofs.Lists.{drop_next}
+use Rattle.pb_fixed.proofs.Lists.{drop_next}
 use Rattle.pb_rows.specs.declared.name.Names.{Names}
-use Rattle.pb_graph.specs.declared.results.Options.{Options}
-use Rattle.pb_graph.specs.declared.results.Stage.{Stage}
-use Rattle.pb_graph.specs.declared.results.Taken.{Taken}
+use Rattle.pb_study.specs.declared.results.Options.{Options}
+use Rattle.pb_study.specs.declared.results.Stage.{Stage}
+use Rattle.pb_study.specs.declared.results.Taken.{Taken}
 use Rattle.pb_graph.specs.ProcessGraph.{ProcessGraph}
-use Rattle.pb_graph.specs.WellFormed.{HasShapeOf}
+use Rattle.pb_study.specs.WellFormed.{HasShapeOf}
 use Rattle.pb_report.specs.Block.{block_rows}
 use Rattle.pb_report.specs.Names.{IsNamed}
 use Rattle.pb_report.specs.Row.{OutputRow}

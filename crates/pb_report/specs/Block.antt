@@ -6,12 +6,12 @@ use Rattle.pb_form.specs.Value.{Value, Name, Number, Word}
 use Rattle.pb_form.specs.declared.output.OutputKind.TheVariants as kind
 use Rattle.pb_graph.specs.declared.records.Meas.{Meas}
 use Rattle.pb_graph.specs.declared.records.Stream.{Stream}
-use Rattle.pb_graph.specs.declared.results.Bounds.{Bounds}
-use Rattle.pb_graph.specs.declared.results.StreamResult.{StreamResult}
-use Rattle.pb_graph.specs.declared.results.Options.{Options}
-use Rattle.pb_graph.specs.declared.results.Stage.{Stage}
+use Rattle.pb_study.specs.declared.results.Bounds.{Bounds}
+use Rattle.pb_study.specs.declared.results.StreamResult.{StreamResult}
+use Rattle.pb_study.specs.declared.results.Options.{Options}
+use Rattle.pb_study.specs.declared.results.Stage.{Stage}
 use Rattle.pb_graph.specs.ProcessGraph.{ProcessGraph}
-use Rattle.pb_graph.specs.WellFormed.{sweeps_of}
+use Rattle.pb_study.specs.WellFormed.{sweeps_of}
 use Rattle.pb_report.specs.Certificate.{certificate_values}
 use Rattle.pb_report.specs.Names.{name_at}
 use Rattle.pb_choices.specs.Places.{class_place, gap_met, truth_place}

@@ -1,9 +1,9 @@
 -- Statement. Names of nodes and streams, and what has them.
 use Rattle.std.specs.Prelude.{◌≡◌, ℕ, List, [], length, slice_index_or}
 use Rattle.pb_rows.specs.declared.name.Names.{Names}
-use Rattle.pb_graph.specs.declared.results.Study.{Study}
+use Rattle.pb_study.specs.declared.results.Study.{Study}
 use Rattle.pb_graph.specs.ProcessGraph.{ProcessGraph}
-use Rattle.pb_graph.specs.WellFormed.{IsWellFormedStudy}
+use Rattle.pb_study.specs.WellFormed.{IsWellFormedStudy}
 
 -- one name for each node, and one for each stream
 pub record IsNamed (names : Names) (graph : ProcessGraph) : Type 0 where

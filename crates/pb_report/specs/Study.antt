@@ -5,11 +5,11 @@ use Rattle.std.specs.Option.{option_map, option_to_list}
 use Rattle.pb_rows.specs.declared.name.Names.{Names}
 use Rattle.pb_form.specs.Value.{Name, Number, Word}
 use Rattle.pb_form.specs.declared.output.OutputKind.TheVariants as kind
-use Rattle.pb_graph.specs.declared.results.Options.{Options}
-use Rattle.pb_graph.specs.declared.results.Stage.{Stage}
-use Rattle.pb_graph.specs.declared.results.Taken.{Taken}
-use Rattle.pb_graph.specs.declared.results.Stop.{Stop}
-use Rattle.pb_graph.specs.declared.results.Study.{Study}
+use Rattle.pb_study.specs.declared.results.Options.{Options}
+use Rattle.pb_study.specs.declared.results.Stage.{Stage}
+use Rattle.pb_study.specs.declared.results.Taken.{Taken}
+use Rattle.pb_study.specs.declared.results.Stop.{Stop}
+use Rattle.pb_study.specs.declared.results.Study.{Study}
 use Rattle.pb_report.specs.Block.{block_rows}
 use Rattle.pb_report.specs.Names.{name_at}
 use Rattle.pb_choices.specs.Places.{stop_place}

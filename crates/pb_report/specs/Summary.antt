@@ -4,9 +4,9 @@ use Rattle.pb_form.specs.Value.{Value, Number, Word}
 use Rattle.pb_form.specs.declared.output.OutputKind.TheVariants as kind
 use Rattle.pb_graph.specs.declared.records.Class.{Class}
 use Rattle.pb_graph.specs.declared.records.Class.TheVariants.{Observable, Unobservable, Redundant, Nonredundant}
-use Rattle.pb_graph.specs.declared.results.StreamResult.{StreamResult}
-use Rattle.pb_graph.specs.declared.results.Stage.{Stage}
-use Rattle.pb_graph.specs.WellFormed.{sweeps_of}
+use Rattle.pb_study.specs.declared.results.StreamResult.{StreamResult}
+use Rattle.pb_study.specs.declared.results.Stage.{Stage}
+use Rattle.pb_study.specs.WellFormed.{sweeps_of}
 use Rattle.pb_choices.specs.Places.{class_place, gap_met, truth_place}
 use Rattle.pb_report.specs.Row.{OutputRow, row_of, value_or_none}
 

@@ -3,10 +3,10 @@ use Rattle.std.specs.Prelude.{List, [], ◌∷◌, ◌++◌, map, Option, Some, 
 use Rattle.pb_rows.specs.declared.name.Names.{Names}
 use Rattle.pb_form.specs.Value.{Name, Number, Word}
 use Rattle.pb_form.specs.declared.output.OutputKind.TheVariants as kind
-use Rattle.pb_graph.specs.declared.results.GlobalTest.{GlobalTest}
-use Rattle.pb_graph.specs.declared.results.NodalTest.{NodalTest}
-use Rattle.pb_graph.specs.declared.results.MeasureTest.{MeasureTest}
-use Rattle.pb_graph.specs.declared.results.Tests.{Tests}
+use Rattle.pb_study.specs.declared.results.GlobalTest.{GlobalTest}
+use Rattle.pb_study.specs.declared.results.NodalTest.{NodalTest}
+use Rattle.pb_study.specs.declared.results.MeasureTest.{MeasureTest}
+use Rattle.pb_study.specs.declared.results.Tests.{Tests}
 use Rattle.pb_report.specs.Names.{name_at}
 use Rattle.pb_choices.specs.Places.{verdict_place}
 use Rattle.pb_report.specs.Row.{OutputRow, row_of, value_or_none}

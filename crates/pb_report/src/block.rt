@@ -6,7 +6,8 @@ ghost use Rattle.pb_form.specs.Holds.{Holds};
 ghost use Rattle.pb_form.specs.Value.{Number};
 ghost use Rattle.pb_graph.specs.declared.records.Meas.{Meas};
 ghost use Rattle.pb_graph.specs.ProcessGraph.{IsStream};
-ghost use Rattle.pb_graph.specs.WellFormed.{IsResultWithin, IsWellFormed, IsWitnessWithin, sweeps_of};
+ghost use Rattle.pb_study.specs.WellFormed.{IsResultWithin, IsWellFormed, sweeps_of};
+ghost use Rattle.pb_graph.specs.WellFormed.{IsWitnessWithin};
 ghost use Rattle.pb_report.specs.Block.{block_rows, end_row, high_end, low_end, node_row, report_row, result_row, solved_row, written_least};
 ghost use Rattle.pb_report.specs.Certificate.{certificate_values};
 ghost use Rattle.pb_report.specs.Given.{given_certificate, given_row};
@@ -21,8 +22,9 @@ use crate::values::optional_number;
 use crate::verdicts::write_tests;
 use pb_choices::{class_place, gap_met, shape_place, truth_place};
 use pb_form::{OutputKind, Value};
-use pb_graph::{Bounds, Graph, List, Meas, Options, Solved, Stage, Stream, StreamResult};
+use pb_graph::{Graph, List, Meas, Stream};
 use pb_rows::{Name, NameList, Names};
+use pb_study::{Bounds, Options, Solved, Stage, StreamResult};
 use std::alloc::AllocError;
 
 /// Writes the block of a stage.

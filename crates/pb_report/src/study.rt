@@ -13,8 +13,8 @@ use crate::form::Form;
 use crate::output::Output;
 use pb_choices::stop_place;
 use pb_form::{OutputKind, Value};
-use pb_graph::{Options, Stop, Study, Taken};
 use pb_rows::{Name, Names};
+use pb_study::{Options, Stop, Study, Taken};
 use std::alloc::{AllocError, Global};
 
 /// Appends the report of a period: for each stage of its study a block (`report`, the nodes with their prices in units of 2^-56,

@@ -11,7 +11,8 @@ use crate::form::{Form, write_row};
 use crate::values::optional_number;
 use pb_choices::{class_place, gap_met, truth_place};
 use pb_form::{OutputKind, Value};
-use pb_graph::{Class, List, Stage, StreamResult};
+use pb_graph::{Class, List};
+use pb_study::{Stage, StreamResult};
 use std::alloc::{AllocError, Global};
 
 /// Appends, in CSV, the row that sums up the study of a made session: `summary`, the number that it was made from, how many streams

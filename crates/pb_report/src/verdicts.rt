@@ -1,9 +1,9 @@
 // The rows of the tests of a stage.
 
 ghost use Rattle.std.specs.Prelude.{◌≡◌, ◌<◌, ◌∷◌, [], Some, length, map, All, IfSome, OnOk};
-ghost use Rattle.pb_graph.specs.declared.results.NodalTest.{NodalTest};
-ghost use Rattle.pb_graph.specs.declared.results.MeasureTest.{MeasureTest};
-ghost use Rattle.pb_graph.specs.WellFormed.{AreTestsWithin};
+ghost use Rattle.pb_study.specs.declared.results.NodalTest.{NodalTest};
+ghost use Rattle.pb_study.specs.declared.results.MeasureTest.{MeasureTest};
+ghost use Rattle.pb_study.specs.WellFormed.{AreTestsWithin};
 ghost use Rattle.pb_report.specs.Given.{given_row};
 ghost use Rattle.pb_report.specs.Names.{IsNamed};
 ghost use Rattle.pb_report.specs.Output.{AddsRows};
@@ -13,8 +13,9 @@ use crate::output::Output;
 use crate::values::optional_number;
 use pb_choices::verdict_place;
 use pb_form::{OutputKind, Value};
-use pb_graph::{GlobalTest, Graph, List, MeasureTest, NodalTest, Tests};
+use pb_graph::{Graph, List};
 use pb_rows::Names;
+use pb_study::{GlobalTest, MeasureTest, NodalTest, Tests};
 use std::alloc::AllocError;
 
 /// Writes the rows of the tests, if tests were made.

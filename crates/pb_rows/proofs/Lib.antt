@@ -7,3 +7,4 @@ mod TextLemmas
 mod DateTextLemmas
 mod RoundTripLemmas
 pub mod TextLaws
+pub mod RowLaws

@@ -8,7 +8,7 @@ use Rattle.std.proofs.Math.Seq.{get_or-append_seam, take-append_seam}
 use Rattle.std.proofs.Common.{length-append}
 use Rattle.pb_graph.specs.ProcessGraph.{ProcessGraph}
 use Rattle.pb_rows.specs.declared.name.Names.{Names}
-use Rattle.pb_assay.specs.declared.grade.Grade.{Grade}
+use Rattle.pb_facts.specs.declared.grade.Grade.{Grade}
 use Rattle.pb_assay.specs.Component.{component_of}
 use Rattle.pb_elim.specs.Study.{IsStudyOf}
 use Rattle.pb_site.specs.declared.declared.Declared.{Declared}
@@ -16,20 +16,21 @@ use Rattle.pb_site.specs.declared.declared.Version.{Version}
 use Rattle.pb_site.specs.Site.{version_of}
 use Rattle.pb_book.specs.declared.answer.Accepted.{Accepted}
 use Rattle.pb_book.specs.declared.answer.Accepted.TheVariants.{Report, Component, Window}
-use Rattle.pb_book.specs.declared.answer.Refused.{Refused as Refusal}
+use Rattle.pb_book.specs.declared.answer.Refused.{Refused}
 use Rattle.pb_form.specs.declared.fault.FormFault.{FormFault}
-use Rattle.pb_kinds.specs.declared.rows.Assay.{Assay}
+use Rattle.pb_facts.specs.declared.assays.Assay.{Assay}
 use Rattle.pb_kinds.specs.declared.rows.Request.{Request}
 use Rattle.pb_kinds.specs.declared.rows.Request.TheVariants as asked
 use Rattle.pb_kinds.specs.declared.rows.Effect.{Effect}
-use Rattle.pb_book.specs.declared.rows.Period.{Period}
+use Rattle.pb_periods.specs.declared.period.Period.{Period}
 use Rattle.pb_book.specs.Accepted.{AreAccepted, IsAcceptable}
 use Rattle.pb_kinds.specs.declared.costs.NamedCost.{NamedCost}
 use Rattle.pb_kinds.specs.Costs.{named_costs}
 use Rattle.pb_book.specs.Costs.{refusal_of_costs}
-use Rattle.pb_book.specs.Answer.{Answer, Says, Stored, advise_or_refused, after_answer, answer_if, answer_of, component_or_refused, history_or_refused, is_refused, report_or_refused, stored_or_refused, window_or_refused, window_unless}
-use Rattle.pb_book.specs.Apart.{is_named}
-use Rattle.pb_book.specs.Assays.{assays_of, is_assay_of, is_assay_over}
+use Rattle.pb_book.specs.Answer.{Answer, Says, Stores, advise_or_refused, after_answer, answer_if, answer_of, component_or_refused, history_or_refused, is_refused, report_or_refused, stored_or_refused, window_or_refused, window_unless}
+use Rattle.pb_periods.specs.Apart.{is_named}
+use Rattle.pb_book.specs.Assays.{assays_of}
+use Rattle.pb_facts.specs.Assays.{is_assay_of, is_assay_over}
 use Rattle.pb_book.specs.Plain.{ArePlain, PlainLaw, numbered, opened, plain_rows, plain_stored}
 use Rattle.pb_book.specs.Refusals.{refusal_of}
 use Rattle.pb_book.specs.Windows.{refusal_of_window}
@@ -67,9 +68,9 @@ seam done more stored accepted =
     let is = accepted (length done) stored at in
     subst (λ (rs : List StoredRow). IsAcceptable rs stored.effect) (take-append_seam done (stored ∷ more)) is
 
-stored_answer : (rows : List StoredRow) (fields : List (List ℕ)) (effect : Effect) → WritesRow fields effect → IsAcceptable rows effect → answer_of rows fields ≡ Stored effect
+stored_answer : (rows : List StoredRow) (fields : List (List ℕ)) (effect : Effect) → WritesRow fields effect → IsAcceptable rows effect → answer_of rows fields ≡ Stores effect
 stored_answer rows fields effect writes one =
-    ap (λ (r : Result Request FormFault). answer_if rows (named_costs fields) r) (writes.asks (version_at rows) one.may) ∙ ap (λ (o : Option Refusal). stored_or_refused effect o) one.no_cause
+    ap (λ (r : Result Request FormFault). answer_if rows (named_costs fields) r) (writes.asks (version_at rows) one.may) ∙ ap (λ (o : Option Refused). stored_or_refused effect o) one.no_cause
 
 -- none of these records is refused, none adds a text, and so they end
 record StoreAll (state : SessionState) (at : ℕ) (records : List (List (List ℕ))) (end : SessionState) : Type 0 where
@@ -87,7 +88,7 @@ store_none state at =
       back = λ tail text is. subst (λ (n : ℕ). IsSessionText state n tail text) here (subst (λ (s : SessionState). IsSessionText s (at + 0) tail text) same is);
     }
 
-store_one : (state next end : SessionState) (at : ℕ) (fields : List (List ℕ)) (effect : Effect) (records : List (List (List ℕ))) → answer_of state.rows fields ≡ Stored effect → state_after state at fields ≡ next
+store_one : (state next end : SessionState) (at : ℕ) (fields : List (List ℕ)) (effect : Effect) (records : List (List (List ℕ))) → answer_of state.rows fields ≡ Stores effect → state_after state at fields ≡ next
     → StoreAll next (at + 1) records end → StoreAll state at (fields ∷ records) end
 store_one state next end at fields effect records answer after_is rest =
     let here : (at + 1) + length records ≡ at + suc (length records) = omega arith in
@@ -140,7 +141,7 @@ same_place : (rows plain : List StoredRow) (name : List ℕ) → periods_of plai
 same_place rows plain name same = ap (position (is_named name)) same ∙ position_map (is_named name) opened (periods_of rows)
 
 -- a row that is stored is never answered by what the book says
-not_said : (effect : Effect) (cause : Option Refusal) (accepted : Accepted) → stored_or_refused effect cause ≡ Says accepted → ⊥
+not_said : (effect : Effect) (cause : Option Refused) (accepted : Accepted) → stored_or_refused effect cause ≡ Says accepted → ⊥
 not_said effect (Some cause) accepted is = cc is
 not_said effect None accepted is = cc is
 
@@ -152,7 +153,7 @@ IsOfOne accepted = Unit {0}
 not_window : (rows : List StoredRow) (first last : Option ℕ) (accepted : Accepted) → IsOfOne accepted → window_or_refused rows first last ≡ Says accepted → ⊥
 not_window rows (Some first) (Some last) accepted one is = by (refusal_of_window rows first last) is
   where
-    by : (cause : Option Refusal) → window_unless first last cause ≡ Says accepted → ⊥
+    by : (cause : Option Refused) → window_unless first last cause ≡ Says accepted → ⊥
     by (Some cause) same = cc same
     by None same = let said : Window first last ≡ accepted = cc same in subst IsOfOne (sym said) one
 not_window rows (Some first) None accepted one is = cc is

@@ -1,9 +1,9 @@
 -- The first stage of the study of the period at a place.
 use Rattle.std.proofs.Common.{◌≡◌, ◌≢◌, ◌∙◌, ◌<◌, ℕ, List, length, Option, IfErr, IfOk, IfSome, Result, Ok, Err, get_or, slice_get, ap, sym, subst}
 use Rattle.std.proofs.lemmas.Option.{slice_get-get_or}
-use Rattle.pb_graph.specs.declared.results.Stage.{Stage}
+use Rattle.pb_study.specs.declared.results.Stage.{Stage}
 use Rattle.pb_graph.specs.ProcessGraph.{ProcessGraph}
-use Rattle.pb_book.specs.declared.rows.Period.{Period}
+use Rattle.pb_periods.specs.declared.period.Period.{Period}
 use Rattle.pb_book.specs.declared.rows.StoredRow.{StoredRow}
 use Rattle.pb_book.specs.Rows.{periods_of}
 use Rattle.pb_period.specs.Days.{days_of}

@@ -7,36 +7,37 @@ use Rattle.std.proofs.lemmas.Bool.{cases_Bool, eqb-true}
 use Rattle.std.proofs.lemmas.List.Sums.{fold_push}
 use Rattle.std.proofs.lemmas.Option.{slice_get-get_or, slice_get-map}
 use Rattle.pb_rows.specs.declared.name.Names.{Names}
-use Rattle.pb_graph.specs.declared.results.Critical.{Critical}
-use Rattle.pb_graph.specs.declared.results.Options.{Options}
-use Rattle.pb_graph.specs.declared.results.Stage.{Stage}
-use Rattle.pb_graph.specs.declared.results.Study.{Study}
+use Rattle.pb_study.specs.declared.results.Critical.{Critical}
+use Rattle.pb_study.specs.declared.results.Options.{Options}
+use Rattle.pb_study.specs.declared.results.Stage.{Stage}
+use Rattle.pb_study.specs.declared.results.Study.{Study}
 use Rattle.pb_graph.specs.ProcessGraph.{ProcessGraph, IsProcessGraph}
 use Rattle.pb_classify.specs.Classification.{IsClassification}
-use Rattle.pb_elim.specs.Printed.{printed_classes}
+use Rattle.pb_stage.specs.Printed.{printed_classes}
 use Rattle.pb_elim.specs.Study.{IsStudyOf}
 use Rattle.pb_facts.specs.Facts.{NoRepeats}
 use Rattle.pb_book.specs.declared.answer.Accepted.{Accepted}
-use Rattle.pb_book.specs.declared.answer.Accepted.TheVariants.{Blank, Stored as StoredAccepted, Design, Report, History, Advise, Component, Window}
+use Rattle.pb_book.specs.declared.answer.Accepted.TheVariants.{Blank, Design, Report, History, Advise, Component, Window}
 use Rattle.pb_book.specs.declared.answer.NotAccepted.{NotAccepted}
-use Rattle.pb_book.specs.declared.answer.Refused.{Refused as Refusal}
+use Rattle.pb_book.specs.declared.answer.Refused.{Refused}
 use Rattle.pb_form.specs.declared.fault.FormFault.{FormFault}
 use Rattle.pb_kinds.specs.declared.rows.Request.{Request}
 use Rattle.pb_kinds.specs.declared.rows.Request.TheVariants as asked
 use Rattle.pb_kinds.specs.declared.rows.Effect.{Effect}
 use Rattle.pb_kinds.specs.declared.rows.Effect.TheVariants.{Declares, Opens, Books, Edits, Closes, Assays}
-use Rattle.pb_book.specs.declared.rows.Period.{Period}
+use Rattle.pb_periods.specs.declared.period.Period.{Period}
 use Rattle.pb_kinds.specs.declared.costs.NamedCost.{NamedCost}
 use Rattle.pb_kinds.specs.Costs.{named_costs}
 use Rattle.pb_book.specs.Assays.{has_assay}
 use Rattle.pb_book.specs.Costs.{refusal_of_costs}
-use Rattle.pb_book.specs.Answer.{Answer, Refused, Says, Stored, advise_or_refused, after_answer, answer_if, answer_of, answer_to, component_or_refused, history_or_refused, report_or_refused, said_of, stored_or_refused, window_or_refused, window_unless}
-use Rattle.pb_book.specs.Apart.{is_named}
+use Rattle.pb_book.specs.Answer.{Answer, Refuses, Says, Stores, advise_or_refused, after_answer, answer_if, answer_of, answer_to, component_or_refused, history_or_refused, report_or_refused, said_of, stored_or_refused, window_or_refused, window_unless}
+use Rattle.pb_periods.specs.Apart.{is_named}
 use Rattle.pb_book.specs.Windows.{refusal_of_window}
 use Rattle.pb_book.specs.Refusals.{refusal_of}
 use Rattle.pb_kinds.specs.Requests.{request_in}
 use Rattle.pb_book.specs.declared.rows.StoredRow.{StoredRow}
-use Rattle.pb_book.specs.Rows.{closed_if_named, declared_of, facts_of, open_period, period_place, periods_after, periods_of, version_at, with_row}
+use Rattle.pb_periods.specs.Closing.{closed_if_named}
+use Rattle.pb_book.specs.Rows.{declared_of, facts_of, open_period, period_place, periods_after, periods_of, version_at, with_row}
 use Rattle.pb_period.specs.Days.{days_of}
 use Rattle.pb_book.specs.Accepted.{AreAccepted}
 use Rattle.pb_book.specs.TakenOut.{row_takes_out, takes_out, touched_at, touching_of}
@@ -193,12 +194,12 @@ all_still law state at effect (k ∷ kept) accepted (here, all) =
 
 -- what an answer says, except that it stores a row
 abbrev pub IsSaid : Answer → Type 0
-IsSaid (Says StoredAccepted) = ⊥
+IsSaid (Says Accepted.Stored) = ⊥
 IsSaid answer = Unit {0}
 
 left_same : (accepted : Accepted) (rows : List StoredRow) (kept : List KeptStudy) → IsSaid (Says accepted) → left_by accepted rows kept ≡ kept
 left_same Blank rows kept said = refl
-left_same StoredAccepted rows kept said = absurd said
+left_same Accepted.Stored rows kept said = absurd said
 left_same Design rows kept said = refl
 left_same (Report i) rows kept said = refl
 left_same (History i) rows kept said = refl
@@ -211,9 +212,9 @@ abbrev pub said_ok : Accepted → Result Accepted NotAccepted
 said_ok accepted = Ok accepted
 
 -- and so does a record that isn't stored
-pub left_other : (accepted : Accepted) (rows : List StoredRow) (kept : List KeptStudy) → accepted ≢ StoredAccepted → left_by accepted rows kept ≡ kept
+pub left_other : (accepted : Accepted) (rows : List StoredRow) (kept : List KeptStudy) → accepted ≢ Accepted.Stored → left_by accepted rows kept ≡ kept
 left_other Blank rows kept other = refl
-left_other StoredAccepted rows kept other = absurd (other refl)
+left_other Accepted.Stored rows kept other = absurd (other refl)
 left_other Design rows kept other = refl
 left_other (Report i) rows kept other = refl
 left_other (History i) rows kept other = refl
@@ -226,11 +227,11 @@ same_accepted a b is = cc is
 
 -- the remaining studies are those of their periods by the rows that are stored then
 pub left_kept : UntouchedLaw → (state : SessionState) (new : List StoredRow) (at : ℕ) (answer : Answer) (accepted : Accepted) (kept : List KeptStudy) → said_ok accepted ≡ said_of answer
-    → IsSaid answer → new ≡ after_answer state.rows at answer → (accepted ≡ StoredAccepted → AreInOrder new) → AllByRecursion (IsKeptStudy state) kept
+    → IsSaid answer → new ≡ after_answer state.rows at answer → (accepted ≡ Accepted.Stored → AreInOrder new) → AllByRecursion (IsKeptStudy state) kept
     → AllByRecursion (IsKeptStudy (state_with state new)) (left_by accepted new kept)
-left_kept law state new at (Refused cause) accepted kept is said new_is are all = cc is
-left_kept law state new at (Stored effect) accepted kept is said new_is are all =
-    let same = same_accepted accepted StoredAccepted is in
+left_kept law state new at (Refuses cause) accepted kept is said new_is are all = cc is
+left_kept law state new at (Stores effect) accepted kept is said new_is are all =
+    let same = same_accepted accepted Accepted.Stored is in
     let here = all_still law state at effect kept (subst AreInOrder new_is (are same)) all in
     subst (λ (a : Accepted). AllByRecursion (IsKeptStudy (state_with state new)) (left_by a new kept)) (sym same)
     (subst (λ (rows : List StoredRow). AllByRecursion (IsKeptStudy (state_with state rows)) (untouched_studies rows kept)) (sym new_is) here)
@@ -241,7 +242,7 @@ left_kept law state new at (Says one) accepted kept is said new_is are all =
     (subst (AllByRecursion (IsKeptStudy (state_with state new))) (sym (left_same one new kept said)) here)
 
 pub left_few : (accepted : Accepted) (rows : List StoredRow) (kept : List KeptStudy) → length kept ≤ most_kept → length (left_by accepted rows kept) ≤ most_kept
-left_few StoredAccepted rows kept few = few_filter _ kept most_kept few
+left_few Accepted.Stored rows kept few = few_filter _ kept most_kept few
 left_few Blank rows kept few = few
 left_few Design rows kept few = few
 left_few (Report i) rows kept few = few
@@ -254,9 +255,9 @@ left_few Advise rows kept few = few
 pub keeps_by : (state : SessionState) (new : List StoredRow) (at : ℕ) (answer : Answer) (accepted : Accepted) (kept : List KeptStudy) (after : List ℕ) → said_ok accepted ≡ said_of answer
     → IsSaid answer → new ≡ after_answer state.rows at answer → KeepsAccepted (state_with state new) (periods_in (left_by accepted new kept)) accepted after
     → KeepsBy state (periods_in kept) at answer after
-keeps_by state new at (Refused cause) accepted kept after is said new_is keeps = cc is
-keeps_by state new at (Stored effect) accepted kept after is said new_is keeps =
-    let same = same_accepted accepted StoredAccepted is in
+keeps_by state new at (Refuses cause) accepted kept after is said new_is keeps = cc is
+keeps_by state new at (Stores effect) accepted kept after is said new_is keeps =
+    let same = same_accepted accepted Accepted.Stored is in
     let here : after ≡ periods_in (untouched_studies new kept) = subst (λ (a : Accepted). KeepsAccepted (state_with state new) (periods_in (left_by a new kept)) a after) same keeps in
     here ∙ untouched_periods new kept ∙ ap (λ (rows : List StoredRow). untouched rows (periods_in kept)) new_is
 keeps_by state new at (Says one) accepted kept after is said new_is keeps =
@@ -269,14 +270,14 @@ keeps_by state new at (Says one) accepted kept after is said new_is keeps =
 
 pub reported_still : (state : SessionState) (new : List StoredRow) (at : ℕ) (answer : Answer) (accepted : Accepted) (before : Option ProcessGraph) → said_ok accepted ≡ said_of answer
     → new ≡ after_answer state.rows at answer → reported_behind (state_with state new) before accepted ≡ reported_after state before answer
-reported_still state new at (Refused cause) accepted before is new_is = cc is
-reported_still state new at (Stored effect) accepted before is new_is =
-    ap (reported_behind (state_with state new) before) (same_accepted accepted StoredAccepted is)
+reported_still state new at (Refuses cause) accepted before is new_is = cc is
+reported_still state new at (Stores effect) accepted before is new_is =
+    ap (reported_behind (state_with state new) before) (same_accepted accepted Accepted.Stored is)
 reported_still state new at (Says one) accepted before is new_is =
     ap (reported_behind (state_with state new) before) (same_accepted accepted one is) ∙ ap (λ (rows : List StoredRow). reported_behind (state_with state rows) before one) new_is
 
 -- no answer says that a row was stored, except the one that stores it
-said_stored : (effect : Effect) (cause : Option Refusal) → IsSaid (stored_or_refused effect cause)
+said_stored : (effect : Effect) (cause : Option Refused) → IsSaid (stored_or_refused effect cause)
 said_stored effect (Some cause) = tt
 said_stored effect None = tt
 
@@ -293,7 +294,7 @@ said_component component true (Some i) = tt
 said_component component true None = tt
 said_component component false found = tt
 
-said_window_unless : (first last : ℕ) (cause : Option Refusal) → IsSaid (window_unless first last cause)
+said_window_unless : (first last : ℕ) (cause : Option Refused) → IsSaid (window_unless first last cause)
 said_window_unless first last (Some cause) = tt
 said_window_unless first last None = tt
 
@@ -302,7 +303,7 @@ said_window rows (Some first) (Some last) = said_window_unless first last (refus
 said_window rows (Some first) None = tt
 said_window rows None last = tt
 
-said_advise : (cause : Option Refusal) → IsSaid (advise_or_refused cause)
+said_advise : (cause : Option Refused) → IsSaid (advise_or_refused cause)
 said_advise (Some cause) = tt
 said_advise None = tt
 
@@ -515,7 +516,7 @@ untouched_stage state rows (k ∷ kept) None (here, all) = elim (cases_Bool (tou
 
 pub left_stage : (state : SessionState) (accepted : Accepted) (rows : List StoredRow) (kept : List KeptStudy) (last : Option Stage) → AllByRecursion (IsKeptStudy state) kept
     → last_stage (left_by accepted rows kept) (saved_by accepted rows kept last) ≡ last_stage kept last
-left_stage state StoredAccepted rows kept last all = untouched_stage state rows kept last all
+left_stage state Accepted.Stored rows kept last all = untouched_stage state rows kept last all
 left_stage state Blank rows kept last all = refl
 left_stage state Design rows kept last all = refl
 left_stage state (Report i) rows kept last all = refl
@@ -524,9 +525,9 @@ left_stage state (Component component i) rows kept last all = refl
 left_stage state (Window first final) rows kept last all = refl
 left_stage state Advise rows kept last all = refl
 
-pub saved_other : (accepted : Accepted) (rows : List StoredRow) (kept : List KeptStudy) (last : Option Stage) → accepted ≢ StoredAccepted → saved_by accepted rows kept last ≡ last
+pub saved_other : (accepted : Accepted) (rows : List StoredRow) (kept : List KeptStudy) (last : Option Stage) → accepted ≢ Accepted.Stored → saved_by accepted rows kept last ≡ last
 saved_other Blank rows kept last other = refl
-saved_other StoredAccepted rows kept last other = absurd (other refl)
+saved_other Accepted.Stored rows kept last other = absurd (other refl)
 saved_other Design rows kept last other = refl
 saved_other (Report i) rows kept last other = refl
 saved_other (History i) rows kept last other = refl

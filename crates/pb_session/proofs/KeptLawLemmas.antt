@@ -3,14 +3,14 @@ use Rattle.std.specs.Prelude.{not, ◌==◌}
 use Rattle.std.proofs.Common.{◌≡◌, ◌∙◌, ◌≤◌, ℕ, ◌+◌, List, [], ◌∷◌, length, IfOk, Option, Some, None, Result, Ok, Err, slice_get, get_or, refl, sym, ap, subst, inl, inr}
 use Rattle.std.proofs.lemmas.Bool.{cases_Bool}
 use Rattle.std.proofs.lemmas.Option.{get_or_from_slice_get, slice_get-get_or, slice_get_within}
-use Rattle.pb_graph.specs.declared.results.Study.{Study}
+use Rattle.pb_study.specs.declared.results.Study.{Study}
 use Rattle.pb_graph.specs.ProcessGraph.{ProcessGraph, IsProcessGraph}
 use Rattle.pb_elim.specs.Laws.{OneStudyLaw, SomeStudyLaw}
-use Rattle.pb_elim.specs.Options.{AreOptions}
+use Rattle.pb_study.specs.Options.{AreOptions}
 use Rattle.pb_book.specs.declared.answer.Accepted.{Accepted}
-use Rattle.pb_book.specs.declared.answer.Accepted.TheVariants.{Blank, Stored as StoredAccepted, Design, Report, History, Advise, Component, Window}
-use Rattle.pb_book.specs.declared.rows.Period.{Period}
-use Rattle.pb_book.specs.Answer.{Answer, Refused, Says, Stored, answer_of}
+use Rattle.pb_book.specs.declared.answer.Accepted.TheVariants.{Blank, Design, Report, History, Advise, Component, Window}
+use Rattle.pb_periods.specs.declared.period.Period.{Period}
+use Rattle.pb_book.specs.Answer.{Answer, Refuses, Says, Stores, answer_of}
 use Rattle.pb_book.specs.Laws.{AcceptedLaw}
 use Rattle.pb_book.specs.declared.rows.StoredRow.{StoredRow}
 use Rattle.pb_book.specs.Rows.{periods_of, with_row}
@@ -50,7 +50,7 @@ one_accepted : OneStudyLaw → (state : SessionState) (kept : List ℕ) (accepte
     → KeepsAccepted state kept accepted one → KeepsAccepted state kept accepted other → one ≡ other
 one_accepted law state kept (Report i) one other graphs a b = one_report_of law state i kept (slice_get (periods_of state.rows) i) one other refl graphs a b
 one_accepted law state kept Blank one other graphs a b = a ∙ sym b
-one_accepted law state kept StoredAccepted one other graphs a b = a ∙ sym b
+one_accepted law state kept Accepted.Stored one other graphs a b = a ∙ sym b
 one_accepted law state kept Design one other graphs a b = a ∙ sym b
 one_accepted law state kept (History i) one other graphs a b = a ∙ sym b
 one_accepted law state kept (Component component i) one other graphs a b = a ∙ sym b
@@ -59,8 +59,8 @@ one_accepted law state kept Advise one other graphs a b = a ∙ sym b
 
 one_by : OneStudyLaw → (state : SessionState) (kept : List ℕ) (at : ℕ) (answer : Answer) (one other : List ℕ) → HaveGraphs state.rows
     → KeepsBy state kept at answer one → KeepsBy state kept at answer other → one ≡ other
-one_by law state kept at (Refused cause) one other graphs a b = a ∙ sym b
-one_by law state kept at (Stored row) one other graphs a b = a ∙ sym b
+one_by law state kept at (Refuses cause) one other graphs a b = a ∙ sym b
+one_by law state kept at (Stores row) one other graphs a b = a ∙ sym b
 one_by law state kept at (Says accepted) one other graphs a b = one_accepted law state kept accepted one other graphs a b
 
 pub one_kept : OneStudyLaw → GraphsLaw → AcceptedLaw → OneKeptLaw
@@ -87,7 +87,7 @@ some_accepted law state kept (Report i) asked graphs there = by (slice_get (peri
     by None none = cc (sym none ∙ slice_get-get_or (periods_of state.rows) i some_period there)
     by (Some period) at = some_report law state i kept (assembly_of state.rows (days_of period)) asked (within state.rows i period graphs at)
 some_accepted law state kept Blank asked graphs there = (kept, refl)
-some_accepted law state kept StoredAccepted asked graphs there = (kept, refl)
+some_accepted law state kept Accepted.Stored asked graphs there = (kept, refl)
 some_accepted law state kept Design asked graphs there = (kept, refl)
 some_accepted law state kept (History i) asked graphs there = (kept, refl)
 some_accepted law state kept (Component component i) asked graphs there = (kept, refl)
@@ -96,8 +96,8 @@ some_accepted law state kept Advise asked graphs there = (kept, refl)
 
 some_by : SomeStudyLaw → (state : SessionState) (kept : List ℕ) (at : ℕ) (answer : Answer) → AreOptions state.options → HaveGraphs state.rows → AnswersOf state.rows answer
     → (new : List ℕ) × KeepsBy state kept at answer new
-some_by law state kept at (Refused cause) asked graphs of = (kept, refl)
-some_by law state kept at (Stored row) asked graphs of = (untouched (with_row state.rows at row) kept, refl)
+some_by law state kept at (Refuses cause) asked graphs of = (kept, refl)
+some_by law state kept at (Stores row) asked graphs of = (untouched (with_row state.rows at row) kept, refl)
 some_by law state kept at (Says accepted) asked graphs of = some_accepted law state kept accepted asked graphs of
 
 pub some_kept : SomeStudyLaw → GraphsLaw → AcceptedLaw → SomeKeptLaw
@@ -126,7 +126,7 @@ few_report_of state i kept new (Some period) few keeps = few_report state i kept
 few_accepted : (state : SessionState) (kept : List ℕ) (accepted : Accepted) (new : List ℕ) → length kept ≤ most_kept → KeepsAccepted state kept accepted new → length new ≤ most_kept
 few_accepted state kept (Report i) new few keeps = few_report_of state i kept new (slice_get (periods_of state.rows) i) few keeps
 few_accepted state kept Blank new few keeps = subst (λ (ks : List ℕ). length ks ≤ most_kept) (sym keeps) few
-few_accepted state kept StoredAccepted new few keeps = subst (λ (ks : List ℕ). length ks ≤ most_kept) (sym keeps) few
+few_accepted state kept Accepted.Stored new few keeps = subst (λ (ks : List ℕ). length ks ≤ most_kept) (sym keeps) few
 few_accepted state kept Design new few keeps = subst (λ (ks : List ℕ). length ks ≤ most_kept) (sym keeps) few
 few_accepted state kept (History i) new few keeps = subst (λ (ks : List ℕ). length ks ≤ most_kept) (sym keeps) few
 few_accepted state kept (Component component i) new few keeps = subst (λ (ks : List ℕ). length ks ≤ most_kept) (sym keeps) few
@@ -134,8 +134,8 @@ few_accepted state kept (Window first last) new few keeps = subst (λ (ks : List
 few_accepted state kept Advise new few keeps = subst (λ (ks : List ℕ). length ks ≤ most_kept) (sym keeps) few
 
 few_by : (state : SessionState) (kept : List ℕ) (at : ℕ) (answer : Answer) (new : List ℕ) → length kept ≤ most_kept → KeepsBy state kept at answer new → length new ≤ most_kept
-few_by state kept at (Refused cause) new few keeps = subst (λ (ks : List ℕ). length ks ≤ most_kept) (sym keeps) few
-few_by state kept at (Stored row) new few keeps = subst (λ (ks : List ℕ). length ks ≤ most_kept) (sym keeps) (few_filter _ kept most_kept few)
+few_by state kept at (Refuses cause) new few keeps = subst (λ (ks : List ℕ). length ks ≤ most_kept) (sym keeps) few
+few_by state kept at (Stores row) new few keeps = subst (λ (ks : List ℕ). length ks ≤ most_kept) (sym keeps) (few_filter _ kept most_kept few)
 few_by state kept at (Says accepted) new few keeps = few_accepted state kept accepted new few keeps
 
 pub few_kept : FewKeptLaw

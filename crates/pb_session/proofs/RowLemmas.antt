@@ -3,16 +3,15 @@ use Rattle.std.proofs.Common.{◌≡◌, ◌≢◌, ℕ, ◌<◌, Bool, true, fa
 use Rattle.std.proofs.lemmas.List.Quantifiers.{position-Some}
 use Rattle.std.specs.Prelude.{pos}
 use Rattle.pb_kinds.specs.declared.rows.Effect.{Effect}
-use Rattle.pb_book.specs.declared.rows.Period.{Period}
-use Rattle.pb_book.specs.declared.answer.Refused.{Refused as Refusal}
+use Rattle.pb_periods.specs.declared.period.Period.{Period}
+use Rattle.pb_book.specs.declared.answer.Refused.{Refused}
 use Rattle.pb_book.specs.declared.answer.NotAccepted.{NotAccepted}
-use Rattle.pb_book.specs.declared.answer.NotAccepted.TheVariants.{Refused as NotAcceptedFor}
 use Rattle.pb_book.specs.declared.answer.Accepted.{Accepted}
-use Rattle.pb_book.specs.declared.answer.Accepted.TheVariants.{Advise, Stored as StoredAccepted}
+use Rattle.pb_book.specs.declared.answer.Accepted.TheVariants.{Advise}
 use Rattle.pb_form.specs.declared.fault.FormFault.{FormFault}
 use Rattle.pb_kinds.specs.declared.rows.Request.{Request}
 use Rattle.pb_kinds.specs.declared.rows.Request.TheVariants as asked
-use Rattle.pb_book.specs.Apart.{is_named}
+use Rattle.pb_periods.specs.Apart.{is_named}
 use Rattle.pb_book.specs.declared.rows.StoredRow.{StoredRow}
 use Rattle.pb_book.specs.Rows.{declared_of, period_place, periods_of, version_at}
 use Rattle.pb_kinds.specs.Requests.{request_in}
@@ -22,7 +21,7 @@ use Rattle.pb_book.specs.Assays.{has_assay}
 use Rattle.pb_book.specs.Costs.{refusal_of_costs}
 use Rattle.pb_book.specs.Refusals.{refusal_of}
 use Rattle.pb_book.specs.Windows.{refusal_of_ends, window_refusal}
-use Rattle.pb_book.specs.Answer.{Answer, Refused, Says, Stored, advise_or_refused, after_answer, answer_if, answer_of, answer_to, component_or_refused, history_or_refused, is_refused, report_or_refused, said_of, stored_or_refused, window_or_refused, window_unless}
+use Rattle.pb_book.specs.Answer.{Answer, Refuses, Says, Stores, advise_or_refused, after_answer, answer_if, answer_of, answer_to, component_or_refused, history_or_refused, is_refused, report_or_refused, said_of, stored_or_refused, window_or_refused, window_unless}
 use Rattle.pb_session.specs.Session.{AddsAccepted, AddsBy, SessionState}
 use Rattle.pb_session.specs.Accepted.{IsOfPeriods}
 
@@ -30,13 +29,13 @@ use Rattle.pb_session.specs.Accepted.{IsOfPeriods}
 abbrev said_ok : Accepted → Result Accepted NotAccepted
 said_ok accepted = Ok accepted
 
-abbrev said_err : Refusal → Result Accepted NotAccepted
-said_err cause = Err (NotAcceptedFor cause)
+abbrev said_err : Refused → Result Accepted NotAccepted
+said_err cause = Err (NotAccepted.Refused cause)
 
 -- an accepted record's answer isn't a refusal
 pub accepted_is : (answer : Answer) (accepted : Accepted) → said_ok accepted ≡ said_of answer → false ≡ is_refused answer
-accepted_is (Refused cause) accepted is = cc is
-accepted_is (Stored effect) accepted is = refl
+accepted_is (Refuses cause) accepted is = cc is
+accepted_is (Stores effect) accepted is = refl
 accepted_is (Says said) accepted is = refl
 
 same_accepted : (a b : Accepted) → said_ok a ≡ said_ok b → a ≡ b
@@ -45,8 +44,8 @@ same_accepted a b is = cc is
 -- what an accepted record adds, after it, is what its answer adds
 pub accepted_adds : (state new : SessionState) (at : ℕ) (costs : List NamedCost) (answer : Answer) (accepted : Accepted) (text : List ℕ) → said_ok accepted ≡ said_of answer
     → new ≡ record { options = state.options; form = state.form; rows = after_answer state.rows at answer } → AddsAccepted new costs accepted text → AddsBy state at costs answer text
-accepted_adds state new at costs (Refused cause) accepted text is new_is adds = cc is
-accepted_adds state new at costs (Stored effect) accepted text is new_is adds = subst (λ (a : Accepted). AddsAccepted new costs a text) (same_accepted accepted StoredAccepted is) adds
+accepted_adds state new at costs (Refuses cause) accepted text is new_is adds = cc is
+accepted_adds state new at costs (Stores effect) accepted text is new_is adds = subst (λ (a : Accepted). AddsAccepted new costs a text) (same_accepted accepted Accepted.Stored is) adds
 accepted_adds state new at costs (Says said) accepted text is new_is adds =
     subst (λ (s : SessionState). AddsAccepted s costs said text) new_is (subst (λ (a : Accepted). AddsAccepted new costs a text) (same_accepted accepted said is) adds)
 
@@ -58,8 +57,8 @@ AnswersOf rows answer = Unit {0}
 -- a report, a history or a balance is of a period that exists, and a window from one to another
 pub of_periods : (rows new : List StoredRow) (at : ℕ) (answer : Answer) (accepted : Accepted) → said_ok accepted ≡ said_of answer → AnswersOf rows answer
     → new ≡ after_answer rows at answer → IsOfPeriods new accepted
-of_periods rows new at (Refused cause) accepted is of is_new = cc is
-of_periods rows new at (Stored effect) accepted is of is_new = subst (λ (a : Accepted). IsOfPeriods new a) (sym (same_accepted accepted StoredAccepted is)) tt
+of_periods rows new at (Refuses cause) accepted is of is_new = cc is
+of_periods rows new at (Stores effect) accepted is of is_new = subst (λ (a : Accepted). IsOfPeriods new a) (sym (same_accepted accepted Accepted.Stored is)) tt
 of_periods rows new at (Says said) accepted is of is_new =
     let here : IsOfPeriods new said = subst (λ (r : List StoredRow). IsOfPeriods r said) (sym is_new) of in
     subst (λ (a : Accepted). IsOfPeriods new a) (sym (same_accepted accepted said is)) here
@@ -93,7 +92,7 @@ asked_of rows first last None other first_is last_is = tt
 asked_of rows first last (Some one) None first_is last_is = tt
 asked_of rows first last (Some one) (Some other) first_is last_is = by (window_refusal rows one other) refl
   where
-    by : (cause : Option Refusal) → window_refusal rows one other ≡ cause → AnswersOf rows (window_unless first last cause)
+    by : (cause : Option Refused) → window_refusal rows one other ≡ cause → AnswersOf rows (window_unless first last cause)
     by (Some cause) is = tt
     by None none = record { one = one; first_is = first_is; other = other; last_is = last_is; no_cause = none }
 
@@ -102,11 +101,11 @@ windows_of rows (Some first) (Some last) = asked_of rows first last (slice_get (
 windows_of rows (Some first) None = tt
 windows_of rows None last = tt
 
-stores_of : (rows : List StoredRow) (effect : Effect) (cause : Option Refusal) → AnswersOf rows (stored_or_refused effect cause)
+stores_of : (rows : List StoredRow) (effect : Effect) (cause : Option Refused) → AnswersOf rows (stored_or_refused effect cause)
 stores_of rows effect (Some cause) = tt
 stores_of rows effect None = tt
 
-advises_of : (rows : List StoredRow) (cause : Option Refusal) → AnswersOf rows (advise_or_refused cause)
+advises_of : (rows : List StoredRow) (cause : Option Refused) → AnswersOf rows (advise_or_refused cause)
 advises_of rows (Some cause) = tt
 advises_of rows None = tt
 
@@ -130,22 +129,22 @@ answers rows fields = answers_if rows (named_costs fields) (request_in (version_
 
 -- an accepted record that stores nothing doesn't change the rows
 pub unchanged_by : (rows : List StoredRow) (at : ℕ) (answer : Answer) (accepted : Accepted) → said_ok accepted ≡ said_of answer
-    → accepted ≢ StoredAccepted → after_answer rows at answer ≡ rows
-unchanged_by rows at (Refused cause) accepted is other = refl
-unchanged_by rows at (Stored effect) accepted is other = absurd (other (same_accepted accepted StoredAccepted is))
+    → accepted ≢ Accepted.Stored → after_answer rows at answer ≡ rows
+unchanged_by rows at (Refuses cause) accepted is other = refl
+unchanged_by rows at (Stores effect) accepted is other = absurd (other (same_accepted accepted Accepted.Stored is))
 unchanged_by rows at (Says said) accepted is other = refl
 
-same_refusal : (a b : Refusal) → said_err a ≡ said_err b → a ≡ b
+same_refusal : (a b : Refused) → said_err a ≡ said_err b → a ≡ b
 same_refusal a b is = cc is
 
 -- a record that the book refuses has this cause for an answer
-pub refused_is : (answer : Answer) (cause : Refusal) → said_err cause ≡ said_of answer → answer ≡ Refused cause
-refused_is (Refused other) cause is = ap Refused (sym (same_refusal cause other is))
-refused_is (Stored effect) cause is = cc is
+pub refused_is : (answer : Answer) (cause : Refused) → said_err cause ≡ said_of answer → answer ≡ Refuses cause
+refused_is (Refuses other) cause is = ap Refuses (sym (same_refusal cause other is))
+refused_is (Stores effect) cause is = cc is
 refused_is (Says said) cause is = cc is
 
 -- a record that asks for advice, according to the book, has that answer, and doesn't change the rows
 pub advice_is : (rows new : List StoredRow) (at : ℕ) (answer : Answer) → said_ok Advise ≡ said_of answer → new ≡ after_answer rows at answer → (answer ≡ Says Advise) × (new ≡ rows)
-advice_is rows new at (Refused cause) is is_new = cc is
-advice_is rows new at (Stored effect) is is_new = absurd (cc is)
+advice_is rows new at (Refuses cause) is is_new = cc is
+advice_is rows new at (Stores effect) is is_new = absurd (cc is)
 advice_is rows new at (Says said) is is_new = (ap Says (sym (same_accepted Advise said is)), is_new)

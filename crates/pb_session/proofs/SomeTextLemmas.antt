@@ -6,20 +6,20 @@ use Rattle.std.proofs.lemmas.List.Elements.{All-map}
 use Rattle.std.proofs.lemmas.Option.{slice_get-get_or}
 use Rattle.pb_rows.specs.declared.name.Names.{Names}
 use Rattle.pb_window.specs.Codes.{window_names}
-use Rattle.pb_graph.specs.declared.results.Stage.{Stage}
-use Rattle.pb_graph.specs.declared.results.Study.{Study}
+use Rattle.pb_study.specs.declared.results.Stage.{Stage}
+use Rattle.pb_study.specs.declared.results.Study.{Study}
 use Rattle.pb_graph.specs.ProcessGraph.{ProcessGraph, IsProcessGraph}
 use Rattle.pb_assay.specs.declared.component.ComponentFault.{ComponentFault}
 use Rattle.pb_assay.specs.declared.component.ComponentFault.TheVariants as fault
-use Rattle.pb_assay.specs.declared.grade.Grade.{Grade}
+use Rattle.pb_facts.specs.declared.grade.Grade.{Grade}
 use Rattle.pb_assay.specs.Component.{component_of, component_streams, component_unless_over}
-use Rattle.pb_assay.specs.Grade.{IsGrade}
+use Rattle.pb_facts.specs.Grade.{IsGrade}
 use Rattle.pb_assay.specs.Laws.{ComponentFormLaw}
 use Rattle.pb_classify.specs.Laws.{SomeClassificationLaw}
 use Rattle.pb_advise.specs.Laws.{CheapestLaw, SomeAdviceLaw}
-use Rattle.pb_elim.specs.Criticals.{AreCritical}
+use Rattle.pb_study.specs.Criticals.{AreCritical}
 use Rattle.pb_elim.specs.Laws.{CertifiedLaw, FormedLaw, LeastThroughoutLaw, TestedLaw, SomeStudyLaw}
-use Rattle.pb_elim.specs.Options.{AreOptions}
+use Rattle.pb_study.specs.Options.{AreOptions}
 use Rattle.pb_elim.specs.Study.{IsStudyOf}
 use Rattle.pb_kinds.specs.declared.costs.NamedCost.{NamedCost}
 use Rattle.pb_kinds.specs.Costs.{IsMeterCost, named_costs}
@@ -27,12 +27,14 @@ use Rattle.pb_book.specs.Accepted.{AreAccepted}
 use Rattle.pb_book.specs.Assays.{grade_of}
 use Rattle.pb_book.specs.Costs.{meter_costs}
 use Rattle.pb_book.specs.declared.rows.StoredRow.{StoredRow}
-use Rattle.pb_book.specs.declared.answer.Accepted.TheVariants.{Blank, Stored as StoredAccepted, Design, Report, History, Advise, Component, Window}
-use Rattle.pb_book.specs.declared.rows.Period.{Period}
+use Rattle.pb_book.specs.declared.answer.Accepted.TheVariants.{Blank, Design, Report, History, Advise, Component, Window}
+use Rattle.pb_book.specs.declared.answer.Accepted.{Accepted}
+use Rattle.pb_periods.specs.declared.period.Period.{Period}
 use Rattle.pb_book.specs.Rows.{declared_of, periods_of}
-use Rattle.pb_book.specs.Answer.{Answer, Refused, Says, Stored, answer_of}
+use Rattle.pb_book.specs.Answer.{Answer, Refuses, Says, Stores, answer_of}
 use Rattle.pb_book.specs.Laws.{AcceptedLaw, MeterCostsLaw}
-use Rattle.pb_book.specs.Windows.{BookWindowsLaw, IsBookWindow, IsWindowAsked, periods_between, window_between, window_refusal}
+use Rattle.pb_book.specs.Windows.{BookWindowsLaw, IsBookWindow, IsWindowAsked, window_between, window_refusal}
+use Rattle.pb_periods.specs.Windows.{periods_between}
 use Rattle.pb_period.specs.Laws.{GraphsLaw, HaveGraphs, WindowGraphsLaw}
 use Rattle.pb_period.specs.Days.{days_of}
 use Rattle.pb_period.specs.Grades.{grades_of}
@@ -43,7 +45,7 @@ use Rattle.pb_report.specs.Component.{component_row}
 use Rattle.pb_report.specs.Form.{text_in}
 use Rattle.pb_session.specs.Criticals.{critical_of}
 use Rattle.pb_session.specs.History.{told_history}
-use Rattle.pb_session.specs.Session.{AddsAccepted, AddsBy, AreNamesOf, Balances, BalancesBy, BalancesIn, IsBalanceOf, IsReport, Reports, ReportsBy, SessionState, Tells, Windows, WindowsBy, assembly_between, component_assembly, last_stage, state_after, window_head}
+use Rattle.pb_session.specs.Session.{AddsAccepted, AddsBy, AreNamesOf, Balances, BalancesBy, BalancesIn, IsBalanceOf, IsHistoryText, IsReport, Reports, ReportsBy, SessionState, Windows, WindowsBy, assembly_between, component_assembly, last_stage, state_after, window_head}
 use Rattle.pb_session.specs.Laws.{SomeTextLaw, SomeSessionTextLaw}
 use Rattle.pb_session.proofs.BalanceLemmas.{counts_of, each_result, last_there, names_as}
 use Rattle.pb_session.proofs.NamedLemmas.{costs_are, names_are, period_names_are}
@@ -216,11 +218,11 @@ some_window state known i k asked windows window =
 
 -- ---- a record
 
-some_history : (state : SessionState) (i : ℕ) → i < length (periods_of state.rows) → (text : List ℕ) × Tells state (slice_get (periods_of state.rows) i) text
+some_history : (state : SessionState) (i : ℕ) → i < length (periods_of state.rows) → (text : List ℕ) × IsHistoryText state (slice_get (periods_of state.rows) i) text
 some_history state i there =
     let period = get_or (periods_of state.rows) i some_period in
     let text = text_in state.form (told_history state.rows period) in
-    (text, subst (λ (found : Option Period). Tells state found text) (sym (slice_get-get_or (periods_of state.rows) i some_period there)) refl)
+    (text, subst (λ (found : Option Period). IsHistoryText state found text) (sym (slice_get-get_or (periods_of state.rows) i some_period there)) refl)
 
 some_advice : SomeAdviceLaw → CheapestLaw → (state : SessionState) (costs : List NamedCost) → HaveGraphs state.rows → All IsMeterCost (meter_costs (declared_of state.rows) costs)
     → (text : List ℕ) × AddsAccepted state costs Advise text
@@ -245,10 +247,10 @@ HasCosts rows costs answer = answer ≡ Says Advise → All IsMeterCost (meter_c
 
 some_answer : SomeClassificationLaw → SomeAdviceLaw → CheapestLaw → (state : SessionState) → HaveBalances state.rows → (at : ℕ) (costs : List NamedCost) (answer : Answer)
     → AreOptions state.options → HaveGraphs state.rows → HaveWindows state.rows → AnswersOf state.rows answer → HasCosts state.rows costs answer → (text : List ℕ) × AddsBy state at costs answer text
-some_answer classifications advices cheapest state known at costs (Refused cause) asked graphs windows of within = (_, refl)
-some_answer classifications advices cheapest state known at costs (Stored row) asked graphs windows of within = ([], refl)
+some_answer classifications advices cheapest state known at costs (Refuses cause) asked graphs windows of within = (_, refl)
+some_answer classifications advices cheapest state known at costs (Stores row) asked graphs windows of within = ([], refl)
 some_answer classifications advices cheapest state known at costs (Says Blank) asked graphs windows of within = ([], refl)
-some_answer classifications advices cheapest state known at costs (Says StoredAccepted) asked graphs windows of within = ([], refl)
+some_answer classifications advices cheapest state known at costs (Says Accepted.Stored) asked graphs windows of within = ([], refl)
 some_answer classifications advices cheapest state known at costs (Says Design) asked graphs windows of within =
     let (classes, are) = classifications (design_graph state.rows) graphs.design in
     (_, record { limits = graphs.design; named = names_are base_of state.rows graphs.names; classes = classes; are = are; rows = refl })

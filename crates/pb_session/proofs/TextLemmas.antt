@@ -7,21 +7,21 @@ use Rattle.pb_graph.specs.ProcessGraph.{ProcessGraph}
 use Rattle.pb_classify.specs.Laws.{OneClassificationLaw}
 use Rattle.pb_advise.specs.declared.advice.Advice.{Advice}
 use Rattle.pb_advise.specs.Laws.{OneAdviceLaw}
-use Rattle.pb_assay.specs.declared.grade.Grade.{Grade}
+use Rattle.pb_facts.specs.declared.grade.Grade.{Grade}
 use Rattle.pb_assay.specs.Component.{component_of}
-use Rattle.pb_graph.specs.declared.results.Stage.{Stage}
-use Rattle.pb_graph.specs.declared.results.Study.{Study}
+use Rattle.pb_study.specs.declared.results.Stage.{Stage}
+use Rattle.pb_study.specs.declared.results.Study.{Study}
 use Rattle.pb_elim.specs.Laws.{OneStudyLaw}
 use Rattle.pb_site.specs.Site.{names_of}
 use Rattle.pb_kinds.specs.declared.costs.NamedCost.{NamedCost}
 use Rattle.pb_kinds.specs.Costs.{named_costs}
 use Rattle.pb_book.specs.Costs.{meter_costs}
 use Rattle.pb_book.specs.declared.answer.Accepted.{Accepted}
-use Rattle.pb_book.specs.declared.answer.Accepted.TheVariants.{Blank, Stored as StoredAccepted, Design, Report, History, Advise, Component, Window}
-use Rattle.pb_book.specs.declared.rows.Period.{Period}
+use Rattle.pb_book.specs.declared.answer.Accepted.TheVariants.{Blank, Design, Report, History, Advise, Component, Window}
+use Rattle.pb_periods.specs.declared.period.Period.{Period}
 use Rattle.pb_book.specs.Rows.{declared_of, periods_of}
 use Rattle.pb_book.specs.Windows.{window_between}
-use Rattle.pb_book.specs.Answer.{Answer, Refused, Says, Stored, answer_of}
+use Rattle.pb_book.specs.Answer.{Answer, Refuses, Says, Stores, answer_of}
 use Rattle.pb_period.specs.Days.{days_of}
 use Rattle.pb_period.specs.Grades.{grades_of}
 use Rattle.pb_period.specs.declared.graph.Assembly.{Assembly}
@@ -34,7 +34,7 @@ use Rattle.pb_report.specs.Advice.{advice_rows}
 use Rattle.pb_report.specs.Design.{design_rows}
 use Rattle.pb_report.specs.Study.{study_rows}
 use Rattle.pb_session.specs.Criticals.{critical_of}
-use Rattle.pb_session.specs.Session.{AddsAccepted, AddsBy, Balances, BalancesBy, BalancesIn, IsBalanceOf, IsReport, IsReportAfter, SessionState, Reports, ReportsBy, Tells, Windows, WindowsBy, assembly_between, component_assembly, last_stage, state_after, window_head}
+use Rattle.pb_session.specs.Session.{AddsAccepted, AddsBy, Balances, BalancesBy, BalancesIn, IsBalanceOf, IsReport, IsReportAfter, SessionState, Reports, ReportsBy, IsHistoryText, Windows, WindowsBy, assembly_between, component_assembly, last_stage, state_after, window_head}
 use Rattle.pb_session.specs.Laws.{OneTextLaw, OneSessionTextLaw}
 
 -- the report of a graph
@@ -110,14 +110,14 @@ window_text law state None last one other a b = absurd a
 
 -- ---- a record
 
-history_text : (state : SessionState) (period : Option Period) (one other : List ℕ) → Tells state period one → Tells state period other → one ≡ other
+history_text : (state : SessionState) (period : Option Period) (one other : List ℕ) → IsHistoryText state period one → IsHistoryText state period other → one ≡ other
 history_text state (Some period) one other a b = a ∙ sym b
 history_text state None one other a b = absurd a
 
 accepted_text : OneClassificationLaw → OneAdviceLaw → OneStudyLaw → (state : SessionState) (costs : List NamedCost) (accepted : Accepted) (one other : List ℕ)
     → AddsAccepted state costs accepted one → AddsAccepted state costs accepted other → one ≡ other
 accepted_text law advices studies state costs Blank one other a b = a ∙ sym b
-accepted_text law advices studies state costs StoredAccepted one other a b = a ∙ sym b
+accepted_text law advices studies state costs Accepted.Stored one other a b = a ∙ sym b
 accepted_text law advices studies state costs Design one other a b =
     let text : List Classified → List ℕ = λ classes. text_in state.form (design_rows (names_of (declared_of state.rows)) (design_graph state.rows) classes) in
     a.rows ∙ ap text (law (design_graph state.rows) a.classes b.classes a.are b.are) ∙ sym b.rows
@@ -132,8 +132,8 @@ accepted_text law advices studies state costs Advise one other a b =
 
 answer_text : OneClassificationLaw → OneAdviceLaw → OneStudyLaw → (state : SessionState) (at : ℕ) (costs : List NamedCost) (answer : Answer) (one other : List ℕ)
     → AddsBy state at costs answer one → AddsBy state at costs answer other → one ≡ other
-answer_text law advices studies state at costs (Refused cause) one other a b = a ∙ sym b
-answer_text law advices studies state at costs (Stored row) one other a b = a ∙ sym b
+answer_text law advices studies state at costs (Refuses cause) one other a b = a ∙ sym b
+answer_text law advices studies state at costs (Stores row) one other a b = a ∙ sym b
 answer_text law advices studies state at costs (Says accepted) one other a b = accepted_text law advices studies state costs accepted one other a b
 
 pub record_text : OneClassificationLaw → OneAdviceLaw → OneStudyLaw → OneTextLaw

@@ -9,11 +9,11 @@ use Rattle.std.proofs.lemmas.List.Elements.{filter_map-append}
 use Rattle.pb_graph.specs.declared.records.Meas.{Meas}
 use Rattle.pb_graph.specs.ProcessGraph.{ProcessGraph}
 use Rattle.pb_rows.specs.declared.name.Names.{Names}
-use Rattle.pb_assay.specs.declared.grade.Grade.{Grade}
+use Rattle.pb_facts.specs.declared.grade.Grade.{Grade}
 use Rattle.pb_window.specs.declared.plant.Plant.{Plant}
 use Rattle.pb_site.specs.declared.declared.Arc.{Arc}
 use Rattle.pb_site.specs.declared.declared.ArcKind.{ArcKind}
-use Rattle.pb_site.specs.declared.declared.ArcKind.TheVariants.{Metered, Batch, Plain, Tank as TankArc}
+use Rattle.pb_site.specs.declared.declared.ArcKind.TheVariants.{Metered, Batch, Plain}
 use Rattle.pb_site.specs.declared.declared.Declared.{Declared}
 use Rattle.pb_site.specs.declared.declared.Declared.TheVariants.{Version2, Boundary, Tank, Stream}
 use Rattle.pb_site.specs.declared.declared.Version.{Version}
@@ -30,18 +30,18 @@ use Rattle.pb_kinds.specs.declared.rows.Effect.TheVariants.{Declares}
 use Rattle.pb_kinds.specs.Costs.{named_costs}
 use Rattle.pb_kinds.specs.Versions.{may_declare, may_do}
 use Rattle.pb_book.specs.declared.answer.Accepted.TheVariants as answered
-use Rattle.pb_book.specs.declared.rows.Period.{Period}
+use Rattle.pb_periods.specs.declared.period.Period.{Period}
 use Rattle.pb_book.specs.declared.rows.StoredRow.{StoredRow}
 use Rattle.pb_book.specs.Accepted.{AreAccepted}
-use Rattle.pb_book.specs.Answer.{Answer, Refused, Says, Stored, after_answer, answer_of}
+use Rattle.pb_book.specs.Answer.{Answer, Refuses, Says, Stores, after_answer, answer_of}
 use Rattle.pb_book.specs.Assays.{grade_of}
 use Rattle.pb_book.specs.Edits.{edit_touches, edits_of, history_of}
 use Rattle.pb_book.specs.Refusals.{is_out_of_service}
 use Rattle.pb_book.specs.Rows.{declaration_in, declared_of, facts_of, periods_of, version_at}
 use Rattle.pb_book.specs.TakenOut.{touching_of}
-use Rattle.pb_book.specs.Touching.{service_of, touches_in}
+use Rattle.pb_periods.specs.Touching.{service_of, touches_in}
 use Rattle.pb_book.specs.VersionOne.{VersionOneLaw, first_answer_of, says_version}
-use Rattle.pb_book.specs.Windows.{keeps_idle_nodes, window_arc, window_plant}
+use Rattle.pb_periods.specs.Windows.{keeps_idle_nodes, window_arc, window_plant}
 use Rattle.pb_period.specs.declared.days.Days.{Days}
 use Rattle.pb_period.specs.declared.graph.Assembly.{Assembly}
 use Rattle.pb_period.specs.declared.graph.Assembly.TheVariants.{Over, NoMemory}
@@ -56,7 +56,7 @@ use Rattle.pb_report.specs.Names.{name_at}
 use Rattle.pb_report.specs.Over.{over_row}
 use Rattle.pb_session.proofs.EditedLemmas.{seam}
 use Rattle.pb_session.specs.History.{told, told_period}
-use Rattle.pb_session.specs.Session.{AddsBy, Balances, BalancesBy, BalancesIn, IsBalanceOf, IsReport, IsReportAfter, Reports, ReportsBy, SessionState, Tells, state_after}
+use Rattle.pb_session.specs.Session.{AddsBy, Balances, BalancesBy, BalancesIn, IsBalanceOf, IsHistoryText, IsReport, IsReportAfter, Reports, ReportsBy, SessionState, state_after}
 use Rattle.pb_session.specs.VersionOne.{FirstAddsBy, FirstBalances, FirstBalancesBy, FirstBalancesIn, FirstPlantLaw, FirstRefusalLaw, FirstReports, FirstReportsBy, FirstSessionTextLaw, FirstTells, FirstTextLaw, FirstWindowLaw, IsFirstText, accepts_version_2, first_amount, first_assembly, first_graph, first_history, first_measured, first_state_after, first_touches, first_window_arc, first_window_plant}
 
 -- ---- the graph of a period
@@ -66,7 +66,7 @@ amount_one : (declared : List Declared) (facts : List Fact) (days : Days) (kind 
 amount_one declared facts days Metered name = refl
 amount_one declared facts days Batch name = refl
 amount_one declared facts days Plain name = refl
-amount_one declared facts days TankArc name = refl
+amount_one declared facts days ArcKind.Tank name = refl
 
 measured_one : (rows : List StoredRow) (days : Days) (arc : Arc) → measured (declared_of rows) (live_facts (facts_of rows)) days None arc ≡ first_measured rows days arc
 measured_one rows days arc = ap (option_map (measurement arc.base)) (amount_one (declared_of rows) (live_facts (facts_of rows)) days arc.kind arc.name)
@@ -112,7 +112,7 @@ history_one : (rows : List StoredRow) (period : Period) → version_of (declared
 history_one rows period one =
     ap (λ (touching : Fact → Period → Bool). filter (λ (stored : StoredRow). edit_touches touching (facts_of rows) stored.effect period) (edits_of rows)) (touching_one rows one)
 
-tells_one : (state : SessionState) (found : Option Period) (text : List ℕ) → version_of (declared_of state.rows) ≡ One → Tells state found text ↔ FirstTells state found text
+tells_one : (state : SessionState) (found : Option Period) (text : List ℕ) → version_of (declared_of state.rows) ≡ One → IsHistoryText state found text ↔ FirstTells state found text
 tells_one state None text one = (λ is. is, λ is. is)
 tells_one state (Some period) text one =
     let same = ap (λ (edits : List StoredRow). text_in state.form (history_rows (told_period period) (filter_map told edits))) (history_one state.rows period one) in
@@ -190,8 +190,8 @@ balances_one state component (Some period) text one =
 
 adds_one : (state : SessionState) (at : ℕ) (costs : List NamedCost) (answer : Answer) (text : List ℕ) → version_of (declared_of state.rows) ≡ One
     → AddsBy state at costs answer text ↔ FirstAddsBy state at costs answer text
-adds_one state at costs (Refused cause) text one = (λ is. is, λ is. is)
-adds_one state at costs (Stored row) text one = (λ is. is, λ is. is)
+adds_one state at costs (Refuses cause) text one = (λ is. is, λ is. is)
+adds_one state at costs (Stores row) text one = (λ is. is, λ is. is)
 adds_one state at costs (Says answered.Blank) text one = (λ is. is, λ is. is)
 adds_one state at costs (Says answered.Stored) text one = (λ is. is, λ is. is)
 adds_one state at costs (Says answered.Design) text one = (λ is. is, λ is. is)
@@ -222,20 +222,20 @@ front_one (Version2 ∷ declared) more one = one
 front_one (row ∷ declared) more one = refl
 
 -- a session of version 1 stays one unless a row states version 2
-declared_one : (effect : Effect) → says_version (Stored effect) ≡ false → version_of (cons_option (declaration_in effect) []) ≡ One
+declared_one : (effect : Effect) → says_version (Stores effect) ≡ false → version_of (cons_option (declaration_in effect) []) ≡ One
 declared_one (Declares Version2) unsaid = cc unsaid
 declared_one effect unsaid = refl
 
-more_one : (declared : List Declared) (effect : Effect) → version_of declared ≡ One → says_version (Stored effect) ≡ false
+more_one : (declared : List Declared) (effect : Effect) → version_of declared ≡ One → says_version (Stores effect) ≡ false
     → version_of (declared ++ cons_option (declaration_in effect) []) ≡ One
 more_one [] effect one unsaid = declared_one effect unsaid
 more_one (row ∷ declared) effect one unsaid = still_one row declared (cons_option (declaration_in effect) []) one
 
 after_one : (rows : List StoredRow) (at : ℕ) (answer : Answer) → version_of (declared_of rows) ≡ One → says_version answer ≡ false
     → version_of (declared_of (after_answer rows at answer)) ≡ One
-after_one rows at (Refused cause) one unsaid = one
+after_one rows at (Refuses cause) one unsaid = one
 after_one rows at (Says accepted) one unsaid = one
-after_one rows at (Stored effect) one unsaid =
+after_one rows at (Stores effect) one unsaid =
     let stored : StoredRow = record { at = at; effect = effect } in
     ap version_of (filter_map-append (λ (row : StoredRow). declaration_in row.effect) rows (stored ∷ [])) ∙ more_one (declared_of rows) effect one unsaid
 

@@ -18,10 +18,11 @@ use Rattle.pb_window.specs.Graph.{graph_streams}
 use Rattle.pb_window.specs.Places.{HaveNames, window_places}
 use Rattle.pb_window.specs.Window.{IsWindow}
 use Rattle.pb_site.specs.Site.{names_of}
-use Rattle.pb_book.specs.declared.rows.Period.{Period}
+use Rattle.pb_periods.specs.declared.period.Period.{Period}
 use Rattle.pb_book.specs.declared.rows.StoredRow.{StoredRow}
 use Rattle.pb_book.specs.Rows.{declared_of, periods_of}
-use Rattle.pb_book.specs.Windows.{ArePlacesBetween, HavePlaceNames, IsWindowAsked, IsWindowBetween, OfEnds, names_of_periods, periods_between, window_between}
+use Rattle.pb_book.specs.Windows.{ArePlacesBetween, HavePlaceNames, IsWindowAsked, IsWindowBetween, OfEnds, window_between}
+use Rattle.pb_periods.specs.Windows.{names_of_periods, periods_between}
 use Rattle.pb_period.specs.declared.graph.Assembly.{Assembly}
 use Rattle.pb_period.specs.PeriodGraph.{unless_over}
 use Rattle.pb_period.specs.WindowGraph.{measured_window, periods_at, stream_measured, window_assembly}

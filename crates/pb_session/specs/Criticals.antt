@@ -1,7 +1,7 @@
 -- Statement. The critical values of the stored rows.
 use Rattle.std.specs.Prelude.{List, filter_map, Option, Some, None}
-use Rattle.pb_graph.specs.declared.results.Critical.{Critical}
-use Rattle.pb_graph.specs.declared.results.CriticalRow.{CriticalRow}
+use Rattle.pb_study.specs.declared.results.Critical.{Critical}
+use Rattle.pb_study.specs.declared.results.CriticalRow.{CriticalRow}
 use Rattle.pb_site.specs.declared.declared.Declared.{Declared}
 use Rattle.pb_site.specs.declared.declared.Declared.TheVariants.{CritGlobal}
 use Rattle.pb_site.specs.Site.{measure_of, nodal_of}

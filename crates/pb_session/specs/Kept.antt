@@ -1,14 +1,14 @@
 -- Statement. What a session keeps beside its rows: studies of periods, and the classes of its last report.
 use Rattle.std.specs.Prelude.{◌≡◌, ◌==◌, ℕ, ◌+◌, not, List, [], ◌∷◌, filter, length, take, All, Option, Some, None, slice_get, Result, Ok, Err, if◌then◌else◌}
-use Rattle.pb_graph.specs.declared.results.Study.{Study}
+use Rattle.pb_study.specs.declared.results.Study.{Study}
 use Rattle.pb_graph.specs.ProcessGraph.{ProcessGraph, IsProcessGraph}
-use Rattle.pb_graph.specs.WellFormed.{IsWellFormedStudy}
+use Rattle.pb_study.specs.WellFormed.{IsWellFormedStudy}
 use Rattle.pb_elim.specs.Study.{IsStudyOf}
-use Rattle.pb_elim.specs.Certified.{IsCertifiedStage}
+use Rattle.pb_stage.specs.Certified.{IsCertifiedStage}
 use Rattle.pb_book.specs.declared.answer.Accepted.{Accepted}
 use Rattle.pb_book.specs.declared.answer.Accepted.TheVariants.{Report}
-use Rattle.pb_book.specs.declared.rows.Period.{Period}
-use Rattle.pb_book.specs.Answer.{Answer, Says, Stored, answer_of}
+use Rattle.pb_periods.specs.declared.period.Period.{Period}
+use Rattle.pb_book.specs.Answer.{Answer, Says, Stores, answer_of}
 use Rattle.pb_book.specs.TakenOut.{touched_at}
 use Rattle.pb_book.specs.declared.rows.StoredRow.{StoredRow}
 use Rattle.pb_book.specs.Rows.{periods_of, with_row}
@@ -63,7 +63,7 @@ KeepsAccepted state kept accepted new = new ≡ kept
 
 -- the kept periods after the answer to the record with this number: a stored row removes those that it touches
 abbrev pub KeepsBy : SessionState → List ℕ → ℕ → Answer → List ℕ → Type 0
-KeepsBy state kept at (Stored row) new = new ≡ untouched (with_row state.rows at row) kept
+KeepsBy state kept at (Stores row) new = new ≡ untouched (with_row state.rows at row) kept
 KeepsBy state kept at (Says accepted) new = KeepsAccepted state kept accepted new
 KeepsBy state kept at answer new = new ≡ kept
 

@@ -1,6 +1,6 @@
 -- Statement. What is proved about the studies that a session keeps.
 use Rattle.std.specs.Prelude.{◌≡◌, ℕ, ◌≤◌, List, length}
-use Rattle.pb_elim.specs.Options.{AreOptions}
+use Rattle.pb_study.specs.Options.{AreOptions}
 use Rattle.pb_book.specs.Accepted.{AreAccepted}
 use Rattle.pb_session.specs.Kept.{AreKept, Held, most_kept}
 use Rattle.pb_session.specs.Session.{Adds, SessionState}

@@ -1,7 +1,7 @@
 -- Statement. Each record adds one text to the output, and each session has one text.
 use Rattle.std.specs.Prelude.{◌≡◌, ℕ, List}
-use Rattle.pb_elim.specs.Options.{AreOptions}
-use Rattle.pb_elim.specs.Criticals.{AreCritical}
+use Rattle.pb_study.specs.Options.{AreOptions}
+use Rattle.pb_study.specs.Criticals.{AreCritical}
 use Rattle.pb_book.specs.Accepted.{AreAccepted}
 use Rattle.pb_book.specs.declared.rows.StoredRow.{StoredRow}
 use Rattle.pb_session.specs.Criticals.{critical_of}

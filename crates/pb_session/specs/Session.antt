@@ -4,31 +4,32 @@ use Rattle.pb_rows.specs.declared.name.Names.{Names}
 use Rattle.pb_window.specs.Codes.{window_names}
 use Rattle.pb_window.specs.Places.{window_places}
 use Rattle.pb_graph.specs.declared.records.Classified.{Classified}
-use Rattle.pb_graph.specs.declared.results.Options.{Options}
-use Rattle.pb_graph.specs.declared.results.Stage.{Stage}
-use Rattle.pb_graph.specs.declared.results.Study.{Study}
+use Rattle.pb_study.specs.declared.results.Options.{Options}
+use Rattle.pb_study.specs.declared.results.Stage.{Stage}
+use Rattle.pb_study.specs.declared.results.Study.{Study}
 use Rattle.pb_graph.specs.ProcessGraph.{ProcessGraph, IsProcessGraph}
 use Rattle.pb_assay.specs.declared.component.ComponentFault.{ComponentFault}
 use Rattle.pb_assay.specs.declared.component.ComponentFault.TheVariants as fault
-use Rattle.pb_assay.specs.declared.grade.Grade.{Grade}
+use Rattle.pb_facts.specs.declared.grade.Grade.{Grade}
 use Rattle.pb_assay.specs.Component.{component_of}
 use Rattle.pb_classify.specs.Classification.{IsClassification}
 use Rattle.pb_advise.specs.declared.advice.Advice.{Advice}
 use Rattle.pb_advise.specs.Choice.{AreCosts}
 use Rattle.pb_advise.specs.Advice.{IsAdvice, IsCheapest}
 use Rattle.pb_elim.specs.Study.{IsStudyOf}
-use Rattle.pb_elim.specs.Certified.{IsCertifiedStage, HasLeastThroughout, TestsEachRedundant}
+use Rattle.pb_stage.specs.Certified.{IsCertifiedStage, HasLeastThroughout, TestsEachRedundant}
 use Rattle.pb_site.specs.Site.{AreDistinct, names_of}
 use Rattle.pb_kinds.specs.declared.costs.NamedCost.{NamedCost}
 use Rattle.pb_kinds.specs.Costs.{named_costs}
 use Rattle.pb_book.specs.declared.answer.Accepted.{Accepted}
 use Rattle.pb_book.specs.declared.answer.Accepted.TheVariants as answered
-use Rattle.pb_book.specs.declared.rows.Period.{Period}
+use Rattle.pb_periods.specs.declared.period.Period.{Period}
 use Rattle.pb_book.specs.declared.rows.StoredRow.{StoredRow}
 use Rattle.pb_book.specs.Rows.{declared_of, periods_of}
 use Rattle.pb_book.specs.Costs.{meter_costs}
-use Rattle.pb_book.specs.Windows.{names_of_periods, periods_between, window_between}
-use Rattle.pb_book.specs.Answer.{Answer, Refused, Says, Stored, after, answer_of, code_of, is_refused}
+use Rattle.pb_periods.specs.Windows.{names_of_periods, periods_between}
+use Rattle.pb_book.specs.Windows.{window_between}
+use Rattle.pb_book.specs.Answer.{Answer, Refuses, Says, Stores, after, answer_of, cause_code, is_refused}
 use Rattle.pb_period.specs.Days.{days_of}
 use Rattle.pb_period.specs.Grades.{grades_of}
 use Rattle.pb_period.specs.declared.graph.Assembly.{Assembly}
@@ -194,9 +195,9 @@ Windows state first last text = ⊥
 -- ---- what a record adds
 
 -- the text of the history of the period at a place
-abbrev pub Tells : SessionState → Option Period → List ℕ → Type 0
-Tells state (Some period) text = IsTextOf state (told_history state.rows period) text
-Tells state None text = ⊥
+abbrev pub IsHistoryText : SessionState → Option Period → List ℕ → Type 0
+IsHistoryText state (Some period) text = IsTextOf state (told_history state.rows period) text
+IsHistoryText state None text = ⊥
 
 -- the text that an accepted record adds, given the costs that it names
 abbrev pub AddsAccepted : SessionState → List NamedCost → Accepted → List ℕ → Type 0
@@ -204,7 +205,7 @@ AddsAccepted state costs answered.Blank text = text ≡ []
 AddsAccepted state costs answered.Stored text = text ≡ []
 AddsAccepted state costs answered.Design text = IsDesign state (names_of (declared_of state.rows)) (design_graph state.rows) text
 AddsAccepted state costs (answered.Report i) text = Reports state (slice_get (periods_of state.rows) i) text
-AddsAccepted state costs (answered.History i) text = Tells state (slice_get (periods_of state.rows) i) text
+AddsAccepted state costs (answered.History i) text = IsHistoryText state (slice_get (periods_of state.rows) i) text
 AddsAccepted state costs (answered.Component component i) text = Balances state component (slice_get (periods_of state.rows) i) text
 AddsAccepted state costs (answered.Window first last) text =
     Windows state (slice_get (periods_of state.rows) first) (slice_get (periods_of state.rows) last) text
@@ -213,8 +214,8 @@ AddsAccepted state costs answered.Advise text =
 
 -- the text that an answer to the record with this number adds
 abbrev pub AddsBy : SessionState → ℕ → List NamedCost → Answer → List ℕ → Type 0
-AddsBy state at costs (Refused cause) text = IsTextOf state (refused_row at (code_of cause) ∷ []) text
-AddsBy state at costs (Stored row) text = text ≡ []
+AddsBy state at costs (Refuses cause) text = IsTextOf state (refused_row at (cause_code cause) ∷ []) text
+AddsBy state at costs (Stores row) text = text ≡ []
 AddsBy state at costs (Says accepted) text = AddsAccepted state costs accepted text
 
 -- The text that a record adds to the output: for a refused record, its row; for `design`, the rows of the design; for `report`,

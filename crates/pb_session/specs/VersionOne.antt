@@ -11,7 +11,7 @@ use Rattle.pb_site.specs.declared.declared.ArcKind.TheVariants.{Metered, Batch, 
 use Rattle.pb_site.specs.declared.declared.Declared.{Declared}
 use Rattle.pb_site.specs.declared.declared.Version.TheVariants.{One}
 use Rattle.pb_site.specs.Faults.{most_arcs}
-use Rattle.pb_site.specs.Site.{arc_names, arcs_of, boundary_names, names_of, node_names, points_of, service_in, version_of}
+use Rattle.pb_site.specs.Site.{arc_names, arcs_of, boundary_names, names_of, node_names, points_of_tank, service_in, version_of}
 use Rattle.pb_facts.specs.declared.fact.Fact.{Fact}
 use Rattle.pb_facts.specs.declared.fact.Fact.TheVariants.{Reading, Transfer, Dip}
 use Rattle.pb_facts.specs.Fact.{is_dip_on}
@@ -20,19 +20,20 @@ use Rattle.pb_kinds.specs.declared.costs.NamedCost.{NamedCost}
 use Rattle.pb_kinds.specs.Costs.{named_costs}
 use Rattle.pb_book.specs.declared.answer.Accepted.{Accepted}
 use Rattle.pb_book.specs.declared.answer.Accepted.TheVariants as answered
-use Rattle.pb_book.specs.declared.rows.Period.{Period}
+use Rattle.pb_periods.specs.declared.period.Period.{Period}
 use Rattle.pb_book.specs.declared.rows.StoredRow.{StoredRow}
 use Rattle.pb_book.specs.Accepted.{AreAccepted}
-use Rattle.pb_book.specs.Answer.{Answer, Refused, Says, Stored, after_answer, answer_of, code_of}
-use Rattle.pb_book.specs.Apart.{shares_a_day}
+use Rattle.pb_book.specs.Answer.{Answer, Refuses, Says, Stores, after_answer, answer_of, cause_code}
+use Rattle.pb_periods.specs.Apart.{shares_a_day}
 use Rattle.pb_book.specs.Assays.{grade_of}
 use Rattle.pb_book.specs.Costs.{meter_costs}
 use Rattle.pb_book.specs.Edits.{edit_touches, edits_of}
-use Rattle.pb_book.specs.Refusals.{is_of_plant, is_out_of_service, is_sealed_by, is_unserved_in}
+use Rattle.pb_book.specs.Refusals.{is_of_plant, is_out_of_service, is_sealed_by}
+use Rattle.pb_periods.specs.Closing.{is_unserved_in}
 use Rattle.pb_book.specs.Rows.{declared_of, facts_of, periods_of}
-use Rattle.pb_book.specs.Touching.{service_of, some_closed, touches_in}
+use Rattle.pb_periods.specs.Touching.{service_of, some_closed, touches_in}
 use Rattle.pb_book.specs.VersionOne.{first_answer_of, says_version}
-use Rattle.pb_book.specs.Windows.{is_inventory, window_plant}
+use Rattle.pb_periods.specs.Windows.{is_inventory, window_plant}
 use Rattle.pb_period.specs.declared.amount.Amount.{Amount}
 use Rattle.pb_period.specs.declared.days.Days.{Days}
 use Rattle.pb_period.specs.declared.graph.Assembly.{Assembly}
@@ -60,7 +61,7 @@ first_amount declared facts days Metered stream = read_total (read_on facts stre
 first_amount declared facts days Batch stream = Some (total_of (filter_map (transferred days stream) facts))
 first_amount declared facts days Plain stream = None
 first_amount declared facts days Tank tank =
-    change_of (content_of (points_of declared tank)) (find (is_dip_on tank (days.first -ℤ pos 1)) facts)
+    change_of (content_of (points_of_tank declared tank)) (find (is_dip_on tank (days.first -ℤ pos 1)) facts)
     (find (is_dip_on tank days.last) facts)
 
 -- what is measured of an arc on some days: the grams, and the sum of the base variance and that of the grams
@@ -150,8 +151,8 @@ FirstAddsAccepted state costs answered.Advise text =
 
 -- the text that an answer to the record with this number adds
 abbrev pub FirstAddsBy : SessionState → ℕ → List NamedCost → Answer → List ℕ → Type 0
-FirstAddsBy state at costs (Refused cause) text = IsTextOf state (refused_row at (code_of cause) ∷ []) text
-FirstAddsBy state at costs (Stored row) text = text ≡ []
+FirstAddsBy state at costs (Refuses cause) text = IsTextOf state (refused_row at (cause_code cause) ∷ []) text
+FirstAddsBy state at costs (Stores row) text = text ≡ []
 FirstAddsBy state at costs (Says accepted) text = FirstAddsAccepted state costs accepted text
 
 -- The text that a record adds to the output, given the answer that it has in a session of version 1.

@@ -6,10 +6,11 @@ use Rattle.pb_window.specs.Codes.{AreWindowNames}
 use Rattle.pb_window.specs.Places.{HaveNames}
 use Rattle.pb_window.specs.Window.{IsWindow}
 use Rattle.pb_site.specs.Site.{names_of}
-use Rattle.pb_book.specs.declared.rows.Period.{Period}
+use Rattle.pb_periods.specs.declared.period.Period.{Period}
 use Rattle.pb_book.specs.declared.rows.StoredRow.{StoredRow}
 use Rattle.pb_book.specs.Rows.{declared_of, periods_of}
-use Rattle.pb_book.specs.Windows.{names_of_periods, periods_between, window_between}
+use Rattle.pb_periods.specs.Windows.{names_of_periods, periods_between}
+use Rattle.pb_book.specs.Windows.{window_between}
 use Rattle.pb_period.specs.WindowGraph.{periods_at}
 
 -- These are the places of the periods from the period at one place to the period at another, and this is their window.

@@ -3,7 +3,8 @@
 ghost use Rattle.std.specs.Prelude.{◌≡◌, IfOk};
 ghost use Rattle.pb_session.specs.Keeping.{classes_in};
 
-use pb_graph::{Classified, List, StreamResult};
+use pb_graph::{Classified, List};
+use pb_study::StreamResult;
 use std::alloc::{AllocError, Global};
 
 /// The classes in the results of streams, with their certificates.

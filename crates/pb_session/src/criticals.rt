@@ -1,11 +1,12 @@
 // The critical values of the declared plant.
 
 ghost use Rattle.std.specs.Prelude.{◌≡◌, filter_map, IfOk};
-ghost use Rattle.pb_elim.specs.Criticals.{AreCritical};
+ghost use Rattle.pb_study.specs.Criticals.{AreCritical};
 ghost use Rattle.pb_session.specs.Criticals.{critical_row, declared_critical};
 
-use pb_graph::{Critical, CriticalRow, List};
+use pb_graph::List;
 use pb_site::{Declared, Site};
+use pb_study::{Critical, CriticalRow};
 use std::alloc::{AllocError, Global};
 
 // The critical value of the global test that a declaration declares.

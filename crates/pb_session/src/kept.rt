@@ -7,7 +7,7 @@ ghost use Rattle.pb_session.specs.Kept.{most_kept};
 ghost use Rattle.pb_session.specs.Keeping.{last_stage, left_by, others_than, place_in, saved_by, settled, settled_stage, stage_beside, studies_behind, untouched_studies};
 
 use pb_book::{Accepted, Book};
-use pb_graph::{Stage, Study};
+use pb_study::{Stage, Study};
 
 /// A study that is kept, with the place of its period.
 #[derive(Debug, Drop)]

@@ -2,7 +2,7 @@
 
 ghost use Rattle.std.specs.Prelude.{◌≡◌, ◌≢◌, ◌<◌, ◌≤◌, ◌↔◌, ◌∷◌, [], None, length, slice_get, take, option_map, All, OnOk, OnErr, IfErr, IfOk, IfSome, IsSome, IsTrue, Contains, Err};
 ghost use Rattle.pb_book.specs.declared.answer.Accepted.TheVariants.{Advise, Design, Stored};
-ghost use Rattle.pb_book.specs.Answer.{Says, code_of};
+ghost use Rattle.pb_book.specs.Answer.{Says, cause_code};
 ghost use Rattle.pb_kinds.specs.Costs.{named_costs};
 ghost use Rattle.pb_advise.specs.Choice.{AreCosts};
 ghost use Rattle.pb_report.specs.Component.{component_row};
@@ -16,17 +16,19 @@ use crate::history::{told_edits, told_period};
 use crate::kept::{KeptStudy, drop_touched, last_stage, place_of, settle};
 use crate::windows::places_of;
 use pb_advise::advise;
-use pb_assay::{ComponentFault, Grade, component_graph};
+use pb_assay::{ComponentFault, component_graph};
 use pb_book::{Accepted, Book, NotAccepted, Refused};
-use pb_classify::{alike_law, classify};
-use pb_elim::{least_throughout_law, stage, study_classed, tested_law};
-use pb_graph::{Classified, Graph, List, Options, Stage, Study};
-use pb_period::{Assembly, assemble, assemble_window, closed_graphs_law, design, untouched_law};
+use pb_classify::classify;
+use pb_elim::{stage, study_classed};
+use pb_facts::Grade;
+use pb_graph::{Classified, Graph, List};
+use pb_period::{Assembly, assemble, assemble_window, design};
 use pb_report::{
     Form, write_advice, write_component, write_design, write_history, write_over, write_refused,
     write_study, write_window,
 };
 use pb_rows::{Name, NameList, Names, Row};
+use pb_study::{Options, Stage, Study};
 use pb_window::{Window, window_names};
 use std::alloc::{AllocError, Global};
 use std::marker::Model;
@@ -68,12 +70,12 @@ struct Reported {
 impl Session {
     ghost use Rattle.pb_book.specs.Answer.{answer_of, is_refused};
     ghost use Rattle.pb_classify.specs.Classification.{IsClassification};
-    ghost use Rattle.pb_elim.specs.Options.{AreOptions};
-    ghost use Rattle.pb_elim.specs.Printed.{printed_classes};
+    ghost use Rattle.pb_study.specs.Options.{AreOptions};
+    ghost use Rattle.pb_stage.specs.Printed.{printed_classes};
     ghost use Rattle.pb_elim.specs.Study.{IsStudyOf};
     ghost use Rattle.pb_graph.specs.ProcessGraph.{IsProcessGraph};
-    ghost use Rattle.pb_graph.specs.WellFormed.{IsWellFormedStudy};
-    ghost use Rattle.pb_assay.specs.Grade.{IsGrade};
+    ghost use Rattle.pb_study.specs.WellFormed.{IsWellFormedStudy};
+    ghost use Rattle.pb_facts.specs.Grade.{IsGrade};
     ghost use Rattle.pb_period.specs.Days.{days_of};
     ghost use Rattle.pb_period.specs.PeriodGraph.{IsStreamOfGraph, NamesAStream, period_graph, period_names};
     ghost use Rattle.pb_session.specs.Criticals.{critical_of};
@@ -83,7 +85,7 @@ impl Session {
     ghost use Rattle.pb_session.specs.FirstStage.{Begins, IsFirstStage, TellsAStream};
     ghost use Rattle.pb_session.specs.Keeping.{HasCountsOf, IsBalanceAt, IsReportedAt, IsReportedOf, IsStudied};
     ghost use Rattle.pb_session.specs.Kept.{IsKeptAt, Keeps, KeepsAccepted, KeepsReportOf, most_kept, reported_after, reported_behind, reported_of};
-    ghost use Rattle.pb_session.specs.Session.{Adds, AddsAccepted, AreNamesOf, Balances, IsAdviceText, IsBalanceOf, IsDesign, IsReport, IsReportAfter, IsTextOf, Reports, Tells, Windows, state_after, window_head};
+    ghost use Rattle.pb_session.specs.Session.{Adds, AddsAccepted, AreNamesOf, Balances, IsAdviceText, IsBalanceOf, IsDesign, IsHistoryText, IsReport, IsReportAfter, IsTextOf, Reports, Windows, state_after, window_head};
     ghost use Rattle.pb_session.specs.Windowed.{IsWindowAt};
 
     /// A session that has stored nothing.
@@ -157,8 +159,6 @@ impl Session {
     {
         match self.book.accept(at, row) {
             Ok(accepted) => {
-                untouched_law();
-                closed_graphs_law();
                 drop_touched(&mut self.kept, &mut self.last, &self.book, &accepted);
                 self.write(accepted, row, out)?;
                 Ok(false)
@@ -200,7 +200,7 @@ impl Session {
     // Appends the row of a refusal.
     fn refuse(&self, at: u32, cause: Refused, out: &mut Vec<u8>) -> Result<(), AllocError>
         ensures ok { OnOk result (AppendsText
-            (IsTextOf self.now.state (refused_row at (code_of cause) ∷ [])) out.old out.new) }
+            (IsTextOf self.now.state (refused_row at (cause_code cause) ∷ [])) out.old out.new) }
         ensures err { OnErr result (KeepsText out.old out.new) }
     {
         write_refused(self.alloc, at, cause.code(), self.form, out)
@@ -301,7 +301,7 @@ impl Session {
     fn write_history(&self, i: u32, out: &mut Vec<u8>) -> Result<(), AllocError>
         requires { i < length (periods_of self.now.state.rows) }
         ensures ok { OnOk result (AppendsText
-            (Tells self.now.state (slice_get (periods_of self.now.state.rows) i)) out.old out.new) }
+            (IsHistoryText self.now.state (slice_get (periods_of self.now.state.rows) i)) out.old out.new) }
         ensures err { OnErr result (KeepsText out.old out.new) }
     {
         let period = self.book.period(i);
@@ -375,8 +375,6 @@ impl Session {
             self.form,
             out,
         )?;
-        least_throughout_law();
-        tested_law();
         Ok(Some(Reported { made: None }))
     }
 
@@ -662,7 +660,6 @@ impl Session {
         requires { IsProcessGraph graph.now }
         ensures { IfOk result (IsClassification graph.now) }
     {
-        alike_law();
         match self.classes() {
             Some(stage) if stage.graph.alike(graph) => {
                 classes_in(self.alloc, stage.streams.as_slice())

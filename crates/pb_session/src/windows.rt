@@ -4,7 +4,7 @@ ghost use Rattle.std.specs.Prelude.{◌≡◌, ◌<◌, length, All, IfOk};
 ghost use Rattle.pb_site.specs.Site.{names_of};
 ghost use Rattle.pb_window.specs.Places.{HaveNames, window_places};
 ghost use Rattle.pb_book.specs.Rows.{declared_of, periods_of};
-ghost use Rattle.pb_book.specs.Windows.{names_of_periods};
+ghost use Rattle.pb_periods.specs.Windows.{names_of_periods};
 ghost use Rattle.pb_period.specs.WindowGraph.{periods_at};
 
 use pb_book::Book;

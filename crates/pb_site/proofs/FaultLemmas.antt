@@ -7,29 +7,29 @@ use Rattle.pb_limits.specs.Limits.{most_boundaries, most_nodes, most_points, mos
 use Rattle.pb_rows.specs.Name.{same_name}
 use Rattle.pb_site.specs.declared.declared.Arc.{Arc}
 use Rattle.pb_site.specs.declared.declared.Declared.{Declared}
-use Rattle.pb_site.specs.declared.declared.Declared.TheVariants.{Version2, Unit as UnitRow, Boundary, Tank, Strap, Stream}
+use Rattle.pb_site.specs.declared.declared.Declared.TheVariants.{Version2, Boundary, Tank, Strap, Stream}
 use Rattle.pb_site.specs.declared.declared.Version.{Version}
 use Rattle.pb_site.specs.declared.declared.Version.TheVariants.{One, Two}
 use Rattle.pb_site.specs.declared.index.Index.{Index}
-use Rattle.pb_site.specs.Row.{IsInRange, arc_in, boundary_name, declared_name, is_among, node_name, says_version_2}
-use Rattle.pb_site.specs.Site.{arc_names, arcs_of, boundary_names, is_tank, node_names, points_of, version_of}
-use Rattle.pb_site.specs.Faults.{fault_of, first_fault, has_most_arcs, has_most_nodes, is_duplicate, is_full, is_mismatch, is_node, is_out_of_order, is_taken, is_unknown, most_arcs}
+use Rattle.pb_site.specs.Row.{IsDeclaredInRange, arc_in, boundary_name, declared_name, names_include, node_name, says_version_2}
+use Rattle.pb_site.specs.Site.{arc_names, arcs_of, boundary_names, is_tank, node_names, points_of_tank, version_of}
+use Rattle.pb_site.specs.Faults.{first_site_fault, has_most_arcs, has_most_nodes, is_declaration_out_of_order, is_duplicate_declaration, is_mismatched_declaration, is_node, is_plant_full, is_taken, most_arcs, refers_to_unknown, site_fault_of}
 use Rattle.pb_site.specs.Kept.{IsKept, IsNew, arc_name}
 
 -- none of the faults holds
 pub record IsFine (declared : List Declared) (row : Declared) : Type 0 where
-  pub known : is_unknown declared row ≡ false
-  pub new : is_duplicate declared row ≡ false
-  pub rising : is_out_of_order declared row ≡ false
-  pub matching : is_mismatch declared row ≡ false
-  pub room : is_full (version_of declared) declared row ≡ false
+  pub known : refers_to_unknown declared row ≡ false
+  pub new : is_duplicate_declaration declared row ≡ false
+  pub rising : is_declaration_out_of_order declared row ≡ false
+  pub matching : is_mismatched_declaration declared row ≡ false
+  pub room : is_plant_full (version_of declared) declared row ≡ false
 
-pub fine : (declared : List Declared) (row : Declared) → fault_of (version_of declared) declared row ≡ None → IsFine declared row
+pub fine : (declared : List Declared) (row : Declared) → site_fault_of (version_of declared) declared row ≡ None → IsFine declared row
 fine declared row none =
-    let each = by (is_unknown declared row) (is_duplicate declared row) (is_out_of_order declared row) (is_mismatch declared row) (is_full (version_of declared) declared row) none in
+    let each = by (refers_to_unknown declared row) (is_duplicate_declaration declared row) (is_declaration_out_of_order declared row) (is_mismatched_declaration declared row) (is_plant_full (version_of declared) declared row) none in
     record { known = each.0; new = each.1; rising = each.2; matching = each.3; room = each.4 }
   where
-    by : (a b c d e : Bool) → first_fault a b c d e ≡ None → (a ≡ false) × (b ≡ false) × (c ≡ false) × (d ≡ false) × (e ≡ false)
+    by : (a b c d e : Bool) → first_site_fault a b c d e ≡ None → (a ≡ false) × (b ≡ false) × (c ≡ false) × (d ≡ false) × (e ≡ false)
     by true b c d e h = cc h
     by false true c d e h = cc h
     by false false true d e h = cc h
@@ -71,18 +71,18 @@ arc_names_of declared = arc_names-are (boundary_names declared) (node_names decl
 -- a name that isn't taken belongs to no node, no boundary and no arc
 pub record IsFree (declared : List Declared) (name : List ℕ) : Type 0 where
   pub either : is_node declared name ≡ false
-  pub boundary : is_among (boundary_names declared) name ≡ false
-  pub node : is_among (node_names declared) name ≡ false
+  pub boundary : names_include (boundary_names declared) name ≡ false
+  pub node : names_include (node_names declared) name ≡ false
   pub env : same_name name (codes "env") ≡ false
-  pub nodes : is_among (filter_map node_name declared) name ≡ false
-  pub arc : is_among (arc_names declared) name ≡ false
-  pub arcs : is_among (filter_map arc_name declared) name ≡ false
+  pub nodes : names_include (filter_map node_name declared) name ≡ false
+  pub arc : names_include (arc_names declared) name ≡ false
+  pub arcs : names_include (filter_map arc_name declared) name ≡ false
 
 pub free : (declared : List Declared) (name : List ℕ) → is_taken declared name ≡ false → IsFree declared name
 free declared name untaken =
-    let parts = or_parts (is_node declared name) (is_among (arc_names declared) name) untaken in
-    let both = or_parts (is_among (boundary_names declared) name) (is_among (node_names declared) name) parts.0 in
-    let nodes = or_parts (same_name name (codes "env")) (is_among (filter_map node_name declared) name) both.1 in
+    let parts = or_parts (is_node declared name) (names_include (arc_names declared) name) untaken in
+    let both = or_parts (names_include (boundary_names declared) name) (names_include (node_names declared) name) parts.0 in
+    let nodes = or_parts (same_name name (codes "env")) (names_include (filter_map node_name declared) name) both.1 in
     record {
       either = parts.0;
       boundary = both.0;
@@ -94,32 +94,32 @@ free declared name untaken =
     }
 
 -- each tank has an arc of its name
-pub no_tank : (declared : List Declared) (name : List ℕ) → is_among (filter_map arc_name declared) name ≡ false → is_tank declared name ≡ false
+pub no_tank : (declared : List Declared) (name : List ℕ) → names_include (filter_map arc_name declared) name ≡ false → is_tank declared name ≡ false
 no_tank [] name none = refl
 no_tank (Tank n base service ∷ declared) name none =
-    let parts = or_parts (same_name name n) (is_among (filter_map arc_name declared) name) none in
+    let parts = or_parts (same_name name n) (names_include (filter_map arc_name declared) name) none in
     rw (same_sym name n parts.0) (no_tank declared name parts.1)
 no_tank (Stream n from to kind base service ∷ declared) name none =
-    let parts = or_parts (same_name name n) (is_among (filter_map arc_name declared) name) none in
+    let parts = or_parts (same_name name n) (names_include (filter_map arc_name declared) name) none in
     no_tank declared name parts.1
 no_tank (row ∷ declared) name none = no_tank declared name none
 
 -- a name that no node, no boundary and no arc has isn't declared
-pub no_name : (declared : List Declared) (name : List ℕ) → is_among (filter_map node_name declared) name ≡ false → is_among (boundary_names declared) name ≡ false
-    → is_among (filter_map arc_name declared) name ≡ false → is_among (filter_map declared_name declared) name ≡ false
+pub no_name : (declared : List Declared) (name : List ℕ) → names_include (filter_map node_name declared) name ≡ false → names_include (boundary_names declared) name ≡ false
+    → names_include (filter_map arc_name declared) name ≡ false → names_include (filter_map declared_name declared) name ≡ false
 no_name [] name nodes boundaries arcs = refl
-no_name (UnitRow n ∷ declared) name nodes boundaries arcs =
-    let parts = or_parts (same_name name n) (is_among (filter_map node_name declared) name) nodes in
+no_name (Declared.Unit n ∷ declared) name nodes boundaries arcs =
+    let parts = or_parts (same_name name n) (names_include (filter_map node_name declared) name) nodes in
     rw (parts.0) (no_name declared name parts.1 boundaries arcs)
 no_name (Boundary n ∷ declared) name nodes boundaries arcs =
-    let parts = or_parts (same_name name n) (is_among (boundary_names declared) name) boundaries in
+    let parts = or_parts (same_name name n) (names_include (boundary_names declared) name) boundaries in
     rw (parts.0) (no_name declared name nodes parts.1 arcs)
 no_name (Tank n base service ∷ declared) name nodes boundaries arcs =
-    let parts = or_parts (same_name name n) (is_among (filter_map node_name declared) name) nodes in
-    let others = or_parts (same_name name n) (is_among (filter_map arc_name declared) name) arcs in
+    let parts = or_parts (same_name name n) (names_include (filter_map node_name declared) name) nodes in
+    let others = or_parts (same_name name n) (names_include (filter_map arc_name declared) name) arcs in
     rw (parts.0) (no_name declared name parts.1 boundaries others.1)
 no_name (Stream n from to kind base service ∷ declared) name nodes boundaries arcs =
-    let parts = or_parts (same_name name n) (is_among (filter_map arc_name declared) name) arcs in
+    let parts = or_parts (same_name name n) (names_include (filter_map arc_name declared) name) arcs in
     rw (parts.0) (no_name declared name nodes boundaries parts.1)
 no_name (row ∷ declared) name nodes boundaries arcs = no_name declared name nodes boundaries arcs
 
@@ -129,8 +129,8 @@ below : (most n : ℕ) → nat_le most n ≡ false → n < most
 below most n h = omega (arith, leb-false most n h)
 
 -- a declaration without a fault is new to the index
-pub new_row : (declared : List Declared) (index : Index) (row : Declared) → IsKept declared index → IsFine declared row → IsInRange row → IsNew index row
-new_row declared index (UnitRow name) kept good ranges = rw kept.nodes (free declared name good.new).nodes
+pub new_row : (declared : List Declared) (index : Index) (row : Declared) → IsKept declared index → IsFine declared row → IsDeclaredInRange row → IsNew index row
+new_row declared index (Declared.Unit name) kept good ranges = rw kept.nodes (free declared name good.new).nodes
 new_row declared index (Boundary name) kept good ranges = rw kept.boundaries (free declared name good.new).boundary
 new_row declared index (Tank name base service) kept good ranges =
     let is_free = free declared name good.new in
@@ -142,7 +142,7 @@ new_row declared index (Strap tank mm ml) kept good ranges =
       level = ranges.0;
       volume = ranges.1;
       rising = not_false _ good.rising;
-      room = below most_points (length (points_of declared tank)) good.room;
+      room = below most_points (length (points_of_tank declared tank)) good.room;
     })
 new_row declared index (Stream name from to kind base service) kept good ranges =
     let known = both (is_node declared from) (is_node declared to) good.known in
@@ -152,7 +152,7 @@ new_row declared index row kept good ranges = tt
 -- there is room for one more unit or tank
 pub room_nodes : (declared : List Declared) (row : Declared) → IsFine declared row → length (node_names declared) ≤ most_nodes
     → length (node_names declared) + length (filter_map node_name (row ∷ [])) ≤ most_nodes
-room_nodes declared (UnitRow name) good few = let less = below most_units_and_tanks (length (filter_map node_name declared)) good.room in omega (arith, less)
+room_nodes declared (Declared.Unit name) good few = let less = below most_units_and_tanks (length (filter_map node_name declared)) good.room in omega (arith, less)
 room_nodes declared (Tank name base service) good few =
     let parts = or_parts (has_most_nodes declared) (has_most_arcs (version_of declared) declared) good.room in
     let less = below most_units_and_tanks (length (filter_map node_name declared)) parts.0 in

@@ -13,14 +13,14 @@ use Rattle.pb_limits.specs.Limits.{most_boundaries, most_nodes, most_streams}
 use Rattle.pb_rows.specs.Name.{same_name}
 use Rattle.pb_strap.specs.declared.strap.Point.{Point}
 use Rattle.pb_site.specs.declared.declared.Arc.{Arc}
-use Rattle.pb_site.specs.declared.declared.ArcKind.TheVariants.{Tank as TankArc}
+use Rattle.pb_site.specs.declared.declared.ArcKind.{ArcKind}
 use Rattle.pb_site.specs.declared.declared.Declared.{Declared}
-use Rattle.pb_site.specs.declared.declared.Declared.TheVariants.{Version2, Unit as UnitRow, Boundary, Tank, Strap, Stream, CritGlobal, CritNodal, CritMeasure}
+use Rattle.pb_site.specs.declared.declared.Declared.TheVariants.{Version2, Boundary, Tank, Strap, Stream, CritGlobal, CritNodal, CritMeasure}
 use Rattle.pb_site.specs.declared.index.Index.{Index}
-use Rattle.pb_site.specs.Row.{IsInRange, arc_in, arc_kind, boundary_name, declared_name, declares_tank, global_value, is_among, measure_value, nodal_value, node_at, node_name, point_of, says_version_2}
-use Rattle.pb_site.specs.Site.{AreDistinct, HasDistinctNames, IsArc, arcs_of, boundary_names, global_of, is_tank, measure_of, nodal_of, node_names, points_of, table_of, version_of}
+use Rattle.pb_site.specs.Row.{IsDeclaredInRange, arc_in, arc_kind, boundary_name, declared_name, declares_tank, global_value, measure_value, names_include, nodal_value, node_among, node_name, point_of, says_version_2}
+use Rattle.pb_site.specs.Site.{AreDistinct, HasDistinctNames, IsArc, arcs_of, boundary_names, global_of, is_tank, measure_of, nodal_of, node_names, points_of_tank, table_of, version_of}
 use Rattle.pb_site.specs.Faults.{is_node, is_taken}
-use Rattle.pb_site.specs.Laws.{GrowthLaw, IsPlant, PlantLaw}
+use Rattle.pb_site.specs.Laws.{GrowthLaw, IsDeclaredPlant, PlantLaw}
 use Rattle.pb_site.specs.Kept.{IsKept, Notes, SameIndex, arc_name, nodes_in, table_with, value_with, version_with}
 use Rattle.pb_site.proofs.FaultLemmas.{IsFine, arc_names_of, both, fine, free, no_name, no_tank, no_version, not_false, room_arcs, room_boundaries, room_nodes, same_self, same_sym}
 use Rattle.pb_site.proofs.LookUpLemmas.{node_is, node_last, node_stays, node_within}
@@ -103,40 +103,40 @@ same_table : (b : Bool) (points : List Point) → (if b || false then Some (poin
 same_table true points = ap Some (append-nil points)
 same_table false points = refl
 
-table_more : (declared : List Declared) (row : Declared) (name : List ℕ) → IsFine declared row → ((n : List ℕ) → is_tank declared n ≡ false → points_of declared n ≡ [])
+table_more : (declared : List Declared) (row : Declared) (name : List ℕ) → IsFine declared row → ((n : List ℕ) → is_tank declared n ≡ false → points_of_tank declared n ≡ [])
     → table_of (declared ++ row ∷ []) name ≡ table_with row name (table_of declared name)
 table_more declared row name good nothing =
     rw (list_any-append (declares_tank name) declared (row ∷ []), filter_map-append (point_of name) declared (row ∷ [])) (by row good)
   where
     by : (row : Declared) → IsFine declared row
-        → (if is_tank declared name || is_tank (row ∷ []) name then Some (points_of declared name ++ points_of (row ∷ []) name) else None) ≡ table_with row name (table_of declared name)
+        → (if is_tank declared name || is_tank (row ∷ []) name then Some (points_of_tank declared name ++ points_of_tank (row ∷ []) name) else None) ≡ table_with row name (table_of declared name)
     by (Tank n base service) good = elim (cases_Bool (same_name n name)) [
       | inl same ↦
           let here = (bytes_decides n name).0 same in
           let untaken = no_tank declared n (free declared n good.new).arcs in
           let none : is_tank declared name ≡ false = subst (λ (q : List ℕ). is_tank declared q ≡ false) here untaken in
           rw (same, none, nothing name none) refl
-      | inr apart ↦ rw apart (same_table (is_tank declared name) (points_of declared name))
+      | inr apart ↦ rw apart (same_table (is_tank declared name) (points_of_tank declared name))
     ]
     by (Strap n mm ml) good = elim (cases_Bool (same_name n name)) [
-      | inl same ↦ rw same (push (is_tank declared name) (points_of declared name) (record { mm = mm; ml = ml }))
-      | inr apart ↦ rw apart (same_table (is_tank declared name) (points_of declared name))
+      | inl same ↦ rw same (push (is_tank declared name) (points_of_tank declared name) (record { mm = mm; ml = ml }))
+      | inr apart ↦ rw apart (same_table (is_tank declared name) (points_of_tank declared name))
     ]
       where
         push : (b : Bool) (points : List Point) (p : Point)
             → (if b || false then Some (points ++ p ∷ []) else None) ≡ option_map (λ ps. ps ++ p ∷ []) (if b then Some points else None)
         push true points p = refl
         push false points p = refl
-    by row good = same_table (is_tank declared name) (points_of declared name)
+    by row good = same_table (is_tank declared name) (points_of_tank declared name)
 
 -- a tank that isn't declared has no points
-none_more : (declared : List Declared) (row : Declared) (name : List ℕ) → IsFine declared row → ((n : List ℕ) → is_tank declared n ≡ false → points_of declared n ≡ [])
-    → is_tank (declared ++ row ∷ []) name ≡ false → points_of (declared ++ row ∷ []) name ≡ []
+none_more : (declared : List Declared) (row : Declared) (name : List ℕ) → IsFine declared row → ((n : List ℕ) → is_tank declared n ≡ false → points_of_tank declared n ≡ [])
+    → is_tank (declared ++ row ∷ []) name ≡ false → points_of_tank (declared ++ row ∷ []) name ≡ []
 none_more declared row name good nothing undeclared =
     let parts = or_parts (is_tank declared name) (is_tank (row ∷ []) name) (rw (list_any-append (declares_tank name) declared (row ∷ [])) at undeclared) in
     rw (filter_map-append (point_of name) declared (row ∷ []), nothing name parts.0) (by row good parts.0)
   where
-    by : (row : Declared) → IsFine declared row → is_tank declared name ≡ false → points_of (row ∷ []) name ≡ []
+    by : (row : Declared) → IsFine declared row → is_tank declared name ≡ false → points_of_tank (row ∷ []) name ≡ []
     by (Strap n mm ml) good none = elim (cases_Bool (same_name n name)) [
       | inl same ↦
           let here = (bytes_decides n name).0 same in
@@ -148,31 +148,31 @@ none_more declared row name good nothing undeclared =
 
 -- ---- arcs
 
-among_more : (names more : List (List ℕ)) (name : List ℕ) → is_among names name ≡ true → is_among (names ++ more) name ≡ true
+among_more : (names more : List (List ℕ)) (name : List ℕ) → names_include names name ≡ true → names_include (names ++ more) name ≡ true
 among_more names more name there = rw (list_any-append (same_name name) names more, there) refl
 
-among_last : (names : List (List ℕ)) (name : List ℕ) → is_among (names ++ name ∷ []) name ≡ true
-among_last names name = rw (list_any-append (same_name name) names (name ∷ []), same_self name) (or_true (is_among names name))
+among_last : (names : List (List ℕ)) (name : List ℕ) → names_include (names ++ name ∷ []) name ≡ true
+among_last names name = rw (list_any-append (same_name name) names (name ∷ []), same_self name) (or_true (names_include names name))
   where
     or_true : (b : Bool) → (b || true) ≡ true
     or_true true = refl
     or_true false = refl
 
 -- no boundary has the name of a node
-boundaries_apart : (declared : List Declared) (row : Declared) → IsFine declared row → (name : List ℕ) → is_among (filter_map boundary_name (row ∷ [])) name ≡ true
-    → is_among (node_names declared) name ≡ false
+boundaries_apart : (declared : List Declared) (row : Declared) → IsFine declared row → (name : List ℕ) → names_include (filter_map boundary_name (row ∷ [])) name ≡ true
+    → names_include (node_names declared) name ≡ false
 boundaries_apart declared (Boundary new) good name there = elim (cases_Bool (same_name name new)) [
-  | inl same ↦ subst (λ (n : List ℕ). is_among (node_names declared) n ≡ false) (sym ((bytes_decides name new).0 same)) (free declared new good.new).node
+  | inl same ↦ subst (λ (n : List ℕ). names_include (node_names declared) n ≡ false) (sym ((bytes_decides name new).0 same)) (free declared new good.new).node
   | inr apart ↦ cc (rw apart at there)
 ]
 boundaries_apart declared row good name there = cc there
 
 -- the nodes of an arc stay if there are more nodes and boundaries
-same_arcs : (boundaries more nodes others : List (List ℕ)) (declared : List Declared) → ((name : List ℕ) → is_among more name ≡ true → is_among nodes name ≡ false)
+same_arcs : (boundaries more nodes others : List (List ℕ)) (declared : List Declared) → ((name : List ℕ) → names_include more name ≡ true → names_include nodes name ≡ false)
     → All (IsArc (length nodes)) (filter_map (arc_in boundaries nodes) declared) → filter_map (arc_in (boundaries ++ more) (nodes ++ others)) declared ≡ filter_map (arc_in boundaries nodes) declared
 same_arcs boundaries more nodes others [] apart joined = refl
 same_arcs boundaries more nodes others (Tank name base service ∷ declared) apart joined =
-    let arc : ℕ → Arc = λ from. record { name = name; from = from; to = 0; kind = TankArc; base = base; service = service } in
+    let arc : ℕ → Arc = λ from. record { name = name; from = from; to = 0; kind = ArcKind.Tank; base = base; service = service } in
     let right = joined 0 (arc 0) (omega arith) in
     let rest = same_arcs boundaries more nodes others declared apart (λ k d lt. joined (suc k) d (omega (arith, lt))) in
     ap₂ (λ (from : ℕ) (arcs : List Arc). arc from ∷ arcs) (node_stays boundaries more nodes others name right.begins (apart name)) rest
@@ -182,8 +182,8 @@ same_arcs boundaries more nodes others (Stream name from to kind base service �
     let rest = same_arcs boundaries more nodes others declared apart (λ k d lt. joined (suc k) d (omega (arith, lt))) in
     let begins = node_stays boundaries more nodes others from right.begins (apart from) in
     let ends = node_stays boundaries more nodes others to right.ends (apart to) in
-    ap (λ (n : ℕ). arc n (node_at (boundaries ++ more) (nodes ++ others) to) ∷ filter_map (arc_in (boundaries ++ more) (nodes ++ others)) declared) begins
-    ∙ ap₂ (λ (n : ℕ) (arcs : List Arc). arc (node_at boundaries nodes from) n ∷ arcs) ends rest
+    ap (λ (n : ℕ). arc n (node_among (boundaries ++ more) (nodes ++ others) to) ∷ filter_map (arc_in (boundaries ++ more) (nodes ++ others)) declared) begins
+    ∙ ap₂ (λ (n : ℕ) (arcs : List Arc). arc (node_among boundaries nodes from) n ∷ arcs) ends rest
 same_arcs boundaries more nodes others (row ∷ declared) apart joined = same_arcs boundaries more nodes others declared apart joined
 
 pub nodes_more : (declared : List Declared) (row : Declared) → node_names (declared ++ row ∷ []) ≡ node_names declared ++ filter_map node_name (row ∷ [])
@@ -218,16 +218,16 @@ arc_more nodes more arc right = record {
 }
 
 -- the arc of a new declaration leads from a node to another one
-new_arc : (declared : List Declared) (row : Declared) → IsFine declared row → IsInRange row
+new_arc : (declared : List Declared) (row : Declared) → IsFine declared row → IsDeclaredInRange row
     → All (IsArc (length (node_names declared ++ filter_map node_name (row ∷ [])))) (new_arcs declared row)
 new_arc declared (Tank name base service) good ranges =
     let boundaries = boundary_names declared ++ [] in
     let nodes = node_names declared ++ name ∷ [] in
     let is_free = free declared name good.new in
-    let outside : is_among boundaries name ≡ false = rw (append-nil (boundary_names declared)) is_free.boundary in
-    let from : node_at boundaries nodes name ≡ length (node_names declared) = node_last boundaries (node_names declared) name outside is_free.node in
+    let outside : names_include boundaries name ≡ false = rw (append-nil (boundary_names declared)) is_free.boundary in
+    let from : node_among boundaries nodes name ≡ length (node_names declared) = node_last boundaries (node_names declared) name outside is_free.node in
     let long = length-append (node_names declared) (name ∷ []) in
-    let arc : Arc = record { name = name; from = node_at boundaries nodes name; to = 0; kind = TankArc; base = base; service = service } in
+    let arc : Arc = record { name = name; from = node_among boundaries nodes name; to = 0; kind = ArcKind.Tank; base = base; service = service } in
     let right : IsArc (length nodes) arc = record {
       begins = omega (arith, from, long);
       ends = omega (arith, long);
@@ -239,8 +239,8 @@ new_arc declared (Stream name from to kind base service) good ranges =
     let boundaries = boundary_names declared in
     let nodes = node_names declared in
     let known = both (is_node declared from) (is_node declared to) good.known in
-    let begins = node_at boundaries nodes from in
-    let ends = node_at boundaries nodes to in
+    let begins = node_among boundaries nodes from in
+    let ends = node_among boundaries nodes to in
     let arc : Arc = record { name = name; from = begins; to = ends; kind = arc_kind kind; base = base; service = service } in
     let apart : (begins == ends) ≡ false = rw (node_is boundaries nodes from known.0, node_is boundaries nodes to known.1) at good.matching in
     let right : IsArc (length nodes) arc = record {
@@ -254,7 +254,7 @@ new_arc declared (Stream name from to kind base service) good ranges =
     (subst (λ (n : List (List ℕ)). All (IsArc (length n)) (filter_map (arc_in boundaries n) (Stream name from to kind base service ∷ []))) (sym (append-nil nodes)) one)
 new_arc declared row good ranges = All-nil (IsArc _)
 
-joined_more : (declared : List Declared) (row : Declared) → IsFine declared row → IsInRange row → All (IsArc (length (node_names declared))) (arcs_of declared)
+joined_more : (declared : List Declared) (row : Declared) → IsFine declared row → IsDeclaredInRange row → All (IsArc (length (node_names declared))) (arcs_of declared)
     → All (IsArc (length (node_names (declared ++ row ∷ [])))) (arcs_of (declared ++ row ∷ []))
 joined_more declared row good ranges joined =
     let more = filter_map node_name (row ∷ []) in
@@ -268,21 +268,21 @@ joined_more declared row good ranges joined =
 -- ---- names
 
 -- if no item passes, the item at each place fails
-absent : (names : List (List ℕ)) (name : List ℕ) → is_among names name ≡ false → (k : ℕ) (d : List ℕ) → k < length names → same_name (get_or names k d) name ≡ false
+absent : (names : List (List ℕ)) (name : List ℕ) → names_include names name ≡ false → (k : ℕ) (d : List ℕ) → k < length names → same_name (get_or names k d) name ≡ false
 absent names name none k d within = elim (cases_Bool (same_name name (get_or names k d))) [
   | inl same ↦ cc (sym none ∙ list_any_at (same_name name) names k d within same)
   | inr other ↦ same_sym name (get_or names k d) other
 ]
 
 -- one more name, which is new
-distinct_push : (names : List (List ℕ)) (name : List ℕ) → AreDistinct names → is_among names name ≡ false → AreDistinct (names ++ name ∷ [])
+distinct_push : (names : List (List ℕ)) (name : List ℕ) → AreDistinct names → names_include names name ≡ false → AreDistinct (names ++ name ∷ [])
 distinct_push names name apart new = all_pairs_push (λ (a b : List ℕ). same_name a b ≡ false) names name apart (absent names name new)
 
 distinct_same : (names : List (List ℕ)) → AreDistinct names → AreDistinct (names ++ [])
 distinct_same names apart = subst AreDistinct (sym (append-nil names)) apart
 
 nodes_distinct : (declared : List Declared) (row : Declared) → IsFine declared row → AreDistinct (node_names declared) → AreDistinct (node_names declared ++ filter_map node_name (row ∷ []))
-nodes_distinct declared (UnitRow name) good apart = distinct_push (node_names declared) name apart (free declared name good.new).node
+nodes_distinct declared (Declared.Unit name) good apart = distinct_push (node_names declared) name apart (free declared name good.new).node
 nodes_distinct declared (Tank name base service) good apart = distinct_push (node_names declared) name apart (free declared name good.new).node
 nodes_distinct declared row good apart = distinct_same (node_names declared) apart
 
@@ -293,14 +293,14 @@ arcs_distinct declared (Stream name from to kind base service) good apart = dist
 arcs_distinct declared row good apart = distinct_same (filter_map arc_name declared) apart
 
 -- a name that isn't taken is new among all
-new_name : (declared : List Declared) (name : List ℕ) → is_taken declared name ≡ false → is_among (codes "env" ∷ filter_map declared_name declared) name ≡ false
+new_name : (declared : List Declared) (name : List ℕ) → is_taken declared name ≡ false → names_include (codes "env" ∷ filter_map declared_name declared) name ≡ false
 new_name declared name untaken =
     let is_free = free declared name untaken in
     rw (is_free.env) (no_name declared name is_free.nodes is_free.boundary is_free.arcs)
 
 all_distinct : (declared : List Declared) (row : Declared) → IsFine declared row → AreDistinct (codes "env" ∷ filter_map declared_name declared)
     → AreDistinct ((codes "env" ∷ filter_map declared_name declared) ++ filter_map declared_name (row ∷ []))
-all_distinct declared (UnitRow name) good apart = distinct_push (codes "env" ∷ filter_map declared_name declared) name apart (new_name declared name good.new)
+all_distinct declared (Declared.Unit name) good apart = distinct_push (codes "env" ∷ filter_map declared_name declared) name apart (new_name declared name good.new)
 all_distinct declared (Boundary name) good apart = distinct_push (codes "env" ∷ filter_map declared_name declared) name apart (new_name declared name good.new)
 all_distinct declared (Tank name base service) good apart = distinct_push (codes "env" ∷ filter_map declared_name declared) name apart (new_name declared name good.new)
 all_distinct declared (Stream name from to kind base service) good apart = distinct_push (codes "env" ∷ filter_map declared_name declared) name apart (new_name declared name good.new)
@@ -318,14 +318,14 @@ distinct_more declared row good apart =
 
 -- ---- one more declaration
 
-plant_more : (declared : List Declared) (row : Declared) → IsPlant declared → IsFine declared row → IsInRange row → IsPlant (declared ++ row ∷ [])
+plant_more : (declared : List Declared) (row : Declared) → IsDeclaredPlant declared → IsFine declared row → IsDeclaredInRange row → IsDeclaredPlant (declared ++ row ∷ [])
 plant_more declared row plant good ranges =
     let more = filter_map boundary_name (row ∷ []) in
     let others = filter_map node_name (row ∷ []) in
     let arcs = new_arcs declared row in
     let room = room_arcs declared row (boundary_names declared ++ more) (node_names declared ++ others) good plant.few_arcs in
     record {
-      ranges = All-append IsInRange declared (row ∷ []) plant.ranges (All-cons IsInRange row [] ranges (All-nil IsInRange));
+      ranges = All-append IsDeclaredInRange declared (row ∷ []) plant.ranges (All-cons IsDeclaredInRange row [] ranges (All-nil IsDeclaredInRange));
       distinct = distinct_more declared row good plant.distinct;
       joined = joined_more declared row good ranges plant.joined;
       few_nodes = subst (λ (names : List (List ℕ)). length names ≤ most_nodes) (sym (nodes_more declared row))
@@ -337,7 +337,7 @@ plant_more declared row plant good ranges =
       version = once_more declared row good plant.version;
     }
 
-pub kept_more : (declared : List Declared) (old new : Index) (row : Declared) → IsKept declared old → Notes old new row → IsFine declared row → IsInRange row → IsKept (declared ++ row ∷ []) new
+pub kept_more : (declared : List Declared) (old new : Index) (row : Declared) → IsKept declared old → Notes old new row → IsFine declared row → IsDeclaredInRange row → IsKept (declared ++ row ∷ []) new
 kept_more declared old new row kept notes good ranges =
     let last = row ∷ [] in
     let boundaries : new.boundaries.keys ≡ boundary_names declared ++ filter_map boundary_name last = notes.boundaries ∙ ap (λ (names : List (List ℕ)). names ++ filter_map boundary_name last) kept.boundaries in
@@ -364,7 +364,7 @@ kept_more declared old new row kept notes good ranges =
 pub plant_law : PlantLaw
 plant_law = (
   record {
-    ranges = All-nil IsInRange;
+    ranges = All-nil IsDeclaredInRange;
     distinct = record { nodes = one (codes "env"); arcs = none; all = one (codes "env") };
     joined = All-nil (IsArc 1);
     few_nodes = omega arith;

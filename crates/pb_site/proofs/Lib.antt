@@ -3,3 +3,4 @@ mod FaultLemmas
 mod KeptLemmas
 mod LookUpLemmas
 mod PartLemmas
+pub mod SiteLaws

@@ -14,12 +14,11 @@ use Rattle.pb_site.specs.declared.declared.Kind.{Kind}
 use Rattle.pb_site.specs.declared.declared.Kind.TheVariants.{Metered, Batch, Plain}
 use Rattle.pb_site.specs.declared.declared.Arc.{Arc}
 use Rattle.pb_site.specs.declared.declared.ArcKind.{ArcKind}
-use Rattle.pb_site.specs.declared.declared.ArcKind.TheVariants.{Tank as TankArc}
 use Rattle.pb_site.specs.declared.declared.Declared.{Declared}
 use Rattle.pb_site.specs.declared.declared.Declared.TheVariants.{Tank, Stream}
 use Rattle.pb_site.specs.declared.index.Index.{Index}
-use Rattle.pb_site.specs.Row.{arc_in, arc_kind, is_among, node_at}
-use Rattle.pb_site.specs.Site.{IsArc, arcs_of, boundary_names, is_tank, node_names, points_of, table_of, table_of_arc, table_of_kind}
+use Rattle.pb_site.specs.Row.{arc_in, arc_kind, names_include, node_among}
+use Rattle.pb_site.specs.Site.{IsArc, arcs_of, boundary_names, is_tank, node_names, points_of_tank, table_of, table_of_arc, table_of_kind}
 use Rattle.pb_site.specs.Kept.{IsKept, has_node, node_by, nodes_in}
 use Rattle.pb_site.proofs.FaultLemmas.{same_self}
 
@@ -50,14 +49,14 @@ place_more test (x ∷ xs) more within = elim (cases_Bool (test x)) [
 ]
 
 -- the place of a new name after the others
-pub place_last : (names : List (List ℕ)) (name : List ℕ) → is_among names name ≡ false → position_or_len (same_name name) (names ++ name ∷ []) ≡ length names
+pub place_last : (names : List (List ℕ)) (name : List ℕ) → names_include names name ≡ false → position_or_len (same_name name) (names ++ name ∷ []) ≡ length names
 place_last [] name absent = rw (same_self name) refl
 place_last (n ∷ names) name absent =
-    let parts = or_parts (same_name name n) (is_among names name) absent in
+    let parts = or_parts (same_name name n) (names_include names name) absent in
     let rest = place_last names name parts.1 in
     rw (parts.0, rest) (omega arith)
 
-pub place_is : (names : List (List ℕ)) (name : List ℕ) → is_among names name ≡ true → position (same_name name) names ≡ Some (position_or_len (same_name name) names)
+pub place_is : (names : List (List ℕ)) (name : List ℕ) → names_include names name ≡ true → position (same_name name) names ≡ Some (position_or_len (same_name name) names)
 place_is names name there =
     let within = any_place (same_name name) names there in
     rw (lt-ltb (position_or_len (same_name name) names) (length names) within) refl
@@ -65,44 +64,44 @@ place_is names name there =
 -- ---- nodes of names
 
 -- the node of a new name after the others
-pub node_last : (boundaries names : List (List ℕ)) (name : List ℕ) → is_among boundaries name ≡ false → is_among names name ≡ false
-    → node_at boundaries (names ++ name ∷ []) name ≡ length names
+pub node_last : (boundaries names : List (List ℕ)) (name : List ℕ) → names_include boundaries name ≡ false → names_include names name ≡ false
+    → node_among boundaries (names ++ name ∷ []) name ≡ length names
 node_last boundaries names name inside absent = rw inside (place_last names name absent)
 
 -- the node of a tank that is declared last
 pub last_node : (boundaries keys names : List (List ℕ)) (name : List ℕ) → names ≡ keys ++ name ∷ []
-    → (is_among boundaries name || is_among (codes "env" ∷ keys) name) ≡ false → length names ≡ node_at boundaries (codes "env" ∷ names) name
+    → (names_include boundaries name || names_include (codes "env" ∷ keys) name) ≡ false → length names ≡ node_among boundaries (codes "env" ∷ names) name
 last_node boundaries keys names name grown absent =
-    let parts = or_parts (is_among boundaries name) (is_among (codes "env" ∷ keys) name) absent in
+    let parts = or_parts (names_include boundaries name) (names_include (codes "env" ∷ keys) name) absent in
     let at = node_last boundaries (codes "env" ∷ keys) name parts.0 parts.1 in
     let long = length-append keys (name ∷ []) in
     rw grown (omega (arith, at, long))
 
 -- a name that is among them has its node
-pub node_is : (boundaries names : List (List ℕ)) (name : List ℕ) → (is_among boundaries name || is_among names name) ≡ true
-    → (if is_among boundaries name then Some 0 else position (same_name name) names) ≡ Some (node_at boundaries names name)
-node_is boundaries names name there = elim (cases_Bool (is_among boundaries name)) [
+pub node_is : (boundaries names : List (List ℕ)) (name : List ℕ) → (names_include boundaries name || names_include names name) ≡ true
+    → (if names_include boundaries name then Some 0 else position (same_name name) names) ≡ Some (node_among boundaries names name)
+node_is boundaries names name there = elim (cases_Bool (names_include boundaries name)) [
   | inl outside ↦ rw outside refl
   | inr inside ↦ rw inside (place_is names name (rw inside at there))
 ]
 
 -- which is one of them
-pub node_within : (boundaries names : List (List ℕ)) (name : List ℕ) → 0 < length names → (is_among boundaries name || is_among names name) ≡ true
-    → node_at boundaries names name < length names
-node_within boundaries names name some there = elim (cases_Bool (is_among boundaries name)) [
+pub node_within : (boundaries names : List (List ℕ)) (name : List ℕ) → 0 < length names → (names_include boundaries name || names_include names name) ≡ true
+    → node_among boundaries names name < length names
+node_within boundaries names name some there = elim (cases_Bool (names_include boundaries name)) [
   | inl outside ↦ rw outside some
   | inr inside ↦ rw inside (any_place (same_name name) names (rw inside at there))
 ]
 
 -- and stays the same if there are more names, and no new boundary has the name of a node
-pub node_stays : (boundaries more names others : List (List ℕ)) (name : List ℕ) → node_at boundaries names name < length names
-    → (is_among more name ≡ true → is_among names name ≡ false) → node_at (boundaries ++ more) (names ++ others) name ≡ node_at boundaries names name
-node_stays boundaries more names others name within apart = elim (cases_Bool (is_among boundaries name)) [
+pub node_stays : (boundaries more names others : List (List ℕ)) (name : List ℕ) → node_among boundaries names name < length names
+    → (names_include more name ≡ true → names_include names name ≡ false) → node_among (boundaries ++ more) (names ++ others) name ≡ node_among boundaries names name
+node_stays boundaries more names others name within apart = elim (cases_Bool (names_include boundaries name)) [
   | inl outside ↦ rw (list_any-append (same_name name) boundaries more, outside) refl
   | inr inside ↦
       let here : position_or_len (same_name name) names < length names = rw inside at within in
-      let there : is_among names name ≡ true = place_any (same_name name) names here in
-      elim (cases_Bool (is_among more name)) [
+      let there : names_include names name ≡ true = place_any (same_name name) names here in
+      elim (cases_Bool (names_include more name)) [
         | inl new ↦ absurd (true≢false (sym there ∙ apart new))
         | inr old ↦ rw (list_any-append (same_name name) boundaries more, inside, old) (place_more (same_name name) names others here)
       ]
@@ -119,7 +118,7 @@ points_in (Some points) = points
 
 -- the index has the points of each name
 pub table_points : (declared : List Declared) (index : Index) (name : List ℕ) (table : Option (List Point)) → IsKept declared index → table ≡ table_of declared name
-    → points_in table ≡ points_of declared name
+    → points_in table ≡ points_of_tank declared name
 table_points declared index name table kept at = ap points_in at ∙ elim (cases_Bool (is_tank declared name)) [
   | inl tank ↦ rw tank refl
   | inr other ↦ rw other (sym (kept.no_points name other))
@@ -134,16 +133,16 @@ name_in None = []
 name_in (Some arc) = arc.name
 
 abbrev kind_in : Option Arc → ArcKind
-kind_in None = TankArc
+kind_in None = ArcKind.Tank
 kind_in (Some arc) = arc.kind
 
-not_tank : (kind : Kind) → arc_kind kind ≢ TankArc
+not_tank : (kind : Kind) → arc_kind kind ≢ ArcKind.Tank
 not_tank Metered = λ e. cc e
 not_tank Batch = λ e. cc e
 not_tank Plain = λ e. cc e
 
 -- an arc of the kind of a tank is a declared tank's
-pub tank_arc : (boundaries nodes : List (List ℕ)) (declared : List Declared) (j : ℕ) (arc : Arc) → slice_get (filter_map (arc_in boundaries nodes) declared) j ≡ Some arc → arc.kind ≡ TankArc
+pub tank_arc : (boundaries nodes : List (List ℕ)) (declared : List Declared) (j : ℕ) (arc : Arc) → slice_get (filter_map (arc_in boundaries nodes) declared) j ≡ Some arc → arc.kind ≡ ArcKind.Tank
     → is_tank declared arc.name ≡ true
 tank_arc boundaries nodes [] j arc at is = cc at
 tank_arc boundaries nodes (Tank name base service ∷ declared) zero arc at is = let e : name ≡ arc.name = ap name_in at in rw (e, same_self arc.name) refl
@@ -170,15 +169,15 @@ is_at declared index j arc kept found within =
 
 -- ---- the table of an arc
 
-pub no_table : (declared : List Declared) (j : ℕ) (arc : Arc) → IsAt declared j arc → arc.kind ≢ TankArc
+pub no_table : (declared : List Declared) (j : ℕ) (arc : Arc) → IsAt declared j arc → arc.kind ≢ ArcKind.Tank
     → None ≡ option_and_then (table_of_arc declared) (slice_get (arcs_of declared) j)
 no_table declared j arc at other = rw (at.here) (by arc.kind other)
   where
-    by : (kind : ArcKind) → kind ≢ TankArc → None ≡ table_of_kind declared arc.name kind
-    by TankArc other = absurd (other refl)
+    by : (kind : ArcKind) → kind ≢ ArcKind.Tank → None ≡ table_of_kind declared arc.name kind
+    by ArcKind.Tank other = absurd (other refl)
     by kind other = refl
 
-pub arc_table : (declared : List Declared) (j : ℕ) (arc : Arc) (table : Option (List Point)) → IsAt declared j arc → arc.kind ≡ TankArc
+pub arc_table : (declared : List Declared) (j : ℕ) (arc : Arc) (table : Option (List Point)) → IsAt declared j arc → arc.kind ≡ ArcKind.Tank
     → table ≡ table_of declared arc.name → table ≡ option_and_then (table_of_arc declared) (slice_get (arcs_of declared) j)
 arc_table declared j arc table at tank is =
     let known = tank_arc (boundary_names declared) (node_names declared) declared j arc at.here tank in
@@ -215,14 +214,14 @@ pub no_arc : (arcs : List Arc) (name : List ℕ) → None ≡ position (same_nam
     → None ≡ find (λ (arc : Arc). same_name name arc.name) arcs
 no_arc arcs name none = sym (by arcs (absent (map (λ (arc : Arc). arc.name) arcs) none))
   where
-    absent : (names : List (List ℕ)) → None ≡ position (same_name name) names → is_among names name ≡ false
-    absent names none = elim (cases_Bool (is_among names name)) [
+    absent : (names : List (List ℕ)) → None ≡ position (same_name name) names → names_include names name ≡ false
+    absent names none = elim (cases_Bool (names_include names name)) [
       | inl there ↦ cc (none ∙ place_is names name there)
       | inr not_there ↦ not_there
     ]
 
-    by : (arcs : List Arc) → is_among (map (λ (arc : Arc). arc.name) arcs) name ≡ false → find (λ (arc : Arc). same_name name arc.name) arcs ≡ None
+    by : (arcs : List Arc) → names_include (map (λ (arc : Arc). arc.name) arcs) name ≡ false → find (λ (arc : Arc). same_name name arc.name) arcs ≡ None
     by [] none = refl
     by (arc ∷ arcs) none =
-        let parts = or_parts (same_name name arc.name) (is_among (map (λ (a : Arc). a.name) arcs) name) none in
+        let parts = or_parts (same_name name arc.name) (names_include (map (λ (a : Arc). a.name) arcs) name) none in
         rw (parts.0) (by arcs parts.1)

@@ -13,12 +13,12 @@ use Rattle.pb_site.specs.declared.declared.Arc.{Arc}
 use Rattle.pb_strap.specs.Table.{rises}
 use Rattle.pb_site.specs.declared.index.Index.{Index}
 use Rattle.pb_site.specs.declared.declared.Declared.{Declared}
-use Rattle.pb_site.specs.declared.declared.Declared.TheVariants.{Version2, Unit as UnitRow, Boundary, Tank, Strap, Stream}
+use Rattle.pb_site.specs.declared.declared.Declared.TheVariants.{Version2, Boundary, Tank, Strap, Stream}
 use Rattle.pb_site.specs.declared.declared.Version.{Version}
 use Rattle.pb_site.specs.declared.declared.Version.TheVariants.{Two}
-use Rattle.pb_site.specs.Row.{arc_in, boundary_name, global_value, is_among, measure_value, nodal_value, node_name}
-use Rattle.pb_site.specs.Site.{arc_names, arcs_of, boundary_names, global_of, is_tank, measure_of, nodal_of, points_of, table_of, version_of}
-use Rattle.pb_site.specs.Laws.{IsPlant}
+use Rattle.pb_site.specs.Row.{arc_in, boundary_name, global_value, measure_value, names_include, nodal_value, node_name}
+use Rattle.pb_site.specs.Site.{arc_names, arcs_of, boundary_names, global_of, is_tank, measure_of, nodal_of, points_of_tank, table_of, version_of}
+use Rattle.pb_site.specs.Laws.{IsDeclaredPlant}
 use Rattle.pb_site.specs.OnDays.{is_end_of}
 
 -- the name of the stream or tank that a declaration declares
@@ -33,12 +33,12 @@ nodes_in index = codes "env" ∷ index.nodes.keys
 
 -- the name belongs to a boundary or to a node, according to the index
 abbrev pub has_node : Index → List ℕ → Bool
-has_node index name = is_among index.boundaries.keys name || is_among (nodes_in index) name
+has_node index name = names_include index.boundaries.keys name || names_include (nodes_in index) name
 
 -- the node of a name, according to the index
 abbrev pub node_by : Index → List ℕ → Option ℕ
 node_by index name =
-    if is_among index.boundaries.keys name then Some 0
+    if names_include index.boundaries.keys name then Some 0
     else position (same_name name) (nodes_in index)
 
 -- the index gives the version, names, arcs, tables and critical values of a plant, and a tank that isn't declared has no points
@@ -52,8 +52,8 @@ pub record IsKept (declared : List Declared) (index : Index) : Type 0 where
   pub global : (dof : ℕ) → get nat_eq index.global dof ≡ global_of declared dof
   pub nodal : index.nodal ≡ nodal_of declared
   pub measure : index.measure ≡ measure_of declared
-  pub plant : IsPlant declared
-  pub no_points : (name : List ℕ) → is_tank declared name ≡ false → points_of declared name ≡ []
+  pub plant : IsDeclaredPlant declared
+  pub no_points : (name : List ℕ) → is_tank declared name ≡ false → points_of_tank declared name ≡ []
 
 -- the version after one more declaration, which may state it
 abbrev pub version_with : Declared → Version → Version
@@ -118,13 +118,13 @@ pub record CanAdd (mm ml : ℤ) (points : List Point) : Type 0 where
 
 -- the names of a declaration are new, its ends are nodes, and its point fits a table that exists
 abbrev pub IsNew : Index → Declared → Type 0
-IsNew index (UnitRow name) = is_among index.nodes.keys name ≡ false
-IsNew index (Boundary name) = is_among index.boundaries.keys name ≡ false
+IsNew index (Declared.Unit name) = names_include index.nodes.keys name ≡ false
+IsNew index (Boundary name) = names_include index.boundaries.keys name ≡ false
 IsNew index (Tank name base service) =
-    (has_node index name ≡ false) × (is_among index.arc_names.keys name ≡ false)
+    (has_node index name ≡ false) × (names_include index.arc_names.keys name ≡ false)
 IsNew index (Strap tank mm ml) = IsSomeAnd (get same_name index.straps tank) (CanAdd mm ml)
 IsNew index (Stream name from to kind base service) =
-    (is_among index.arc_names.keys name ≡ false)
+    (names_include index.arc_names.keys name ≡ false)
     × (has_node index from ≡ true) × (has_node index to ≡ true)
 IsNew index row = Unit {0}
 

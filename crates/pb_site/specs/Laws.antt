@@ -6,15 +6,15 @@ use Rattle.pb_site.specs.declared.declared.Arc.{Arc}
 use Rattle.pb_site.specs.declared.declared.Declared.{Declared}
 use Rattle.pb_site.specs.declared.declared.Version.{Version}
 use Rattle.pb_site.specs.declared.declared.Version.TheVariants.{Two}
-use Rattle.pb_site.specs.Row.{IsInRange, arc_in, node_name, says_version_2}
+use Rattle.pb_site.specs.Row.{IsDeclaredInRange, arc_in, node_name, says_version_2}
 use Rattle.pb_site.specs.Site.{AreDistinct, HasDistinctNames, IsArc, arcs_of, boundary_names, node_names, version_of}
 use Rattle.pb_site.specs.OnDays.{arcs_on, declares_in_service, has_place, names_on, nodes_on, place_among}
-use Rattle.pb_site.specs.Faults.{fault_of}
+use Rattle.pb_site.specs.Faults.{site_fault_of}
 
 -- numbers and days are in their ranges, names are distinct, each arc leads from a node to another one, the numbers of nodes,
 -- boundaries and arcs are within the limits, and only the first declaration can state the version
-pub record IsPlant (declared : List Declared) : Type 0 where
-  pub ranges : All IsInRange declared
+pub record IsDeclaredPlant (declared : List Declared) : Type 0 where
+  pub ranges : All IsDeclaredInRange declared
   pub distinct : HasDistinctNames declared
   pub joined : All (IsArc (length (node_names declared))) (arcs_of declared)
   pub few_nodes : length (node_names declared) ≤ most_nodes
@@ -25,9 +25,9 @@ pub record IsPlant (declared : List Declared) : Type 0 where
 -- all of this holds for each plant whose declarations had no fault
 abbrev pub PlantLaw : Type 0
 PlantLaw =
-    IsPlant []
-    × ((declared : List Declared) (row : Declared) → IsPlant declared → IsInRange row
-    → fault_of (version_of declared) declared row ≡ None → IsPlant (declared ++ row ∷ []))
+    IsDeclaredPlant []
+    × ((declared : List Declared) (row : Declared) → IsDeclaredPlant declared → IsDeclaredInRange row
+    → site_fault_of (version_of declared) declared row ≡ None → IsDeclaredPlant (declared ++ row ∷ []))
 
 -- one more declaration keeps the existing nodes and arcs, and the version unless it states one
 pub record GrowsBy (declared : List Declared) (row : Declared) (grown : List Declared)
@@ -39,8 +39,8 @@ pub record GrowsBy (declared : List Declared) (row : Declared) (grown : List Dec
 
 abbrev pub GrowthLaw : Type 0
 GrowthLaw =
-    (declared : List Declared) (row : Declared) → IsPlant declared
-    → fault_of (version_of declared) declared row ≡ None
+    (declared : List Declared) (row : Declared) → IsDeclaredPlant declared
+    → site_fault_of (version_of declared) declared row ≡ None
     → GrowsBy declared row (declared ++ row ∷ [])
 
 -- an arc joins two of these nodes
@@ -64,7 +64,7 @@ pub record IsPartOnDays (version : Version) (declared : List Declared) (first la
 
 abbrev pub DaysLaw : Type 0
 DaysLaw =
-    (version : Version) (declared : List Declared) (first last : ℤ) → IsPlant declared
+    (version : Version) (declared : List Declared) (first last : ℤ) → IsDeclaredPlant declared
     → IsPartOnDays version declared first last
 
 -- the same arcs, nodes and names on some days
@@ -76,7 +76,7 @@ pub record IsSamePart (declared other : List Declared) (first last : ℤ) : Type
 -- a declaration that isn't in service on some days doesn't change the part of the plant on these days
 abbrev pub SamePartLaw : Type 0
 SamePartLaw =
-    (declared : List Declared) (row : Declared) (first last : ℤ) → IsPlant declared
-    → fault_of (version_of declared) declared row ≡ None
+    (declared : List Declared) (row : Declared) (first last : ℤ) → IsDeclaredPlant declared
+    → site_fault_of (version_of declared) declared row ≡ None
     → declares_in_service first last row ≡ false
     → IsSamePart declared (declared ++ row ∷ []) first last

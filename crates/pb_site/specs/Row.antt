@@ -9,32 +9,31 @@ use Rattle.pb_site.specs.declared.declared.Arc.{Arc}
 use Rattle.pb_site.specs.declared.declared.Kind.{Kind}
 use Rattle.pb_site.specs.declared.declared.Kind.TheVariants.{Metered, Batch, Plain}
 use Rattle.pb_site.specs.declared.declared.ArcKind.{ArcKind}
-use Rattle.pb_site.specs.declared.declared.ArcKind.TheVariants.{Metered as MeteredArc, Batch as BatchArc, Plain as PlainArc, Tank as TankArc}
 use Rattle.pb_site.specs.declared.declared.Declared.{Declared}
-use Rattle.pb_site.specs.declared.declared.Declared.TheVariants.{Version2, Unit as UnitRow, Boundary, Tank, Strap, Stream, CritGlobal, CritNodal, CritMeasure}
+use Rattle.pb_site.specs.declared.declared.Declared.TheVariants.{Version2, Boundary, Tank, Strap, Stream, CritGlobal, CritNodal, CritMeasure}
 use Rattle.pb_site.specs.Service.{IsService}
 
 -- the base variance of an arc of this kind: 0 for a plain arc
 abbrev pub IsArcBase : ArcKind → ℤ → Type 0
-IsArcBase PlainArc base = base ≡ pos 0
+IsArcBase ArcKind.Plain base = base ≡ pos 0
 IsArcBase kind base = IsBaseVariance base
 
 -- the kind of a stream as an arc
 abbrev pub arc_kind : Kind → ArcKind
-arc_kind Metered = MeteredArc
-arc_kind Batch = BatchArc
-arc_kind Plain = PlainArc
+arc_kind Metered = ArcKind.Metered
+arc_kind Batch = ArcKind.Batch
+arc_kind Plain = ArcKind.Plain
 
 -- the numbers and days of a declaration lie in their ranges
-abbrev pub IsInRange : Declared → Type 0
-IsInRange (Tank name base service) = IsBaseVariance base × IfSome service IsService
-IsInRange (Strap tank mm ml) = IsLevel mm × IsVolume ml
-IsInRange (Stream name from to kind base service) =
+abbrev pub IsDeclaredInRange : Declared → Type 0
+IsDeclaredInRange (Tank name base service) = IsBaseVariance base × IfSome service IsService
+IsDeclaredInRange (Strap tank mm ml) = IsLevel mm × IsVolume ml
+IsDeclaredInRange (Stream name from to kind base service) =
     IsArcBase (arc_kind kind) base × IfSome service IsService
-IsInRange (CritGlobal dof value) = (1 ≤ dof) × (dof ≤ most_freedom) × IsCriticalValue value
-IsInRange (CritNodal value) = IsCriticalValue value
-IsInRange (CritMeasure value) = IsCriticalValue value
-IsInRange row = Unit {0}
+IsDeclaredInRange (CritGlobal dof value) = (1 ≤ dof) × (dof ≤ most_freedom) × IsCriticalValue value
+IsDeclaredInRange (CritNodal value) = IsCriticalValue value
+IsDeclaredInRange (CritMeasure value) = IsCriticalValue value
+IsDeclaredInRange row = Unit {0}
 
 -- this is the declaration that the session is of version 2
 abbrev pub says_version_2 : Declared → Bool
@@ -43,7 +42,7 @@ says_version_2 row = false
 
 -- the name of the unit or tank that a declaration declares
 abbrev pub node_name : Declared → Option (List ℕ)
-node_name (UnitRow name) = Some name
+node_name (Declared.Unit name) = Some name
 node_name (Tank name base service) = Some name
 node_name row = None
 
@@ -54,38 +53,38 @@ boundary_name row = None
 
 -- the name of the unit, boundary, tank or stream that a declaration declares
 abbrev pub declared_name : Declared → Option (List ℕ)
-declared_name (UnitRow name) = Some name
+declared_name (Declared.Unit name) = Some name
 declared_name (Boundary name) = Some name
 declared_name (Tank name base service) = Some name
 declared_name (Stream name from to kind base service) = Some name
 declared_name row = None
 
 -- a name is one of these
-abbrev pub is_among : List (List ℕ) → List ℕ → Bool
-is_among names name = list_any (same_name name) names
+abbrev pub names_include : List (List ℕ) → List ℕ → Bool
+names_include names name = list_any (same_name name) names
 
 -- The node of a name, given the names of the boundaries and those of the nodes, the environment's first. The node of a boundary is
 -- the environment; that of any other name is its place among the names of the nodes.
-abbrev pub node_at : List (List ℕ) → List (List ℕ) → List ℕ → ℕ
-node_at boundaries nodes name =
-    if is_among boundaries name then 0 else position_or_len (same_name name) nodes
+abbrev pub node_among : List (List ℕ) → List (List ℕ) → List ℕ → ℕ
+node_among boundaries nodes name =
+    if names_include boundaries name then 0 else position_or_len (same_name name) nodes
 
 -- the arc that a declaration declares, given the names of the boundaries and nodes: a stream, or the inventory stream of a tank,
 -- from the tank to the environment
 abbrev pub arc_in : List (List ℕ) → List (List ℕ) → Declared → Option Arc
 arc_in boundaries nodes (Tank name base service) =
-    let begins = node_at boundaries nodes name in
+    let begins = node_among boundaries nodes name in
     Some (record {
       name = name;
       from = begins;
       to = 0;
-      kind = TankArc;
+      kind = ArcKind.Tank;
       base = base;
       service = service;
     })
 arc_in boundaries nodes (Stream name from to kind base service) =
-    let begins = node_at boundaries nodes from in
-    let ends = node_at boundaries nodes to in
+    let begins = node_among boundaries nodes from in
+    let ends = node_among boundaries nodes to in
     Some (record {
       name = name;
       from = begins;

@@ -13,7 +13,7 @@ use Rattle.pb_site.specs.declared.declared.Declared.TheVariants.{Version2}
 use Rattle.pb_site.specs.declared.declared.Service.{Service}
 use Rattle.pb_site.specs.declared.declared.Version.{Version}
 use Rattle.pb_site.specs.declared.declared.Version.TheVariants.{One, Two}
-use Rattle.pb_site.specs.Row.{IsArcBase, arc_in, boundary_name, declared_name, declares_tank, global_value, is_among, measure_value, nodal_value, node_name, point_of}
+use Rattle.pb_site.specs.Row.{IsArcBase, arc_in, boundary_name, declared_name, declares_tank, global_value, measure_value, names_include, nodal_value, node_name, point_of}
 
 -- the version of the session: 2 if the first declaration says so
 abbrev pub version_of : List Declared → Version
@@ -31,7 +31,7 @@ boundary_names declared = filter_map boundary_name declared
 -- the node of this name; that of a boundary is the environment
 abbrev pub node_of : List Declared → List ℕ → Option ℕ
 node_of declared name =
-    if is_among (boundary_names declared) name then Some 0
+    if names_include (boundary_names declared) name then Some 0
     else position (same_name name) (node_names declared)
 
 -- the arcs of the plant: the declared streams and the inventory streams of the tanks
@@ -83,16 +83,16 @@ abbrev pub is_tank : List Declared → List ℕ → Bool
 is_tank declared name = list_any (declares_tank name) declared
 
 -- the points of a tank's table
-abbrev pub points_of : List Declared → List ℕ → List Point
-points_of declared tank = filter_map (point_of tank) declared
+abbrev pub points_of_tank : List Declared → List ℕ → List Point
+points_of_tank declared tank = filter_map (point_of tank) declared
 
 -- the table of the tank of this name
 abbrev pub table_of : List Declared → List ℕ → Option (List Point)
-table_of declared tank = if is_tank declared tank then Some (points_of declared tank) else None
+table_of declared tank = if is_tank declared tank then Some (points_of_tank declared tank) else None
 
 -- the table of an arc of this name: that of the tank whose inventory the arc is; a stream has no table
 abbrev pub table_of_kind : List Declared → List ℕ → ArcKind → Option (List Point)
-table_of_kind declared name Tank = Some (points_of declared name)
+table_of_kind declared name Tank = Some (points_of_tank declared name)
 table_of_kind declared name kind = None
 
 abbrev pub table_of_arc : List Declared → Arc → Option (List Point)

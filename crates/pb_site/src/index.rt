@@ -5,8 +5,7 @@ ghost use Rattle.std.specs.HashMap.{get, spare};
 ghost use Rattle.indexmap.specs.IndexSet as set;
 ghost use Rattle.pb_limits.specs.Limits.{most_nodes, most_units_and_tanks};
 ghost use Rattle.pb_rows.specs.Name.{same_name};
-ghost use Rattle.pb_site.specs.declared.declared.Declared.TheVariants.{Strap as StrapRow};
-ghost use Rattle.pb_site.specs.Row.{is_among, node_at};
+ghost use Rattle.pb_site.specs.Row.{names_include, node_among};
 ghost use Rattle.pb_site.specs.Kept.{CanAdd, HasRoom, IsNew, Notes, SameIndex, has_node, node_by, nodes_in, table_with};
 ghost use Rattle.std.specs.Prelude.{codes};
 
@@ -114,7 +113,7 @@ impl Index {
     fn end(&self, name: &Name) -> u32
         requires few { length self.now.nodes.keys ≤ most_units_and_tanks }
         requires known { has_node self.now name.now ≡ true }
-        ensures { result ≡ node_at self.now.boundaries.keys (nodes_in self.now) name.now }
+        ensures { result ≡ node_among self.now.boundaries.keys (nodes_in self.now) name.now }
     {
         self.node_of(name).unwrap()
     }
@@ -124,10 +123,7 @@ impl Index {
 pub fn env() -> Name
     ensures { result ≡ codes "env" }
 {
-    match Name::read(b"env") {
-        Some(name) => name,
-        None => unreachable!(),
-    }
+    Name::read(b"env").unwrap()
 }
 
 /// Whether this is the environment's name.
@@ -162,12 +158,10 @@ fn inventory(nodes: &IndexSet<Name>, name: Name, base: i128, service: Option<Ser
 // Puts a new name after the others.
 fn put_name(names: &mut IndexSet<Name>, name: Name)
     requires room { 0 < set.spare names.old }
-    requires new { is_among names.old.keys name ≡ false }
+    requires new { names_include names.old.keys name ≡ false }
     ensures { names.new.keys ≡ names.old.keys ++ name ∷ [] }
 {
-    if names.insert(name).is_err() {
-        unreachable!()
-    }
+    names.insert(name).unwrap();
 }
 
 // Puts an entry for which there is room.
@@ -176,9 +170,8 @@ fn put<K: Eq + Hash + Drop, V: Drop>(map: &mut HashMap<K, V>, key: K, value: V)
     ensures { (q : K)
         → get K.eq map.new q ≡ (if K.eq key q then Some value else get K.eq map.old q) }
 {
-    if map.insert(key, value).is_err() {
-        unreachable!()
-    }
+    let put: Result<_, _> = map.insert(key, value);
+    put.unwrap();
 }
 
 // Adds a point to a tank's table. After an `Err` (out of memory), the tables are as they were.
@@ -190,12 +183,9 @@ fn add_point(
 ) -> Result<(), AllocError>
     requires { IsSomeAnd (get same_name straps.old tank.now) (CanAdd mm ml) }
     ensures ok { OnOk result ((name : List ℕ) → get same_name straps.new name
-        ≡ table_with (StrapRow tank.now mm ml) name (get same_name straps.old name)) }
+        ≡ table_with (Declared.Strap tank.now mm ml) name (get same_name straps.old name)) }
     ensures err { OnErr result ((name : List ℕ)
         → get same_name straps.new name ≡ get same_name straps.old name) }
 {
-    match straps.get_mut(tank) {
-        Some(strap) => strap.add(mm, ml),
-        None => unreachable!(),
-    }
+    straps.get_mut(tank).unwrap().add(mm, ml)
 }

@@ -3,10 +3,10 @@
 ghost use Rattle.std.specs.Prelude.{◌≡◌, ◌≤◌, ◌<◌, ◌∷◌, ◌++◌, [], length, Option, Some, None, IfOk, OnOk, OnErr, IsTrue, ◌↔◌, position, slice_get, option_and_then, option_copied};
 ghost use Rattle.pb_limits.specs.Limits.{most_nodes, most_streams};
 ghost use Rattle.pb_rows.specs.Name.{same_name};
-ghost use Rattle.pb_site.specs.Row.{IsInRange};
-ghost use Rattle.pb_site.specs.Laws.{IsPlant};
+ghost use Rattle.pb_site.specs.Row.{IsDeclaredInRange};
+ghost use Rattle.pb_site.specs.Laws.{IsDeclaredPlant};
 ghost use Rattle.pb_site.specs.Site.{HasDistinctNames, IsArc, arc_named, arc_names, arcs_of, global_of, is_tank, kind_of, measure_of, names_of, nodal_of, node_names, node_of, service_in, table_of, table_of_arc, version_of};
-ghost use Rattle.pb_site.specs.Faults.{fault_of, has_most_arcs, has_most_boundaries, has_most_nodes, is_duplicate, is_full, is_mismatch, is_node, is_one_node, is_out_of_order, is_taken, is_unknown, most_arcs};
+ghost use Rattle.pb_site.specs.Faults.{has_most_arcs, has_most_boundaries, has_most_nodes, is_declaration_out_of_order, is_duplicate_declaration, is_mismatched_declaration, is_node, is_one_node, is_plant_full, is_taken, most_arcs, refers_to_unknown, site_fault_of};
 
 use crate::declared::{Arc, ArcKind, Declared, Service, SiteFault, Version};
 use crate::index::{Index, env, is_env};
@@ -63,7 +63,7 @@ impl Site {
 
     /// The first fault of a new declaration, in the order Unknown, Duplicate, Order, Mismatch, Full; `None` iff it has no fault.
     pub fn judge(&self, row: &Declared) -> Option<SiteFault>
-        ensures { result ≡ fault_of (version_of self.now) self.now row.now }
+        ensures { result ≡ site_fault_of (version_of self.now) self.now row.now }
     {
         if self.is_unknown(row) {
             Some(SiteFault::Unknown)
@@ -82,8 +82,8 @@ impl Site {
 
     /// Adds a declaration that has no fault. After an `Err` (out of memory), the plant is as it was.
     pub fn add(&mut self, row: Declared) -> Result<(), AllocError>
-        requires in_range { IsInRange row }
-        requires no_fault { fault_of (version_of self.old) self.old row ≡ None }
+        requires in_range { IsDeclaredInRange row }
+        requires no_fault { site_fault_of (version_of self.old) self.old row ≡ None }
         ensures added { OnOk result (self.new ≡ self.old ++ row ∷ []) }
         ensures unchanged { OnErr result (self.new ≡ self.old) }
     {
@@ -97,7 +97,7 @@ impl Site {
     /// The declarations in order.
     pub fn declared(&self) -> &[Declared]
         ensures value { result.now ≡ self.now }
-        ensures plant { IsPlant self.now }
+        ensures plant { IsDeclaredPlant self.now }
     {
         self.declared.as_slice()
     }
@@ -119,7 +119,7 @@ impl Site {
     /// The version of the session, which only the first declaration can state.
     pub fn version(&self) -> Version
         ensures value { result ≡ version_of self.now }
-        ensures plant { IsPlant self.now }
+        ensures plant { IsDeclaredPlant self.now }
     {
         self.index.version
     }
@@ -281,7 +281,7 @@ impl Site {
 
     // Whether a point names a tank that isn't declared, or an end of a stream isn't a node.
     fn is_unknown(&self, row: &Declared) -> bool
-        ensures { result ≡ is_unknown self.now row.now }
+        ensures { result ≡ refers_to_unknown self.now row.now }
     {
         match row {
             Declared::Strap { tank, .. } => !self.is_tank(tank),
@@ -292,7 +292,7 @@ impl Site {
 
     // Whether the name is taken, that critical value is already declared, or the version isn't the first declaration.
     fn is_duplicate(&self, row: &Declared) -> bool
-        ensures { result ≡ is_duplicate self.now row.now }
+        ensures { result ≡ is_duplicate_declaration self.now row.now }
     {
         match row {
             Declared::Version2 => !self.declared.is_empty(),
@@ -309,7 +309,7 @@ impl Site {
 
     // Whether a point can't follow the last one of its table, or the last day in service comes before the first.
     fn is_out_of_order(&self, row: &Declared) -> bool
-        ensures { result ≡ is_out_of_order self.now row.now }
+        ensures { result ≡ is_declaration_out_of_order self.now row.now }
     {
         match row {
             Declared::Strap { tank, mm, ml } => match self.index.straps.get(tank) {
@@ -324,7 +324,7 @@ impl Site {
 
     // Whether there are already as many units and tanks, boundaries, streams and tanks, or points of the table as are allowed.
     fn is_full(&self, row: &Declared) -> bool
-        ensures { result ≡ is_full (version_of self.now) self.now row.now }
+        ensures { result ≡ is_plant_full (version_of self.now) self.now row.now }
     {
         match row {
             Declared::Unit { .. } => self.has_most_nodes(),
@@ -341,7 +341,7 @@ impl Site {
 
     // Whether a stream leads from a node to itself.
     fn is_mismatch(&self, row: &Declared) -> bool
-        ensures { result ≡ is_mismatch self.now row.now }
+        ensures { result ≡ is_mismatched_declaration self.now row.now }
     {
         match row {
             Declared::Stream { from, to, .. } => is_one_node(self.node_of(from), self.node_of(to)),

@@ -2,7 +2,7 @@
 use Rattle.std.specs.Prelude.{is_some, IfSome, FitsSigned, ⊤, ◌++◌, get_or, true, false, ◌||◌, int_lt, int_le, slice_get, IsSomeAnd, MatchOption}
 use Rattle.std.specs.List.{AllByRecursion}
 use Rattle.std.specs.List.Sorted.{IsPartitionedBy}
-use Rattle.pb_integers.proofs.Lists.{AllByRecursion-from_all}
+use Rattle.pb_fixed.proofs.Lists.{AllByRecursion-from_all}
 use Rattle.std.proofs.Common.{◌≡◌, ◌∙◌, ℕ, zero, suc, ◌+◌, ◌-◌, ◌<◌, ◌≤◌, ◌^◌, ℤ, pos, ◌+ℤ◌, ◌-ℤ◌, ◌*ℤ◌, ◌≤ℤ◌, ◌<ℤ◌, unsigned_abs, List, [], ◌∷◌, length, Option, Some, None, refl, sym, ap, subst, inl, inr, arith}
 use mir.Syntax.{w64}
 use Rattle.std.proofs.lemmas.Bool.{and_parts, cases_Bool}
@@ -11,8 +11,8 @@ use Rattle.std.proofs.lemmas.List.Elements.{All-push}
 use Rattle.std.proofs.Common.{length-append}
 use Rattle.std.specs.Option.{option_map_or}
 use Rattle.std.proofs.lemmas.Int.{by_lt_z, fits_signed_mul, ints}
-use Rattle.pb_integers.proofs.Order.{mul_mono_both, mul_mono_left, mul_nonneg}
-use Rattle.pb_integers.proofs.Ring.{var, lit, plus, times, minus, ring}
+use Rattle.pb_fixed.proofs.Order.{mul_mono_both, mul_mono_left, mul_nonneg}
+use Rattle.pb_fixed.proofs.Ring.{var, lit, plus, times, minus, ring}
 use Rattle.pb_fixed.specs.Quotients.{IsFloor, floor_div}
 use Rattle.pb_fixed.proofs.QuotientLaws.{floor_from, floor_is, floor_multiple, floor_shift, floor_to}
 use Rattle.pb_strap.specs.declared.strap.Point.{Point}

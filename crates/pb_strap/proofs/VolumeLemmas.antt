@@ -4,7 +4,7 @@ use Rattle.std.specs.Option.{option_map_or}
 use Rattle.std.proofs.Common.{◌≡◌, ◌∙◌, ℕ, suc, ◌-◌, ℤ, ◌-ℤ◌, ◌*ℤ◌, ◌≤ℤ◌, ◌<ℤ◌, List, [], ◌∷◌, length, slice_get, Some, unwrap_or, refl, sym, ap, subst, arith}
 use Rattle.std.proofs.lemmas.Bool.{and_parts}
 use Rattle.std.proofs.lemmas.Int.{by_lt_z, ints}
-use Rattle.pb_integers.proofs.Order.{mul_mono_left}
+use Rattle.pb_fixed.proofs.Order.{mul_mono_left}
 use Rattle.pb_fixed.proofs.QuotientLaws.{floor_mono}
 use Rattle.pb_strap.specs.declared.strap.Point.{Point}
 use Rattle.pb_strap.specs.Table.{HigherLevelLaw, LongerTableLaw, TableGrowsLaw, is_above, rises, volume_between, volume_of}

@@ -17,7 +17,7 @@ use Rattle.pb_window.specs.declared.window.Window.{Window}
 use Rattle.pb_window.specs.declared.window.WindowNode.{WindowNode}
 use Rattle.pb_window.specs.declared.window.WindowStream.{WindowStream}
 use Rattle.pb_window.specs.Plant.{IsPlant, IsPlantArc, NumberedArc, arcs_in, is_end, is_node_in, is_served}
-use Rattle.pb_window.specs.Window.{IsWindow, IsWindowStream, NumberedSpan, content_day, content_end, content_of, contents_of_arc, flow_of, flows_of_period, if_served, is_too_great, stands_for, stay_of, numbered_spans, unless_too_great, window_contents, window_flows, window_nodes, window_shape, window_streams}
+use Rattle.pb_window.specs.Window.{IsWindow, IsWindowStream, NumberedSpan, content_day, content_end, content_after, contents_of_arc, flow_of, flows_of_period, if_served, is_too_great, stands_for, stay_of, numbered_spans, unless_too_great, window_contents, window_flows, window_nodes, window_shape, window_streams}
 use Rattle.pb_window.specs.Laws.{WindowFormLaw}
 use Rattle.pb_window.proofs.ListLemmas.{all_flat, all_join, all_kept, all_mapped, all_numbered, all_range, or_true}
 use Rattle.pb_window.proofs.NumberLemmas.{HasNodes, nodes_apart, number_small, number_some, periods_apart, periods_have}
@@ -108,7 +108,7 @@ stay_there plant nodes spans arc period span have is tank stay = elim (cases_Boo
 
 content_joins : (plant : Plant) (nodes : List WindowNode) (spans : List Span) → AllByRecursion (HasNodes plant nodes) (numbered_spans spans)
     → (numbered : NumberedArc) → IsArcOf plant numbered.1 → numbered.1.is_tank ≡ true → (period : ℕ)
-    → IfSome (content_of nodes spans numbered period) (IsWindowStream (1 + length nodes))
+    → IfSome (content_after nodes spans numbered period) (IsWindowStream (1 + length nodes))
 content_joins plant nodes spans have numbered is tank period = by (stay_of spans arc period) (stay_of spans arc (period + 1)) refl refl
   where
     arc : PlantArc
@@ -144,7 +144,7 @@ content_joins plant nodes spans have numbered is tank period = by (stay_of spans
 contents_join : (plant : Plant) (nodes : List WindowNode) (spans : List Span) → AllByRecursion (HasNodes plant nodes) (numbered_spans spans)
     → (numbered : NumberedArc) → IsArcOf plant numbered.1 → AllByRecursion (IsWindowStream (1 + length nodes)) (contents_of_arc nodes spans numbered)
 contents_join plant nodes spans have numbered is = elim (cases_Bool numbered.1.is_tank) [
-  | inl tank ↦ rw tank (all_mapped (λ (period : ℕ). Unit {0}) (IsWindowStream (1 + length nodes)) (content_of nodes spans numbered)
+  | inl tank ↦ rw tank (all_mapped (λ (period : ℕ). Unit {0}) (IsWindowStream (1 + length nodes)) (content_after nodes spans numbered)
       (λ period _. content_joins plant nodes spans have numbered is tank period) (range_with_len 0 (length spans + 1)) (all_range (λ (period : ℕ). Unit {0}) (λ _. tt) 0 (length spans + 1)))
   | inr flow ↦ rw flow tt
 ]

@@ -7,5 +7,6 @@ mod MeaningLemmas
 mod NameLemmas
 mod NumberLemmas
 mod PlaceLemmas
+mod ReadLemmas
 mod RisingLemmas
 mod ShapeLemmas

@@ -11,7 +11,7 @@ use Rattle.pb_window.specs.declared.window.Window.{Window}
 use Rattle.pb_window.specs.declared.window.WindowNode.{WindowNode}
 use Rattle.pb_window.specs.declared.window.WindowStream.{WindowStream}
 use Rattle.pb_window.specs.Plant.{NumberedArc, arcs_in, is_node_in, is_served, nodes_in}
-use Rattle.pb_window.specs.Window.{NumberedSpan, content_day, content_end, content_of, contents_of_arc, flow_of, flows_of_period, nodes_of_period, numbered_spans, span_of, stay_of, window_contents, window_flows, window_node, window_nodes, window_shape, window_streams}
+use Rattle.pb_window.specs.Window.{NumberedSpan, content_after, content_day, content_end, contents_of_arc, flow_of, flows_of_period, nodes_of_period, numbered_spans, span_of, stay_of, window_contents, window_flows, window_node, window_nodes, window_shape, window_streams}
 use Rattle.pb_window.specs.Meaning.{IsNodeOf, IsStreamOf}
 use Rattle.pb_window.specs.Laws.{WindowLaw}
 use Rattle.pb_window.proofs.ListLemmas.{all_flat, all_join, all_kept, all_mapped, all_numbered, all_range}
@@ -109,7 +109,7 @@ window_is plant spans window answer = subst (λ (w : Window). All (IsNodeOf plan
         all_mapped (λ (one : ℕ × NumberedArc). IsAt plant.arcs one.1 × (is_served numbered.1 one.1.1 ≡ true)) IsOne (flow_of nodes numbered.0)
         (λ one is. flow_is numbered there one is.0 is.1) (enumerate_from 0 (arcs_in plant.arcs numbered.1)) placed
 
-    content_is : (numbered : NumberedArc) → IsAt plant.arcs numbered → numbered.1.is_tank ≡ true → (period : ℕ) → IfSome (content_of nodes spans numbered period) IsOne
+    content_is : (numbered : NumberedArc) → IsAt plant.arcs numbered → numbered.1.is_tank ≡ true → (period : ℕ) → IfSome (content_after nodes spans numbered period) IsOne
     content_is numbered at tank period = by (content_day arc before after) refl
       where
         arc : PlantArc
@@ -146,7 +146,7 @@ window_is plant spans window answer = subst (λ (w : Window). All (IsNodeOf plan
 
     contents_of_one : (numbered : NumberedArc) → IsAt plant.arcs numbered → AllByRecursion IsOne (contents_of_arc nodes spans numbered)
     contents_of_one numbered at = elim (cases_Bool numbered.1.is_tank) [
-      | inl tank ↦ rw tank (all_mapped (λ (period : ℕ). Unit {0}) IsOne (content_of nodes spans numbered) (λ period _. content_is numbered at tank period)
+      | inl tank ↦ rw tank (all_mapped (λ (period : ℕ). Unit {0}) IsOne (content_after nodes spans numbered) (λ period _. content_is numbered at tank period)
           (range_with_len 0 (length spans + 1)) (all_range (λ (period : ℕ). Unit {0}) (λ _. tt) 0 (length spans + 1)))
       | inr flow ↦ rw flow tt
     ]

@@ -18,8 +18,8 @@ use Rattle.pb_window.specs.declared.window.Window.{Window}
 use Rattle.pb_window.specs.declared.window.WindowNode.{WindowNode}
 use Rattle.pb_window.specs.declared.window.WindowStream.{WindowStream}
 use Rattle.pb_window.specs.Plant.{IsPlant, NumberedArc, arcs_in}
-use Rattle.pb_window.specs.Window.{NumberedSpan, content_day, content_end, content_of, contents_of_arc, flow_of, flows_of_period, is_too_great, stay_of, numbered_spans, unless_too_great, window_contents, window_flows, window_nodes, window_shape, window_streams}
-use Rattle.pb_window.specs.Codes.{AreNames, AreWindowNames, code_text, node_code, source_letter, stream_code}
+use Rattle.pb_window.specs.Window.{NumberedSpan, content_day, content_end, content_after, contents_of_arc, flow_of, flows_of_period, is_too_great, stay_of, numbered_spans, unless_too_great, window_contents, window_flows, window_nodes, window_shape, window_streams}
+use Rattle.pb_window.specs.Codes.{AreDistinctNames, AreWindowNames, code_text, node_code, source_letter, stream_code}
 use Rattle.pb_window.specs.Laws.{WindowNamesLaw}
 use Rattle.pb_window.proofs.CodeLemmas.{coded_name, codes_apart}
 use Rattle.pb_window.proofs.ListLemmas.{all_flat, all_join, all_mapped}
@@ -100,7 +100,7 @@ env_differs : (nodes : List WindowNode) → AllByRecursion (Differ (codes "env")
 env_differs [] = tt
 env_differs (node ∷ nodes) = (refl, env_differs nodes)
 
-node_names : (plant : Plant) (spans : List Span) → IsPlant plant → length spans ≤ most_periods_of_window → AreNames (codes "env" ∷ map node_code (window_nodes plant spans))
+node_names : (plant : Plant) (spans : List Span) → IsPlant plant → length spans ≤ most_periods_of_window → AreDistinctNames (codes "env" ∷ map node_code (window_nodes plant spans))
 node_names plant spans is few = record {
   forms = forms_rise node_code node_key end (λ node below. name_by 110 node.period node.place end refl most below) 65536 nodes rises;
   differ = all_pairs (codes "env" ∷ map node_code nodes) (
@@ -156,7 +156,7 @@ content_letters arcs nodes spans =
     of_option make are None = tt
     of_option make are (Some day) = are day
 
-    of_one : (numbered : NumberedArc) (period : ℕ) → IfSome (content_of nodes spans numbered period) (HasLetter 99)
+    of_one : (numbered : NumberedArc) (period : ℕ) → IfSome (content_after nodes spans numbered period) (HasLetter 99)
     of_one numbered period =
         let arc = numbered.1 in
         let before = stay_of spans arc period in
@@ -174,7 +174,7 @@ content_letters arcs nodes spans =
     of_arc numbered = elim (cases_Bool numbered.1.is_tank) [
       | inl tank ↦
           let list = range_with_len 0 (length spans + 1) in
-          rw tank (all_mapped (λ (period : ℕ). Unit {0}) (HasLetter 99) (content_of nodes spans numbered) (λ period _. of_one numbered period) list (all_true list))
+          rw tank (all_mapped (λ (period : ℕ). Unit {0}) (HasLetter 99) (content_after nodes spans numbered) (λ period _. of_one numbered period) list (all_true list))
       | inr flow ↦ rw flow tt
     ]
 
@@ -188,8 +188,8 @@ letters_differ (s ∷ flows) contents are also = (one contents also, letters_dif
     one [] others = tt
     one (o ∷ rest) others = (rw (are.0, others.0) refl, one rest others.1)
 
-stream_names : (plant : Plant) (spans : List Span) → IsPlant plant → length spans ≤ most_periods_of_window → AreNames (map stream_code (window_streams plant spans))
-stream_names plant spans is few = subst AreNames (sym (map-append stream_code flows contents)) (record {
+stream_names : (plant : Plant) (spans : List Span) → IsPlant plant → length spans ≤ most_periods_of_window → AreDistinctNames (map stream_code (window_streams plant spans))
+stream_names plant spans is few = subst AreDistinctNames (sym (map-append stream_code flows contents)) (record {
   forms = list_all-append is_name (map stream_code flows) (map stream_code contents) ∙ ap₂ (λ (a b : Bool). a && b) flow_forms content_forms;
   differ = all_pairs (map stream_code flows ++ map stream_code contents)
       (apart_join (map stream_code flows) (map stream_code contents) flows_apart contents_apart (letters_differ flows contents flow_is content_is));

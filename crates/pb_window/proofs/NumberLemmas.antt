@@ -11,7 +11,7 @@ use Rattle.pb_window.specs.declared.plant.Plant.{Plant}
 use Rattle.pb_window.specs.declared.plant.Span.{Span}
 use Rattle.pb_window.specs.declared.window.WindowNode.{WindowNode}
 use Rattle.pb_window.specs.Plant.{is_node_in, nodes_in}
-use Rattle.pb_window.specs.Window.{NumberedSpan, nodes_of_period, number_of, stands_for, window_node}
+use Rattle.pb_window.specs.Window.{NumberedSpan, nodes_of_period, stands_for, window_node, window_number_of}
 use Rattle.pb_window.proofs.ListLemmas.{none_passes, or_true}
 
 -- ---- a node of a period is one of its nodes
@@ -77,7 +77,7 @@ abbrev some_node : WindowNode
 some_node = record { period = 0; place = 0; node = 0 }
 
 -- a number is that of a node of the graph
-pub number_small : (nodes : List WindowNode) (period n : ℕ) → number_of nodes period n < 1 + length nodes
+pub number_small : (nodes : List WindowNode) (period n : ℕ) → window_number_of nodes period n < 1 + length nodes
 number_small nodes period n = by (position (stands_for period n) nodes) refl
   where
     by : (o : Option ℕ) → position (stands_for period n) nodes ≡ o → option_map_or (λ (place : ℕ). 1 + place) o 0 < 1 + length nodes
@@ -93,7 +93,7 @@ node_at nodes period n i at =
     (eqb-true one.period period parts.0, eqb-true one.node n parts.1)
 
 -- a node of a period isn't the environment
-pub number_some : (nodes : List WindowNode) (period n : ℕ) → list_any (stands_for period n) nodes ≡ true → number_of nodes period n ≢ 0
+pub number_some : (nodes : List WindowNode) (period n : ℕ) → list_any (stands_for period n) nodes ≡ true → window_number_of nodes period n ≢ 0
 number_some nodes period n there = by (position (stands_for period n) nodes) refl
   where
     by : (o : Option ℕ) → position (stands_for period n) nodes ≡ o → option_map_or (λ (place : ℕ). 1 + place) o 0 ≢ 0
@@ -102,7 +102,7 @@ number_some nodes period n there = by (position (stands_for period n) nodes) ref
 
 -- two nodes of a plant in one period have different numbers, if units and tanks among them are nodes of it
 pub nodes_apart : (nodes : List WindowNode) (period a b : ℕ) → a ≢ b → (1 ≤ a → list_any (stands_for period a) nodes ≡ true)
-    → (1 ≤ b → list_any (stands_for period b) nodes ≡ true) → number_of nodes period a ≢ number_of nodes period b
+    → (1 ≤ b → list_any (stands_for period b) nodes ≡ true) → window_number_of nodes period a ≢ window_number_of nodes period b
 nodes_apart nodes period a b differ a_there b_there = λ same. by (position (stands_for period a) nodes) (position (stands_for period b) nodes) refl refl same
   where
     by : (o p : Option ℕ) → position (stands_for period a) nodes ≡ o → position (stands_for period b) nodes ≡ p
@@ -124,7 +124,7 @@ nodes_apart nodes period a b differ a_there b_there = λ same. by (position (sta
         differ (sym one ∙ ap (λ (m : ℕ). (get_or nodes m some_node).node) place ∙ other)
 
 -- a node of a plant has different numbers in two periods
-pub periods_apart : (nodes : List WindowNode) (t u n : ℕ) → t ≢ u → list_any (stands_for t n) nodes ≡ true → number_of nodes t n ≢ number_of nodes u n
+pub periods_apart : (nodes : List WindowNode) (t u n : ℕ) → t ≢ u → list_any (stands_for t n) nodes ≡ true → window_number_of nodes t n ≢ window_number_of nodes u n
 periods_apart nodes t u n differ there = λ same. by (position (stands_for t n) nodes) (position (stands_for u n) nodes) refl refl same
   where
     by : (o p : Option ℕ) → position (stands_for t n) nodes ≡ o → position (stands_for u n) nodes ≡ p

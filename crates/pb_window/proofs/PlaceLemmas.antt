@@ -13,7 +13,7 @@ use Rattle.pb_window.specs.declared.window.Source.TheVariants.{Content}
 use Rattle.pb_window.specs.declared.window.WindowNode.{WindowNode}
 use Rattle.pb_window.specs.declared.window.WindowStream.{WindowStream}
 use Rattle.pb_window.specs.Plant.{NumberedArc, arcs_in, is_node_in, is_served, nodes_in}
-use Rattle.pb_window.specs.Window.{NumberedSpan, content_day, content_end, content_of, contents_of_arc, flow_of, flows_of_period, nodes_of_period, numbered_spans, stay_of, window_contents, window_flows, window_node, window_nodes, window_shape, window_streams}
+use Rattle.pb_window.specs.Window.{NumberedSpan, content_after, content_day, content_end, contents_of_arc, flow_of, flows_of_period, nodes_of_period, numbered_spans, stay_of, window_contents, window_flows, window_node, window_nodes, window_shape, window_streams}
 use Rattle.pb_window.specs.Places.{HasNodeNames, HasStreamNames, HaveNames}
 use Rattle.pb_window.specs.Laws.{WindowPlacesLaw}
 use Rattle.pb_window.proofs.ListLemmas.{all_flat, all_join, all_kept, all_mapped, all_numbered, all_range}
@@ -50,7 +50,7 @@ stay_short spans arc period span stay = elim (cases_Bool (period == 0)) [
 ]
 
 content_named : (names : Names) (periods : List (List ℕ)) (nodes : List WindowNode) (spans : List Span) (numbered : NumberedArc) (period : ℕ) → length periods ≡ length spans
-    → numbered.0 < length names.streams → IfSome (content_of nodes spans numbered period) (HasStreamNames names periods)
+    → numbered.0 < length names.streams → IfSome (content_after nodes spans numbered period) (HasStreamNames names periods)
 content_named names periods nodes spans numbered period long lt = by (stay_of spans arc period) (stay_of spans arc (period + 1)) refl refl
   where
     arc : PlantArc
@@ -121,7 +121,7 @@ places_are plant spans window names periods answer few_nodes few_arcs few_period
 
     contents_of_one : (numbered : NumberedArc) → IsNamed numbered → AllByRecursion (HasStreamNames names periods) (contents_of_arc nodes spans numbered)
     contents_of_one numbered named = elim (cases_Bool numbered.1.is_tank) [
-      | inl tank ↦ rw tank (all_mapped (λ (period : ℕ). Unit {0}) (HasStreamNames names periods) (content_of nodes spans numbered)
+      | inl tank ↦ rw tank (all_mapped (λ (period : ℕ). Unit {0}) (HasStreamNames names periods) (content_after nodes spans numbered)
           (λ period _. content_named names periods nodes spans numbered period few_periods (omega (arith, named.1, few_arcs)))
           (range_with_len 0 (length spans + 1)) (all_range (λ (period : ℕ). Unit {0}) (λ _. tt) 0 (length spans + 1)))
       | inr flow ↦ rw flow tt

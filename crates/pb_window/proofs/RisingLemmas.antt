@@ -11,7 +11,7 @@ use Rattle.pb_window.specs.declared.window.WindowNode.{WindowNode}
 use Rattle.pb_window.specs.declared.window.WindowStream.{WindowStream}
 use Rattle.pb_window.specs.declared.window.Source.TheVariants.{Content}
 use Rattle.pb_window.specs.Plant.{NumberedArc, arcs_in, is_node_in, is_served, nodes_in}
-use Rattle.pb_window.specs.Window.{content_day, content_end, content_of, contents_of_arc, flow_of, flows_of_period, nodes_of_period, stay_of, window_node}
+use Rattle.pb_window.specs.Window.{content_after, content_day, content_end, contents_of_arc, flow_of, flows_of_period, nodes_of_period, stay_of, window_node}
 
 -- the keys of items rise, from one number on and below another
 abbrev pub Rise : {A : Type 0} → (A → ℕ) → ℕ → List A → ℕ → Type 0
@@ -119,13 +119,13 @@ rise_option key make b (Some x) rest e at later =
     (omega (arith, is), rise_from key (key (make x) + 1) (b + 1) rest e (omega (arith, is)) later)
 
 rise_contents : (nodes : List WindowNode) (spans : List Span) (numbered : NumberedArc) (k n : ℕ)
-    → Rise content_key (numbered.0 * 65536 + k) (filter_map (content_of nodes spans numbered) (range_with_len k n)) (numbered.0 * 65536 + (k + n))
+    → Rise content_key (numbered.0 * 65536 + k) (filter_map (content_after nodes spans numbered) (range_with_len k n)) (numbered.0 * 65536 + (k + n))
 rise_contents nodes spans numbered k zero = omega arith
 rise_contents nodes spans numbered k (suc n) =
     let arc = numbered.1 in
     let before = stay_of spans arc k in
     let after = stay_of spans arc (k + 1) in
-    let rest = filter_map (content_of nodes spans numbered) (range_with_len (k + 1) n) in
+    let rest = filter_map (content_after nodes spans numbered) (range_with_len (k + 1) n) in
     let end = numbered.0 * 65536 + (k + suc n) in
     rise_option content_key (λ (day : ℤ). record {
       source = Content day;
@@ -142,7 +142,7 @@ rise_of_arc : (nodes : List WindowNode) (spans : List Span) (numbered : Numbered
     → Rise content_key (numbered.0 * 65536) (contents_of_arc nodes spans numbered) ((numbered.0 + 1) * 65536)
 rise_of_arc nodes spans numbered few = elim (cases_Bool numbered.1.is_tank) [
   | inl tank ↦
-      let list = filter_map (content_of nodes spans numbered) (range_with_len 0 (length spans + 1)) in
+      let list = filter_map (content_after nodes spans numbered) (range_with_len 0 (length spans + 1)) in
       rw tank (rise_from content_key (numbered.0 * 65536) (numbered.0 * 65536 + 0) list ((numbered.0 + 1) * 65536) (omega arith)
       (rise_to content_key (numbered.0 * 65536 + 0) list (numbered.0 * 65536 + (0 + (length spans + 1))) ((numbered.0 + 1) * 65536) (omega (arith, few))
       (rise_contents nodes spans numbered 0 (length spans + 1))))

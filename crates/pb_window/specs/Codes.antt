@@ -37,11 +37,11 @@ window_names window = record {
 }
 
 -- names that have the form of a name, no two of which are the same
-pub record AreNames (names : List (List ℕ)) : Type 0 where
+pub record AreDistinctNames (names : List (List ℕ)) : Type 0 where
   pub forms : list_all is_name names ≡ true
   pub differ : AllPairs (λ one other. same_name one other ≡ false) names
 
 -- the names of a window's nodes, including the environment, are like that, and so are those of its streams
 pub record AreWindowNames (window : Window) : Type 0 where
-  pub nodes : AreNames (window_names window).nodes
-  pub streams : AreNames (window_names window).streams
+  pub nodes : AreDistinctNames (window_names window).nodes
+  pub streams : AreDistinctNames (window_names window).streams

@@ -22,12 +22,12 @@ abbrev pub window_graph : Window → List (Option Meas) → ProcessGraph
 window_graph window measured = record { nodes = 1 + length window.nodes; streams = graph_streams window.streams measured }
 
 -- the first stream of a graph whose measurement is outside the limits
-pub record IsOutside (graph : ProcessGraph) (j : ℕ) : Type 0 where
+pub record IsFirstStreamOutside (graph : ProcessGraph) (j : ℕ) : Type 0 where
   pub stream : Stream
   pub there : slice_get graph.streams j ≡ Some stream
   pub outside : IsWithinLimits stream → ⊥
   pub before : (k : ℕ) (one : Stream) → k < j → slice_get graph.streams k ≡ Some one → IsWithinLimits one
 
 abbrev pub IsFirstOutside : ProcessGraph → WindowAssembly → Type 0
-IsFirstOutside graph (Over j) = IsOutside graph j
+IsFirstOutside graph (Over j) = IsFirstStreamOutside graph j
 IsFirstOutside graph NoMemory = Unit {0}

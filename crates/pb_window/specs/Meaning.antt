@@ -7,7 +7,7 @@ use Rattle.pb_window.specs.declared.window.Source.TheVariants.{Content, Flow}
 use Rattle.pb_window.specs.declared.window.WindowNode.{WindowNode}
 use Rattle.pb_window.specs.declared.window.WindowStream.{WindowStream}
 use Rattle.pb_window.specs.Plant.{is_node_in, is_served}
-use Rattle.pb_window.specs.Window.{content_day, content_end, number_of, span_of, stay_of}
+use Rattle.pb_window.specs.Window.{content_day, content_end, span_of, stay_of, window_number_of}
 
 -- a unit or tank of the plant that is a node of one of the periods
 pub record IsNodeOf (plant : Plant) (spans : List Span) (node : WindowNode) : Type 0 where
@@ -26,8 +26,8 @@ pub record IsFlowOf (plant : Plant) (spans : List Span) (nodes : List WindowNode
   pub flows : arc.is_tank ≡ false
   pub served : is_served span arc ≡ true
   pub source : stream.source ≡ Flow
-  pub from : stream.from ≡ number_of nodes stream.period arc.from
-  pub to : stream.to ≡ number_of nodes stream.period arc.to
+  pub from : stream.from ≡ window_number_of nodes stream.period arc.from
+  pub to : stream.to ≡ window_number_of nodes stream.period arc.to
 
 -- what a tank of the plant holds between a period and the next one, in at least one of which it is in service
 pub record IsContentOf (plant : Plant) (spans : List Span) (nodes : List WindowNode) (stream : WindowStream) : Type 0 where

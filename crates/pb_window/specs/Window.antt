@@ -41,8 +41,8 @@ stands_for period node one = (one.period == period) && (one.node == node)
 
 -- the number in the window's graph of a node of the plant in a period: its place after the environment, or the environment's number if it
 -- isn't a node of the period
-abbrev pub number_of : List WindowNode → ℕ → ℕ → ℕ
-number_of nodes period node = option_map_or (λ place. 1 + place) (position (stands_for period node) nodes) 0
+abbrev pub window_number_of : List WindowNode → ℕ → ℕ → ℕ
+window_number_of nodes period node = option_map_or (λ place. 1 + place) (position (stands_for period node) nodes) 0
 
 -- ---- flows
 
@@ -55,8 +55,8 @@ flow_of nodes period placed =
       period = period;
       place = placed.0;
       arc = placed.1.0;
-      from = number_of nodes period arc.from;
-      to = number_of nodes period arc.to;
+      from = window_number_of nodes period arc.from;
+      to = window_number_of nodes period arc.to;
     })
 
 -- the flows of a period
@@ -92,11 +92,11 @@ content_day arc None None = None
 -- an end of a content: the tank's node in a period in which it is in service, otherwise the environment
 abbrev pub content_end : List WindowNode → ℕ → PlantArc → Option Span → ℕ
 content_end nodes period arc None = 0
-content_end nodes period arc (Some span) = number_of nodes period arc.from
+content_end nodes period arc (Some span) = window_number_of nodes period arc.from
 
 -- what a tank holds after the period with a number (0 for the first opening) and before the next one
-abbrev pub content_of : List WindowNode → List Span → NumberedArc → ℕ → Option WindowStream
-content_of nodes spans numbered period =
+abbrev pub content_after : List WindowNode → List Span → NumberedArc → ℕ → Option WindowStream
+content_after nodes spans numbered period =
     let arc = numbered.1 in
     let before = stay_of spans arc period in
     let after = stay_of spans arc (period + 1) in
@@ -112,7 +112,7 @@ content_of nodes spans numbered period =
 -- the contents of an arc; there are none unless it is a tank's
 abbrev pub contents_of_arc : List WindowNode → List Span → NumberedArc → List WindowStream
 contents_of_arc nodes spans numbered =
-    if numbered.1.is_tank then filter_map (content_of nodes spans numbered) (range_with_len 0 (length spans + 1)) else []
+    if numbered.1.is_tank then filter_map (content_after nodes spans numbered) (range_with_len 0 (length spans + 1)) else []
 
 -- The contents of a window: those of each tank in turn.
 abbrev pub window_contents : List PlantArc → List WindowNode → List Span → List WindowStream

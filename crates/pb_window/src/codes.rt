@@ -26,10 +26,7 @@ fn code(alloc: Global, letter: u8, period: u32, place: u32) -> Result<Name, Allo
     ensures { IfOk result (λ name. name ≡ code_text letter period place) }
 {
     let text = code_text(alloc, letter, period, place)?;
-    match Name::read(&text) {
-        Some(name) => Ok(name),
-        None => unreachable!(),
-    }
+    Ok(Name::read(&text).unwrap())
 }
 
 /// The name of a node of a window: `n`, the number of its period, and its place in the graph of that period.

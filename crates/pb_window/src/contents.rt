@@ -3,7 +3,7 @@
 ghost use Rattle.std.specs.Prelude.{◌≡◌, ◌<◌, ◌≤◌, ◌^◌, ◌++◌, length, All, IfSome, OnOk};
 ghost use Rattle.pb_limits.specs.Limits.{most_periods_of_window, most_streams};
 ghost use Rattle.pb_window.specs.Plant.{IsSpan};
-ghost use Rattle.pb_window.specs.Window.{content_day, content_end, content_of, contents_of_arc, if_served, span_of, stay_of, window_contents};
+ghost use Rattle.pb_window.specs.Window.{content_after, content_day, content_end, contents_of_arc, if_served, span_of, stay_of, window_contents};
 
 use crate::nodes::number_of;
 use crate::plant::{PlantArc, Span, closing_day, is_served, opening_day};
@@ -70,7 +70,7 @@ fn content_of(
     requires nodes { length nodes.now < 2 ^ 31 }
     requires spans { All IsSpan spans.now }
     requires period { period ≤ most_periods_of_window }
-    ensures { result ≡ content_of nodes.now spans.now (number, arc.now) period }
+    ensures { result ≡ content_after nodes.now spans.now (number, arc.now) period }
 {
     let before = stay_of(spans, arc, period);
     let after = stay_of(spans, arc, period + 1);

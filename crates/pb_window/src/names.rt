@@ -23,10 +23,7 @@ pub struct WindowPlace {
 fn env() -> Name
     ensures { result ≡ codes "env" }
 {
-    match Name::read(b"env") {
-        Some(name) => name,
-        None => unreachable!(),
-    }
+    Name::read(b"env").unwrap()
 }
 
 // The names of the nodes of a window, the environment first.

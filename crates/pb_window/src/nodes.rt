@@ -6,7 +6,7 @@ ghost use Rattle.pb_limits.specs.Limits.{most_periods_of_window, most_units_and_
 ghost use Rattle.pb_window.specs.declared.window.WindowFault.TheVariants as WindowFault;
 ghost use Rattle.pb_window.specs.Joined.{AreJoined, MarksEnds, is_marked};
 ghost use Rattle.pb_window.specs.Plant.{IsPlant, nodes_in};
-ghost use Rattle.pb_window.specs.Window.{nodes_of_period, number_of, stands_for, window_node, window_nodes};
+ghost use Rattle.pb_window.specs.Window.{nodes_of_period, stands_for, window_node, window_nodes, window_number_of};
 
 use crate::plant::{Plant, PlantArc, Span, is_served};
 use crate::window::{WindowFault, WindowNode};
@@ -115,7 +115,7 @@ fn place_of(nodes: &[WindowNode], period: u32, node: u32) -> Option<usize>
 /// the period.
 pub fn number_of(nodes: &[WindowNode], period: u32, node: u32) -> u32
     requires { length nodes.now < 2 ^ 31 }
-    ensures { result ≡ number_of nodes.now period node }
+    ensures { result ≡ window_number_of nodes.now period node }
 {
     match place_of(nodes, period, node) {
         Some(place) => 1 + place as u32,

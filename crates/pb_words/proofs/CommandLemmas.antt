@@ -3,13 +3,13 @@ use Rattle.std.proofs.Common.{inl, inr, ◌≡◌, ◌∙◌, ◌||◌, ◌&&◌
 use Rattle.std.proofs.lemmas.Int.{ints}
 use Rattle.std.specs.Str.{bytes_eq}
 use Rattle.pb_rows.specs.Number.{number, within}
-use Rattle.pb_graph.specs.declared.results.Options.{Options}
+use Rattle.pb_study.specs.declared.results.Options.{Options}
 use Rattle.pb_report.specs.declared.form.Form.{Form}
 use Rattle.pb_words.specs.Given.{Given}
 use Rattle.pb_limits.specs.Limits.{most_gap, most_made_streams, most_rounds, most_sweeps}
-use Rattle.pb_elim.specs.Options.{AreOptions}
+use Rattle.pb_study.specs.Options.{AreOptions}
 use Rattle.pb_make.specs.Plant.{least_streams}
-use Rattle.pb_words.specs.Command.{Asks, AsksCheck, AsksMake, AsksRun, IsCommandOf, IsFormOf, IsInRange, greatest_number, natural, number_or}
+use Rattle.pb_words.specs.Command.{Asks, AsksCheck, AsksMake, AsksRun, IsCommandInRange, IsCommandOf, IsFormOf, greatest_number, natural, number_or}
 use Rattle.pb_words.specs.Line.{IsGivenByClap}
 use Rattle.pb_words.proofs.EndLemmas.{parts_of_taken, taken_of_parts}
 use Rattle.pb_words.specs.declared.command.Command.{Command}
@@ -161,7 +161,7 @@ run_range given options form a =
     let rounds = rounds_range given.eliminate options.eliminate given.tests options.tests a.eliminate a.tests in
     record { some_gap = gap.0; greatest_gap = gap.1; greatest_sweeps = sweeps.1; greatest_rounds = rounds.0; rounds_by_tests = rounds.1 }
 
-pub in_range : (given : Given) (command : Command) → Asks given command → IsInRange command
+pub in_range : (given : Given) (command : Command) → Asks given command → IsCommandInRange command
 in_range given (Run options form) a = run_range given options form a
 in_range given Check a = tt
 in_range given (Make from count summed gap sweeps) a = record {

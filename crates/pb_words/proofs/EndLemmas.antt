@@ -16,7 +16,7 @@ use Rattle.clap.proofs.FaultLemmas.{leaf_fault}
 use Rattle.clap.proofs.WalkLemmas.{both, first_value-rows}
 use Rattle.clap.specs.Matches.{first_value}
 use Rattle.clap.specs.declared.parser.matches.Found.{Found}
-use Rattle.pb_words.specs.Parts.{Part, mode, flag, apart, joined, ArePartsOf, EachOnce, IsKnownPart, has_hyphen, is_among, line_of, option_names, flag_names, words_of}
+use Rattle.pb_words.specs.Parts.{Part, mode, flag, apart, joined, ArePartsOf, EachOnce, IsKnownPart, has_hyphen, is_one_of, words_of_parts, option_names, flag_names, words_of}
 use Rattle.pb_words.specs.Given.{Given, given_by, given_of, is_true}
 use Rattle.pb_words.specs.Line.{IsGivenByClap, given_in, is_plain_or_named, line}
 use Rattle.pb_words.proofs.RowLemmas.{find_last, find_none, find_past, new_values, row_of, said_row}
@@ -148,15 +148,15 @@ plain_formed (a ∷ []) e = rw e refl
 plain_formed (a ∷ b ∷ []) e = rw e refl
 plain_formed (a ∷ b ∷ x ∷ xs) e = rw e refl
 
-option_formed : (name : Text) → IsTrue (is_among name option_names) → is_plain_or_named (codes "--" ++ name) ≡ true
+option_formed : (name : Text) → IsTrue (is_one_of name option_names) → is_plain_or_named (codes "--" ++ name) ≡ true
 option_formed name among =
     one_of (λ n. is_plain_or_named (codes "--" ++ n) ≡ true) option_names name (refl, (refl, (refl, (refl, (refl, (refl, tt)))))) among
 
-joined_formed : (name v : Text) → IsTrue (is_among name option_names) → is_plain_or_named (codes "--" ++ (name ++ 61 ∷ v)) ≡ true
+joined_formed : (name v : Text) → IsTrue (is_one_of name option_names) → is_plain_or_named (codes "--" ++ (name ++ 61 ∷ v)) ≡ true
 joined_formed name v among =
     one_of (λ n. is_plain_or_named (codes "--" ++ (n ++ 61 ∷ v)) ≡ true) option_names name (refl, (refl, (refl, (refl, (refl, (refl, tt)))))) among
 
-flag_formed : (name : Text) → IsTrue (is_among name flag_names) → is_plain_or_named (codes "--" ++ name) ≡ true
+flag_formed : (name : Text) → IsTrue (is_one_of name flag_names) → is_plain_or_named (codes "--" ++ name) ≡ true
 flag_formed name among = one_of (λ n. is_plain_or_named (codes "--" ++ n) ≡ true) flag_names name (refl, (refl, tt)) among
 
 part_formed : (p : Part) → IsKnownPart p → list_all is_plain_or_named (words_of p) ≡ true
@@ -165,10 +165,10 @@ part_formed (flag name) known = ap (λ b. b && true) (flag_formed name known)
 part_formed (apart name v) known = ap₂ (λ a b. a && (b && true)) (option_formed name known.0) (plain_formed v known.1)
 part_formed (joined name v) known = ap (λ b. b && true) (joined_formed name v known)
 
-line_formed : (parts : List Part) → All IsKnownPart parts → list_all is_plain_or_named (line_of parts) ≡ true
+line_formed : (parts : List Part) → All IsKnownPart parts → list_all is_plain_or_named (words_of_parts parts) ≡ true
 line_formed [] known = refl
 line_formed (p ∷ rest) known =
-    list_all-append is_plain_or_named (words_of p) (line_of rest)
+    list_all-append is_plain_or_named (words_of p) (words_of_parts rest)
     ∙ ap₂ (λ a b. a && b) (part_formed p (known 0 p (omega arith))) (line_formed rest (λ k d lt. known (suc k) d (omega arith)))
 
 -- ---- the law
@@ -210,15 +210,15 @@ parts_of_taken words given taken =
       once = λ before after part e. absurd (never_empty before after part e);
     }
 
-taken_of_line : (parts : List Part) → All IsKnownPart parts → EachOnce parts → IsGivenByClap (line_of parts) (given_by parts)
+taken_of_line : (parts : List Part) → All IsKnownPart parts → EachOnce parts → IsGivenByClap (words_of_parts parts) (given_by parts)
 taken_of_line parts known once =
     let g = walk_goes parts [] (walk_from nothing_held) stands known once in
     let s = g.1 in
-    let end = end_of (line_of parts) in
+    let end = end_of (words_of_parts parts) in
     let settles = ap (λ (w : Walk). settle_fault rules_in false w.held) s.is ∙ settle_passes s.front s.last s.known s.fresh in
     record {
       formed = line_formed parts known;
-      taken = fault_is (line_of parts) ∙ both_empty _ _ g.0 (both_empty _ _ settles (both_empty _ _ (no_defaults_fault rules_in _ rules_default) refl));
+      taken = fault_is (words_of_parts parts) ∙ both_empty _ _ g.0 (both_empty _ _ settles (both_empty _ _ (no_defaults_fault rules_in _ rules_default) refl));
       is = ap given_by s.are ∙ sym (given_at s.front s.last s.position end s.is s.known s.fresh);
     }
   where

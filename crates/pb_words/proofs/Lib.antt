@@ -4,3 +4,4 @@ mod WalkLemmas
 mod PartLemmas
 mod EndLemmas
 mod CommandLemmas
+pub mod WordLaws

@@ -5,7 +5,7 @@ use Rattle.clap.specs.Lexer.{name_and_value}
 use Rattle.clap.specs.Kinds.{or_else}
 use Rattle.clap.specs.Walk.{Row, Rule, Text, Walk, idle, option, arg_by_index, next_position, reacted, to_positional, value, walked}
 use Rattle.clap.specs.Faults.{react_fault, step_fault, turn_fault, walk_fault}
-use Rattle.pb_words.specs.Parts.{Part, mode, flag, apart, joined, EachOnce, IsKnownPart, has_hyphen, is_among, is_named, line_of, name_of, option_names, flag_names, words_of}
+use Rattle.pb_words.specs.Parts.{Part, mode, flag, apart, joined, EachOnce, IsKnownPart, has_hyphen, is_one_of, is_mentioned, words_of_parts, name_of, option_names, flag_names, words_of}
 use Rattle.pb_words.proofs.RowLemmas.{neither}
 use Rattle.pb_words.proofs.StepLemmas.{Last, nothing, mode_word, waits_for, has_value, IsFresh, IsKnownLast, all_parts, at, both_empty, built_flag, built_mode, built_option, flag_by_long, held_at, one_of, option_by_long, rules_in, settle_passes, settled_rows_are, shape, step_of, turn_of, waiting_of, walk_at}
 use Rattle.pb_words.proofs.WalkLemmas.{IsUseOf, flag_use, idle_walk, index_there, mode_fault, mode_walk, option_use, plain_idle, plain_waits, use_passes_here, use_walk, value_walk}
@@ -21,7 +21,7 @@ pub record IsSplit (name : Text) : Type 0 where
 abbrev split_as : (x : ℕ) (xs : Text) → name_and_value (x ∷ xs) ≡ (x ∷ xs, None) → ((v : Text) → name_and_value (x ∷ (xs ++ 61 ∷ v)) ≡ (x ∷ xs, Some v)) → IsSplit (x ∷ xs)
 split_as x xs a b = record { x = x; xs = xs; is = refl; alone = a; before = b }
 
-option_split : (name : Text) → IsTrue (is_among name option_names) → IsSplit name
+option_split : (name : Text) → IsTrue (is_one_of name option_names) → IsSplit name
 option_split name among = one_of IsSplit option_names name (
   split_as 103 (codes "ap") refl (λ v. refl),
   (
@@ -39,7 +39,7 @@ option_split name among = one_of IsSplit option_names name (
   ),
 ) among
 
-flag_split : (name : Text) → IsTrue (is_among name flag_names) → IsSplit name
+flag_split : (name : Text) → IsTrue (is_one_of name flag_names) → IsSplit name
 flag_split name among = one_of IsSplit flag_names name (split_as 116 (codes "ests") refl (λ v. refl), (split_as 115 (codes "ummary") refl (λ v. refl), tt)) among
 
 -- where the walk stands after these parts
@@ -51,7 +51,7 @@ pub record Stands (parts : List Part) (w : Walk) : Type 0 where
   pub are : parts ≡ all_parts front last
   pub known : IsKnownLast last
   pub fresh : IsFresh front last
-  pub first : is_named (codes "mode") parts ≡ false → (1 == position) ≡ true
+  pub first : is_mentioned (codes "mode") parts ≡ false → (1 == position) ≡ true
 
 -- the walk goes over these words and then stands after these parts
 pub record Goes (w : Walk) (words : List Text) (parts : List Part) : Type 0 where
@@ -69,22 +69,22 @@ word_goes w word parts turn stands = record {
   stands = stands;
 }
 
-named_last : (name : Text) (parts : List Part) (p : Part) → is_named name (parts ++ p ∷ []) ≡ false → (is_named name parts ≡ false) × (bytes_eq (name_of p) name ≡ false)
+named_last : (name : Text) (parts : List Part) (p : Part) → is_mentioned name (parts ++ p ∷ []) ≡ false → (is_mentioned name parts ≡ false) × (bytes_eq (name_of p) name ≡ false)
 named_last name [] p e = (refl, (neither (bytes_eq (name_of p) name) false e).0)
 named_last name (x ∷ xs) p e =
-    let parts = neither (bytes_eq (name_of x) name) (is_named name (xs ++ p ∷ [])) e in
+    let parts = neither (bytes_eq (name_of x) name) (is_mentioned name (xs ++ p ∷ [])) e in
     let rest = named_last name xs p parts.1 in
     (rw parts.0 rest.0, rest.1)
 
 -- a use that a word makes at once
 use_goes : (parts : List Part) (front : List Part) (last : Last) (position : ℕ) (p : Part) (a : Rule) (values : List Text) (word : Text) → IsUseOf a values p
-    → parts ≡ all_parts front last → IsKnownLast last → IsFresh front last → (is_named (codes "mode") parts ≡ false → (1 == position) ≡ true)
-    → is_named (name_of p) parts ≡ false
+    → parts ≡ all_parts front last → IsKnownLast last → IsFresh front last → (is_mentioned (codes "mode") parts ≡ false → (1 == position) ≡ true)
+    → is_mentioned (name_of p) parts ≡ false
     → turn_fault shape [] (walk_at front last position) word ≡ or_else (react_fault rules_in false a values (held_at front last)) []
     → walked rules_in [] (walk_at front last position) word ≡ at (reacted rules_in a values (held_at front last)) idle position
     → Goes (walk_at front last position) (word ∷ []) (parts ++ p ∷ [])
 use_goes parts front last position p a values word made are known fresh first once turn steps =
-    let new : is_named (name_of p) (all_parts front last) ≡ false = ap (is_named (name_of p)) (sym are) ∙ once in
+    let new : is_mentioned (name_of p) (all_parts front last) ≡ false = ap (is_mentioned (name_of p)) (sym are) ∙ once in
     word_goes (walk_at front last position) word (parts ++ p ∷ [])
     (turn ∙ both_empty _ _ (use_passes_here a values p made front last known position fresh new) refl)
     (record {
@@ -99,8 +99,8 @@ use_goes parts front last position p a values word made are known fresh first on
     })
 
 module _ (parts : List Part) (front : List Part) (last : Last) (position : ℕ) (are : parts ≡ all_parts front last) (known : IsKnownLast last) (fresh : IsFresh front last)
-    (first : is_named (codes "mode") parts ≡ false → (1 == position) ≡ true) where
-  joined_goes : (name v : Text) → IsTrue (is_among name option_names) → is_named name parts ≡ false → Goes (walk_at front last position) (words_of (joined name v)) (parts ++ joined name v ∷ [])
+    (first : is_mentioned (codes "mode") parts ≡ false → (1 == position) ≡ true) where
+  joined_goes : (name v : Text) → IsTrue (is_one_of name option_names) → is_mentioned name parts ≡ false → Goes (walk_at front last position) (words_of (joined name v)) (parts ++ joined name v ∷ [])
   joined_goes name v among once =
       let s = option_split name among in
       let found = option_by_long name among in
@@ -111,7 +111,7 @@ module _ (parts : List Part) (front : List Part) (last : Last) (position : ℕ) 
       (turn_of (held_at front last) (waiting_of last) position s.x (s.xs ++ 61 ∷ v) name (Some v) (Some (built_option name)) (s.before v) found)
       (step_of (held_at front last) (waiting_of last) position s.x (s.xs ++ 61 ∷ v) name (Some v) (Some (built_option name)) (s.before v) found))
 
-  flag_goes : (name : Text) → IsTrue (is_among name flag_names) → is_named name parts ≡ false → Goes (walk_at front last position) (words_of (flag name)) (parts ++ flag name ∷ [])
+  flag_goes : (name : Text) → IsTrue (is_one_of name flag_names) → is_mentioned name parts ≡ false → Goes (walk_at front last position) (words_of (flag name)) (parts ++ flag name ∷ [])
   flag_goes name among once =
       let s = flag_split name among in
       let found = flag_by_long name among in
@@ -121,7 +121,7 @@ module _ (parts : List Part) (front : List Part) (last : Last) (position : ℕ) 
       (turn_of (held_at front last) (waiting_of last) position s.x s.xs name None (Some (built_flag name)) s.alone found)
       (step_of (held_at front last) (waiting_of last) position s.x s.xs name None (Some (built_flag name)) s.alone found))
 
-  apart_goes : (name v : Text) → IsTrue (is_among name option_names) → has_hyphen v ≡ false → is_named name parts ≡ false
+  apart_goes : (name v : Text) → IsTrue (is_one_of name option_names) → has_hyphen v ≡ false → is_mentioned name parts ≡ false
       → Goes (walk_at front last position) (words_of (apart name v)) (parts ++ apart name v ∷ [])
   unfolding walk_fault
   apart_goes name v among plain once =
@@ -152,12 +152,12 @@ module _ (parts : List Part) (front : List Part) (last : Last) (position : ℕ) 
           is = refl;
           are = ap (λ (l : List Part). l ++ apart name v ∷ []) are;
           known = (among, plain);
-          fresh = ap (is_named name) (sym are) ∙ once;
+          fresh = ap (is_mentioned name) (sym are) ∙ once;
           first = λ e. first (named_last (codes "mode") parts (apart name v) e).0;
         };
       })
 
-  mode_goes_on : (word : Text) → has_hyphen word ≡ false → is_named (codes "mode") parts ≡ false
+  mode_goes_on : (word : Text) → has_hyphen word ≡ false → is_mentioned (codes "mode") parts ≡ false
       → turn_fault shape [] (walk_at front last position) word ≡ step_fault shape position (held_at front last) value
       → walked rules_in [] (walk_at front last position) word ≡ to_positional rules_in (arg_by_index rules_in position) word (walk_at front last position) (held_at front last)
       → Goes (walk_at front last position) (words_of (mode word)) (parts ++ mode word ∷ [])
@@ -173,12 +173,12 @@ module _ (parts : List Part) (front : List Part) (last : Last) (position : ℕ) 
             ∙ mode_walk front last known position word fresh);
         are = ap (λ (l : List Part). l ++ mode word ∷ []) are;
         known = plain;
-        fresh = ap (is_named (codes "mode")) (sym are) ∙ once;
+        fresh = ap (is_mentioned (codes "mode")) (sym are) ∙ once;
         first = λ e. absurd (true≢false (named_last (codes "mode") parts (mode word) e).1);
       })
 
 mode_goes : (parts front : List Part) (last : Last) (position : ℕ) → parts ≡ all_parts front last → IsKnownLast last → IsFresh front last
-    → (is_named (codes "mode") parts ≡ false → (1 == position) ≡ true) → (word : Text) → has_hyphen word ≡ false → is_named (codes "mode") parts ≡ false
+    → (is_mentioned (codes "mode") parts ≡ false → (1 == position) ≡ true) → (word : Text) → has_hyphen word ≡ false → is_mentioned (codes "mode") parts ≡ false
     → Goes (walk_at front last position) (words_of (mode word)) (parts ++ mode word ∷ [])
 mode_goes parts front nothing position are known fresh first word plain once =
     mode_goes_on parts front nothing position are known fresh first word plain once (plain_idle (held_at front nothing) position word plain)
@@ -191,7 +191,7 @@ mode_goes parts front (has_value name v) position are known fresh first word pla
     (idle_walk (held_at front (has_value name v)) position word plain)
 mode_goes parts front (waits_for name) position are known fresh first word plain once = absurd fresh
 
-part_goes : (parts : List Part) (w : Walk) (p : Part) → Stands parts w → IsKnownPart p → is_named (name_of p) parts ≡ false → Goes w (words_of p) (parts ++ p ∷ [])
+part_goes : (parts : List Part) (w : Walk) (p : Part) → Stands parts w → IsKnownPart p → is_mentioned (name_of p) parts ≡ false → Goes w (words_of p) (parts ++ p ∷ [])
 part_goes parts w (mode word) s known once = subst (λ (v : Walk). Goes v (words_of (mode word)) (parts ++ mode word ∷ [])) (sym s.is)
     (mode_goes parts s.front s.last s.position s.are s.known s.fresh s.first word known once)
 part_goes parts w (flag name) s known once = subst (λ (v : Walk). Goes v (words_of (flag name)) (parts ++ flag name ∷ [])) (sym s.is)
@@ -203,13 +203,13 @@ part_goes parts w (joined name v) s known once = subst (λ (w : Walk). Goes w (w
 
 -- and over the words of all parts
 pub walk_goes : (rest parts : List Part) (w : Walk) → Stands parts w → All IsKnownPart rest → EachOnce (parts ++ rest)
-    → (walk_fault shape [] w (line_of rest) ≡ []) × Stands (parts ++ rest) (fold (walked rules_in []) w (line_of rest))
+    → (walk_fault shape [] w (words_of_parts rest) ≡ []) × Stands (parts ++ rest) (fold (walked rules_in []) w (words_of_parts rest))
 unfolding walk_fault
 walk_goes [] parts w s known once = (refl, subst (λ (l : List Part). Stands l w) (sym (append-nil parts)) s)
 walk_goes (p ∷ rest) parts w s known once =
     let g = part_goes parts w p s (known 0 p (omega arith)) (once parts rest p refl) in
     let next = walk_goes rest (parts ++ p ∷ []) g.after g.stands (λ k d lt. known (suc k) d (omega arith)) (subst EachOnce (sym (append_assoc parts (p ∷ []) rest)) once) in (
-      g.faultless (line_of rest) ∙ next.0,
-      subst (λ (l : List Part). Stands l (fold (walked rules_in []) w (words_of p ++ line_of rest))) (append_assoc parts (p ∷ []) rest)
-          (subst (Stands ((parts ++ p ∷ []) ++ rest)) (sym (g.goes (line_of rest))) next.1),
+      g.faultless (words_of_parts rest) ∙ next.0,
+      subst (λ (l : List Part). Stands l (fold (walked rules_in []) w (words_of p ++ words_of_parts rest))) (append_assoc parts (p ∷ []) rest)
+          (subst (Stands ((parts ++ p ∷ []) ++ rest)) (sym (g.goes (words_of_parts rest))) next.1),
     )

@@ -9,8 +9,8 @@ use Rattle.clap.specs.declared.builder.value_parser.Reading.TheVariants.{AsWritt
 use Rattle.clap.specs.declared.parser.matches.ValueSource.{ValueSource}
 use Rattle.clap.specs.declared.parser.matches.ValueSource.TheVariants.{CommandLine}
 use Rattle.clap.proofs.WalkLemmas.{find-map, list_any-map}
-use Rattle.pb_words.specs.Parts.{Part, is_named, name_of, text_of}
-use Rattle.pb_words.specs.Given.{said_of}
+use Rattle.pb_words.specs.Parts.{Part, is_mentioned, name_of, text_of}
+use Rattle.pb_words.specs.Given.{said_about}
 
 -- the row of a text that the words give for an id
 abbrev pub row_with : Text → Text → Row
@@ -44,11 +44,11 @@ used_values id text rows none =
     ap (with_values id AsWritten CommandLine (text ∷ [])) (without_none id rows none) ∙ new_values id AsWritten CommandLine (text ∷ []) rows none
 
 -- an id has a row among those of the parts iff a part has its name
-pub named_row : (id : Text) (parts : List Part) → has_row id (map row_of parts) ≡ is_named id parts
+pub named_row : (id : Text) (parts : List Part) → has_row id (map row_of parts) ≡ is_mentioned id parts
 named_row id parts = sym (list_any-map (λ (r : Row). bytes_eq r.id id) row_of parts)
 
 -- and their texts are what the parts say
-pub said_row : (id : Text) (parts : List Part) → first_of id (map row_of parts) ≡ said_of id parts
+pub said_row : (id : Text) (parts : List Part) → first_of id (map row_of parts) ≡ said_about id parts
 said_row id parts = ap (option_and_then (λ (r : Row). slice_get r.values 0)) (sym (find-map (λ (r : Row). bytes_eq r.id id) row_of parts)) ∙ go (find (λ part. bytes_eq (name_of part) id) parts)
   where
     go : (o : Option Part) → option_and_then (λ (r : Row). slice_get r.values 0) (option_map row_of o) ≡ option_map text_of o

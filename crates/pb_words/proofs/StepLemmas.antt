@@ -13,7 +13,7 @@ use Rattle.std.proofs.lemmas.List.{map-append}
 use Rattle.clap.specs.Walk.{Held, Row, Rule, Step, Text, Waiting, Walk, idle, option, positional, after_flag, after_step, arg_by_id, arg_by_long, has_row, long_met, settled, used_by_id, walked}
 use Rattle.clap.specs.Simple.{Shape, built, filled}
 use Rattle.clap.specs.Faults.{long_fault, settle_fault, step_fault, turn_fault, use_fault}
-use Rattle.pb_words.specs.Parts.{Part, mode, apart, option_names, flag_names, has_hyphen, is_among, is_named}
+use Rattle.pb_words.specs.Parts.{Part, mode, apart, option_names, flag_names, has_hyphen, is_one_of, is_mentioned}
 use Rattle.pb_words.specs.Line.{is_plain_or_named, line, flag_rule, mode_rule, option_rule}
 use Rattle.pb_words.proofs.RowLemmas.{named_row, neither, row_of, used_values}
 
@@ -39,27 +39,27 @@ Each P [] = Unit {0}
 Each P (x ∷ xs) = P x × Each P xs
 
 -- what holds for each of these names holds for a name among them
-pub one_of : (P : Text → Type 0) (names : List Text) (name : Text) → Each P names → IsTrue (is_among name names) → P name
+pub one_of : (P : Text → Type 0) (names : List Text) (name : Text) → Each P names → IsTrue (is_one_of name names) → P name
 one_of P [] name each among = absurd (true≢false (sym among))
 one_of P (x ∷ xs) name each among = go (bytes_eq x name) refl among (λ h. one_of P xs name each.1 h)
   where
-    go : (b : Bool) → bytes_eq x name ≡ b → (b || is_among name xs) ≡ true → (IsTrue (is_among name xs) → P name) → P name
+    go : (b : Bool) → bytes_eq x name ≡ b → (b || is_one_of name xs) ≡ true → (IsTrue (is_one_of name xs) → P name) → P name
     go true same h rest = subst P ((bytes_eq-Decides x name).0 same) each.0
     go false same h rest = rest h
 
-pub option_by_long : (name : Text) → IsTrue (is_among name option_names) → arg_by_long rules_in name ≡ Some (built_option name)
+pub option_by_long : (name : Text) → IsTrue (is_one_of name option_names) → arg_by_long rules_in name ≡ Some (built_option name)
 option_by_long name among = one_of (λ n. arg_by_long rules_in n ≡ Some (built_option n)) option_names name (refl, (refl, (refl, (refl, (refl, (refl, tt)))))) among
 
-pub option_by_id : (name : Text) → IsTrue (is_among name option_names) → arg_by_id rules_in name ≡ Some (built_option name)
+pub option_by_id : (name : Text) → IsTrue (is_one_of name option_names) → arg_by_id rules_in name ≡ Some (built_option name)
 option_by_id name among = one_of (λ n. arg_by_id rules_in n ≡ Some (built_option n)) option_names name (refl, (refl, (refl, (refl, (refl, (refl, tt)))))) among
 
-pub flag_by_long : (name : Text) → IsTrue (is_among name flag_names) → arg_by_long rules_in name ≡ Some (built_flag name)
+pub flag_by_long : (name : Text) → IsTrue (is_one_of name flag_names) → arg_by_long rules_in name ≡ Some (built_flag name)
 flag_by_long name among = one_of (λ n. arg_by_long rules_in n ≡ Some (built_flag n)) flag_names name (refl, (refl, tt)) among
 
 pub mode_by_id : arg_by_id rules_in (codes "mode") ≡ Some built_mode
 mode_by_id = refl
 
-pub unknown_by_long : (name : Text) → is_among name option_names ≡ false → is_among name flag_names ≡ false → arg_by_long rules_in name ≡ None
+pub unknown_by_long : (name : Text) → is_one_of name option_names ≡ false → is_one_of name flag_names ≡ false → arg_by_long rules_in name ≡ None
 unknown_by_long name no_option no_flag =
     let a = neither (bytes_eq (codes "gap") name) _ no_option in
     let b = neither (bytes_eq (codes "sweeps") name) _ a.1 in
@@ -107,15 +107,15 @@ last_words (has_value name v) = (codes "--" ++ name) ∷ v ∷ []
 abbrev pub IsKnownLast : Last → Type 0
 IsKnownLast nothing = Unit {0}
 IsKnownLast (mode_word word) = has_hyphen word ≡ false
-IsKnownLast (waits_for name) = IsTrue (is_among name option_names)
-IsKnownLast (has_value name v) = IsTrue (is_among name option_names) × (has_hyphen v ≡ false)
+IsKnownLast (waits_for name) = IsTrue (is_one_of name option_names)
+IsKnownLast (has_value name v) = IsTrue (is_one_of name option_names) × (has_hyphen v ≡ false)
 
 -- what was last said is said for the first time, and is whole
 abbrev pub IsFresh : List Part → Last → Type 0
 IsFresh front nothing = Unit {0}
-IsFresh front (mode_word word) = is_named (codes "mode") front ≡ false
+IsFresh front (mode_word word) = is_mentioned (codes "mode") front ≡ false
 IsFresh front (waits_for name) = ⊥
-IsFresh front (has_value name v) = is_named name front ≡ false
+IsFresh front (has_value name v) = is_mentioned name front ≡ false
 
 abbrev pub held_at : List Part → Last → Held
 held_at front last = record { rows = map row_of front; pending = pending_of last; skip = 0 }

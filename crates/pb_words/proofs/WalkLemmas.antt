@@ -11,7 +11,7 @@ use Rattle.clap.specs.Faults.{positional_fault, react_fault, settle_fault, step_
 use Rattle.clap.specs.declared.error.kind.ErrorKind.TheVariants.{TooManyValues, UnknownArgument}
 use Rattle.std.specs.Option.{option_map_or}
 use Rattle.clap.proofs.WalkLemmas.{both}
-use Rattle.pb_words.specs.Parts.{Part, mode, flag, apart, joined, EachOnce, IsKnownPart, has_hyphen, is_among, is_named, line_of, name_of, option_names, flag_names, words_of}
+use Rattle.pb_words.specs.Parts.{Part, mode, flag, apart, joined, EachOnce, IsKnownPart, has_hyphen, is_one_of, is_mentioned, words_of_parts, name_of, option_names, flag_names, words_of}
 use Rattle.pb_words.specs.Line.{is_plain_or_named}
 use Rattle.pb_words.proofs.RowLemmas.{named_row, row_of, used_values}
 use Rattle.pb_words.proofs.StepLemmas.{Last, nothing, mode_word, waits_for, has_value, IsFresh, IsKnownLast, all_parts, and_false, at, both_empty, built_flag, built_mode, built_option, first_empty, flag_by_long, flag_first, flag_passes, held_at, last_parts, last_words, name_alone, option_by_id, option_by_long, option_first, option_passes, pending_of, plain_dashes, plain_long, plain_short, rules_in, settle_first, settle_passes, settled_rows_are, shape, some_fault, step_of, turn_of, unknown_by_long, value_behind, waiting_of, walk_at, word_kinds}
@@ -34,19 +34,19 @@ held_of_rows : List Row → Held
 held_of_rows rows = record { rows = rows; pending = None; skip = 0 }
 
 module _ (a : Rule) (values : List Text) (part : Part) (is : IsUseOf a values part) (front : List Part) (last : Last) (known : IsKnownLast last) (position : ℕ) where
-  pub use_walk : IsFresh front last → is_named (name_of part) (all_parts front last) ≡ false
+  pub use_walk : IsFresh front last → is_mentioned (name_of part) (all_parts front last) ≡ false
       → at (reacted rules_in a values (held_at front last)) idle position ≡ walk_at (all_parts front last ++ part ∷ []) nothing position
   use_walk fresh once =
       ap (λ (rows : List Row). at (record { rows = used a values rows; pending = None; skip = 0 }) idle position) (settled_rows_are front last known fresh)
       ∙ ap (λ (rows : List Row). at (record { rows = rows; pending = None; skip = 0 }) idle position)
       (is.uses _ (named_row (name_of part) (all_parts front last) ∙ once) ∙ sym (map-append row_of (all_parts front last) (part ∷ [])))
 
-  pub use_passes_here : IsFresh front last → is_named (name_of part) (all_parts front last) ≡ false → react_fault rules_in false a values (held_at front last) ≡ []
+  pub use_passes_here : IsFresh front last → is_mentioned (name_of part) (all_parts front last) ≡ false → react_fault rules_in false a values (held_at front last) ≡ []
   use_passes_here fresh once =
       both_empty _ _ (settle_passes front last known fresh)
       (ap (use_fault false a values) (settled_rows_are front last known fresh) ∙ is.passes _ (named_row (name_of part) (all_parts front last) ∙ once))
 
-  use_first_here : react_fault rules_in false a values (held_at front last) ≡ [] → IsFresh front last × (is_named (name_of part) (all_parts front last) ≡ false)
+  use_first_here : react_fault rules_in false a values (held_at front last) ≡ [] → IsFresh front last × (is_mentioned (name_of part) (all_parts front last) ≡ false)
   use_first_here e =
       let parts = first_empty (settle_fault rules_in false (held_at front last)) (use_fault false a values (settled rules_in (held_at front last)).rows) e in
       let fresh = settle_first front last known parts.0 in (
@@ -65,7 +65,7 @@ plain_idle h position word e = rw (plain_dashes word e, plain_long word e, plain
 same_name : (name : Text) → bytes_eq name name ≡ true
 same_name name = (bytes_eq-Decides name name).1 refl
 
-pub value_walk : (front : List Part) (name word : Text) (position : ℕ) → IsTrue (is_among name option_names) → has_hyphen word ≡ false
+pub value_walk : (front : List Part) (name word : Text) (position : ℕ) → IsTrue (is_one_of name option_names) → has_hyphen word ≡ false
     → walked rules_in [] (walk_at front (waits_for name) position) word ≡ walk_at front (has_value name word) position
 unfolding walked
 value_walk front name word position among e = rw (plain_dashes word e, plain_long word e, plain_short word e, option_by_id name among, same_name name) refl
@@ -98,18 +98,18 @@ module _ (front : List Part) (last : Last) (known : IsKnownLast last) (position 
 
 -- ---- lists of parts
 
-pub line_append : (xs ys : List Part) → line_of (xs ++ ys) ≡ line_of xs ++ line_of ys
+pub line_append : (xs ys : List Part) → words_of_parts (xs ++ ys) ≡ words_of_parts xs ++ words_of_parts ys
 line_append [] ys = refl
-line_append (x ∷ xs) ys = ap (λ l. words_of x ++ l) (line_append xs ys) ∙ sym (append_assoc (words_of x) (line_of xs) (line_of ys))
+line_append (x ∷ xs) ys = ap (λ l. words_of x ++ l) (line_append xs ys) ∙ sym (append_assoc (words_of x) (words_of_parts xs) (words_of_parts ys))
 
-last_line : (front : List Part) (last : Last) → IsFresh front last → line_of (last_parts last) ≡ last_words last
+last_line : (front : List Part) (last : Last) → IsFresh front last → words_of_parts (last_parts last) ≡ last_words last
 last_line front nothing fresh = refl
 last_line front (mode_word word) fresh = refl
 last_line front (waits_for name) fresh = absurd fresh
 last_line front (has_value name v) fresh = refl
 
-pub all_line : (front : List Part) (last : Last) → IsFresh front last → line_of (all_parts front last) ≡ line_of front ++ last_words last
-all_line front last fresh = line_append front (last_parts last) ∙ ap (λ l. line_of front ++ l) (last_line front last fresh)
+pub all_line : (front : List Part) (last : Last) → IsFresh front last → words_of_parts (all_parts front last) ≡ words_of_parts front ++ last_words last
+all_line front last fresh = line_append front (last_parts last) ∙ ap (λ l. words_of_parts front ++ l) (last_line front last fresh)
 
 abbrev tail_of : List Part → List Part
 tail_of [] = []
@@ -138,9 +138,9 @@ snoc_split (x ∷ xs) (y ∷ ys) after p q e =
     ⊎_elim (λ s. inl (ap₂ (λ (h : Part) (t : List Part). h ∷ t) first s.0, s.1)) (λ s. inr (s.0, ap₂ (λ (h : Part) (t : List Part). h ∷ t) first s.1))
     (snoc_split xs ys after p q (ap tail_of e))
 
-once_push : (front : List Part) (p : Part) → EachOnce front → is_named (name_of p) front ≡ false → EachOnce (front ++ p ∷ [])
+once_push : (front : List Part) (p : Part) → EachOnce front → is_mentioned (name_of p) front ≡ false → EachOnce (front ++ p ∷ [])
 once_push front p once fresh before after q e = elim (snoc_split front before after p q e) [
-  | inl s ↦ ap₂ (λ (part : Part) (xs : List Part). is_named (name_of part) xs) (sym s.1) (sym s.0) ∙ fresh
+  | inl s ↦ ap₂ (λ (part : Part) (xs : List Part). is_mentioned (name_of part) xs) (sym s.1) (sym s.0) ∙ fresh
   | inr s ↦ once before s.0 q s.1
 ]
 
@@ -164,14 +164,14 @@ pub record Standing (seen : List Text) (w : Walk) : Type 0 where
   pub last : Last
   pub position : ℕ
   pub is : w ≡ walk_at front last position
-  pub words : seen ≡ line_of front ++ last_words last
+  pub words : seen ≡ words_of_parts front ++ last_words last
   pub known_last : IsKnownLast last
   pub known : All IsKnownPart front
   pub once : EachOnce front
 
-module _ (seen : List Text) (front : List Part) (last : Last) (position : ℕ) (words : seen ≡ line_of front ++ last_words last) (known_last : IsKnownLast last) (known : All IsKnownPart front)
+module _ (seen : List Text) (front : List Part) (last : Last) (position : ℕ) (words : seen ≡ words_of_parts front ++ last_words last) (known_last : IsKnownLast last) (known : All IsKnownPart front)
     (once : EachOnce front) where
-  seen_all : IsFresh front last → seen ≡ line_of (all_parts front last)
+  seen_all : IsFresh front last → seen ≡ words_of_parts (all_parts front last)
   seen_all fresh = words ∙ sym (all_line front last fresh)
 
   -- the word is a part by itself
@@ -187,15 +187,15 @@ module _ (seen : List Text) (front : List Part) (last : Last) (position : ℕ) (
         position = position;
         is = steps ∙ use_walk a values part made front last known_last position both.0 both.1;
         words = ap (λ (s : List Text). s ++ word ∷ []) (seen_all both.0)
-            ∙ (ap (λ (l : List Text). line_of all ++ l) (sym (append-nil (words_of part) ∙ form))
-            ∙ (sym (line_append all (part ∷ [])) ∙ sym (append-nil (line_of (all ++ part ∷ [])))));
+            ∙ (ap (λ (l : List Text). words_of_parts all ++ l) (sym (append-nil (words_of part) ∙ form))
+            ∙ (sym (line_append all (part ∷ [])) ∙ sym (append-nil (words_of_parts (all ++ part ∷ [])))));
         known_last = tt;
         known = All-push IsKnownPart all part (known_all front last both.0 known_last known) part_known;
         once = once_push all part (once_all front last both.0 once) both.1;
       }
 
   -- the word is an option that waits for its value
-  option_back : (name word : Text) → IsTrue (is_among name option_names) → codes "--" ++ name ≡ word
+  option_back : (name word : Text) → IsTrue (is_one_of name option_names) → codes "--" ++ name ≡ word
       → walked rules_in [] (walk_at front last position) word ≡ at (record (settled rules_in (held_at front last)) { pending = Some (name, []) }) (option name) position
       → settle_fault rules_in false (held_at front last) ≡ [] → Standing (seen ++ word ∷ []) (walked rules_in [] (walk_at front last position) word)
   option_back name word among form steps e =
@@ -244,7 +244,7 @@ abbrev text_behind : Text → Text
 text_behind text = after_first (λ b. b == 61) text
 
 -- a word with two hyphens and a name
-module _ (seen : List Text) (front : List Part) (last : Last) (position : ℕ) (words : seen ≡ line_of front ++ last_words last) (known_last : IsKnownLast last) (known : All IsKnownPart front)
+module _ (seen : List Text) (front : List Part) (last : Last) (position : ℕ) (words : seen ≡ words_of_parts front ++ last_words last) (known_last : IsKnownLast last) (known : All IsKnownPart front)
     (once : EachOnce front) (x : ℕ) (xs : Text) where
   abbrev here : Walk
   here = walk_at front last position
@@ -264,7 +264,7 @@ module _ (seen : List Text) (front : List Part) (last : Last) (position : ℕ) (
   split_alone : has_byte 61 (x ∷ xs) ≡ false → name_and_value (x ∷ xs) ≡ (text_before (x ∷ xs), None)
   split_alone has = ap (λ (b : Bool). (text_before (x ∷ xs), cond b (Some (text_behind (x ∷ xs))) None)) has
 
-  joined_back : has_byte 61 (x ∷ xs) ≡ true → IsTrue (is_among (text_before (x ∷ xs)) option_names) → turns → goal_here
+  joined_back : has_byte 61 (x ∷ xs) ≡ true → IsTrue (is_one_of (text_before (x ∷ xs)) option_names) → turns → goal_here
   joined_back has among e =
       let name = text_before (x ∷ xs) in
       let v = text_behind (x ∷ xs) in
@@ -275,7 +275,7 @@ module _ (seen : List Text) (front : List Part) (last : Last) (position : ℕ) (
       use_back seen front last position words known_last known once (built_option name) (v ∷ []) (joined name v) word_here (option_use name v) among
       (ap (λ (l : Text). (45 ∷ 45 ∷ l) ∷ []) (sym (value_behind (x ∷ xs) has))) steps reacts.0
 
-  waits_back : has_byte 61 (x ∷ xs) ≡ false → IsTrue (is_among (text_before (x ∷ xs)) option_names) → turns → goal_here
+  waits_back : has_byte 61 (x ∷ xs) ≡ false → IsTrue (is_one_of (text_before (x ∷ xs)) option_names) → turns → goal_here
   waits_back has among e =
       let name = text_before (x ∷ xs) in
       let found = option_by_long name among in
@@ -284,7 +284,7 @@ module _ (seen : List Text) (front : List Part) (last : Last) (position : ℕ) (
       let steps = step_of (held_at front last) (waiting_of last) position x xs name None (Some (built_option name)) (split_alone has) found in
       option_back seen front last position words known_last known once name word_here among (ap (λ (l : Text). 45 ∷ 45 ∷ l) (sym (name_alone (x ∷ xs) has))) steps settles.0
 
-  flag_back : has_byte 61 (x ∷ xs) ≡ false → IsTrue (is_among (text_before (x ∷ xs)) flag_names) → turns → goal_here
+  flag_back : has_byte 61 (x ∷ xs) ≡ false → IsTrue (is_one_of (text_before (x ∷ xs)) flag_names) → turns → goal_here
   flag_back has among e =
       let name = text_before (x ∷ xs) in
       let found = flag_by_long name among in
@@ -294,23 +294,23 @@ module _ (seen : List Text) (front : List Part) (last : Last) (position : ℕ) (
       use_back seen front last position words known_last known once (built_flag name) [] (flag name) word_here (flag_use name) among
       (ap (λ (l : Text). (45 ∷ 45 ∷ l) ∷ []) (sym (name_alone (x ∷ xs) has))) steps reacts.0
 
-  flag_with_value : has_byte 61 (x ∷ xs) ≡ true → IsTrue (is_among (text_before (x ∷ xs)) flag_names) → turns → ⊥
+  flag_with_value : has_byte 61 (x ∷ xs) ≡ true → IsTrue (is_one_of (text_before (x ∷ xs)) flag_names) → turns → ⊥
   flag_with_value has among e =
       let name = text_before (x ∷ xs) in
       let turn = sym (turn_of (held_at front last) (waiting_of last) position x xs name (Some (text_behind (x ∷ xs))) (Some (built_flag name)) (split_joined has) (flag_by_long name among)) ∙ e in
       some_fault TooManyValues [] turn
 
-  unknown_back : (v : Option Text) → name_and_value (x ∷ xs) ≡ (text_before (x ∷ xs), v) → is_among (text_before (x ∷ xs)) option_names ≡ false
-      → is_among (text_before (x ∷ xs)) flag_names ≡ false → turns → ⊥
+  unknown_back : (v : Option Text) → name_and_value (x ∷ xs) ≡ (text_before (x ∷ xs), v) → is_one_of (text_before (x ∷ xs)) option_names ≡ false
+      → is_one_of (text_before (x ∷ xs)) flag_names ≡ false → turns → ⊥
   unknown_back v split no_option no_flag e =
       let name = text_before (x ∷ xs) in
       let turn = sym (turn_of (held_at front last) (waiting_of last) position x xs name v None split (unknown_by_long name no_option no_flag)) ∙ e in
       some_fault UnknownArgument [] turn
 
   named_back : turns → goal_here
-  named_back e = go (has_byte 61 (x ∷ xs)) refl (is_among (text_before (x ∷ xs)) option_names) refl (is_among (text_before (x ∷ xs)) flag_names) refl
+  named_back e = go (has_byte 61 (x ∷ xs)) refl (is_one_of (text_before (x ∷ xs)) option_names) refl (is_one_of (text_before (x ∷ xs)) flag_names) refl
     where
-      go : (has : Bool) → has_byte 61 (x ∷ xs) ≡ has → (o : Bool) → is_among (text_before (x ∷ xs)) option_names ≡ o → (f : Bool) → is_among (text_before (x ∷ xs)) flag_names ≡ f → goal_here
+      go : (has : Bool) → has_byte 61 (x ∷ xs) ≡ has → (o : Bool) → is_one_of (text_before (x ∷ xs)) option_names ≡ o → (f : Bool) → is_one_of (text_before (x ∷ xs)) flag_names ≡ f → goal_here
       go true has true o f fl = joined_back has o e
       go false has true o f fl = waits_back has o e
       go true has false o true fl = absurd (flag_with_value has fl e)
@@ -318,7 +318,7 @@ module _ (seen : List Text) (front : List Part) (last : Last) (position : ℕ) (
       go true has false o false fl = absurd (unknown_back (Some (text_behind (x ∷ xs))) (split_joined has) o fl e)
       go false has false o false fl = absurd (unknown_back None (split_alone has) o fl e)
 
-plain_back : (seen : List Text) (front : List Part) (last : Last) (position : ℕ) → seen ≡ line_of front ++ last_words last → IsKnownLast last → All IsKnownPart front → EachOnce front
+plain_back : (seen : List Text) (front : List Part) (last : Last) (position : ℕ) → seen ≡ words_of_parts front ++ last_words last → IsKnownLast last → All IsKnownPart front → EachOnce front
     → (word : Text) → has_hyphen word ≡ false → turn_fault shape [] (walk_at front last position) word ≡ []
     → Standing (seen ++ word ∷ []) (walked rules_in [] (walk_at front last position) word)
 plain_back seen front nothing position words known_last known once word plain e =
@@ -335,7 +335,7 @@ plain_back seen front (waits_for name) position words known_last known once word
   last = has_value name word;
   position = position;
   is = value_walk front name word position known_last plain;
-  words = ap (λ (s : List Text). s ++ word ∷ []) words ∙ append_assoc (line_of front) ((codes "--" ++ name) ∷ []) (word ∷ []);
+  words = ap (λ (s : List Text). s ++ word ∷ []) words ∙ append_assoc (words_of_parts front) ((codes "--" ++ name) ∷ []) (word ∷ []);
   known_last = (known_last, plain);
   known = known;
   once = once;

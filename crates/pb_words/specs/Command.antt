@@ -2,8 +2,8 @@
 use Rattle.std.specs.Prelude.{◌≡◌, ◌≤◌, ◌⊎◌, ℕ, ℤ, pos, negsuc, Bool, false, ◌||◌, List, Option, Some, None, is_some, codes, ⊤}
 use Rattle.pb_rows.specs.Number.{number, within}
 use Rattle.pb_limits.specs.Limits.{most_gap, most_made_streams, most_rounds, most_sweeps}
-use Rattle.pb_graph.specs.declared.results.Options.{Options}
-use Rattle.pb_elim.specs.Options.{AreOptions}
+use Rattle.pb_study.specs.declared.results.Options.{Options}
+use Rattle.pb_study.specs.Options.{AreOptions}
 use Rattle.pb_report.specs.declared.form.Form.{Form}
 use Rattle.pb_report.specs.declared.form.Form.TheVariants.{Csv, Json}
 use Rattle.pb_make.specs.Plant.{least_streams}
@@ -92,7 +92,7 @@ pub record IsMakeInRange (from count within_gap within_sweeps : ℕ) : Type 0 wh
   pub greatest_sweeps : within_sweeps ≤ most_sweeps
 
 -- a command within the limits
-abbrev pub IsInRange : Command → Type 0
-IsInRange (Run options form) = AreOptions options
-IsInRange Check = ⊤
-IsInRange (Make number streams summary gap sweeps) = IsMakeInRange number streams gap sweeps
+abbrev pub IsCommandInRange : Command → Type 0
+IsCommandInRange (Run options form) = AreOptions options
+IsCommandInRange Check = ⊤
+IsCommandInRange (Make number streams summary gap sweeps) = IsMakeInRange number streams gap sweeps

@@ -18,8 +18,8 @@ pub record Given : Type 0 where
   pub summary : Bool
 
 -- what the parts say about a name, if one of them does
-abbrev pub said_of : List ℕ → List Part → Option (List ℕ)
-said_of name parts = option_map text_of (find (λ part. bytes_eq (name_of part) name) parts)
+abbrev pub said_about : List ℕ → List Part → Option (List ℕ)
+said_about name parts = option_map text_of (find (λ part. bytes_eq (name_of part) name) parts)
 
 -- whether the text is `true`, which is the text of a flag
 abbrev pub is_true : Option (List ℕ) → Bool
@@ -41,4 +41,4 @@ given_of said = record {
 
 -- what the parts give
 abbrev pub given_by : List Part → Given
-given_by parts = given_of (λ name. said_of name parts)
+given_by parts = given_of (λ name. said_about name parts)

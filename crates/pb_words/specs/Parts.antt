@@ -31,9 +31,9 @@ words_of (apart name value) = (codes "--" ++ name) ∷ value ∷ []
 words_of (joined name value) = (codes "--" ++ (name ++ equals_sign ∷ value)) ∷ []
 
 -- the words of the parts, in order
-abbrev pub line_of : List Part → List (List ℕ)
-line_of [] = []
-line_of (part ∷ rest) = words_of part ++ line_of rest
+abbrev pub words_of_parts : List Part → List (List ℕ)
+words_of_parts [] = []
+words_of_parts (part ∷ rest) = words_of part ++ words_of_parts rest
 
 -- what a part is about: the mode, or the option by its name
 abbrev pub name_of : Part → List ℕ
@@ -55,27 +55,27 @@ has_hyphen [] = false
 has_hyphen (first ∷ rest) = first == dash
 
 -- whether a name is one of these
-abbrev pub is_among : List ℕ → List (List ℕ) → Bool
-is_among name names = list_any (λ known. bytes_eq known name) names
+abbrev pub is_one_of : List ℕ → List (List ℕ) → Bool
+is_one_of name names = list_any (λ known. bytes_eq known name) names
 
 -- A part of a known form: a word that doesn't begin with a hyphen for the mode, the whole name of a flag, or the whole name of an
 -- option with its value; a value that is a separate word doesn't begin with a hyphen.
 abbrev pub IsKnownPart : Part → Type 0
 IsKnownPart (mode word) = has_hyphen word ≡ false
-IsKnownPart (flag name) = IsTrue (is_among name flag_names)
-IsKnownPart (apart name value) = IsTrue (is_among name option_names) × (has_hyphen value ≡ false)
-IsKnownPart (joined name value) = IsTrue (is_among name option_names)
+IsKnownPart (flag name) = IsTrue (is_one_of name flag_names)
+IsKnownPart (apart name value) = IsTrue (is_one_of name option_names) × (has_hyphen value ≡ false)
+IsKnownPart (joined name value) = IsTrue (is_one_of name option_names)
 
 -- whether one of the parts is about this name
-abbrev pub is_named : List ℕ → List Part → Bool
-is_named name parts = list_any (λ part. bytes_eq (name_of part) name) parts
+abbrev pub is_mentioned : List ℕ → List Part → Bool
+is_mentioned name parts = list_any (λ part. bytes_eq (name_of part) name) parts
 
 -- no part is about what an earlier part was about
 abbrev pub EachOnce : List Part → Type 0
-EachOnce parts = (before after : List Part) (part : Part) → parts ≡ before ++ part ∷ after → is_named (name_of part) before ≡ false
+EachOnce parts = (before after : List Part) (part : Part) → parts ≡ before ++ part ∷ after → is_mentioned (name_of part) before ≡ false
 
 -- The words are those of known parts, with at most one mode and each option at most once.
 pub record ArePartsOf (parts : List Part) (words : List (List ℕ)) : Type 0 where
-  pub are : words ≡ line_of parts
+  pub are : words ≡ words_of_parts parts
   pub known : All IsKnownPart parts
   pub once : EachOnce parts

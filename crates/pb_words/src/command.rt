@@ -4,17 +4,17 @@ ghost use Rattle.std.specs.List.{All};
 ghost use Rattle.pb_rows.specs.Number.{number, within};
 ghost use Rattle.clap.specs.Matches.{found_of, first_value};
 ghost use Rattle.pb_words.specs.Given.{given_of, is_true};
-ghost use Rattle.pb_words.specs.Command.{Asks, AsksCheck, AsksMake, AsksRun, IsCommandOf, IsFormOf, IsInRange, number_or};
+ghost use Rattle.pb_words.specs.Command.{Asks, AsksCheck, AsksMake, AsksRun, IsCommandInRange, IsCommandOf, IsFormOf, number_or};
 ghost use Rattle.pb_words.specs.Line.{are_plain_or_named, is_plain_or_named};
 ghost use Rattle.pb_words.specs.declared.command.WordsRefused.TheVariants.{Usage, NoMemory};
 
 use crate::line::taken_apart;
 use crate::words::Words;
 use clap::ArgMatches;
-use pb_graph::Options;
 use pb_limits::{MOST_GAP, MOST_MADE_STREAMS, MOST_ROUNDS, MOST_SWEEPS};
 use pb_report::Form;
 use pb_rows::read_whole;
+use pb_study::Options;
 use std::alloc::Global;
 use thiserror::Error;
 
@@ -58,7 +58,7 @@ const LEAST_STREAMS: u32 = 3;
 /// or one hyphen and a name is refused before any memory is allocated.
 pub fn read_words(alloc: Global, words: &Words) -> Result<Command, WordsRefused>
     ensures ok { IfOk result (λ command. IsCommandOf words.now command) }
-    ensures within { IfOk result IsInRange }
+    ensures within { IfOk result IsCommandInRange }
     ensures usage { IfErr result (λ e. e ≡ Usage → (command : Command)
         → IsCommandOf words.now command → ⊥) }
     ensures malformed { are_plain_or_named words.now ≡ false → result ≡ Err Usage }

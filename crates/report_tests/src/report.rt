@@ -11,12 +11,10 @@ ghost use Rattle.pb_graph.specs.WellFormed.{IsWitnessWithin};
 ghost use Rattle.pb_report.specs.Names.{IsNamed};
 
 use pb_advise::{MOST_COST, advise};
-use pb_graph::{
-    Bounds, Class, Classified, Graph, List, MOST_NODES, Meas, Member, Options, Stage, Step, Stream,
-    StreamResult, Study, Witness,
-};
+use pb_graph::{Class, Classified, Graph, List, MOST_NODES, Meas, Member, Step, Stream, Witness};
 use pb_report::{Form, write_advice, write_design, write_over, write_refused, write_study};
 use pb_rows::{Name, NameList, Names};
+use pb_study::{Bounds, Options, Stage, StreamResult, Study};
 use std::alloc::Global;
 use std::test::Fail;
 

@@ -4,10 +4,10 @@ ghost use Rattle.std.specs.Prelude.{◌≤◌, length};
 ghost use Rattle.pb_limits.specs.Limits.{most_bytes};
 
 use pb_cli::{Status, answer, judge};
-use pb_graph::Options;
 use pb_io::MemSink;
 use pb_limits::MOST_BYTES;
 use pb_report::Form;
+use pb_study::Options;
 use std::alloc::{AllocError, Global};
 use std::process::Abort;
 

@@ -3,11 +3,11 @@
 
 ghost use Rattle.std.specs.Prelude.{◌≡◌, false};
 
-use pb_graph::Options;
 use pb_period::Assembly;
 use pb_report::Form;
 use pb_rows::{Row, Rows};
 use pb_session::Session;
+use pb_study::Options;
 use std::alloc::Global;
 use std::test::Fail;
 

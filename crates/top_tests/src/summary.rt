@@ -1,6 +1,6 @@
 // What no clause says: that a summary is given if memory is ample.
 
-use pb_summary::summary;
+use pb_cli::summary;
 use std::test::Fail;
 
 #[test]

@@ -1,8 +1,8 @@
 // What no clause says: that words are read with ample memory.
 
 use crate::inputs::words_from;
-use pb_graph::Options;
 use pb_report::Form;
+use pb_study::Options;
 use pb_words::*;
 use std::alloc::{AllocError, Global};
 use std::io;

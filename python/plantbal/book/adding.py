@@ -214,11 +214,16 @@ def _put_assay(years: Years, row: tuple[str, ...], cells: Mapping[str, Cell]) ->
     if there is None:
         ledger.put(*row)
     elif there != (int(row[4]), int(row[5])):
+        remedy = "a booked assay can't be amended or struck: correct the workbook"
+        if ledger.periods[period].closed:
+            remedy += f"; {period} is closed, so its assays stay as they are"
+        else:
+            remedy += ", or if the book is wrong, put back its folder from before that assay"
         raise InputFault(
             f"{stream} has {there[0]:,} ppm of {component} in {period} in the book, and "
             f"{int(row[4]):,} ppm in the workbook, or another error",
             place=cells["ppm"].place(),
-            remedy="an assay can't be amended: mend the workbook",
+            remedy=remedy,
         )
 
 
@@ -327,5 +332,5 @@ def _put_period(years: Years, name: str, first: datetime.date, last: datetime.da
             f"the period {name} goes from {first} to {last} in the workbook, "
             f"and from {day(there.first)} to {day(there.last)} in the book",
             text=name,
-            remedy="mend the sheet periods",
+            remedy="correct the sheet periods",
         )

@@ -206,10 +206,12 @@ def _close(options: argparse.Namespace) -> int:
         for line in [*said, *missing]:
             print(line)
         why = output.why + (["assays are missing, and can't come after it"] if owed else [])
+        if output.impossible:  # assays can't be changed after it, either
+            why.append("a stream carries more of a component than there is of it, as said above")
         if why and not options.anyway:
             raise Fault(
                 f"{name} isn't closed: {'; '.join(why)}",
-                remedy="mend the fault, or close it with --anyway",
+                remedy="put that right first, or close it with --anyway",
             )
         action = Action(f"close {name}", who=options.who)
         action.add(ledger)

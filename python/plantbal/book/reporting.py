@@ -89,9 +89,10 @@ def state_of(output: Output, period: str) -> str:
 
 
 def balances_said(output: Output) -> list[str]:
-    """Return what the balances of components say as a whole, and their suspects, in lines."""
+    """Return what the balances of components say as a whole, their suspects, and what can't be."""
     last = [block for block in last_blocks(output.blocks_in_order).values() if block.component]
-    return [line for block in last for line in (state_of_block(block), *suspects_of_block(block))]
+    said = [line for block in last for line in (state_of_block(block), *suspects_of_block(block))]
+    return said + output.impossible
 
 
 def state_of_block(block: Block) -> str:

@@ -206,10 +206,10 @@ class Years:
             if fact.first > last.last:
                 what = f"{fact.id}: {fact.first} comes after {last.name}"
                 year = fact.first.year
-                remedy = f"mend the day, or begin the next year: plantbal-desk book next {year}"
+                remedy = f"correct the day, or begin the next year: plantbal-desk book next {year}"
             else:
                 first = self.spans[0]
                 what = f"{fact.id}: {fact.first} is before {first.name}, the book's first year"
-                remedy = "mend the day"
+                remedy = "correct the day"
             faults.append(Fault(what, text=str(fact.first), remedy=remedy))
         return faults

@@ -22,6 +22,10 @@ from plantbal.fleet.job import JOB, SAID, ended, times
 HEADS = "Seq Host Starttime JobRuntime Send Receive Exitval Signal Command".split()
 _PAUSES = 0.01, 0.2  # seconds after which the log is looked at again, the fewest and the most
 _TROUBLE = 255  # parallel's own; up to 101 it is how many jobs failed
+# Sessions that one job of parallel may run one after another, and their bytes: without tests, half
+# a second of work at most.
+_MOST_SHARING, _MOST_BYTES = 12, 1 << 22
+_LONG = ("--tests", "--eliminate")  # words with which a session may take minutes
 
 
 def run(
@@ -53,7 +57,7 @@ def run(
     """
     if not jobs:
         return
-    handed = list(done)  # by their numbers
+    handed = [[job] for job in done]  # by their numbers
     _write_log(asked.log, len(handed))
     logged = set[int]()
     with (
@@ -70,7 +74,7 @@ def run(
                 number = int(row["Seq"])
                 if number > len(done):
                     logged.add(number)
-                    yield _ended(asked, handed[number - 1], row)
+                    yield from _ended(asked, handed[number - 1], row)
             handing.result()
         except BaseException:
             _stop(process)
@@ -79,13 +83,45 @@ def run(
             said.seek(0)
             text = said.read().decode("utf-8", "replace").strip()
             raise Fault(f"parallel ended with the status {_TROUBLE}: {text or 'it says no more'}")
-    for number, job in enumerate(handed[len(done) :], len(done) + 1):
+    for number, some in enumerate(handed[len(done) :], len(done) + 1):
         if number not in logged:
-            yield Ended(job.site, came=Came(None, 0.0, 0.0))
+            for job in some:
+                yield Ended(job.site, came=Came(None, 0.0, 0.0))
 
 
-def _ended(asked: Asked, job: Job, row: dict[str, str]) -> Ended:
-    """Return how a job ended, by its row of the log of jobs."""
+def _shared(asked: Asked, jobs: Sequence[Job]) -> Iterator[list[Job]]:
+    """Give jobs in lists, each of which becomes one job of parallel.
+
+    To start a job takes parallel about as long as a small session takes the program. So small
+    sessions share one, unless each has to be stopped or tried again by itself. The fewer are left,
+    the fewer share one, so that all processors are busy to the end.
+    """
+    alone = asked.timeout is not None or asked.retries > 1
+    alone = alone or any(word.startswith(_LONG) for word in asked.command)
+    at_once = asked.jobs or len(os.sched_getaffinity(0))
+    left, some, size = sum(job.size for job in jobs), list[Job](), 0
+    for job in jobs:
+        most = min(_MOST_BYTES, left // (2 * at_once))
+        if some and (alone or size + job.size > most or len(some) == _MOST_SHARING):
+            yield some
+            left, some, size = left - size, [], 0
+        some.append(job)
+        size += job.size
+    if some:
+        yield some
+
+
+def _ended(asked: Asked, some: Sequence[Job], row: dict[str, str]) -> Iterator[Ended]:
+    """Give how each of the sessions ended that shared a job, by its row of the log of jobs."""
+    if len(some) == 1:
+        yield _ended_alone(asked, some[0], row)
+    else:
+        for job in some:
+            yield Ended(job.site)
+
+
+def _ended_alone(asked: Asked, job: Job, row: dict[str, str]) -> Ended:
+    """Return how a session ended that had a job by itself."""
     begun, seconds, signal = float(row["Starttime"]), float(row["JobRuntime"]), int(row["Signal"])
     if signal and asked.timeout is not None and seconds >= asked.timeout:
         return Ended(job.site, "timeout")
@@ -99,33 +135,38 @@ def _ended(asked: Asked, job: Job, row: dict[str, str]) -> Ended:
 
 
 def _hand_out(
-    given: IO[bytes], asked: Asked, handed: list[Job], jobs: Sequence[Job], begin: Begin
+    given: IO[bytes], asked: Asked, handed: list[list[Job]], jobs: Sequence[Job], begin: Begin
 ) -> None:
     """Hand jobs to parallel: those that are done first, then each other one once it is ready."""
     with suppress(BrokenPipeError), given:
-        for job in handed:
-            given.write(_command(asked, job))
-        for job in jobs:
-            if begin(job):
-                handed.append(job)
-                given.write(_command(asked, job))
+        for some in handed:
+            given.write(_command(asked, some))
+        for some in _shared(asked, jobs):
+            if ready := [job for job in some if begin(job)]:
+                handed.append(ready)
+                given.write(_command(asked, ready))
                 given.flush()
 
 
-def _command(asked: Asked, job: Job) -> bytes:
-    """Return the command of a job, for the shell.
+def _command(asked: Asked, some: Sequence[Job]) -> bytes:
+    """Return the command of sessions that share a job, for the shell.
 
-    Parallel gets whole commands, and each becomes the program: a shell that waits for it, and words
-    that parallel has to quote, take more time. Only if a job that fails is tried again the shell
-    stays, to say that a program with refused rows, which ends with 1, hasn't failed.
+    Parallel gets whole commands: words that it has to quote take more time. The command of a
+    session by itself becomes the program, without a shell that waits for it. Only if a job that
+    fails is tried again the shell stays, to say that a program with refused rows, which ends with
+    1, hasn't failed.
     """
-    session, output = shlex.quote(str(job.session)), shlex.quote(str(job.output))
-    if asked.retries > 1:
-        said = f'set -- {session} {output}; eval "$PLANTBAL_JOB"'
+    if len(some) > 1 or asked.retries > 1:
+        each = (f"set -- {_quoted(job.session)} {_quoted(job.output)}" for job in some)
+        said = "; ".join(f'{files}; eval "$PLANTBAL_JOB"' for files in each)
     else:
-        err = shlex.quote(str(job.part / SAID))
+        err, session, output = map(_quoted, (some[0].part / SAID, some[0].session, some[0].output))
         said = f"exec {shlex.join(asked.command)} 2>{err} <{session} >{output}"
     return said.encode("utf-8", "surrogateescape") + b"\0"
+
+
+def _quoted(path: Path) -> str:
+    return shlex.quote(str(path))
 
 
 def _started(asked: Asked, said: int) -> subprocess.Popen[bytes]:

@@ -148,7 +148,7 @@ class Fleet:
     def job(self, site: Site) -> Job:
         """Return the job of a plant."""
         output = self.night.part_of(site) / self.night.output_name
-        return Job(site.name, site.path.absolute(), output.absolute())
+        return Job(site.name, site.path.absolute(), output.absolute(), _size_of(site))
 
     def ask(self, site: Site) -> bool:
         """Read a plant's session, and say whether it can be read."""
@@ -184,17 +184,18 @@ class Fleet:
     def came(self, ended: Ended) -> None:
         """Take in a plant whose job ended."""
         site = self._site_of[ended.site]
-        self.begun.discard(site)
+        kept = None
         if ended.why:
             self.night.drop(site)
             self.plants[site.name] = failed(site, ended.why, WHY[ended.why])
-            return
-        try:
-            kept = self.night.publish(site, self.runs[site], ended.came)
-        except (OSError, InputFault) as error:
-            self.plants[site.name] = failed(site, "nooutput", f"its output is lost: {error}")
-            return
-        self.take(site, kept)
+        else:
+            try:
+                kept = self.night.publish(site, self.runs[site], ended.came)
+            except (OSError, InputFault) as error:
+                self.plants[site.name] = failed(site, "nooutput", f"its output is lost: {error}")
+        self.begun.discard(site)  # not before: Ctrl-C may come at any time
+        if kept is not None:
+            self.take(site, kept)
 
     def take(self, site: Site, kept: Kept) -> None:
         """Take in what is kept of a plant."""
@@ -212,7 +213,7 @@ class Fleet:
                 whole = zip(known, pool.map(self.is_done, known))
                 done = [site for site, is_done in whole if is_done]
                 todo = [site for site in self.sites if site.name not in self.plants]
-                jobs = [self.job(site) for site in sorted(todo, key=_size_of, reverse=True)]
+                jobs = sorted(map(self.job, todo), key=lambda job: job.size, reverse=True)
                 every = engine(asked, jobs, self.begin, [self.job(site) for site in done])
                 pool.submit(_load)
                 with closing(every):

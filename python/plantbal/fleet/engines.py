@@ -20,11 +20,14 @@ class Job:
         The file of its session.
     output : Path
         The file of its output, in a folder of its own, which is there once the job is ready.
+    size : int
+        How many bytes the session has.
     """
 
     site: str
     session: Path
     output: Path
+    size: int = 0
 
     @property
     def part(self) -> Path:

@@ -119,11 +119,11 @@ def ended(part: str) -> tuple[int, float, float]:
     OSError, ValueError
         If it left no status.
     """
-    status = Path(part, STATUS)
-    said = status.read_text(encoding="ascii").split()
+    with open(f"{part}/{STATUS}", "rb", buffering=0) as file:
+        said, end = file.read().split(), os.fstat(file.fileno()).st_mtime
     if len(said) > 1:  # it was sent, and its files are newer
         return int(said[0]), float(said[1]), float(said[2])
-    return int(said[0]), Path(part).stat().st_mtime, status.stat().st_mtime
+    return int(said[0]), os.stat(part).st_mtime, end
 
 
 def times(part: str) -> tuple[float, float]:

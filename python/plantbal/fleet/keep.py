@@ -94,7 +94,7 @@ def keep(
     subprocess.run(["sync", "--file-system", night.folder], check=False)
     newest = night.out / "latest"
     if not newest.exists() or newest.readlink().name <= night.name:
-        link(newest, f"nights/{night.name}")
+        link(str(newest), f"nights/{night.name}")
 
 
 def _files(night: Night, ordered: Iterable[Site], sums: Sums) -> Iterator[tuple[str, str]]:

@@ -221,30 +221,30 @@ class Night:
         came : Came, optional
             How the program ended; without it the files that it left say so.
         """
-        part = self.part_of(site)
+        part, output_name = str(self.part_of(site)), self.output_name
         came = came or came_of(part)
         if came.status not in (0, 1):
-            (part / self.output_name).unlink(missing_ok=True)
+            Path(part, output_name).unlink(missing_ok=True)
         files = {name: _read(f"{part}/{name}") for name in os.listdir(part) if name != STATUS}
-        output, sums = files.get(self.output_name, b""), _sums(files)
+        output, sums = files.get(output_name, b""), _sums(files)
         run = replace(
             asked,
             status=came.status,
             begun=came.begun,
             seconds=came.seconds,
-            output_sha256=sums.get(self.output_name, ""),
+            output_sha256=sums.get(output_name, ""),
         )
         said = run.to_json()
         with open(f"{part}/{STATUS}", "wb", buffering=0) as file:
             file.write(said)
         sums |= _sums({STATUS: said})
-        put(part, self.folder_of(site))
-        newest = self.out / site.name / "latest"
+        put(part, str(self.folder_of(site)))
+        newest = f"{self.out}/{site.name}/latest"
         if came.status in (0, 1):
-            if not newest.exists() or os.readlink(newest) <= self.name:
+            if not os.path.exists(newest) or os.readlink(newest) <= self.name:
                 link(newest, self.name)
-        elif newest.is_symlink() and os.readlink(newest) == self.name:
-            self._lead_back(newest)
+        elif os.path.islink(newest) and os.readlink(newest) == self.name:
+            self._lead_back(Path(newest))
         return Kept(run, output, sums)
 
     def _lead_back(self, newest: Path) -> None:
@@ -252,7 +252,7 @@ class Night:
         nights = (path for path in newest.parent.iterdir() if not path.is_symlink())
         found = [path.name for path in nights if any(path.glob("output.*"))]
         if found:
-            link(newest, max(found))
+            link(str(newest), max(found))
         else:
             newest.unlink()
 
@@ -268,10 +268,10 @@ def _read(path: str) -> bytes:
         return file.read()
 
 
-def came_of(part: Path) -> Came:
+def came_of(part: str) -> Came:
     """Return how a job ended by what it left."""
     try:
-        status, begun, end = ended(str(part))
+        status, begun, end = ended(part)
         return Came(status, round(begun, 3), round(end - begun, 3))
     except (OSError, ValueError, IndexError):
         return Came(None, 0.0, 0.0)
@@ -285,32 +285,34 @@ def _clear(home: Path) -> None:
                 shutil.rmtree(left, ignore_errors=True)
 
 
-def put(made: Path, folder: Path) -> None:
+def put(made: str, folder: str) -> None:
     """Give a folder its name, in the place of one that has it."""
     try:
-        made.rename(folder)
+        os.rename(made, folder)
         return
     except OSError as error:
         if error.errno not in _TAKEN:
             raise
-    old = folder.with_name(f".{folder.name}.old")
-    folder.rename(old)
-    made.rename(folder)
+    home, name = os.path.split(folder)
+    old = f"{home}/.{name}.old"
+    os.rename(folder, old)
+    os.rename(made, folder)
     shutil.rmtree(old, ignore_errors=True)
 
 
-def link(path: Path, target: str) -> None:
+def link(path: str, target: str) -> None:
     """Make a link, in the place of one that is there."""
     with suppress(FileExistsError):
-        path.symlink_to(target)
+        os.symlink(target, path)
         return
-    made = path.with_name(f".{path.name}.new")
+    home, name = os.path.split(path)
+    made = f"{home}/.{name}.new"
     try:
-        made.symlink_to(target)
+        os.symlink(target, made)
     except FileExistsError:
-        made.unlink()
-        made.symlink_to(target)
-    made.replace(path)
+        os.unlink(made)
+        os.symlink(target, made)
+    os.replace(made, path)
 
 
 @contextmanager

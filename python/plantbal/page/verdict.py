@@ -84,7 +84,8 @@ class Lost:
         if self.lacking:
             rows = count_of(self.lacking, "row was refused", "rows were refused")
             it = "it" if self.lacking == 1 else "them"
-            said.append(f"{rows} before this report, which was made without {it}: mend {it} first.")
+            without = f"which was made without {it}: correct {it} first."
+            said.append(f"{rows} before this report, {without}")
         if self.passed:
             rows = count_of(self.passed, "row was refused", "rows were refused")
             said.append(f"{rows} as being there already, or as touching a closed period.")

@@ -3,8 +3,8 @@
 use super::{
     between, list, meters, names_of_meters, options, report, results_of_two_meters, study,
 };
-use pb_graph::{Solved, Stage};
 use pb_report::write_summary;
+use pb_study::{Solved, Stage};
 use std::alloc::Global;
 use std::test::Fail;
 

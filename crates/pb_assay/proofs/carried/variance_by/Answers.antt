@@ -1,7 +1,7 @@
 use Rattle.std.proofs.Common.{rules, ◌*ℤ◌, FitsSigned, arith}
 use Rattle.std.proofs.lemmas.Int.{fits_signed_from_abs, ints, to_z-of_z}
 use mir.Syntax.{w128}
-use Rattle.pb_integers.proofs.Order.{mul_nonneg, square_pos}
+use Rattle.pb_fixed.proofs.Order.{mul_nonneg, square_pos}
 use Rattle.pb_assay.proofs.CarriedLemmas.{one_more_fits, variance_least}
 use Rattle.pb_assay.proofs.carried.variance_by.Goals as goal
 

@@ -3,8 +3,8 @@ use Rattle.std.proofs.Common.{◌∙◌, ap, sym, Option, false}
 use Rattle.pb_facts.specs.declared.facts.KeptFact.{KeptFact}
 use Rattle.pb_facts.specs.Facts.{has_id}
 use Rattle.pb_site.specs.Site.{version_of}
-use Rattle.pb_book.specs.Touching.{touches_in}
-use Rattle.pb_book.proofs.PeriodLemmas.{find_at_first, find_nothing}
+use Rattle.pb_periods.specs.Touching.{touches_in}
+use Rattle.pb_periods.proofs.PeriodLemmas.{find_at_first, find_nothing}
 use Rattle.pb_book.proofs.book.touches_by_id.Goals as goal
 
 pub returns-in-Some : goal.returns-in-Some

@@ -2,10 +2,10 @@ use Rattle.std.proofs.Common.{◌≡◌, ◌∙◌, ℕ, ◌+◌, ◌+ℤ◌, dr
 use mir.Syntax.{w128}
 use Rattle.std.proofs.lemmas.Int.{ints}
 use Rattle.std.proofs.Math.Facts.{to_z-of_z}
-use Rattle.pb_integers.specs.Sums.{item}
+use Rattle.pb_fixed.specs.Sums.{item}
 use Rattle.pb_graph.specs.Balance.{brought_to, net_of}
 use Rattle.pb_graph.specs.WellFormed.{IsFlow}
-use Rattle.pb_elim.specs.Printed.{printed_flows}
+use Rattle.pb_stage.specs.Printed.{printed_flows}
 use Rattle.pb_check.proofs.NetLemmas.{net_next, gathered, brought_small, sum_small, flow_small}
 use Rattle.pb_check.proofs.balance.gather.Goals as goal
 

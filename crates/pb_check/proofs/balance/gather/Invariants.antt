@@ -1,7 +1,7 @@
 use Rattle.std.proofs.Common.{◌≡◌, ℕ, ◌*◌, ◌^◌, ◌≤◌, ◌+ℤ◌, unsigned_abs, length, drop}
-use Rattle.pb_integers.specs.Sums.{item}
+use Rattle.pb_fixed.specs.Sums.{item}
 use Rattle.pb_graph.specs.Balance.{net_of}
-use Rattle.pb_elim.specs.Printed.{printed_flows}
+use Rattle.pb_stage.specs.Printed.{printed_flows}
 use Rattle.pb_check.proofs.balance.gather.Given as goal
 
 -- what is gathered and the net flows of the remaining streams make the net flows of all

@@ -1,59 +1,35 @@
-use Rattle.std.proofs.Common.{◌≡◌, ◌∙◌, length, is_some, sym, ap, arith}
+use Rattle.std.proofs.Common.{◌≡◌, ◌∙◌, is_some, sym, ap, arith}
 use Rattle.pb_check.specs.Asked.{HasBoundsAt}
 use Rattle.pb_check.specs.Faults.{DifferAt}
 use Rattle.pb_check.proofs.FirstLemmas.{place_more}
 use Rattle.pb_check.proofs.RowLemmas.{none_there, some_there}
-use Rattle.pb_check.proofs.StateLemmas.{all_bounds, bounds_fail, bounds_here, place_small, result_at, result_bounded, result_signs}
+use Rattle.pb_check.proofs.StateLemmas.{all_bounds, bounds_fail, bounds_here, result_bounded, result_signs}
 use Rattle.pb_check.proofs.bounds.bounds_fault.Goals as goal
 
-pub overflow_cast-j : goal.overflow_cast-j
-overflow_cast-j c =
-    let small = place_small c.args.stage.now c.as_slice-streams.result.now c.loop-j.j c.as_slice-streams.ensures c.nodes-nodes.ensures.limits c.requires.formed c.loop-j-test.true in
-    omega (arith, small)
-
 pub found_bounds-requires-clause-signs : goal.found_bounds-requires-clause-signs
-found_bounds-requires-clause-signs c =
-    let stage = c.args.stage.now in
-    let results = c.as_slice-streams.result.now in
-    result_signs stage c.loop-j.j c.index-streams-j.result c.requires.formed (result_at stage results c.loop-j.j c.index-streams-j.result c.as_slice-streams.ensures c.index-streams-j.is c.loop-j-test.true)
+found_bounds-requires-clause-signs c = result_signs c.args.stage.now c.loop-j.j c.at-printed.result.now c.requires.formed c.at-printed.ensures
 
 pub found_bounds-requires-clause-certified : goal.found_bounds-requires-clause-certified
-found_bounds-requires-clause-certified c =
-    let stage = c.args.stage.now in
-    let results = c.as_slice-streams.result.now in
-    c.requires.shown c.loop-j.j c.index-streams-j.result (result_at stage results c.loop-j.j c.index-streams-j.result c.as_slice-streams.ensures c.index-streams-j.is c.loop-j-test.true)
-
-pub overflow_cast-j-in-loop-j : goal.overflow_cast-j-in-loop-j
-overflow_cast-j-in-loop-j c =
-    let small = place_small c.args.stage.now c.as_slice-streams.result.now c.loop-j.j c.as_slice-streams.ensures c.nodes-nodes.ensures.limits c.requires.formed c.loop-j-test.true in
-    omega (arith, small)
+found_bounds-requires-clause-certified c = c.requires.shown c.loop-j.j c.at-printed.result.now c.at-printed.ensures
 
 pub bounds_difference-requires : goal.bounds_difference-requires
 bounds_difference-requires c =
-    let stage = c.args.stage.now in
-    let results = c.as_slice-streams.result.now in
-    let at = result_at stage results c.loop-j.j c.index-streams-j.result c.as_slice-streams.ensures c.index-streams-j.is c.loop-j-test.true in
-    result_bounded stage c.loop-j.j c.index-streams-j.result c.requires.classes c.requires.shown at ∙ sym (ap is_some c.in_ok-found.ensures)
+    result_bounded c.args.stage.now c.loop-j.j c.at-printed.result.now c.requires.classes c.requires.shown c.at-printed.ensures ∙ sym (ap is_some c.in_ok-found.ensures)
 
 -- the first stream that has other bounds
 pub returns-in-Some : goal.returns-in-Some
 returns-in-Some c =
-    let stage = c.args.stage.now in
-    let results = c.as_slice-streams.result.now in
-    let r = c.index-streams-j.result in
-    let at = result_at stage results c.loop-j.j c.index-streams-j.result c.as_slice-streams.ensures c.index-streams-j.is c.loop-j-test.true in
-    bounds_fail stage c.loop-j.j r c.in_ok-found.found c.in-Some.fault c.requires.formed at c.in_ok-found.ensures c.loop-j.invariant
+    let r = c.at-printed.result.now in
+    bounds_fail c.args.stage.now c.loop-j.j r c.in_ok-found.found c.in-Some.fault c.requires.formed c.at-printed.ensures c.in_ok-found.ensures c.loop-j.invariant
     (some_there c.bounds_difference.result c.in-Some.fault (r.bounds ≡ c.in_ok-found.found) (DifferAt c.loop-j.j r.bounds c.in_ok-found.found) c.in-Some.is c.bounds_difference.ensures)
 
 -- one more stream
 pub loop-j-preserved : goal.loop-j-preserved
 loop-j-preserved c =
     let stage = c.args.stage.now in
-    let results = c.as_slice-streams.result.now in
-    let r = c.index-streams-j.result in
-    let at = result_at stage results c.loop-j.j c.index-streams-j.result c.as_slice-streams.ensures c.index-streams-j.is c.loop-j-test.true in
+    let r = c.at-printed.result.now in
     let same = none_there c.bounds_difference.result (r.bounds ≡ c.in_ok-found.found) (DifferAt c.loop-j.j r.bounds c.in_ok-found.found) c.in_default.not-Some c.bounds_difference.ensures in
-    place_more (HasBoundsAt stage) c.loop-j.j c.loop-j.invariant (bounds_here stage c.loop-j.j r c.in_ok-found.found at c.in_ok-found.ensures same)
+    place_more (HasBoundsAt stage) c.loop-j.j c.loop-j.invariant (bounds_here stage c.loop-j.j r c.in_ok-found.found c.at-printed.ensures c.in_ok-found.ensures same)
 
 pub returns : goal.returns
-returns c = all_bounds c.args.stage.now c.loop-j.j (omega (arith, c.loop-j-test.false, ap length c.as_slice-streams.ensures)) c.loop-j.invariant
+returns c = all_bounds c.args.stage.now c.loop-j.j (omega (arith, c.loop-j-test.false, c.len-j-end.ensures.value, c.requires.formed.each_stream)) c.loop-j.invariant

@@ -4,7 +4,7 @@ use Rattle.std.proofs.lemmas.Int.{ints}
 use Rattle.std.proofs.Math.Facts.{to_z-of_z}
 use Rattle.pb_graph.specs.ProcessGraph.{IsMeasurement}
 use Rattle.pb_check.specs.declared.faults.Fault.{Fault}
-use Rattle.pb_check.specs.declared.faults.Place.TheVariants.{Stream as StreamAt}
+use Rattle.pb_check.specs.declared.faults.Place.{Place}
 use Rattle.pb_check.proofs.GroupLemmas.{price_small}
 use Rattle.pb_check.proofs.BoxLemmas.{IsSeen, measured_of, seen_by, inside, outside}
 use Rattle.pb_check.proofs.boxes.out_of_box.Goals as goal
@@ -52,5 +52,5 @@ returns c =
     let fits_stated : FitsSigned w128 c.difference-stated.result = record { sfits = c.difference-stated.type_inv } in
     let fits_found : FitsSigned w128 c.room-found.result = record { sfits = c.room-found.type_inv } in
     let far = simp to_z-of_z at c.if-stated-found.false in
-    let fault : Fault = record { place = StreamAt j; stated = c.difference-stated.result; found = c.room-found.result } in
+    let fault : Fault = record { place = Place.Stream j; stated = c.difference-stated.result; found = c.room-found.result } in
     simp to_z-of_z (outside stage j s m c.difference-stated.result c.room-found.result fault seen c.room-found.ensures (λ near. omega (arith, ints, near, far)) refl)

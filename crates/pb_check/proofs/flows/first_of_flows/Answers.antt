@@ -1,6 +1,6 @@
 use Rattle.std.proofs.Common.{◌∙◌, ℤ, List, map, All, sym, ap, subst, arith}
-use Rattle.pb_integers.specs.Sums.{item}
-use Rattle.pb_graph.specs.declared.results.StreamResult.{StreamResult}
+use Rattle.pb_fixed.specs.Sums.{item}
+use Rattle.pb_study.specs.declared.results.StreamResult.{StreamResult}
 use Rattle.pb_graph.specs.Prices.{IsInBox}
 use Rattle.pb_gap.specs.Gap.{standard_deviations_of}
 use Rattle.pb_check.specs.declared.faults.Test.TheVariants.{Box}
@@ -14,6 +14,6 @@ write_dual_flows-requires-clause-in_box c =
 pub new-pair-requires-clause-measured : goal.new-pair-requires-clause-measured
 new-pair-requires-clause-measured c =
     let stage = c.args.stage.now in
-    measured stage c.deref.result.now c.deref-3.result.now c.nodes-nodes.ensures.limits c.requires.formed
+    measured stage c.deref.result.now c.deref-3.result.now c.streams-streams.ensures.limits c.requires.formed
     (c.deref.ensures.value ∙ c.in_ok-roots.ensures ∙ ap standard_deviations_of c.streams-streams.ensures.value)
     (c.deref-3.ensures.value ∙ c.in_ok-flows.ensures ∙ ap (map (λ (r : StreamResult). r.flow)) c.as_slice.ensures)

@@ -4,7 +4,7 @@ use Rattle.std.proofs.lemmas.Bool.{cases_lt}
 use Rattle.pb_check.specs.declared.faults.Fault.{Fault}
 use Rattle.pb_check.specs.Asked.{HaveLeastBounds}
 use Rattle.pb_check.specs.Faults.{IsLeastFault}
-use Rattle.pb_check.specs.Verdict.{code_of}
+use Rattle.pb_check.specs.Verdict.{test_code}
 use Rattle.pb_check.specs.Among.{IsAmong}
 use Rattle.pb_check.specs.declared.faults.Test.TheVariants.{Class, Witness, Least}
 use Rattle.pb_check.proofs.AmongLemmas.{failed, joined, longer, passed}
@@ -26,7 +26,7 @@ first_of_tests-requires-clause-earlier c =
     let gap = c.args.gap in
     let sweeps = c.args.sweeps in
     let four : IsAmong stage gap sweeps 7 10 None = subst (IsAmong stage gap sweeps 7 10) c.in_default.is c.in_ok-first.ensures in
-    λ test less. elim (cases_lt (code_of test) 7) [
+    λ test less. elim (cases_lt (test_code test) 7) [
       | inl early ↦ c.requires.earlier test early
       | inr past ↦ four test past (omega (arith, less))
     ]

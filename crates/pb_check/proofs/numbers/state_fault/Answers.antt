@@ -1,7 +1,7 @@
 use Rattle.std.proofs.Common.{◌↔◌, rules}
 use Rattle.std.specs.Prelude.{IsTrue}
 use Rattle.pb_gap.specs.Gap.{MeetsGap}
-use Rattle.pb_elim.specs.Printed.{printed_gap, printed_price}
+use Rattle.pb_stage.specs.Printed.{printed_gap, printed_price}
 use Rattle.pb_check.proofs.StateLemmas.{met_printed}
 use Rattle.pb_check.proofs.numbers.state_fault.Goals as goal
 

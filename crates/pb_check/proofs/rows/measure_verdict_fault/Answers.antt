@@ -1,7 +1,7 @@
 use Rattle.std.proofs.Common.{◌≡◌, Some, slice_get, get_or, arith}
 use Rattle.std.proofs.lemmas.Option.{slice_get-get_or}
-use Rattle.pb_graph.specs.declared.results.MeasureTest.{MeasureTest}
-use Rattle.pb_elim.specs.Certified.{IsMeasureVerdict}
+use Rattle.pb_study.specs.declared.results.MeasureTest.{MeasureTest}
+use Rattle.pb_stage.specs.Certified.{IsMeasureVerdict}
 use Rattle.pb_check.proofs.FirstLemmas.{all_places, at_place, place_more}
 use Rattle.pb_check.proofs.RowLemmas.{first_of, some_measure}
 use Rattle.pb_check.proofs.rows.measure_verdict_fault.Goals as goal

@@ -1,6 +1,6 @@
 use Rattle.std.proofs.Common.{◌≡◌, ℕ, ◌<◌, Some, slice_get}
-use Rattle.pb_graph.specs.declared.results.MeasureTest.{MeasureTest}
-use Rattle.pb_elim.specs.Certified.{IsMeasureVerdict}
+use Rattle.pb_study.specs.declared.results.MeasureTest.{MeasureTest}
+use Rattle.pb_stage.specs.Certified.{IsMeasureVerdict}
 use Rattle.pb_check.proofs.rows.measure_verdict_fault.Given as goal
 
 -- the verdicts so far follow

@@ -1,7 +1,7 @@
 use Rattle.std.proofs.Common.{◌≡◌, Some, slice_get, get_or, arith}
 use Rattle.std.proofs.lemmas.Option.{slice_get-get_or}
-use Rattle.pb_graph.specs.declared.results.NodalTest.{NodalTest}
-use Rattle.pb_elim.specs.Certified.{IsNodalVerdict}
+use Rattle.pb_study.specs.declared.results.NodalTest.{NodalTest}
+use Rattle.pb_stage.specs.Certified.{IsNodalVerdict}
 use Rattle.pb_check.proofs.FirstLemmas.{all_places, at_place, place_more}
 use Rattle.pb_check.proofs.RowLemmas.{first_of, some_row}
 use Rattle.pb_check.proofs.rows.nodal_verdict_fault.Goals as goal

@@ -1,17 +1,17 @@
 use Rattle.std.proofs.Common.{List, All, sym, subst}
 use Rattle.std.specs.Prelude.{MatchOption}
-use Rattle.pb_graph.specs.declared.results.NodalTest.{NodalTest}
-use Rattle.pb_graph.specs.declared.results.MeasureTest.{MeasureTest}
-use Rattle.pb_tests.specs.Laws.{IsNodalNumber}
-use Rattle.pb_elim.specs.Certified.{IsMeasureVerdict, IsNodalVerdict}
+use Rattle.pb_study.specs.declared.results.NodalTest.{NodalTest}
+use Rattle.pb_study.specs.declared.results.MeasureTest.{MeasureTest}
+use Rattle.pb_stage.specs.Laws.{IsNodalNumber}
+use Rattle.pb_stage.specs.Certified.{IsMeasureVerdict, IsNodalVerdict}
 use Rattle.pb_check.specs.Asked.{IsGlobalVerdict}
 use Rattle.pb_check.specs.Faults.{IsFirstMeasure, IsFirstNodal}
-use Rattle.pb_check.proofs.RowLemmas.{measures_decide, nodal_fails, none_there, row_numbers, some_there}
+use Rattle.pb_check.proofs.RowLemmas.{measures_decide, nodal_fails, none_there, some_there}
 use Rattle.pb_check.proofs.rows.verdict_fault.Goals as goal
 
 pub nodal_verdict_fault-requires-clause-numbers : goal.nodal_verdict_fault-requires-clause-numbers
 nodal_verdict_fault-requires-clause-numbers c =
-    subst (All IsNodalNumber) (sym c.as_slice.ensures) (row_numbers c.nodal_range_law.ensures c.args.stage.now c.args.tests.now c.nodes-nodes.ensures.limits c.requires.nodal)
+    subst (All IsNodalNumber) (sym c.as_slice.ensures) c.requires.numbers
 
 pub returns-in-Some : goal.returns-in-Some
 returns-in-Some c =

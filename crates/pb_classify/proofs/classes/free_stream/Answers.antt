@@ -1,5 +1,7 @@
-use Rattle.std.proofs.Common.{◌∙◌, length, sym, subst}
+use Rattle.std.proofs.Common.{◌≢◌, ◌∙◌, List, Option, Some, None, length, sym, subst, refl}
+use Rattle.std.specs.Prelude.{IsSome}
 use Rattle.std.proofs.lemmas.Option.{slice_get_within}
+use Rattle.pb_graph.specs.declared.records.Step.{Step}
 use Rattle.pb_graph.specs.declared.records.Stream.{Stream}
 use Rattle.pb_graph.specs.Walk.{ends_of, Reaches}
 use Rattle.pb_graph.specs.Path.{is_open}
@@ -27,18 +29,22 @@ returns-then-is_some c =
     nonredundant_item c.args.graph.now c.args.forest.now.held c.args.j c.args.stream.now c.in_ok-steps.steps c.requires.limits c.requires.forest.marks c.requires.stream
     (sym c.is_some.ensures ∙ c.if-is_some.true) c.requires.joined c.in_ok-steps.ensures
 
+is_there : (o : Option (List Step)) → o ≢ None → IsSome o
+is_there None other = absurd (other refl)
+is_there (Some steps) other = refl
+
 -- some unmeasured stream outside the forest has the stream on its cycle
-pub unreachable-requires : goal.unreachable-requires
-unreachable-requires c =
+pub unwrap-steps-requires : goal.unwrap-steps-requires
+unwrap-steps-requires c = is_there c.args.first (λ none.
     let g = c.args.graph.now in
     let held = c.args.forest.now.held in
-    let known = subst (IsFirstBefore g held (length g.streams) c.args.j) c.in-None.is c.requires.first in
+    let known = subst (IsFirstBefore g held (length g.streams) c.args.j) none c.requires.first in
     some_has g held c.args.j c.args.stream.now c.requires.forest.marks c.requires.stream (sym c.is_some.ensures ∙ c.if-is_some.false)
-    (λ k s chord. known k s (slice_get_within g.streams k s chord.at) chord) c.requires.joined
+    (λ k s chord. known k s (slice_get_within g.streams k s chord.at) chord) c.requires.joined)
 
 pub returns : goal.returns
 returns c =
     let g = c.args.graph.now in
     let held = c.args.forest.now.held in
-    unobservable_item g held c.args.j c.args.stream.now c.in-Some.steps c.requires.limits c.requires.forest.marks c.requires.stream (sym c.is_some.ensures ∙ c.if-is_some.false)
-    (subst (IsFirstBefore g held (length g.streams) c.args.j) c.in-Some.is c.requires.first)
+    unobservable_item g held c.args.j c.args.stream.now c.unwrap-steps.result c.requires.limits c.requires.forest.marks c.requires.stream (sym c.is_some.ensures ∙ c.if-is_some.false)
+    (subst (IsFirstBefore g held (length g.streams) c.args.j) c.unwrap-steps.ensures c.requires.first)

@@ -2,6 +2,7 @@ use Rattle.std.proofs.Common.{◌≡◌, ◌∙◌, List, ℕ, ◌++◌, ap, sub
 use Rattle.std.proofs.lemmas.Result.{err_from_is_err_and}
 use Rattle.pb_io.specs.Sink.{Puts}
 use Rattle.pb_io.proofs.PieceLemmas.{puts_more}
+use Rattle.pb_audit.proofs.AuditLaws.{certified_found, fewer_behind, nothing_left, some_found}
 use Rattle.pb_cli.proofs.FindingLemmas.{fewer_failed, fewer_passed, found_all, found_cut, found_failed, found_passed, found_some, found_unreadable}
 use Rattle.pb_cli.proofs.checks.judge_records.Goals as goal
 
@@ -13,7 +14,7 @@ returns-in_err-judge_block-clause-cut g c =
     rw (p.1, p.2) (λ e.
     let (piece, begun, more) = c.in_err-judge_block.ensures.cut e in (
       text ++ piece,
-      found_cut c.findings_law.ensures.some c.certified_law.ensures c.args.records.now.left c.turns.records c.turns.some_wrong text piece a begun,
+      found_cut some_found certified_found c.args.records.now.left c.turns.records c.turns.some_wrong text piece a begun,
       puts_more _ _ _ text piece puts more,
     ))
 
@@ -23,7 +24,7 @@ returns-in_err-judge_block-clause-some g c =
     let (text, a, puts) = c.turns.invariant.so_far in
     let p = err_from_is_err_and c.from_residual.result c.from_residual.ensures.1 in
     rw (p.1, p.2) (λ e.
-    (text, found_some c.findings_law.ensures.some c.certified_law.ensures c.args.records.now.left c.turns.records c.turns.some_wrong text a, rw (c.in_err-judge_block.ensures.no_memory e) puts))
+    (text, found_some some_found certified_found c.args.records.now.left c.turns.records c.turns.some_wrong text a, rw (c.in_err-judge_block.ensures.no_memory e) puts))
 
 -- a row can't be read
 pub returns-in-Some-Unreadable-clause-whole : goal.returns-in-Some-Unreadable-clause-whole
@@ -32,7 +33,7 @@ returns-in-Some-Unreadable-clause-whole g c =
     let whole = rw (c.in-Some-Unreadable.is, c.in-Some-Unreadable.field-0-is) at c.in_ok-judge_block.ensures.whole in
     let (piece, next, more) = whole in (
       text ++ piece,
-      found_unreadable c.findings_law.ensures.nothing c.certified_law.ensures c.args.records.now.left c.turns.records c.judge_block.new.records c.turns.some_wrong text piece a next,
+      found_unreadable nothing_left certified_found c.args.records.now.left c.turns.records c.judge_block.new.records c.turns.some_wrong text piece a next,
       puts_more _ _ _ text piece puts more,
     )
 
@@ -44,7 +45,7 @@ returns-in-None-clause-whole g c =
     let (piece, (nothing, empty), more) = whole in
     let same : text ++ piece ≡ text = ap (λ (t : List ℕ). text ++ t) empty ∙ append-nil text in (
       text,
-      found_all c.certified_law.ensures c.args.records.now.left c.turns.records c.turns.some_wrong text a nothing,
+      found_all certified_found c.args.records.now.left c.turns.records c.turns.some_wrong text a nothing,
       subst (λ (t : List ℕ). Puts (g.W.Sink.seen c.args.sink.now) (g.W.Sink.seen c.judge_block.new.sink) t) same (puts_more _ _ _ text piece puts more),
     )
 
@@ -54,7 +55,7 @@ turns-preserved-in-Some-Passed g c =
     let (text, a, puts) = c.turns.invariant.so_far in
     let whole = rw (c.in-Some-Passed.is, c.in-Some-Passed.field-0-is) at c.in_ok-judge_block.ensures.whole in
     let (piece, next, more) = whole in
-    let fewer = fewer_passed c.findings_law.ensures.fewer c.turns.records c.judge_block.new.records piece next in
+    let fewer = fewer_passed fewer_behind c.turns.records c.judge_block.new.records piece next in
     record {
       so_far = (text ++ piece, found_passed c.args.records.now.left c.turns.records c.judge_block.new.records c.turns.some_wrong text piece a next, puts_more _ _ _ text piece puts more);
       faults = c.in_ok-judge_block.ensures.no_fault ∙ c.turns.invariant.faults;
@@ -68,7 +69,7 @@ turns-preserved g c =
     let (text, a, puts) = c.turns.invariant.so_far in
     let whole = rw (c.in-Some-Failed.is, c.in-Some-Failed.field-0-is) at c.in_ok-judge_block.ensures.whole in
     let (piece, next, more) = whole in
-    let fewer = fewer_failed c.findings_law.ensures.fewer c.turns.records c.judge_block.new.records piece next in
+    let fewer = fewer_failed fewer_behind c.turns.records c.judge_block.new.records piece next in
     record {
       so_far = (text ++ piece, found_failed c.args.records.now.left c.turns.records c.judge_block.new.records c.turns.some_wrong text piece a next, puts_more _ _ _ text piece puts more);
       faults = c.in_ok-judge_block.ensures.no_fault ∙ c.turns.invariant.faults;

@@ -3,7 +3,7 @@ use mir.Syntax.{w128}
 use Rattle.std.proofs.lemmas.Int.{ints}
 use Rattle.std.proofs.Math.Facts.{to_z-of_z}
 use Rattle.pb_limits.specs.Limits.{most_streams}
-use Rattle.pb_integers.proofs.Sums.{sum_over-take_more}
+use Rattle.pb_fixed.proofs.Sums.{sum_over-take_more}
 use Rattle.pb_dual.specs.declared.border.BorderStream.{BorderStream}
 use Rattle.pb_dual.specs.DualValue.{most_dual_flow}
 use Rattle.pb_dual.specs.Border.{inflow_of}

@@ -3,10 +3,10 @@ use Rattle.std.proofs.Common.{◌≡◌, ◌≢◌, ◌∙◌, ◌<◌, ℤ, pos
 use mir.Syntax.{w128}
 use Rattle.std.proofs.lemmas.List.{drop_all, ext_get_or}
 use Rattle.std.proofs.Math.Facts.{to_z-of_z}
-use Rattle.pb_integers.proofs.Lists.{all_at}
+use Rattle.pb_fixed.proofs.Lists.{all_at}
 use Rattle.pb_dual.specs.declared.border.BorderStream.{BorderStream}
 use Rattle.pb_dual.specs.Border.{border_stream_flow}
-use Rattle.pb_integers.specs.Sums.{item}
+use Rattle.pb_fixed.specs.Sums.{item}
 use Rattle.pb_dual.proofs.FlowLemmas.{write_more}
 use Rattle.pb_dual.proofs.best.write_flows.Goals as goal
 

@@ -1,5 +1,5 @@
 use Rattle.std.proofs.Common.{◌≡◌, ℕ, ◌<◌, ◌≤◌, pos, All, length}
-use Rattle.pb_integers.specs.Sums.{item}
+use Rattle.pb_fixed.specs.Sums.{item}
 use Rattle.pb_graph.specs.WellFormed.{IsPrice}
 use Rattle.pb_gap.specs.State.{price_in}
 use Rattle.pb_elim.proofs.stages.node_prices.Given as goal

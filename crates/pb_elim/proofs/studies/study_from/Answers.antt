@@ -1,4 +1,5 @@
 use Rattle.pb_elim.proofs.FormedLemmas.{study_of_all}
+use Rattle.pb_elim.proofs.StudyLaws.{certified, decided, least_throughout, tested}
 use Rattle.pb_elim.proofs.studies.study_from.Goals as goal
 
 pub returns-clause-study : goal.returns-clause-study
@@ -8,28 +9,28 @@ returns-clause-study c =
 
 pub returns-clause-certified : goal.returns-clause-certified
 returns-clause-certified c =
-    c.certified_law.ensures c.args.graph.now c.args.options.now c.args.critical.now
+    certified c.args.graph.now c.args.options.now c.args.critical.now
     (record { stages = c.in_ok-study.study.stages; taken = c.in_ok-study.study.taken; stop = c.stop_at-study.result }) c.in_ok-study.ensures.so_far.limits
     (study_of_all c.args.graph.now c.args.options.now c.args.critical.now c.in_ok-study.study c.at-last.result.now c.len-count.result c.stop_at-study.result c.in_ok-study.ensures c.len-count.ensures
     c.at-last.ensures c.stop_at-study.ensures)
 
 pub returns-clause-decided : goal.returns-clause-decided
 returns-clause-decided c =
-    c.decided_law.ensures c.args.graph.now c.args.options.now c.args.critical.now
+    decided c.args.graph.now c.args.options.now c.args.critical.now
     (record { stages = c.in_ok-study.study.stages; taken = c.in_ok-study.study.taken; stop = c.stop_at-study.result }) c.in_ok-study.ensures.so_far.limits c.requires.critical
     (study_of_all c.args.graph.now c.args.options.now c.args.critical.now c.in_ok-study.study c.at-last.result.now c.len-count.result c.stop_at-study.result c.in_ok-study.ensures c.len-count.ensures
     c.at-last.ensures c.stop_at-study.ensures)
 
 pub returns-clause-least : goal.returns-clause-least
 returns-clause-least c =
-    c.least_throughout_law.ensures c.args.graph.now c.args.options.now c.args.critical.now
+    least_throughout c.args.graph.now c.args.options.now c.args.critical.now
     (record { stages = c.in_ok-study.study.stages; taken = c.in_ok-study.study.taken; stop = c.stop_at-study.result })
     (study_of_all c.args.graph.now c.args.options.now c.args.critical.now c.in_ok-study.study c.at-last.result.now c.len-count.result c.stop_at-study.result c.in_ok-study.ensures c.len-count.ensures
     c.at-last.ensures c.stop_at-study.ensures)
 
 pub returns-clause-tested : goal.returns-clause-tested
 returns-clause-tested c =
-    c.tested_law.ensures c.args.graph.now c.args.options.now c.args.critical.now
+    tested c.args.graph.now c.args.options.now c.args.critical.now
     (record { stages = c.in_ok-study.study.stages; taken = c.in_ok-study.study.taken; stop = c.stop_at-study.result })
     (study_of_all c.args.graph.now c.args.options.now c.args.critical.now c.in_ok-study.study c.at-last.result.now c.len-count.result c.stop_at-study.result c.in_ok-study.ensures c.len-count.ensures
     c.at-last.ensures c.stop_at-study.ensures)

@@ -1,5 +1,5 @@
 use Rattle.std.proofs.Common.{◌≡◌, ◌++◌, drop}
-use Rattle.pb_elim.specs.StageTests.{redundant_from, redundant_streams}
+use Rattle.pb_stage.specs.StageTests.{redundant_from, redundant_streams}
 use Rattle.pb_elim.proofs.testing.redundant_streams.Given as goal
 
 abbrev pub invariant-loop-stream : goal.invariant-loop-stream

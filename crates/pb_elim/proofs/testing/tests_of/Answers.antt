@@ -2,12 +2,12 @@ use Rattle.std.proofs.Common.{◌≡◌, ◌∙◌, ◌<◌, ℕ, List, length, 
 use Rattle.std.specs.Prelude.{IfSome}
 use Rattle.std.specs.Int.{w128}
 use Rattle.std.proofs.lemmas.Int.{ints, to_z-of_z}
-use Rattle.pb_graph.specs.declared.results.GlobalTest.{GlobalTest}
-use Rattle.pb_graph.specs.declared.results.StreamResult.{StreamResult}
+use Rattle.pb_study.specs.declared.results.GlobalTest.{GlobalTest}
+use Rattle.pb_study.specs.declared.results.StreamResult.{StreamResult}
 use Rattle.pb_graph.specs.ProcessGraph.{ProcessGraph}
-use Rattle.pb_graph.specs.WellFormed.{IsMeasureWithin, IsWide}
-use Rattle.pb_tests.specs.Verdicts.{global_critical}
-use Rattle.pb_elim.specs.StageTests.{redundant_streams}
+use Rattle.pb_study.specs.WellFormed.{IsMeasureWithin, IsWide}
+use Rattle.pb_stage.specs.Verdicts.{global_critical}
+use Rattle.pb_stage.specs.StageTests.{redundant_streams}
 use Rattle.pb_elim.proofs.StageLemmas.{global_within, redundant_within, solved_statistic}
 use Rattle.pb_elim.proofs.testing.tests_of.Goals as goal
 

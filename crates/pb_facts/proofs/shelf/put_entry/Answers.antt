@@ -3,4 +3,4 @@ use Rattle.pb_facts.proofs.ShelfLemmas.{entry_behind}
 use Rattle.pb_facts.proofs.shelf.put_entry.Goals as goal
 
 pub returns : goal.returns
-returns c = c.in-Ok.ensures.entries ∙ entry_behind c.args.entries.now.entries c.args.id c.args.entry c.requires.new
+returns c = (rw c.unwrap.ensures at c.insert-put.ensures.entries) ∙ entry_behind c.args.entries.now.entries c.args.id c.args.entry c.requires.new

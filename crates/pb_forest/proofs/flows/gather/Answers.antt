@@ -3,7 +3,7 @@ use mir.Syntax.{w128}
 use Rattle.std.proofs.lemmas.Int.{ints}
 use Rattle.std.proofs.lemmas.List.{take_more}
 use Rattle.std.proofs.Math.Facts.{to_z-of_z}
-use Rattle.pb_integers.specs.Sums.{item}
+use Rattle.pb_fixed.specs.Sums.{item}
 use Rattle.pb_forest.specs.Flows.{most_given_flow}
 use Rattle.pb_forest.specs.Balancing.{Chord, brought, gathered}
 use Rattle.pb_forest.proofs.NetLemmas.{item_small}

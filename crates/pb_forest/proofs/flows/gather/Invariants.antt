@@ -1,5 +1,5 @@
 use Rattle.std.proofs.Common.{◌≡◌, ℕ, ◌+◌, ◌*◌, ◌≤◌, unsigned_abs, length, take}
-use Rattle.pb_integers.specs.Sums.{item}
+use Rattle.pb_fixed.specs.Sums.{item}
 use Rattle.pb_forest.specs.Flows.{most_given_flow}
 use Rattle.pb_forest.specs.Balancing.{gathered}
 use Rattle.pb_forest.proofs.flows.gather.Given as goal

@@ -1,6 +1,6 @@
 use Rattle.std.proofs.Common.{◌≡◌, ◌∙◌, ℕ, ◌+◌, ◌-◌, ◌^◌, ◌<◌, ℤ, pos, unsigned_abs, List, None, Some, Option, length, get_or, ap, sym, subst, arith}
 use Rattle.std.proofs.lemmas.List.{get_or_default}
-use Rattle.pb_integers.specs.Sums.{item}
+use Rattle.pb_fixed.specs.Sums.{item}
 use Rattle.pb_forest.specs.Trees.{node_at, up_of}
 use Rattle.pb_forest.specs.Balancing.{AreBalancedFrom, IsBranchWithin, Branch, branch_from, branches_of, settled, settled_by}
 use Rattle.pb_forest.proofs.NetLemmas.{settle_none, settle_more}

@@ -1,5 +1,5 @@
 use Rattle.std.proofs.Common.{◌≡◌, ℕ, ◌<◌, length}
-use Rattle.pb_integers.specs.Sums.{item}
+use Rattle.pb_fixed.specs.Sums.{item}
 use Rattle.pb_forest.specs.Balancing.{chord_flow}
 use Rattle.pb_forest.proofs.flows.write_chords.Given as goal
 

@@ -2,7 +2,7 @@ use Rattle.std.proofs.Common.{◌≡◌, ◌∙◌, ℕ, ◌<◌, ◌^◌, pos, 
 use Rattle.std.proofs.lemmas.List.{get_or_default, get_or_past}
 use Rattle.std.proofs.lemmas.Int.{ints}
 use Rattle.std.proofs.lemmas.Bool.{cases_lt}
-use Rattle.pb_integers.specs.Sums.{item}
+use Rattle.pb_fixed.specs.Sums.{item}
 use Rattle.pb_forest.specs.Flows.{most_given_flow}
 use Rattle.pb_forest.specs.Balancing.{AreNets, Chord, IsChordWithin, chord_flow, chords_of, gathered}
 use Rattle.pb_forest.proofs.SideLemmas.{one_balanced_law}

@@ -5,8 +5,8 @@ use Rattle.std.proofs.lemmas.Int.{ints}
 use Rattle.std.proofs.lemmas.List.{take_all}
 use Rattle.std.proofs.Math.Facts.{to_z-of_z}
 use Rattle.pb_limits.specs.Limits.{most_streams}
-use Rattle.pb_integers.specs.Sums.{item}
-use Rattle.pb_integers.proofs.Sums.{sum_over-take_more}
+use Rattle.pb_fixed.specs.Sums.{item}
+use Rattle.pb_fixed.proofs.Sums.{sum_over-take_more}
 use Rattle.pb_graph.specs.ProcessGraph.{some_stream}
 use Rattle.pb_gap.specs.Statistic.{adjustment_below, adjustments_by, capped_squares, adjustment_cap}
 use Rattle.pb_gap.proofs.Columns.{adjustment_item, length-adjustments}

@@ -7,8 +7,8 @@ use Rattle.std.proofs.lemmas.List.{take_all}
 use Rattle.std.proofs.lemmas.List.Folds.{list_any_at, list_any_more}
 use Rattle.std.proofs.Math.Facts.{to_z-of_z}
 use Rattle.pb_limits.specs.Limits.{most_streams}
-use Rattle.pb_integers.specs.Sums.{item}
-use Rattle.pb_integers.proofs.Sums.{sum_over-take_more}
+use Rattle.pb_fixed.specs.Sums.{item}
+use Rattle.pb_fixed.proofs.Sums.{sum_over-take_more}
 use Rattle.pb_graph.specs.ProcessGraph.{some_stream}
 use Rattle.pb_gap.specs.Statistic.{adjustment_above, adjustments_by, full_squares, adjustment_cap}
 use Rattle.pb_gap.proofs.Widths.{int_lt_no, int_lt_yes}

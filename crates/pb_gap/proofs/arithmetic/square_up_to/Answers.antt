@@ -3,7 +3,7 @@ use mir.Syntax.{w128}
 use Rattle.std.specs.Int.{int_min}
 use Rattle.std.proofs.lemmas.Int.{int_min_is, ints}
 use Rattle.std.proofs.Math.Facts.{to_z-of_z}
-use Rattle.pb_integers.proofs.Order.{mul_mono, mul_mono_left}
+use Rattle.pb_fixed.proofs.Order.{mul_mono, mul_mono_left}
 use Rattle.pb_gap.proofs.arithmetic.square_up_to.Goals as goal
 
 pub returns-clause-below : goal.returns-clause-below

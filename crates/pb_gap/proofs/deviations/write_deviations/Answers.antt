@@ -2,7 +2,7 @@ use Rattle.std.proofs.Common.{◌≡◌, ◌∙◌, ◌<◌, ℕ, ℤ, pos, Fits
 use mir.Syntax.{w128}
 use Rattle.std.proofs.lemmas.Int.{ints}
 use Rattle.std.proofs.Math.Facts.{to_z-of_z}
-use Rattle.pb_integers.specs.Sums.{item}
+use Rattle.pb_fixed.specs.Sums.{item}
 use Rattle.pb_fixed.specs.Blocks.{IsBlockItem}
 use Rattle.pb_graph.specs.ProcessGraph.{some_stream}
 use Rattle.pb_dual.specs.DualValue.{dual_flows_of}

@@ -1,5 +1,5 @@
 use Rattle.std.proofs.Common.{◌≡◌, ℕ, ℤ, ◌<◌, length}
-use Rattle.pb_integers.specs.Sums.{item}
+use Rattle.pb_fixed.specs.Sums.{item}
 use Rattle.pb_fixed.specs.Blocks.{IsBlockItem}
 use Rattle.pb_dual.specs.DualValue.{dual_flows_of}
 use Rattle.pb_gap.specs.Gap.{deviations_of}

@@ -3,8 +3,8 @@ use mir.Syntax.{w128}
 use Rattle.std.proofs.lemmas.Int.{ints}
 use Rattle.std.proofs.lemmas.Bool.{cases_eq}
 use Rattle.std.proofs.Math.Facts.{to_z-of_z}
-use Rattle.pb_integers.specs.Sums.{item, sum_over}
-use Rattle.pb_integers.proofs.Sums.{sum_over-take_more}
+use Rattle.pb_fixed.specs.Sums.{item, sum_over}
+use Rattle.pb_fixed.proofs.Sums.{sum_over-take_more}
 use Rattle.pb_fixed.specs.Blocks.{IsBlockItem}
 use Rattle.pb_graph.specs.ProcessGraph.{some_stream}
 use Rattle.pb_dual.specs.DualValue.{dual_flows_of}

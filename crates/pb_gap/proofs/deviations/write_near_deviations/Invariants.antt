@@ -1,5 +1,5 @@
 use Rattle.std.proofs.Common.{◌≡◌, ℕ, ℤ, pos, ◌+ℤ◌, ◌*ℤ◌, ◌≤ℤ◌, ◌<◌, length, take}
-use Rattle.pb_integers.specs.Sums.{item, sum_over}
+use Rattle.pb_fixed.specs.Sums.{item, sum_over}
 use Rattle.pb_fixed.specs.Blocks.{IsBlockItem}
 use Rattle.pb_dual.specs.DualValue.{dual_flows_of}
 use Rattle.pb_gap.specs.Gap.{deviations_of}

@@ -1,5 +1,5 @@
 use Rattle.std.proofs.Common.{◌≡◌, ℕ, ◌<◌, ◌≤◌, length, unsigned_abs}
-use Rattle.pb_integers.specs.Sums.{item}
+use Rattle.pb_fixed.specs.Sums.{item}
 use Rattle.pb_dual.specs.DualValue.{dual_flows_of, most_dual_flow}
 use Rattle.pb_gap.proofs.dual_flows.write_dual_flows.Given as goal
 

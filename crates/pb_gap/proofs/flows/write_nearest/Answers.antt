@@ -4,7 +4,7 @@ use Rattle.std.proofs.lemmas.Int.{ints}
 use Rattle.std.proofs.lemmas.List.{length-map}
 use Rattle.std.proofs.Math.Facts.{to_z-of_z}
 use Rattle.pb_forest.specs.Flows.{most_given_flow}
-use Rattle.pb_integers.specs.Sums.{item}
+use Rattle.pb_fixed.specs.Sums.{item}
 use Rattle.pb_fixed.specs.Quotients.{nearest_div}
 use Rattle.pb_dual.specs.DualValue.{scale}
 use Rattle.pb_gap.specs.State.{nearest_grams}

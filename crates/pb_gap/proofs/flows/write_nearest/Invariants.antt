@@ -1,6 +1,6 @@
 use Rattle.std.proofs.Common.{◌≡◌, ℕ, ◌<◌, ◌≤◌, length, unsigned_abs}
 use Rattle.pb_forest.specs.Flows.{most_given_flow}
-use Rattle.pb_integers.specs.Sums.{item}
+use Rattle.pb_fixed.specs.Sums.{item}
 use Rattle.pb_gap.specs.State.{nearest_grams}
 use Rattle.pb_gap.proofs.flows.write_nearest.Given as goal
 

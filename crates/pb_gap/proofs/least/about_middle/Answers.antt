@@ -3,7 +3,7 @@ use mir.Syntax.{w128}
 use Rattle.std.proofs.lemmas.Int.{ints}
 use Rattle.std.proofs.Math.Facts.{to_z-of_z}
 use Rattle.pb_fixed.specs.Quotients.{floor_div, ceil_div}
-use Rattle.pb_graph.specs.declared.results.Bounds.{Bounds}
+use Rattle.pb_study.specs.declared.results.Bounds.{Bounds}
 use Rattle.pb_dual.specs.DualValue.{scale}
 use Rattle.pb_gap.proofs.LeastRangeLemmas.{middle_within}
 use Rattle.pb_gap.proofs.least.about_middle.Goals as goal

@@ -3,8 +3,8 @@ use mir.Syntax.{w8, w128}
 use Rattle.std.proofs.lemmas.Int.{ints}
 use Rattle.std.proofs.Math.Facts.{to_z-of_z}
 use Rattle.pb_limits.specs.Limits.{most_streams}
-use Rattle.pb_integers.specs.Sums.{item}
-use Rattle.pb_integers.proofs.Sums.{sum_over-take_more}
+use Rattle.pb_fixed.specs.Sums.{item}
+use Rattle.pb_fixed.proofs.Sums.{sum_over-take_more}
 use Rattle.pb_graph.specs.declared.records.Member.{Member}
 use Rattle.pb_gap.specs.Members.{IsMemberOf}
 use Rattle.pb_gap.proofs.MemberLists.{some_member}

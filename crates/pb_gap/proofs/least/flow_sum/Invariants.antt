@@ -1,5 +1,5 @@
 use Rattle.std.proofs.Common.{◌≡◌, ◌*◌, ◌≤◌, ◌^◌, unsigned_abs, take}
-use Rattle.pb_balance.specs.PricedSums.{signed_sum}
+use Rattle.pb_graph.specs.PricedSums.{signed_sum}
 use Rattle.pb_gap.proofs.least.flow_sum.Given as goal
 
 abbrev pub invariant-loop-member : goal.invariant-loop-member

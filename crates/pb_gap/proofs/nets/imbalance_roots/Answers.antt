@@ -1,7 +1,7 @@
 use Rattle.std.proofs.Common.{◌≡◌, ◌∙◌, ◌++◌, ℤ, pos, List, [], ◌∷◌, FitsSigned, get_or, ap, sym, subst, rules}
 use mir.Syntax.{w128}
 use Rattle.std.proofs.Math.Facts.{to_z-of_z}
-use Rattle.pb_integers.specs.Sums.{item}
+use Rattle.pb_fixed.specs.Sums.{item}
 use Rattle.pb_gap.specs.Nets.{imbalance_root}
 use Rattle.pb_gap.specs.Iterate.{IsSmallRoot}
 use Rattle.pb_gap.proofs.NetLemmas.{pushed}

@@ -1,5 +1,5 @@
 use Rattle.std.proofs.Common.{◌≡◌, ◌<◌, ℕ, pos, length, get_or}
-use Rattle.pb_integers.specs.Sums.{item}
+use Rattle.pb_fixed.specs.Sums.{item}
 use Rattle.pb_gap.specs.Nets.{imbalance_root}
 use Rattle.pb_gap.specs.Iterate.{IsSmallRoot}
 use Rattle.pb_gap.proofs.nets.imbalance_roots.Given as goal

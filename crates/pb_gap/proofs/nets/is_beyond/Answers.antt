@@ -2,7 +2,7 @@ use Rattle.std.proofs.Common.{◌<◌, ℤ, FitsSigned, arith}
 use mir.Syntax.{w128}
 use Rattle.std.proofs.lemmas.Int.{ints}
 use Rattle.std.proofs.Math.Facts.{to_z-of_z}
-use Rattle.pb_integers.specs.Sums.{item}
+use Rattle.pb_fixed.specs.Sums.{item}
 use Rattle.pb_graph.specs.Groups.{group_count}
 use Rattle.pb_dual.specs.Priced.{price_of}
 use Rattle.pb_gap.proofs.NetLemmas.{beyond}

@@ -5,7 +5,7 @@ use Rattle.std.proofs.lemmas.Option.{slice_get-get_or}
 use Rattle.std.proofs.Math.Facts.{to_z-of_z}
 use Rattle.std.specs.Prelude.{slice_get}
 use Rattle.pb_limits.specs.Limits.{most_streams}
-use Rattle.pb_integers.proofs.Sums.{sum_over-take_more}
+use Rattle.pb_fixed.proofs.Sums.{sum_over-take_more}
 use Rattle.pb_graph.specs.declared.records.Member.{Member}
 use Rattle.pb_graph.specs.ProcessGraph.{some_stream}
 use Rattle.pb_gap.specs.Bounds.{variance_in}

@@ -2,7 +2,7 @@ use Rattle.std.proofs.Common.{◌≡◌, ◌∙◌, ℕ, sym, subst}
 use Rattle.pb_graph.specs.ProcessGraph.{ProcessGraph, IsStream}
 use Rattle.pb_graph.specs.Walk.{ends_of, any_stream, Walks}
 use Rattle.pb_graph.specs.Cycle.{start_of}
-use Rattle.pb_integers.proofs.Lists.{all_each}
+use Rattle.pb_fixed.proofs.Lists.{all_each}
 use Rattle.pb_graph.proofs.CycleLemmas.{round_streams, not_there_and_back, walk_few, start_first}
 use Rattle.pb_graph.proofs.cycle.is_cycle.Goals as goal
 

@@ -1,5 +1,5 @@
 use Rattle.pb_graph.specs.ProcessGraph.{IsStream}
-use Rattle.pb_integers.proofs.Lists.{all_each}
+use Rattle.pb_fixed.proofs.Lists.{all_each}
 use Rattle.pb_graph.proofs.ReachLemmas.{some_reach, one_reach}
 use Rattle.pb_graph.proofs.laws.reach_law.Goals as goal
 

@@ -1,5 +1,5 @@
-use Rattle.pb_kinds.proofs.RequestLemmas.{asking}
+use Rattle.pb_kinds.proofs.KindLaws.{asking_law}
 use Rattle.pb_kinds.proofs.laws.asking_law.Goals as goal
 
 pub returns : goal.returns
-returns c = asking c.one_kind_law.ensures
+returns c = asking_law

@@ -3,7 +3,7 @@ use Rattle.std.specs.Prelude.{IfOk, OnOk}
 use Rattle.pb_limits.specs.Limits.{most_made_streams}
 use Rattle.pb_make.specs.declared.plant.MadeStream.{MadeStream}
 use Rattle.pb_make.specs.Bounds.{IsMade}
-use Rattle.pb_make.specs.Draws.{state_after}
+use Rattle.pb_make.specs.Draws.{state_after_draws}
 use Rattle.pb_make.specs.Plant.{line_streams, made_streams, sides_of}
 use Rattle.pb_make.proofs.PlantLemmas.{AreSides, plant_sides, plant_whole}
 use Rattle.pb_make.proofs.plant.made_plant.Goals as goal
@@ -40,7 +40,7 @@ returns c =
     let made = λ (v : Vec MadeStream Global). v.items ≡ line_streams units sides ++ sides in
     record {
       value = weaker c.made_streams.result made (λ v. v.items ≡ made_streams number streams) (λ v is. (plant v is).value) c.made_streams.ensures;
-      state = on_ok c.made_streams.result _ (c.in_ok-sides.ensures.state ∙ ap (λ (n : ℕ). state_after number (3 * n)) count_is);
+      state = on_ok c.made_streams.result _ (c.in_ok-sides.ensures.state ∙ ap (λ (n : ℕ). state_after_draws number (3 * n)) count_is);
       count = weaker c.made_streams.result made (λ v. length v.items ≡ streams) (λ v is. (plant v is).count) c.made_streams.ensures;
       made = weaker c.made_streams.result made (λ v. All (IsMade most_made_streams) v.items) (λ v is. (plant v is).made) c.made_streams.ensures;
     }

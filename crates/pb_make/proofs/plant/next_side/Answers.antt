@@ -1,9 +1,9 @@
 use Rattle.std.proofs.Common.{◌≡◌, ◌∙◌, ℕ, ◌*◌, ap, sym}
-use Rattle.pb_make.specs.Draws.{state_after, upper_bits}
+use Rattle.pb_make.specs.Draws.{state_after_draws, upper_bits}
 use Rattle.pb_make.proofs.DrawLemmas.{AreThree, side_is, three_draws}
 use Rattle.pb_make.proofs.plant.next_side.Goals as goal
 
-three : (c : goal.After-side_by) (number place : ℕ) → c.args.draws.now.state ≡ state_after number (3 * place)
+three : (c : goal.After-side_by) (number place : ℕ) → c.args.draws.now.state ≡ state_after_draws number (3 * place)
     → AreThree number place c.draw-first.result c.draw-second.result c.draw-third.result c.draw-third.new.self.state
 three c number place begins =
     three_draws number place c.args.draws.now.state c.draw-first.new.self.state c.draw-second.new.self.state c.draw-third.new.self.state

@@ -1,7 +1,7 @@
 use Rattle.std.proofs.Common.{FitsSigned, arith, refl}
 use mir.Syntax.{w32, w128}
 use Rattle.std.proofs.lemmas.Int.{to_z-of_z}
-use Rattle.pb_make.specs.Readings.{error_of}
+use Rattle.pb_make.specs.Readings.{error_of_draw}
 use Rattle.pb_make.proofs.ReadingLemmas.{error_fits, shown}
 use Rattle.pb_make.proofs.RequestLemmas.{january_fits}
 use Rattle.pb_make.proofs.rows.write_reading.Goals as goal
@@ -16,7 +16,7 @@ write_row-requires-clause-fit c =
     let variance = to_z-of_z w128 c.variance_of.result variance_fits in
     let truth = to_z-of_z w128 c.args.truth c.ranges.truth in
     let error = error_fits c.args.draw in
-    let are = shown c.args.truth (error_of c.args.draw) c.requires.least c.requires.most error.0 error.1 in
+    let are = shown c.args.truth (error_of_draw c.args.draw) c.requires.least c.requires.most error.0 error.1 in
     rw (c.name.ensures.value, c.name-2.ensures.value, day, c.january.ensures, grams, c.shown_grams.ensures.value, variance, c.variance_of.ensures.value, truth) (
       (refl, refl),
       (

@@ -4,7 +4,7 @@ use Rattle.std.proofs.lemmas.Int.{to_z-of_z}
 use Rattle.pb_site.specs.Laws.{IsPartOnDays}
 use Rattle.pb_site.specs.declared.declared.Declared.{Declared}
 use Rattle.pb_site.specs.Site.{version_of}
-use Rattle.pb_book.specs.declared.rows.Period.{Period}
+use Rattle.pb_periods.specs.declared.period.Period.{Period}
 use Rattle.pb_book.specs.declared.rows.StoredRow.{StoredRow}
 use Rattle.pb_book.specs.Rows.{declared_of}
 use Rattle.pb_period.specs.declared.days.Days.{Days}

@@ -8,7 +8,7 @@ use Rattle.pb_facts.specs.Facts.{live_facts}
 use Rattle.pb_site.specs.Service.{day_of_closing}
 use Rattle.pb_period.specs.declared.amount.Amount.{Amount}
 use Rattle.pb_period.specs.Facts.{content_of}
-use Rattle.pb_period.specs.Measurement.{change_of, difference_of}
+use Rattle.pb_period.specs.Measurement.{change_of, closing_less_opening}
 use Rattle.pb_period.proofs.measured.change.Goals as goal
 
 pub returns-in_err-opening-clause-value : goal.returns-in_err-opening-clause-value
@@ -43,4 +43,4 @@ returns-clause-value c =
     let closes_is = simp to_z-of_z at c.closing_day.ensures in
     let opening = rw opens_is at (simp to_z-of_z at c.in_ok-opening.ensures.found) in
     let closing = rw closes_is at (simp to_z-of_z at c.in_ok-closing.ensures.found) in
-    ap (λ (a : Amount). Some a) (c.difference.ensures.value ∙ ap₂ difference_of c.content_of.ensures.value c.content_of-2.ensures.value) ∙ ap₂ (change_of (content_of c.args.strap.now)) opening closing
+    ap (λ (a : Amount). Some a) (c.difference.ensures.value ∙ ap₂ closing_less_opening c.content_of.ensures.value c.content_of-2.ensures.value) ∙ ap₂ (change_of (content_of c.args.strap.now)) opening closing

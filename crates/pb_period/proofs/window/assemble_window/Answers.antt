@@ -5,7 +5,7 @@ use Rattle.pb_graph.specs.declared.records.Meas.{Meas}
 use Rattle.pb_graph.specs.ProcessGraph.{IsProcessGraph, ProcessGraph}
 use Rattle.pb_window.specs.declared.graph.WindowAssembly.{WindowAssembly}
 use Rattle.pb_window.specs.declared.graph.WindowAssembly.TheVariants.{Over}
-use Rattle.pb_window.specs.Graph.{IsFirstOutside, IsOutside, graph_streams, window_graph}
+use Rattle.pb_window.specs.Graph.{IsFirstOutside, IsFirstStreamOutside, graph_streams, window_graph}
 use Rattle.pb_period.specs.PeriodGraph.{within_limits}
 use Rattle.pb_period.specs.WindowGraph.{measured_window, periods_at, stream_measured, window_measured}
 use Rattle.pb_period.proofs.GraphLemmas.{finished}
@@ -13,7 +13,7 @@ use Rattle.pb_period.proofs.WindowLemmas.{IsLeast, as_many_streams, none_over_of
 use Rattle.pb_period.proofs.window.assemble_window.Goals as goal
 
 -- the first stream outside the limits, which is returned
-first_told : (graph : ProcessGraph) (j : ℕ) (why : WindowAssembly) (r : Result ProcessGraph WindowAssembly) → r ≡ Err why → why ≡ Over j → IfErr r (IsFirstOutside graph) → IsOutside graph j
+first_told : (graph : ProcessGraph) (j : ℕ) (why : WindowAssembly) (r : Result ProcessGraph WindowAssembly) → r ≡ Err why → why ≡ Over j → IfErr r (IsFirstOutside graph) → IsFirstStreamOutside graph j
 first_told graph j why r is why_is told =
     let same : r ≡ Err (Over j) = cc (is, why_is) in subst (λ (x : Result ProcessGraph WindowAssembly). IfErr x (IsFirstOutside graph)) same told
 

@@ -1,5 +1,5 @@
 use Rattle.std.proofs.Common.{◌≡◌, ◌++◌, drop}
-use Rattle.pb_book.specs.Windows.{names_of_periods}
+use Rattle.pb_periods.specs.Windows.{names_of_periods}
 use Rattle.pb_period.specs.WindowGraph.{periods_at}
 use Rattle.pb_period.proofs.window.names_of_periods.Given as goal
 

@@ -98,10 +98,10 @@ overflow_cast-taken c =
 pub add_row-requires : goal.add_row-requires
 add_row-requires c = record { way = c.loop-records.invariant.way }
 
-pub returns-in-Ok-clause-ok : goal.returns-in-Ok-clause-ok
-returns-in-Ok-clause-ok c =
-    read_whole (draft_of c.args.heading) c.loop-records.draft c.args.records.now.left c.loop-records.records.left c.in-Ok.block c.loop-records.invariant.read
-    (c.is_ended.ensures.ended c.loop-records-test.false) c.in-Ok.ensures
+pub returns-clause-ok : goal.returns-clause-ok
+returns-clause-ok c =
+    read_whole (draft_of c.args.heading) c.loop-records.draft c.args.records.now.left c.loop-records.records.left c.in_ok-block.field-0 c.loop-records.invariant.read
+    (c.is_ended.ensures.ended c.loop-records-test.false) c.in_ok-block.ensures
 
-pub returns-in-Ok-clause-counted : goal.returns-in-Ok-clause-counted
-returns-in-Ok-clause-counted c = c.loop-records.invariant.counted
+pub returns-clause-counted : goal.returns-clause-counted
+returns-clause-counted c = c.loop-records.invariant.counted

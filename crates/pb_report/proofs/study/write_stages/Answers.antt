@@ -1,5 +1,5 @@
 use Rattle.std.proofs.Common.{length, ◌<◌, rules}
-use Rattle.pb_graph.specs.WellFormed.{IsWellFormed}
+use Rattle.pb_study.specs.WellFormed.{IsWellFormed}
 use Rattle.pb_report.proofs.BlockLemmas.{holds_at}
 use Rattle.pb_report.proofs.StudyLemmas.{first_round, named_at, one_round}
 use Rattle.pb_report.proofs.study.write_stages.Goals as goal

@@ -1,7 +1,7 @@
 use Rattle.std.proofs.Common.{◌≡◌, ◌∙◌, List, ap, sym, subst}
 use Rattle.std.specs.Prelude.{filter_map}
 use Rattle.pb_site.specs.declared.declared.Declared.{Declared}
-use Rattle.pb_elim.specs.Criticals.{AreCritical}
+use Rattle.pb_study.specs.Criticals.{AreCritical}
 use Rattle.pb_session.specs.Criticals.{critical_row, declared_critical}
 use Rattle.pb_session.proofs.CriticalLemmas.{critical_within}
 use Rattle.pb_session.proofs.criticals.declared_critical.Goals as goal

@@ -1,5 +1,5 @@
 use Rattle.std.proofs.Common.{◌∙◌, Option, ap, sym}
-use Rattle.pb_graph.specs.declared.results.Study.{Study}
+use Rattle.pb_study.specs.declared.results.Study.{Study}
 use Rattle.pb_session.specs.Keeping.{place_in, settled, settled_stage, studies_behind}
 use Rattle.pb_session.proofs.KeptLemmas.{placed_stage, settled_none, settled_place, unplaced_stage}
 use Rattle.pb_session.proofs.kept.keep_written.Goals as goal

@@ -2,7 +2,7 @@ use Rattle.std.proofs.Common.{◌≡◌, ◌∙◌, ◌+◌, ◌-◌, ◌<◌, �
 use Rattle.std.specs.List.{filter_map, range_with_len}
 use Rattle.pb_window.specs.declared.window.WindowStream.{WindowStream}
 use Rattle.pb_window.specs.Plant.{NumberedArc}
-use Rattle.pb_window.specs.Window.{content_of}
+use Rattle.pb_window.specs.Window.{content_after}
 use Rattle.pb_window.proofs.ListLemmas.{filter_map_none, filter_map_range_next, filter_map_some, grown, passed}
 use Rattle.pb_window.proofs.contents.push_arc.Goals as goal
 use Rattle.pb_window.proofs.contents.push_arc.Goals.{in-Some+in_ok-push, in_default}
@@ -19,7 +19,7 @@ loop-period-preserved c =
     let n = length spans + 1 in
     let k = c.loop-period.period in
     let numbered : NumberedArc = (c.args.number, c.args.arc.now) in
-    let h = content_of c.args.nodes.now spans numbered in
+    let h = content_after c.args.nodes.now spans numbered in
     let made = c.loop-period.streams.items in
     let lt : k < n = omega (arith, c.loop-period-test.true) in
     let rest = filter_map h (range_with_len k (n - k)) in

@@ -1,12 +1,5 @@
-use Rattle.std.proofs.Common.{◌∙◌, sym, subst}
-use Rattle.pb_words.specs.Command.{Asks}
-use Rattle.pb_words.specs.Given.{Given, given_by}
-use Rattle.pb_words.proofs.CommandLemmas.{one_asked}
-use Rattle.pb_words.proofs.EndLemmas.{taken_of_parts}
+use Rattle.pb_words.proofs.WordLaws.{one_command}
 use Rattle.pb_words.proofs.laws.one_command_law.Goals as goal
 
--- both ask for what `clap` returns
 pub returns : goal.returns
-returns c = λ words one other a b.
-    let given = (taken_of_parts a.parts words a.read).is ∙ sym (taken_of_parts b.parts words b.read).is in
-    one_asked (given_by b.parts) one other (subst (λ (g : Given). Asks g one) given a.asks) b.asks
+returns c = one_command

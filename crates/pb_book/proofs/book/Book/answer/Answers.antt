@@ -4,7 +4,7 @@ use Rattle.pb_book.specs.declared.answer.Accepted.{Accepted}
 use Rattle.pb_book.specs.declared.answer.Accepted.TheVariants.{Stored}
 use Rattle.pb_book.specs.declared.answer.NotAccepted.{NotAccepted}
 use Rattle.pb_book.specs.declared.answer.NotAccepted.TheVariants.{NoMemory}
-use Rattle.pb_book.specs.declared.answer.Refused.{Refused as Refusal}
+use Rattle.pb_book.specs.declared.answer.Refused.{Refused}
 use Rattle.pb_book.specs.declared.rows.StoredRow.{StoredRow}
 use Rattle.pb_book.specs.Answer.{advise_or_refused, after_answer, said_of}
 use Rattle.pb_kinds.specs.Costs.{named_costs}
@@ -13,11 +13,11 @@ use Rattle.pb_book.specs.Rows.{declared_of}
 use Rattle.pb_book.proofs.book.Book.answer.Goals as goal
 
 -- advice stores nothing
-rows_stay : (rows : List StoredRow) (at : ℕ) (cause : Option Refusal) → rows ≡ after_answer rows at (advise_or_refused cause)
+rows_stay : (rows : List StoredRow) (at : ℕ) (cause : Option Refused) → rows ≡ after_answer rows at (advise_or_refused cause)
 rows_stay rows at (Some cause) = refl
 rows_stay rows at None = refl
 
-never_stored : (cause : Option Refusal) (result : Result Accepted NotAccepted) → result ≡ said_of (advise_or_refused cause) → result ≡ Ok Stored → ⊥
+never_stored : (cause : Option Refused) (result : Result Accepted NotAccepted) → result ≡ said_of (advise_or_refused cause) → result ≡ Ok Stored → ⊥
 never_stored (Some cause) result is stored = cc (is, stored)
 never_stored None result is stored = cc (is, stored)
 

@@ -1,6 +1,6 @@
 use Rattle.std.proofs.Common.{arith}
 use Rattle.pb_dual.specs.Priced.{Priced}
-use Rattle.pb_merge.proofs.GroupLaws.{count_few}
+use Rattle.pb_graph.proofs.GroupLaws.{count_few}
 use Rattle.pb_dual.proofs.dual.Dual.groups.Goals as goal
 
 pub overflow_cast-result : goal.overflow_cast-result

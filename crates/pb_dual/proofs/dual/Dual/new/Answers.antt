@@ -1,7 +1,7 @@
 use Rattle.std.proofs.Common.{◌≡◌, ◌∙◌, ◌≤◌, ◌^◌, ℕ, ℤ, pos, List, length, map, get_or, take, drop, ◌++◌, replicate, ap, sym, subst, arith}
 use Rattle.std.specs.Prelude.{All}
 use Rattle.pb_limits.specs.Limits.{most_streams}
-use Rattle.pb_merge.proofs.GroupLaws.{numbers_few, numbers_below}
+use Rattle.pb_graph.proofs.GroupLaws.{numbers_few, numbers_below}
 use Rattle.pb_dual.specs.declared.border.BorderStream.{BorderStream}
 use Rattle.pb_dual.specs.DualValue.{dual_flows_of}
 use Rattle.pb_dual.specs.Border.{AreBorders, HasLimits, IsDual, border_of, border_room, border_variance}

@@ -3,7 +3,7 @@ use mir.Syntax.{w128}
 use Rattle.std.proofs.Math.Facts.{to_z-of_z}
 use Rattle.std.proofs.lemmas.List.{get_or_default}
 use Rattle.pb_graph.specs.Groups.{group_at, group_count}
-use Rattle.pb_merge.proofs.GroupLaws.{numbers_below}
+use Rattle.pb_graph.proofs.GroupLaws.{numbers_below}
 use Rattle.pb_dual.specs.declared.dual.Dual.TheInside.{Inside}
 use Rattle.pb_dual.specs.Priced.{Priced}
 use Rattle.pb_dual.proofs.dual.Dual.price_at.Goals.{After-index}

@@ -1,7 +1,7 @@
 use Rattle.std.proofs.Common.{rules, ◌≡◌, ℕ, ◌+◌, ◌<◌, Some, sym, subst, inl, inr, arith}
 use Rattle.std.proofs.lemmas.Bool.{cases_eq}
 use Rattle.pb_graph.specs.ProcessGraph.{IsStream}
-use Rattle.pb_integers.proofs.Lists.{all_each}
+use Rattle.pb_fixed.proofs.Lists.{all_each}
 use Rattle.pb_forest.specs.Trees.{root_of}
 use Rattle.pb_forest.proofs.TreeLemmas.{whole_trees}
 use Rattle.pb_forest.proofs.trees.Trees.of.Goals as goal

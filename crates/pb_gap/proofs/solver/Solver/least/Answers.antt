@@ -1,5 +1,5 @@
 use Rattle.std.proofs.Common.{List, ℤ, ◌∙◌, subst, sym, ap, ap₂}
-use Rattle.pb_graph.specs.declared.results.Bounds.{Bounds}
+use Rattle.pb_study.specs.declared.results.Bounds.{Bounds}
 use Rattle.pb_graph.specs.ProcessGraph.{ProcessGraph}
 use Rattle.pb_gap.specs.Gap.{Gap}
 use Rattle.pb_gap.specs.Bounds.{AreSigned, IsWithin}

@@ -5,7 +5,7 @@ use Rattle.pb_graph.specs.Path.{is_open}
 use Rattle.pb_graph.specs.Neighbours.{touching}
 use Rattle.pb_graph.specs.Search.{place_of, visited}
 use Rattle.pb_graph.proofs.WalkLemmas.{some_same}
-use Rattle.pb_integers.proofs.Lists.{all_each}
+use Rattle.pb_fixed.proofs.Lists.{all_each}
 use Rattle.pb_graph.proofs.SearchLemmas.{visits, touching_all, closed_more, listed_within, visited_root}
 use Rattle.pb_graph.proofs.search.Tree.run.Goals as goal
 

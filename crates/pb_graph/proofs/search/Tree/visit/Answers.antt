@@ -1,11 +1,9 @@
 use Rattle.std.proofs.Common.{◌≡◌, ◌∙◌, ℕ, ◌+◌, false, List, length, get_or, drop, ap, sym, subst}
 use Rattle.std.specs.List.{AllByRecursion}
 use Rattle.std.proofs.lemmas.Option.{slice_get_within}
-use Rattle.pb_graph.specs.ProcessGraph.{IsStream}
+use Rattle.pb_graph.specs.ProcessGraph.{IsStream, some_stream}
 use Rattle.pb_graph.specs.Search.{followed, visited}
-use Rattle.pb_graph.specs.ProcessGraph.{some_stream}
-use Rattle.pb_integers.proofs.Lists.{drop_next}
-use Rattle.pb_integers.proofs.Lists.{all_at, all_each}
+use Rattle.pb_fixed.proofs.Lists.{drop_next, all_at, all_each}
 use Rattle.pb_graph.proofs.SearchLemmas.{TouchesAt, touching_all, follow_more}
 use Rattle.pb_graph.proofs.search.Tree.visit.Goals as goal
 

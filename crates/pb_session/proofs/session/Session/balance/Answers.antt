@@ -1,5 +1,5 @@
 use Rattle.std.proofs.Common.{◌≡◌, ◌∙◌, List, Option, Ok, Err, length, slice_get, sym, ap, subst}
-use Rattle.pb_assay.specs.declared.grade.Grade.{Grade}
+use Rattle.pb_facts.specs.declared.grade.Grade.{Grade}
 use Rattle.pb_book.specs.Rows.{periods_of}
 use Rattle.pb_session.specs.Kept.{Held}
 use Rattle.pb_session.proofs.BalanceLemmas.{AreGradesAt, answers_at, grades_at, grades_each, kept_studied, none_at, studied_at}

@@ -1,7 +1,7 @@
 use Rattle.std.proofs.Common.{◌≡◌, ◌≢◌, ◌∙◌, ◌<◌, ◌∷◌, [], ℕ, List, length, Some, IfErr, Result, Ok, Err, slice_get, sym, ap, ap₂, subst}
 use Rattle.pb_rows.specs.declared.name.Names.{Names}
 use Rattle.pb_graph.specs.ProcessGraph.{ProcessGraph}
-use Rattle.pb_book.specs.declared.rows.Period.{Period}
+use Rattle.pb_periods.specs.declared.period.Period.{Period}
 use Rattle.pb_book.specs.declared.rows.StoredRow.{StoredRow}
 use Rattle.pb_book.specs.Rows.{periods_of}
 use Rattle.pb_period.specs.declared.days.Days.{Days}

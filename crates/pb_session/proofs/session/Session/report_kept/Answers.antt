@@ -1,7 +1,8 @@
 use Rattle.std.proofs.Common.{◌≡◌, ◌∙◌, List, Some, None, Ok, ℕ, Option, slice_get, ap, ap₂, subst}
 use Rattle.pb_rows.specs.declared.name.Names.{Names}
-use Rattle.pb_graph.specs.declared.results.Options.{Options}
-use Rattle.pb_book.specs.declared.rows.Period.{Period}
+use Rattle.pb_study.specs.declared.results.Options.{Options}
+use Rattle.pb_elim.proofs.StudyLaws.{least_throughout, tested}
+use Rattle.pb_periods.specs.declared.period.Period.{Period}
 use Rattle.pb_book.specs.declared.rows.StoredRow.{StoredRow}
 use Rattle.pb_book.specs.Rows.{periods_of}
 use Rattle.pb_report.specs.declared.form.Form.{Form}
@@ -53,8 +54,8 @@ returns c =
       study = study;
       is_study = has.kept.is_study;
       certified = has.kept.certified;
-      least = c.least_throughout_law.ensures has.graph state.options (critical_of state.rows) study has.kept.is_study;
-      tested = c.tested_law.ensures has.graph state.options (critical_of state.rows) study has.kept.is_study;
+      least = least_throughout has.graph state.options (critical_of state.rows) study has.kept.is_study;
+      tested = tested has.graph state.options (critical_of state.rows) study has.kept.is_study;
       rows = text_is;
     } in
     let reports : Reports state found text =

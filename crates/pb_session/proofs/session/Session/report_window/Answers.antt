@@ -5,7 +5,7 @@ use Rattle.pb_window.specs.Places.{HaveNames, window_places}
 use Rattle.pb_site.specs.Site.{names_of}
 use Rattle.pb_book.specs.declared.rows.StoredRow.{StoredRow}
 use Rattle.pb_book.specs.Rows.{declared_of, periods_of}
-use Rattle.pb_book.specs.Windows.{names_of_periods}
+use Rattle.pb_periods.specs.Windows.{names_of_periods}
 use Rattle.pb_period.specs.WindowGraph.{periods_at}
 use Rattle.pb_report.specs.declared.form.Form.{Form}
 use Rattle.pb_report.specs.Form.{text_in}

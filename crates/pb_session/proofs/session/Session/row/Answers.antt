@@ -1,16 +1,17 @@
 use Rattle.std.proofs.Common.{◌≡◌, ◌≢◌, ◌∙◌, ◌≤◌, List, Option, length, IfSome, OnErr, Result, Ok, Err, true, false, refl, sym, ap, ap₂, subst}
 use Rattle.std.specs.List.{AllByRecursion}
-use Rattle.pb_graph.specs.declared.results.Stage.{Stage}
+use Rattle.pb_study.specs.declared.results.Stage.{Stage}
 use Rattle.pb_classify.specs.Classification.{IsClassification}
-use Rattle.pb_elim.specs.Printed.{printed_classes}
+use Rattle.pb_stage.specs.Printed.{printed_classes}
 use Rattle.pb_book.specs.declared.answer.Accepted.{Accepted}
-use Rattle.pb_book.specs.declared.answer.Refused.{Refused as Refusal}
+use Rattle.pb_book.specs.declared.answer.Refused.{Refused}
 use Rattle.pb_book.specs.declared.answer.NotAccepted.{NotAccepted}
-use Rattle.pb_book.specs.declared.answer.NotAccepted.TheVariants.{Refused as NotAcceptedFor, NoMemory}
+use Rattle.pb_book.specs.declared.answer.NotAccepted.TheVariants.{NoMemory}
 use Rattle.pb_book.specs.declared.rows.StoredRow.{StoredRow}
 use Rattle.pb_book.specs.declared.answer.Accepted.TheVariants.{Advise}
 use Rattle.pb_kinds.specs.Costs.{named_costs}
-use Rattle.pb_book.specs.Answer.{Answer, Refused, Says, after, after_answer, answer_of, is_refused, said_of}
+use Rattle.pb_book.specs.Answer.{Answer, Refuses, Says, after, after_answer, answer_of, is_refused, said_of}
+use Rattle.pb_period.proofs.GraphLaws.{closed_graphs_law, untouched_law}
 use Rattle.pb_session.specs.declared.kept.KeptStudy.{KeptStudy}
 use Rattle.pb_session.specs.Closed.{LeavesClosed}
 use Rattle.pb_session.specs.Keeping.{IsKeeping, IsKeptStudy, held_of, last_stage, left_by, saved_by}
@@ -26,10 +27,10 @@ use Rattle.pb_session.proofs.session.Session.row.Goals as goal
 accepted_sure : (accepted : Accepted) (result : Result Accepted NotAccepted) → result ≡ Ok accepted → result ≢ Err NoMemory
 accepted_sure accepted result is = λ other. cc (is, other)
 
-refused_sure : (cause : Refusal) (result : Result Accepted NotAccepted) → result ≡ Err (NotAcceptedFor cause) → result ≢ Err NoMemory
+refused_sure : (cause : Refused) (result : Result Accepted NotAccepted) → result ≡ Err (NotAccepted.Refused cause) → result ≢ Err NoMemory
 refused_sure cause result is = λ other. cc (is, other)
 
-refused_for : (cause : Refusal) (other : NotAccepted) (result : Result Accepted NotAccepted) → result ≡ Err other → other ≡ NotAcceptedFor cause → result ≡ Err (NotAcceptedFor cause)
+refused_for : (cause : Refused) (other : NotAccepted) (result : Result Accepted NotAccepted) → result ≡ Err other → other ≡ NotAccepted.Refused cause → result ≡ Err (NotAccepted.Refused cause)
 refused_for cause other result is other_is = cc (is, other_is)
 
 on_err : {T E : Type 0} (r : Result T E) (P : Type 0) → P → OnErr r P
@@ -67,7 +68,7 @@ invariant_of-self c =
     let answer = answer_of state.rows c.args.row.now in
     let left = c.drop_touched.ensures.left in
     let stage = stage_left state accepted rows kept c.drop_touched.new.kept.items c.self.inside.last c.drop_touched.new.last left c.drop_touched.ensures.saved c.self.invariant.studies in
-    let studies = left_kept c.untouched_law.ensures state rows c.args.at answer accepted kept said_is (said state.rows c.args.row.now) (c.accept.ensures.stored sure)
+    let studies = left_kept untouched_law state rows c.args.at answer accepted kept said_is (said state.rows c.args.row.now) (c.accept.ensures.stored sure)
     (λ stored. (c.accept.ensures.accepted, c.accept.ensures.no_repeats (c.in-Ok.is ∙ ap (λ (a : Accepted). said_ok a) stored))) c.self.invariant.studies in
     record {
       options = c.self.invariant.options;
@@ -151,7 +152,7 @@ returns-in_ok-write-in-Ok-clause-closed c =
     let state : SessionState = record { options = c.self.inside.options; form = c.self.inside.form; rows = c.self.inside.book } in
     let at = c.args.at in
     let rows_is : c.write.new.self.state.rows ≡ c.accept.new.self = ap (λ (s : SessionState). s.rows) c.in_ok-write-in-Ok.ensures.state in
-    let here = leaves_closed c.closed_graphs_law.ensures state.rows c.accept.new.self at c.accept.ensures.accepted in
+    let here = leaves_closed closed_graphs_law state.rows c.accept.new.self at c.accept.ensures.accepted in
     subst (λ (h : Held). LeavesClosed h.state.rows at c.write.new.self.state.rows) c.self.view_is (subst (LeavesClosed state.rows at) (sym rows_is) here)
 
 pub returns-in_ok-write-in-Ok-clause-reported : goal.returns-in_ok-write-in-Ok-clause-reported
@@ -179,7 +180,7 @@ returns-in_ok-refuse-in-Err-Refused c =
     let is_for = refused_for cause c.in-Err-Refused.field-0 c.accept.result c.in-Err-Refused.is c.in-Err-Refused.field-0-is in
     let sure = refused_sure cause c.accept.result is_for in
     let answer = answer_of c.self.inside.book c.args.row.now in
-    let answer_is : answer ≡ Refused cause = refused_is answer cause (sym is_for ∙ c.accept.ensures.answer sure) in
+    let answer_is : answer ≡ Refuses cause = refused_is answer cause (sym is_for ∙ c.accept.ensures.answer sure) in
     let (text, written, is) = c.in_ok-refuse-in-Err-Refused.ensures.ok in
     let here : Adds state c.args.at c.args.row.now text = subst (λ (a : Answer). AddsBy state c.args.at (named_costs c.args.row.now) a text) (sym answer_is) is in
     let refused_now : true ≡ is_refused answer = sym (ap is_refused answer_is) in
@@ -205,7 +206,7 @@ returns-in_err-refuse-in-Err-Refused-clause-err c =
     let is_for = refused_for cause c.in-Err-Refused.field-0 c.accept.result c.in-Err-Refused.is c.in-Err-Refused.field-0-is in
     let sure = refused_sure cause c.accept.result is_for in
     let answer = answer_of c.self.inside.book c.args.row.now in
-    let answer_is : answer ≡ Refused cause = refused_is answer cause (sym is_for ∙ c.accept.ensures.answer sure) in
+    let answer_is : answer ≡ Refuses cause = refused_is answer cause (sym is_for ∙ c.accept.ensures.answer sure) in
     let rows_stay : c.accept.new.self ≡ c.self.inside.book = c.accept.ensures.stored sure ∙ ap (after_answer c.self.inside.book c.args.at) answer_is in
     let state : SessionState = record { options = c.self.inside.options; form = c.self.inside.form; rows = c.self.inside.book } in
     let held : List StoredRow → Held = λ rows. held_of (state_with state rows) c.self.inside.kept.items c.self.inside.last in

@@ -1,5 +1,5 @@
 use Rattle.std.proofs.Common.{◌≡◌, ◌∙◌, ap, subst}
-use Rattle.pb_graph.specs.declared.results.Critical.{Critical}
+use Rattle.pb_study.specs.declared.results.Critical.{Critical}
 use Rattle.pb_elim.specs.Stage.{IsStageOf}
 use Rattle.pb_session.specs.Criticals.{critical_of, declared_critical}
 use Rattle.pb_session.specs.FirstStage.{IsFirstStage}

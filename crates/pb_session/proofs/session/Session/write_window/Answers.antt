@@ -7,12 +7,13 @@ use Rattle.pb_window.specs.declared.window.Window.{Window}
 use Rattle.pb_window.specs.Codes.{AreWindowNames, stream_code, window_names}
 use Rattle.pb_window.specs.Places.{HasStreamNames}
 use Rattle.pb_site.specs.Site.{names_of}
-use Rattle.pb_book.specs.declared.rows.Period.{Period}
+use Rattle.pb_periods.specs.declared.period.Period.{Period}
 use Rattle.pb_book.specs.declared.rows.StoredRow.{StoredRow}
 use Rattle.pb_book.specs.Rows.{declared_of, periods_of}
 use Rattle.pb_limits.specs.Limits.{most_periods_of_window}
 use Rattle.pb_window.specs.Window.{IsWindow}
-use Rattle.pb_book.specs.Windows.{ArePlacesBetween, HavePlaceNames, IsWindowAsked, IsWindowBetween, names_of_periods, periods_between, window_between}
+use Rattle.pb_book.specs.Windows.{ArePlacesBetween, HavePlaceNames, IsWindowAsked, IsWindowBetween, window_between}
+use Rattle.pb_periods.specs.Windows.{names_of_periods, periods_between}
 use Rattle.pb_period.specs.declared.graph.Assembly.{Assembly}
 use Rattle.pb_period.specs.declared.graph.Assembly.TheVariants.{Over, NoMemory}
 use Rattle.pb_period.specs.WindowGraph.{IsStreamOfWindow, periods_at, window_assembly}

@@ -7,7 +7,7 @@ use Rattle.std.proofs.lemmas.List.{append-nil}
 use Rattle.pb_rows.specs.Name.{same_name}
 use Rattle.pb_strap.specs.declared.strap.Point.{Point}
 use Rattle.pb_site.specs.declared.declared.Arc.{Arc}
-use Rattle.pb_site.specs.declared.declared.ArcKind.TheVariants.{Tank as TankArc}
+use Rattle.pb_site.specs.declared.declared.ArcKind.{ArcKind}
 use Rattle.pb_site.proofs.LookUpLemmas.{last_node}
 use Rattle.pb_site.proofs.index.Index.note.Goals as goal
 
@@ -17,7 +17,7 @@ returns-in-Tank-clause-ok c =
     let new = rw c.in-Tank.is at c.requires.new in
     let from = last_node c.args.self.now.boundaries.keys c.args.self.now.nodes.keys c.put_name-in-Tank.new.names.keys c.in-Tank.name c.put_name-in-Tank.ensures new.0 in
     let arc = simp to_z-of_z at c.inventory.ensures in
-    let inventory : ℕ → Arc = λ n. record { name = c.in-Tank.name; from = n; to = 0; kind = TankArc; base = c.in-Tank.base; service = c.in-Tank.service } in
+    let inventory : ℕ → Arc = λ n. record { name = c.in-Tank.name; from = n; to = 0; kind = ArcKind.Tank; base = c.in-Tank.base; service = c.in-Tank.service } in
     rw c.in-Tank.is
     (record {
       version = refl;

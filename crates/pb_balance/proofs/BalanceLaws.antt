@@ -1,7 +1,0 @@
--- What crates above may cite of balanced flows: the laws; the price that identifies a side; and what a walk takes and turns round.
-pub use Rattle.pb_balance.proofs.PriceLemmas.{priced_sums, balanced_sum, env_balances}
-pub use Rattle.pb_balance.proofs.CutLemmas.{boundary_sum, cut_determines, unit_price, side_price}
-pub use Rattle.pb_balance.proofs.CycleLemmas.{cycle_frees}
-pub use Rattle.pb_balance.proofs.ReachLemmas.{reach_decides, side_cuts_off, others_walk, no_meas}
-pub use Rattle.pb_balance.proofs.ClassLemmas.{certificate_shows, each_class, one_class}
-pub use Rattle.pb_balance.proofs.TurnLemmas.{turns, takes, length_turns, round_net, not_taken, taken_once, first_unit}

@@ -1,7 +1,0 @@
-mod PriceLemmas
-mod CutLemmas
-mod TurnLemmas
-mod CycleLemmas
-mod ReachLemmas
-mod ClassLemmas
-pub mod BalanceLaws

@@ -1,5 +1,0 @@
-use Rattle.pb_balance.proofs.ClassLemmas.{certificate_shows}
-use Rattle.pb_balance.proofs.laws.certificate_law.Goals as goal
-
-pub returns : goal.returns
-returns c = certificate_shows

@@ -1,5 +1,0 @@
-use Rattle.pb_balance.proofs.CutLemmas.{cut_determines}
-use Rattle.pb_balance.proofs.laws.cut_law.Goals as goal
-
-pub returns : goal.returns
-returns c = cut_determines

@@ -1,5 +1,0 @@
-use Rattle.pb_balance.proofs.PriceLemmas.{env_balances}
-use Rattle.pb_balance.proofs.laws.env_balance_law.Goals as goal
-
-pub returns : goal.returns
-returns c = env_balances

@@ -1,3 +1,0 @@
--- Statement
-pub mod PricedSums
-pub mod Laws

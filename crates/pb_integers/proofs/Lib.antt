@@ -1,7 +1,0 @@
-pub mod RingLaws
-pub mod Ring
-pub mod Order
-pub mod Lists
-pub mod Sums
-pub mod PartialSums
-pub mod Schwarz

@@ -1,3 +1,0 @@
--- Statement
-pub mod Sums
-pub mod Laws

@@ -1,5 +1,0 @@
-use Rattle.pb_merge.proofs.GroupLaws.{free_law}
-use Rattle.pb_merge.proofs.laws.free_law.Goals as goal
-
-pub returns : goal.returns
-returns c = free_law

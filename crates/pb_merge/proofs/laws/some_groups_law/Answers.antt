@@ -1,5 +1,0 @@
-use Rattle.pb_merge.proofs.GroupLaws.{some_groups_law}
-use Rattle.pb_merge.proofs.laws.some_groups_law.Goals as goal
-
-pub returns : goal.returns
-returns c = some_groups_law

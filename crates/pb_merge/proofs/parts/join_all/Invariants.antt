@@ -1,8 +1,0 @@
-use Rattle.std.proofs.Common.{length}
-use Rattle.pb_graph.specs.Parts.{IsLabelling}
-use Rattle.pb_merge.specs.Numbers.{unmeasured_before}
-use Rattle.pb_merge.proofs.parts.join_all.Given as goal
-
--- the labels show what the unmeasured streams so far join
-abbrev pub invariant-loop-stream : goal.invariant-loop-stream
-invariant-loop-stream l = IsLabelling l.streams (length l.fn.parts) (unmeasured_before l.stream-index) l.parts

@@ -1,5 +1,0 @@
-use Rattle.pb_points.proofs.BridgeLemmas.{points_law}
-use Rattle.pb_points.proofs.laws.points_law.Goals as goal
-
-pub returns : goal.returns
-returns c = points_law

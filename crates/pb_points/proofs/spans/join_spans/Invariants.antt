@@ -1,6 +1,0 @@
-use Rattle.pb_points.specs.Spans.{AreWholeFrom}
-use Rattle.pb_points.proofs.spans.join_spans.Given as goal
-
--- the spans from here on are whole
-abbrev pub invariant-loop-i : goal.invariant-loop-i
-invariant-loop-i l = AreWholeFrom l.graph.streams l.forest.held l.walk l.i l.spans

@@ -1,0 +1,4 @@
+-- Statement
+pub mod WellFormed
+pub mod Options
+pub mod Criticals

@@ -1,2 +1,0 @@
-mod StateLemmas
-mod SumLemmas

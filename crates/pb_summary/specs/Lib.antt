@@ -1,3 +1,0 @@
--- Statement
-pub mod Summary
-pub mod Laws

@@ -1,8 +1,0 @@
-mod VerdictLemmas
-mod DecidedLemmas
-mod DropLemmas
-mod NodalLemmas
-mod EndLemmas
-mod GroupLemmas
-mod FreeTestLemmas
-mod NodalRangeLemmas

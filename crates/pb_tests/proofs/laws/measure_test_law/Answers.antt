@@ -1,8 +1,0 @@
-use Rattle.pb_tests.proofs.DropLemmas.{some_test_by, one_test_by}
-use Rattle.pb_tests.proofs.laws.measure_test_law.Goals as goal
-
-pub returns : goal.returns
-returns c = record {
-  some = some_test_by c.solved_statistic_law.ensures.some;
-  one = one_test_by c.solved_statistic_law.ensures.one;
-}

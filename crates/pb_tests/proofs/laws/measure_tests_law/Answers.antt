@@ -1,8 +1,0 @@
-use Rattle.pb_tests.proofs.DropLemmas.{some_tests_by, one_tests_by}
-use Rattle.pb_tests.proofs.laws.measure_tests_law.Goals as goal
-
-pub returns : goal.returns
-returns c = record {
-  some = some_tests_by c.solved_statistic_law.ensures.some;
-  one = one_tests_by c.solved_statistic_law.ensures.one;
-}

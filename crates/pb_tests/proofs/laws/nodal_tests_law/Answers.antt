@@ -1,5 +1,0 @@
-use Rattle.pb_tests.proofs.NodalLemmas.{some_nodal_tests, one_nodal_tests}
-use Rattle.pb_tests.proofs.laws.nodal_tests_law.Goals as goal
-
-pub returns : goal.returns
-returns c = record { some = some_nodal_tests; one = one_nodal_tests }
