@@ -5,7 +5,7 @@ use pb_classify::classify;
 use pb_graph::{Class, Graph, Stream};
 use std::alloc::{AllocError, Global};
 use std::process::Abort;
-use test_graphs::{METER, graph_of, stream};
+use test_graphs::{METER, UNFIT, graph_of, stream};
 
 // The advice for a graph at these costs.
 fn advice_for(
@@ -145,7 +145,7 @@ fn assert_least(
 // The same for a graph drawn by lot.
 fn assert_least_by_lot(rt: &impl Abort, alloc: Global, seed: u32) -> Result<(), AllocError> {
     let (streams, costs) = drawn(seed);
-    let g = graph_of(rt, alloc, 4, &streams)?;
+    let g = graph_of(alloc, 4, &streams)?.expect(rt, UNFIT);
     assert_least(rt, alloc, seed, &g, &costs)
 }
 

@@ -7,7 +7,7 @@ use pb_forest::Forest;
 use pb_graph::{Graph, Neighbours, Step, Stream};
 use std::alloc::{AllocError, Global};
 use std::process::Abort;
-use test_graphs::{METER, graph_of, stream};
+use test_graphs::{METER, UNFIT, graph_of, stream};
 
 // For each stream of the graph, whether the forest holds it.
 fn marks_of(alloc: Global, g: &Graph, forest: &Forest) -> Result<Vec<bool>, AllocError>
@@ -30,7 +30,7 @@ fn rank_and_marks(
     requires env { 1 ≤ nodes }
     requires most { nodes ≤ most_nodes }
 {
-    let g = graph_of(rt, alloc, nodes, streams)?;
+    let g = graph_of(alloc, nodes, streams)?.expect(rt, UNFIT);
     let forest = Forest::of(alloc, &g)?;
     let marks = marks_of(alloc, &g, &forest)?;
     Ok((forest.rank(), marks))
@@ -48,7 +48,7 @@ fn flows_of(
     requires most { nodes ≤ most_nodes }
     requires within { All IsGivenFlow off.now }
 {
-    let g = graph_of(rt, alloc, nodes, streams)?;
+    let g = graph_of(alloc, nodes, streams)?.expect(rt, UNFIT);
     assert_eq!(rt; g.len() as usize, off.len());
     let forest = Forest::of(alloc, &g)?;
     let mut flows = vec![in alloc; 0; off.len()]?;
@@ -127,7 +127,7 @@ fn assert_plain_paths(
 /// Among the same streams the plain one leads from unit to unit, and none leads from the environment to a unit.
 #[test]
 fn paths_by_a_plain_stream(rt: HostRuntime) -> Result<(), AllocError> {
-    let g = graph_of(&rt, rt.alloc(), 3, &BESIDE)?;
+    let g = graph_of(rt.alloc(), 3, &BESIDE)?.expect(&rt, UNFIT);
     let forest = Forest::of(rt.alloc(), &g)?;
     assert_plain_paths(&rt, rt.alloc(), &g, &forest)
 }
@@ -236,7 +236,6 @@ fn assert_as_searched(rt: &impl Abort, alloc: Global, g: &Graph) -> Result<(), A
 fn paths_as_searched(rt: HostRuntime) -> Result<(), AllocError> {
     let alloc = rt.alloc();
     let g = graph_of(
-        &rt,
         alloc,
         10,
         &[
@@ -250,6 +249,7 @@ fn paths_as_searched(rt: HostRuntime) -> Result<(), AllocError> {
             stream(8, 7, None),
             stream(0, 2, METER),
         ],
-    )?;
+    )?
+    .expect(&rt, UNFIT);
     assert_as_searched(&rt, alloc, &g)
 }

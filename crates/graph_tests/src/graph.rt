@@ -9,7 +9,7 @@ use pb_study::{
 };
 use std::alloc::{AllocError, Global};
 use std::process::Abort;
-use test_graphs::{graph_of, stream};
+use test_graphs::{UNFIT, graph_of, stream};
 
 const METER: Option<Meas> = Some(Meas {
     value: 0,
@@ -24,7 +24,7 @@ const OTHER_METER: Option<Meas> = Some(Meas {
 /// Two units: A from env to U, B from U to V unmeasured, C from V to env.
 fn line(rt: &impl Abort, alloc: Global) -> Result<Graph, AllocError> {
     let streams = [stream(0, 1, METER), stream(1, 2, None), stream(2, 0, METER)];
-    graph_of(rt, alloc, 3, &streams)
+    Ok(graph_of(alloc, 3, &streams)?.expect(rt, UNFIT))
 }
 
 fn step(stream: u32, forward: bool) -> Step {
@@ -448,7 +448,7 @@ fn are_alike(
     streams: &[Stream],
 ) -> Result<(bool, bool), AllocError> {
     assert!(rt; nodes >= 1 && nodes <= 1_001, "{nodes} nodes");
-    Ok(alike_both_ways(g, &graph_of(rt, alloc, nodes, streams)?))
+    Ok(alike_both_ways(g, &graph_of(alloc, nodes, streams)?.expect(rt, UNFIT)))
 }
 
 /// Values and variances may differ, and nothing else.

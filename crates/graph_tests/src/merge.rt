@@ -6,7 +6,7 @@ ghost use Rattle.pb_limits.specs.Limits.{most_nodes};
 use pb_graph::{Groups, Meas, Stream};
 use std::alloc::{AllocError, Global};
 use std::process::Abort;
-use test_graphs::{graph_of, stream};
+use test_graphs::{UNFIT, graph_of, stream};
 
 fn plain(from: u32, to: u32) -> Stream {
     stream(from, to, None)
@@ -43,7 +43,7 @@ fn groups_are(
     requires env { 1 ≤ nodes }
     requires most { nodes ≤ most_nodes }
 {
-    let g = graph_of(rt, alloc, nodes, streams)?;
+    let g = graph_of(alloc, nodes, streams)?.expect(rt, UNFIT);
     let groups = Groups::of(alloc, &g)?;
     check(rt, &groups, numbers, rows);
     Ok(())

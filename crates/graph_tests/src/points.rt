@@ -10,7 +10,7 @@ use pb_forest::Forest;
 use pb_graph::{Graph, Neighbours, Stream, boundary, reach};
 use std::alloc::{AllocError, Global};
 use std::process::Abort;
-use test_graphs::{METER, graph_of, stream};
+use test_graphs::{METER, UNFIT, graph_of, stream};
 
 // Marks the unmeasured streams except the j-th.
 fn others(alloc: Global, streams: &[Stream], j: u32) -> Result<Vec<bool>, AllocError>
@@ -98,7 +98,6 @@ fn assert_as_searched(rt: &impl Abort, alloc: Global, g: &Graph) -> Result<(), A
 fn as_searched(rt: HostRuntime) -> Result<(), AllocError> {
     let alloc = rt.alloc();
     let g = graph_of(
-        &rt,
         alloc,
         10,
         &[
@@ -116,7 +115,8 @@ fn as_searched(rt: HostRuntime) -> Result<(), AllocError> {
             stream(4, 6, METER),
             stream(9, 7, METER),
         ],
-    )?;
+    )?
+    .expect(&rt, UNFIT);
     assert_as_searched(&rt, alloc, &g)
 }
 
@@ -126,7 +126,7 @@ fn line(rt: &impl Abort, alloc: Global) -> Result<Graph, AllocError> {
     for n in 0..1_000 {
         streams.push(stream(n, n + 1, None))?;
     }
-    graph_of(rt, alloc, 1_001, &streams)
+    Ok(graph_of(alloc, 1_001, &streams)?.expect(rt, UNFIT))
 }
 
 /// Each stream of a line is a bridge, and what it cuts off is the units after it.
@@ -144,7 +144,7 @@ fn trees(rt: &impl Abort, alloc: Global) -> Result<Graph, AllocError> {
         let to = (from + 1 + n % 39) % 40;
         streams.push(stream(from, to, if n % 4 == 0 { None } else { METER }))?;
     }
-    graph_of(rt, alloc, 40, &streams)
+    Ok(graph_of(alloc, 40, &streams)?.expect(rt, UNFIT))
 }
 
 /// Some of the meters lead from tree to tree, others stay within one.

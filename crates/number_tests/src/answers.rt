@@ -11,7 +11,7 @@ use pb_stage::{measure_tests, sum_for};
 use pb_study::{Options, Solved, Verdict};
 use std::alloc::{AllocError, Global};
 use std::process::Abort;
-use test_graphs::{graph_of, metered, plain};
+use test_graphs::{UNFIT, graph_of, metered, plain};
 
 /// Two meters that disagree, and a plain stream between them.
 fn line(rt: &impl Abort, alloc: Global) -> Result<Graph, AllocError> {
@@ -20,7 +20,7 @@ fn line(rt: &impl Abort, alloc: Global) -> Result<Graph, AllocError> {
         plain(1, 2),
         metered(2, 0, 100_000_000, 1_000_000_000_000),
     ];
-    graph_of(rt, alloc, 3, &streams)
+    Ok(graph_of(alloc, 3, &streams)?.expect(rt, UNFIT))
 }
 
 #[test]

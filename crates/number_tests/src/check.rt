@@ -9,7 +9,7 @@ use pb_graph::List;
 use pb_study::{Critical, CriticalRow, Options, Stage, Study};
 use std::alloc::{AllocError, Global};
 use std::process::Abort;
-use test_graphs::{graph_of, metered};
+use test_graphs::{UNFIT, graph_of, metered};
 
 /// The critical value of the global test for one degree of freedom, and no other.
 fn critical_of(alloc: Global) -> Result<Critical, AllocError>
@@ -37,7 +37,7 @@ fn study_of(rt: &impl Abort, alloc: Global) -> Result<Study, AllocError> {
     };
     let into = metered(0, 1, 102_000_000, 1_000_000_000_000);
     let out = metered(1, 0, 100_000_000, 1_000_000_000_000);
-    let g = graph_of(rt, alloc, 2, &[into, out])?;
+    let g = graph_of(alloc, 2, &[into, out])?.expect(rt, UNFIT);
     let critical = critical_of(alloc)?;
     study(alloc, &g, &options, &critical)
 }

@@ -5,7 +5,7 @@ use pb_dual::Dual;
 use pb_graph::{Groups, Stream};
 use std::alloc::{AllocError, Global};
 use std::process::Abort;
-use test_graphs::{graph_of, metered, plain};
+use test_graphs::{UNFIT, graph_of, metered, plain};
 
 /// There are as many groups as prices, and they have these.
 fn check_prices(rt: &impl Abort, name: &str, dual: &Dual, prices: &[i128]) {
@@ -36,7 +36,7 @@ fn check_graph(
     none: &[i128],
     prices: &[i128],
 ) -> Result<(), AllocError> {
-    let g = graph_of(rt, alloc, nodes, streams)?;
+    let g = graph_of(alloc, nodes, streams)?.expect(rt, UNFIT);
     let groups = Groups::of(alloc, &g)?;
     let mut dual = Dual::new(alloc, &g, groups.numbers())?;
     check_sweeps(rt, name, &mut dual, none, prices);
@@ -108,7 +108,7 @@ fn one_step_and_the_dual_flows(rt: HostRuntime) -> Result<(), AllocError> {
         7_277_816_997_830_793_600_000_000,
         0,
     ];
-    let g = graph_of(&rt, rt.alloc(), 3, &streams)?;
+    let g = graph_of(rt.alloc(), 3, &streams)?.expect(&rt, UNFIT);
     let groups = Groups::of(rt.alloc(), &g)?;
     let mut dual = Dual::new(rt.alloc(), &g, groups.numbers())?;
     check_step(&rt, &mut dual, 0, &[0, 0]);

@@ -10,7 +10,7 @@ use pb_graph::{Graph, List, Stream};
 use pb_study::{Critical, Options, Stage, StreamResult, Study};
 use std::alloc::{AllocError, Global};
 use std::process::Abort;
-use test_graphs::{graph_of, metered};
+use test_graphs::{UNFIT, graph_of, metered};
 
 /// No critical value.
 pub fn no_critical(alloc: Global) -> Critical
@@ -33,7 +33,7 @@ pub fn study_of(
     sweeps: u32,
 ) -> Result<Study, AllocError> {
     assert!(rt; gap >= 1 && gap <= 1_000_000 && sweeps <= 100_000);
-    let g = graph_of(rt, alloc, nodes, streams)?;
+    let g = graph_of(alloc, nodes, streams)?.expect(rt, UNFIT);
     let options = Options {
         gap,
         sweeps,
@@ -101,6 +101,6 @@ fn studies_from_known_classes(rt: HostRuntime) -> Result<(), AllocError> {
         metered(0, 1, 102_000_000, 1_000_000_000_000),
         metered(1, 0, 100_000_000, 1_000_000_000_000),
     ];
-    let g = graph_of(&rt, rt.alloc(), 2, &streams)?;
+    let g = graph_of(rt.alloc(), 2, &streams)?.expect(&rt, UNFIT);
     assert_both_ways(&rt, rt.alloc(), &g)
 }

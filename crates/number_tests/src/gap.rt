@@ -8,7 +8,7 @@ use pb_graph::{Graph, Member};
 use pb_study::{Bounds, Solved};
 use std::alloc::AllocError;
 use std::process::Abort;
-use test_graphs::{graph_of, metered};
+use test_graphs::{UNFIT, graph_of, metered};
 
 /// What a solver should answer at a gap with at most this many sweeps.
 #[derive(Clone, Copy)]
@@ -200,7 +200,7 @@ fn two_meters_disagree(rt: HostRuntime) -> Result<(), AllocError> {
         metered(0, 1, 102_000_000, 1_000_000_000_000),
         metered(1, 0, 100_000_000, 1_000_000_000_000),
     ];
-    let g = graph_of(&rt, rt.alloc(), 2, &streams)?;
+    let g = graph_of(rt.alloc(), 2, &streams)?.expect(&rt, UNFIT);
     let mut solver = Solver::new(rt.alloc(), &g)?;
     check_two_meters_disagree(&rt, &mut solver, &g);
     Ok(())

@@ -10,7 +10,7 @@ use pb_stage::{global, global_test, measure, nodal_tests};
 use pb_study::{CriticalRow, GlobalTest, MeasureTest, NodalTest, Verdict};
 use std::alloc::{AllocError, Global};
 use std::process::Abort;
-use test_graphs::{graph_of, metered, plain};
+use test_graphs::{UNFIT, graph_of, metered, plain};
 
 /// The ends of the statistic of a graph, solved at a gap of 10 thousandths with up to 5,000 sweeps.
 pub fn solved_ends(alloc: Global, g: &Graph) -> Result<(i128, Option<i128>), AllocError>
@@ -32,7 +32,7 @@ fn test_of(
 ) -> Result<MeasureTest, AllocError>
     requires { IfSome critical IsCriticalValue }
 {
-    let g = graph_of(rt, alloc, nodes, streams)?;
+    let g = graph_of(alloc, nodes, streams)?.expect(rt, UNFIT);
     assert!(rt; stream < g.len(), "stream {stream}");
     let (low, high) = solved_ends(alloc, &g)?;
     measure(alloc, &g, low, high, stream, 10, 5_000, critical)
@@ -49,7 +49,7 @@ fn check_nodal(
 ) -> Result<(), AllocError>
     requires { IfSome critical IsCriticalValue }
 {
-    let g = graph_of(rt, alloc, nodes, streams)?;
+    let g = graph_of(alloc, nodes, streams)?.expect(rt, UNFIT);
     let tests = nodal_tests(alloc, &g, critical)?;
     assert_eq!(rt; tests.as_slice(), want, "{critical:?}");
     Ok(())

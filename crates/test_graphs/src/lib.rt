@@ -1,12 +1,11 @@
 //! What the tests of graphs share: streams, and the graph of a list of them.
 #![tactic(auto)]
 
-ghost use Rattle.std.specs.Prelude.{◌≡◌, IfOk};
+ghost use Rattle.std.specs.Prelude.{◌≡◌, IfOk, IfSome};
 
 use pb_graph::{Graph, Meas, Stream};
 use pb_limits::MOST_NODES;
 use std::alloc::{AllocError, Global};
-use std::process::Abort;
 
 /// A reading, if only the fact counts that there is one.
 pub const METER: Option<Meas> = Some(Meas {
@@ -29,20 +28,22 @@ pub const fn metered(from: u32, to: u32, value: i128, variance: i128) -> Stream 
     stream(from, to, Some(Meas { value, variance }))
 }
 
-/// The graph with this number of nodes and with these streams, which must fit it.
-pub fn graph_of(
-    rt: &impl Abort,
-    alloc: Global,
-    nodes: u32,
-    streams: &[Stream],
-) -> Result<Graph, AllocError>
-    ensures { IfOk result (λ g. g.nodes ≡ nodes) }
+/// What a test says if its streams don't fit the graph that it wants.
+pub const UNFIT: &str = "the nodes and streams of a graph";
+
+/// The graph with this number of nodes and with these streams, if they fit.
+pub fn graph_of(alloc: Global, nodes: u32, streams: &[Stream]) -> Result<Option<Graph>, AllocError>
+    ensures { IfOk result (λ found. IfSome found (λ g. g.nodes ≡ nodes)) }
 {
-    assert!(rt; nodes >= 1 && nodes <= MOST_NODES);
+    if nodes == 0 || nodes > MOST_NODES {
+        return Ok(None);
+    }
     let mut g = Graph::new(alloc, nodes);
     for s in streams {
-        assert!(rt; g.fits(s), "{s:?}");
+        if !g.fits(s) {
+            return Ok(None);
+        }
         g.push(*s)?;
     }
-    Ok(g)
+    Ok(Some(g))
 }
