@@ -2,9 +2,12 @@
 
 A refusal rests on the edit and the function that it changes, with the proofs of this function; on the contracts and types that these
 name, of the same crate and of those below, and on what these contracts and types name in turn; and on the definitions and lemmas that all
-of it imports. It doesn't rest on bodies of other functions: contracts are modular. A thing of the code counts if a name that the file
-has for it is among the words, and a function of a type if its own name is, so that rather too much is taken than too little. In place of the name of a definition or lemma stands the digest of what it says, so that a
-move or another name changes nothing. An edit of anything but functions rests on the whole crate.
+of it imports, or cites by their paths in attributes. It doesn't rest on bodies of other functions: contracts are modular. A thing of the
+code counts if a name that the file has for it is among the words, and a function of a type if its own name is, so that rather too much is
+taken than too little. In place of the name of a definition or lemma stands the digest of what it says, so that a move or another name
+changes nothing. An edit of anything but bodies rests on the whole crate, since another function's proof may be what refuses it.
+
+Imports of the code aren't taken: if a file imports another function of the same name, and both were reached before, the sum stays.
 
 The sources have the layout of rt fmt.
 """
@@ -21,9 +24,11 @@ from functools import cache
 TOP = os.path.dirname(os.path.dirname(os.path.abspath(__file__)))
 # An import of definitions or lemmas: its path, and the names or the name for the module.
 IMPORT = re.compile(r'(?m)^ *(?:pub )?(?:ghost )?use (Rattle\.[\w.]+?)(?:\.\{(.*)\}| as (\w+))?;?$')
+# A definition or lemma that an attribute of the code cites by its path.
+CITED = re.compile(r'\b(\w+)::((?:specs|proofs)(?:::\w+)*)::(\w+)')
 RENAMED = re.compile(r'\b(\w+) as (\w+)')
 # A definition's first line, and a token that may be a name.
-STATED = re.compile(r'(?:(?:abbrev|pub|record|data) )*([^\s(){}\[\]:;,]+)')
+STATED = re.compile(r'(?:(?:abbrev|unfoldable|pub|record|data) )*([^\s(){}\[\]:;,]+)')
 EQUATION = re.compile(r'[^\s(){}\[\]:;,]+((?: [^\W\dA-Z]\w*)+) =\s')
 ARGUMENT = re.compile(r'(?<![\w.-])[^\W\d]\w*(?![\w-])')
 CONSTRUCTOR = re.compile(r'(?m)^ +(?:pub )?([^\s(){}\[\]:;,.]+) :')
@@ -63,6 +68,10 @@ def reached(crate: str) -> tuple[str, ...]:
 def files(*patterns: str) -> list[str]:
     found = {it for pattern in patterns for it in glob.glob(os.path.join(TOP, pattern), recursive=True)}
     return sorted(it for it in found if os.path.isfile(it))
+
+
+def crate_of(path: str) -> str:
+    return os.path.relpath(path, TOP).split(os.sep)[1]
 
 
 @cache
@@ -139,7 +148,9 @@ def items_of_block(path: str, block: str) -> list[Item]:
     head = next((it for it in block.split('\n') if not it.startswith('#')), '')
     of_type, named = IMPL.match(head), HEAD.match(head)
     if not of_type:
-        return [Item(path, named[1] if named else '', '', without_body(block, 0), block)]
+        # a trait is read as a whole, with the contracts of its functions
+        text = without_body(block, 0) if FUNCTION.match(head) else block
+        return [Item(path, named[1] if named else '', '', text, block)]
     inner = blocks_in(block[block.index(head) + len(head) + 1:].rpartition('\n')[0], 4)
     if ' for ' in head:
         return [Item(path, of_type[1], '', '\n'.join([head, *(without_body(it, 4) for it in inner)]), block)]
@@ -299,6 +310,15 @@ def meaning_in(path: str, text: str) -> Meaning:
     scope = {**scope_of(path), **imported_in(text)} if 'use Rattle.' in text else scope_of(path)
     text = IMPORT.sub('', text)
     declared: set[str] = set()
+
+    def read_cited(found: re.Match[str]) -> str:
+        crate = crate_of(path) if found[1] == 'crate' else found[1]
+        meaning = named(f'Rattle.{crate}.{found[2].replace("::", ".")}', found[3])
+        declared.update(meaning.declared)
+        return meaning.text
+
+    if is_code:
+        text = CITED.sub(read_cited, text)
 
     def read_as(found: re.Match[str]) -> str:
         first, dot, rest = found[0].partition('.')

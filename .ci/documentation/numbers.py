@@ -62,7 +62,20 @@ def table(sources: Sources) -> list[str]:
     rows["all"] = [sum(numbers) for numbers in zip(*rows.values())]
     lines = [f"| {' | '.join(COLUMNS)} |", "|---" + "|--:" * (len(COLUMNS) - 1) + "|"]
     lines += [f"| {name} | {' | '.join(f'{n:,}' for n in row)} |" for name, row in rows.items()]
-    return lines
+    return [*lines, "", tried(sources)]
+
+
+def tried(sources: Sources) -> str:
+    """Return how many planted edits stand refused, and how many wait."""
+    record = sources.text("planted.txt").splitlines()
+    waiting = sum(line.endswith(" untried") for line in record)
+    refused = len(record) - waiting
+    if not waiting:
+        return f"By `planted.txt` all {refused:,} edits in `planted/` were refused on these sources."
+    return (
+        f"By `planted.txt`, {refused:,} of the {len(record):,} edits in `planted/` were refused on"
+        f" these sources. The other {waiting:,} are marked `untried`."
+    )
 
 
 def numbers(sources: Sources) -> dict[str, int]:
