@@ -518,7 +518,7 @@ def test_a_close_that_cannot_be(say: Desk, tmp_path: Path, program: Path) -> Non
         "C1,CONC,MILL,env,1 %\n",
         "readings": "day,F1,T1,C1\n2024-04-01,100,90,10\n",
         "periods": "name,first,last\napr1,2024-04-01,2024-04-01\n",
-        "assays": "component,stream,period,grade,error\ncu,F1,apr1,90 %,2 %\ncu,T1,apr1,1 %,2 %\n",
+        "assays": "component,stream,period,grade,error\ncu,F1,apr1,90 %,1 %\ncu,T1,apr1,1 %,2 %\n",
     }.items():
         (month / f"{name}.csv").write_text(text, encoding="utf-8")
     assert say("book", "new", "2024", month, *books).status == 0
