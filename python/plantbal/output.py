@@ -182,7 +182,7 @@ class Output:
         """
         from plantbal.carried import impossible
 
-        return impossible(self.blocks_in_order)
+        return [str(each) for each in impossible(self.blocks_in_order)]
 
     def require(self) -> Output:
         """Return the output itself if it is ok.

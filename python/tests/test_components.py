@@ -2,6 +2,7 @@
 
 from __future__ import annotations
 
+import io
 import json
 import re
 import shutil
@@ -11,11 +12,13 @@ from pathlib import Path
 import pandas
 import pytest
 from conftest import Desk, Said, assert_refused, example, session_of, text_of
+from pages import read
 
 from plantbal import Session, run, solve
 from plantbal.cells import Reader
 from plantbal.faults import Fault, Refusal
 from plantbal.output import read_report
+from plantbal.page.command import page
 from plantbal.recovery import Balance, balances_of, products_of, together
 from plantbal.report import parse_rows
 from plantbal.workbook import Cell, Sheet
@@ -410,22 +413,36 @@ def test_book(say: Desk, tmp_path: Path, program: Path) -> None:
 
 
 FLOWS = ["96340887,96340885,96340890", "342960413,342960232,342960593"]  # of copper, of all
+# Two standard deviations of the concentrate's copper, by the variances of the measured copper of
+# feed, tailings and concentrate: of a sum of two that is measured too.
+FEED, TAILINGS, CONCENTRATE = 4693614270963, 143562862303, 232188462351
+ERROR = round(2 * (CONCENTRATE - CONCENTRATE**2 / (FEED + TAILINGS + CONCENTRATE)) ** 0.5)
+MOST = 342960593 + ERROR
 IMPOSSIBLE = [
-    (FLOWS[0], "342960594,342960593,342960595", ""),
-    (FLOWS[0], "342970887,342960594,342970890", "342.971 t of cu in 342.960 t, more than there is"),
-    (FLOWS[0], "-5000000,-5000002,-1", "-5.000 t of cu in 342.960 t, the other way than the stream"),
+    (FLOWS[0], f"{MOST + 1},{MOST},{MOST + 2}", ""),
+    (FLOWS[0], f"{MOST + 2},{MOST + 1},{MOST + 3}", "343.902 t of cu in 342.960 t, more"),
+    (FLOWS[0], f"{-ERROR - 1},{-ERROR - 2},{-ERROR}", ""),
+    (FLOWS[0], f"{-ERROR - 2},{-ERROR - 3},{-ERROR - 1}", "-0.941 t of cu in 342.960 t, the other"),
     (FLOWS[1], "-342960413,-342960593,-342960232", "96.341 t of cu in -342.960 t, the other way"),
     (FLOWS[1], "100,-100,96340900", ""),
 ]
 
 
-@pytest.mark.parametrize("old, new, said", IMPOSSIBLE, ids=[case[1] for case in IMPOSSIBLE])
-def test_what_cannot_be(say: Desk, tmp_path: Path, old: str, new: str, said: str) -> None:
-    """A stream can't carry more of a component than there is of it, nor the other way."""
+def with_flow(old: str, new: str) -> str:
+    """The shift's output with another flow of the concentrate, or of its copper."""
     head = r"(stream,CONCENTRATE,THICKENER,env,\d+,\d+,redundant),"
     text, count = re.subn(head + old, rf"\1,{new}", text_of(OUT), count=1)
     assert count == 1
-    (tmp_path / "out.csv").write_text(text)
+    return text
+
+
+@pytest.mark.parametrize("old, new, said", IMPOSSIBLE, ids=[case[1] for case in IMPOSSIBLE])
+def test_what_cannot_be(say: Desk, tmp_path: Path, old: str, new: str, said: str) -> None:
+    """A stream can't carry more of a component than there is of it, nor the other way.
+
+    What the error of the assays explains is possible: pure copper may be a little more than all.
+    """
+    (tmp_path / "out.csv").write_text(with_flow(old, new))
     found = read_report(tmp_path / "out.csv")
     assert found.ok == read_report(OUT).ok and not read_report(OUT).impossible
     assert len(found.impossible) == (1 if said else 0)
@@ -434,6 +451,26 @@ def test_what_cannot_be(say: Desk, tmp_path: Path, old: str, new: str, said: str
     if said:
         assert found.impossible[0].startswith(f"cu in jun03: CONCENTRATE carries {said}")
         assert found.impossible[0] in err
+
+
+def test_where_it_is_said(say: Desk, tmp_path: Path) -> None:
+    """The statement's verdict of the balance has it, and the fleet wants a person."""
+    said = "CONCENTRATE carries 351.204 t of cu in 342.960 t, more than there is of it"
+    out, program = tmp_path / "out.csv", tmp_path / "stub"
+    out.write_text(with_flow(FLOWS[0], "351204000,351203990,351204010"))
+    made = read(page(parse_rows("out", text_of(out)))).text
+    assert "but the flow of CONCENTRATE can't be" in made and f"{said}: look at the assays" in made
+    assert "can't be" not in read(page(parse_rows("out", text_of(OUT)))).text
+    program.write_text('#!/bin/sh\nread which\ncat "$which"\n')
+    program.chmod(0o755)
+    sessions = tmp_path / "sessions"
+    sessions.mkdir()
+    for name, output in (("bad", out), ("good", OUT)):
+        (sessions / f"{name}.csv").write_text(f"{output}\ncomponent,cu,jun03\n")
+    found = say("fleet", "--program", program, "--out", tmp_path / "nights", sessions)
+    assert found.status == 1 and f"bad, cu in jun03: {said}" in found.err
+    looks = pandas.read_csv(io.StringIO(found.out)).set_index(["site", "period"])["look"].dropna()
+    assert list(looks.index) == [("bad", "cu in jun03")] and looks.iloc[0].startswith(said)
 
 
 def test_a_mistyped_grade_in_a_book(say: Desk, tmp_path: Path, program: Path) -> None:
@@ -466,3 +503,30 @@ def test_a_mistyped_grade_in_a_book(say: Desk, tmp_path: Path, program: Path) ->
     assert say("book", "close", "apr1", "--anyway", "--book", books).status == 0
     said = add("0.8")
     assert (said.status, "apr1 is closed, so its assays stay as they are" in said.err) == (1, True)
+
+
+def test_a_close_that_cannot_be(say: Desk, tmp_path: Path, program: Path) -> None:
+    """A period isn't closed while a stream carries more of a component than there is of it.
+
+    Ninety per cent was typed for the feed's 0.9: 90 t of copper come in and 0.9 t go to tailings,
+    so that 89.1 t are left for 10 t of concentrate.
+    """
+    month, books = tmp_path / "month", ["--book", tmp_path / "books"]
+    month.mkdir()
+    for name, text in {
+        "streams": "tag,stream,from,to,error\nF1,FEED,env,MILL,1 %\nT1,TAILS,MILL,env,1 %\n"
+        "C1,CONC,MILL,env,1 %\n",
+        "readings": "day,F1,T1,C1\n2024-04-01,100,90,10\n",
+        "periods": "name,first,last\napr1,2024-04-01,2024-04-01\n",
+        "assays": "component,stream,period,grade,error\ncu,F1,apr1,90 %,1 %\ncu,T1,apr1,1 %,2 %\n",
+    }.items():
+        (month / f"{name}.csv").write_text(text, encoding="utf-8")
+    assert say("book", "new", "2024", month, *books).status == 0
+    assert say("book", "add", month, *books).status == 0
+    said = "cu in apr1: CONC carries 89.100 t of cu in 10.000 t, more than there is of it"
+    assert said in say("book", "report", "apr1", *books).out
+    found = say("book", "close", "apr1", *books)
+    assert found.status == 1 and said in found.out
+    assert "apr1 isn't closed: a stream carries more of a component than there is" in found.err
+    found = say("book", "close", "apr1", "--anyway", *books)
+    assert found.status == 0 and said in found.out and "apr1 is closed" in found.out

@@ -345,7 +345,7 @@ def test_cluster(
         monkeypatch.setattr("plantbal.fleet.by_dask._ANSWERS", 1)
         words = ["fleet", "--scheduler", cluster.scheduler_address, *words]
         assert "has no machine: start `dask-worker`" in say(*words).err
-        monkeypatch.setattr("plantbal.fleet.by_dask._ANSWERS", 30)
+        monkeypatch.setattr("plantbal.fleet.by_dask._ANSWERS", 120)
         worker = ["dask-worker", "--no-nanny", "--no-dashboard", "--nthreads", "8"]
         with subprocess.Popen(
             [*worker, cluster.scheduler_address], cwd="/", env=plain, stderr=subprocess.DEVNULL

@@ -117,6 +117,8 @@ def gather(night: Night, site: Site, kept: Kept, given: Given) -> Plant:
     except InputFault as fault:
         return failed(site, "unreadable", str(fault), run)
     plant = _of_rows(Told(site, rows))
+    if any(row["row"] == "component" for row in rows):
+        _of_components(plant, parse_rows(source, decoded(source, kept.output)))
     if run.status == 1 and not _FOUND & {row["row"] for row in rows}:
         plant.why.append("the program ended with status 1, and no row of its output says why")
     plant.rows = [
@@ -217,6 +219,17 @@ def _of_block(told: Told, block: Block) -> tuple[Row, list[str]]:
     if verdict == "reject" and suspects:
         said[-1] += f"; suspects are {', '.join(map(block.shown, suspects[:5]))}"
     return row, said
+
+
+def _of_components(plant: Plant, rows: list[Values]) -> None:
+    """Say which streams carry more of a component than there is of them."""
+    from plantbal.carried import impossible
+
+    try:
+        for found in impossible(blocks_of(rows)):
+            plant.why_of.setdefault(found.subject, []).append(found.said)
+    except InputFault as fault:
+        plant.why.append(str(fault))
 
 
 def _thousandths(text: str) -> str:

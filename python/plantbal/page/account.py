@@ -7,6 +7,7 @@ from dataclasses import dataclass, replace
 from decimal import Decimal
 from typing import TYPE_CHECKING
 
+from plantbal.carried import Impossible, impossible
 from plantbal.page.ledger import Asked, Dips, Ledger
 from plantbal.page.statement import (
     Account,
@@ -244,8 +245,9 @@ def account_of(
     for period in states:
         by_period.setdefault(period, [Report(period, [])])
     wanted = [each for each in findings if each.severity != "note"]
+    beyond = impossible(blocks_of(rows)) if worth else []
     statements = [
-        _statement(number, period, reports, edits, states, ledger, wanted)
+        _statement(number, period, reports, edits, states, ledger, wanted, beyond)
         for number, (period, reports) in enumerate(by_period.items())
     ]
     statements = [
@@ -282,6 +284,7 @@ def _statement(
     states: Mapping[str, str],
     ledger: Ledger | None,
     findings: Iterable[Finding],
+    beyond: Iterable[Impossible],
 ) -> Statement:
     """Return the statement of a period."""
     days, state, changes = None, states.get(period, ""), edits.get(period, [])
@@ -300,6 +303,12 @@ def _statement(
         have = "has" if len(names) == 1 else "have"
         what = f"{names_of(names, 2)} {have} no value" if names else "facts come after the report"
         said = said.but(what, [f"{each.text}." for each in wanted])
+    cant = [each for each in beyond if each.subject == period]
+    if cant:
+        names = [each.stream for each in cant]
+        flows = "the flow" if len(names) == 1 else "the flows"
+        what = f"{flows} of {names_of(names, 2)} can't be"
+        said = said.but(what, [f"{each.said}." for each in cant])
     return Statement(number, period, days, state, reports, changes, said)
 
 

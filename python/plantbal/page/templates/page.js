@@ -180,7 +180,7 @@ function drawNear(section, figure, name) {
     if (where && (!many || near)) {
       const [x, y] = where;
       labels.push({x, y, half});
-      group.append(make('text', {x, y: y - 2}, `${SIGNS[stream.kind] || ''} ${stream.name}`), make('text', {class: 'figure', x, y: y + 9}, stream.figure && `${stream.figure} t`));
+      group.append(make('text', {class: 'figure', x, y: y + 9}, stream.figure && `${stream.figure} t`), make('text', {x, y: y - 2}, `${SIGNS[stream.kind] || ''} ${stream.name}`));
     }
     return [size, group];
   });
