@@ -1,13 +1,14 @@
 // The records of a text: all of them in a list, or one at a time.
 
-ghost use Rattle.std.specs.Prelude.{◌≡◌, ◌<◌, ◌^◌, ◌≤◌, ◌∷◌, ◌++◌, [], length, slice_index_or, IfOk, OnOk, OnErr, IsTrue, ◌↔◌};
+ghost use Rattle.std.specs.Prelude.{◌≡◌, ◌<◌, ◌^◌, ◌≤◌, ◌∷◌, ◌++◌, [], length, slice_index_or, IfOk, OnOk, OnErr, IsTrue, ◌↔◌, false};
 ghost use Rattle.std.specs.Slice.Iter.{iter_rest};
 ghost use Rattle.csv.specs.Reading.{NotLengths, error_kind};
+ghost use Rattle.pb_rows.specs.InHand.{IsBetween, records_left};
 ghost use Rattle.pb_rows.specs.Records.{records_of};
 ghost use Rattle.pb_rows.specs.RecordsLeft.{FillsNext, TakesNext};
 
 use crate::row::Row;
-use csv::{Error, Reader, ReaderBuilder};
+use csv::{ByteRecord, Error, Reader, ReaderBuilder};
 use std::alloc::{AllocError, Global};
 use std::marker::Model;
 use std::slice::Iter;
@@ -40,13 +41,9 @@ impl<'a> Records<'a> {
         ensures at_most_bytes { length result.left ≤ length bytes.now }
     {
         count_fits(bytes);
-        let reader = ReaderBuilder::new()
-            .has_headers(false)
-            .flexible(true)
-            .from_reader(alloc, bytes);
         Records {
             alloc,
-            reader,
+            reader: reader_of(alloc, bytes),
             taken: 0,
             ended: false,
         }
@@ -187,6 +184,24 @@ impl Rows {
         ensures { result.now ≡ slice_index_or self.now i [] }
     {
         &self.rows[i]
+    }
+}
+
+// A reader of the records of bytes in memory. It has a header row without fields, since a reader without any keeps its first
+// record as one, in two copies more.
+fn reader_of(alloc: Global, bytes: &[u8]) -> Reader<&[u8]>
+    ensures stands { IsBetween result }
+    ensures records { records_left result false ≡ records_of bytes.now }
+{
+    let mut reader = ReaderBuilder::new()
+        .flexible(true)
+        .from_reader(alloc, bytes);
+    match reader.set_byte_headers(ByteRecord::new(alloc)) {
+        Ok(()) => reader,
+        Err(_) => ReaderBuilder::new()
+            .has_headers(false)
+            .flexible(true)
+            .from_reader(alloc, bytes),
     }
 }
 
