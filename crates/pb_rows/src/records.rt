@@ -1,9 +1,9 @@
 // The records of a text: all of them in a list, or one at a time.
 
-ghost use Rattle.std.specs.Prelude.{◌≡◌, ◌<◌, ◌^◌, ◌≤◌, ◌∷◌, ◌++◌, [], length, slice_index_or, IfOk, OnOk, OnErr, IsTrue, ◌↔◌, false};
+ghost use Rattle.std.specs.Prelude.{◌≡◌, ◌<◌, ◌^◌, ◌≤◌, ◌∷◌, ◌++◌, [], length, slice_index_or, IfOk, OnOk, OnErr, IsTrue, ◌↔◌, true, false};
 ghost use Rattle.std.specs.Slice.Iter.{iter_rest};
-ghost use Rattle.csv.specs.Reading.{NotLengths, error_kind};
-ghost use Rattle.pb_rows.specs.InHand.{IsBetween, records_left};
+ghost use Rattle.csv.specs.Reading.{NotLengths, Ready, error_kind, names_headers};
+ghost use Rattle.pb_rows.specs.InHand.{IsBetween, IsReady, ReadsFirst, records_left};
 ghost use Rattle.pb_rows.specs.Records.{records_of};
 ghost use Rattle.pb_rows.specs.RecordsLeft.{FillsNext, TakesNext};
 
@@ -41,9 +41,12 @@ impl<'a> Records<'a> {
         ensures at_most_bytes { length result.left ≤ length bytes.now }
     {
         count_fits(bytes);
+        let reader = ReaderBuilder::new()
+            .flexible(true)
+            .from_reader(alloc, bytes);
         Records {
             alloc,
-            reader: reader_of(alloc, bytes),
+            reader,
             taken: 0,
             ended: false,
         }
@@ -85,7 +88,7 @@ impl<'a> Records<'a> {
             row.clear();
             return Ok(false);
         }
-        match row.read(&mut self.reader) {
+        match read_next(self.alloc, &mut self.reader, self.taken == 0, row) {
             Ok(true) => {
                 self.taken += 1;
                 Ok(true)
@@ -98,7 +101,7 @@ impl<'a> Records<'a> {
             Err(error) => {
                 self.ended = true;
                 row.clear();
-                Err(out_of_memory(error))
+                Err(error)
             }
         }
     }
@@ -187,22 +190,39 @@ impl Rows {
     }
 }
 
-// A reader of the records of bytes in memory. It has a header row without fields, since a reader without any keeps its first
-// record as one, in two copies more.
-fn reader_of(alloc: Global, bytes: &[u8]) -> Reader<&[u8]>
-    ensures stands { IsBetween result }
-    ensures records { records_left result false ≡ records_of bytes.now }
+// Reads the next record of a reader into a row, and returns whether there was one. Before its first record the reader is given a
+// header row without fields: else it would keep that record as its header row, in two copies more.
+fn read_next(
+    alloc: Global,
+    reader: &mut Reader<&[u8]>,
+    first: bool,
+    row: &mut Row,
+) -> Result<bool, AllocError>
+    requires stands { IsBetween reader.old }
+    requires ready { IsReady first reader.old }
+    ensures reads { IfOk result (λ found. ReadsFirst reader.old reader.new found row.new) }
 {
-    let mut reader = ReaderBuilder::new()
-        .flexible(true)
-        .from_reader(alloc, bytes);
-    match reader.set_byte_headers(ByteRecord::new(alloc)) {
-        Ok(()) => reader,
-        Err(_) => ReaderBuilder::new()
-            .has_headers(false)
-            .flexible(true)
-            .from_reader(alloc, bytes),
+    if first {
+        give_header(alloc, reader)?;
     }
+    match row.read(reader) {
+        Ok(found) => Ok(found),
+        Err(error) => Err(out_of_memory(error)),
+    }
+}
+
+// Gives a reader a header row without fields, so that its next record is one like all others.
+fn give_header(alloc: Global, reader: &mut Reader<&[u8]>) -> Result<(), AllocError>
+    requires stands { IsBetween reader.old }
+    requires named { names_headers reader.old ≡ true }
+    ensures stands { OnOk result (IsBetween reader.new) }
+    ensures ready { OnOk result (Ready reader.new) }
+    ensures records { OnOk result
+        (records_left reader.new false ≡ records_left reader.old false) }
+{
+    reader
+        .set_byte_headers(ByteRecord::new(alloc))
+        .map_err(|_| AllocError)
 }
 
 // There are at most as many records as bytes, and the number of bytes fits in 64 bits, as their length shows.
