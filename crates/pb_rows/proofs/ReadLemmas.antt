@@ -174,11 +174,11 @@ record_read old new fields stands read first flexible =
         config = read.2 ∙ stands.config;
         trim = read.3 ∙ stands.trim;
         flexible = flexible ∙ stands.flexible;
-        ready = inl first;
         between = rw more.2.3.0 at leaves.0;
         bytes = more.0;
         unread = more.1;
       },
+      inl first,
       ap (records_in (reader_state old)) stands.unread ∙ records_more (reader_state old) stands.bytes p stands.between more.2.1
           ∙ follows p fields (reader_state new) more.0 (unread_by new) more.2.2 more.2.3.0 more.2.3.1 more.1,
     )
@@ -191,12 +191,12 @@ none_read old new fields stands read =
     rw stands.unread (records_none (reader_state old) stands.bytes none)
 
 -- what a read does to a reader of bytes in memory, if it succeeds
-pub reads_first : {E : Type 0} (old new : Reader (Bor (List ℕ))) (fields : List (List ℕ)) (r : Result Bool E) → IsBetween old
+pub reads_first : {E : Type 0} (old new : Reader (Bor (List ℕ))) (fields : List (List ℕ)) (r : Result Bool E) → IsBetween old → Ready old
     → IfOk r (λ found. (reader_trim old ≡ trim.None) → Ready old → ReadRecord (λ s. Some s.now) old new found fields)
     → OnOk r (took_first new ≡ true) → OnOk r (is_flexible new ≡ is_flexible old) → IfOk r (λ found. ReadsFirst old new found fields)
-reads_first old new fields (Ok true) stands reads first flexible = record_read old new fields stands (reads stands.trim stands.ready) first flexible
-reads_first old new fields (Ok false) stands reads first flexible = none_read old new fields stands (reads stands.trim stands.ready)
-reads_first old new fields (Err e) stands reads first flexible = tt
+reads_first old new fields (Ok true) stands ready reads first flexible = record_read old new fields stands (reads stands.trim ready) first flexible
+reads_first old new fields (Ok false) stands ready reads first flexible = none_read old new fields stands (reads stands.trim ready)
+reads_first old new fields (Err e) stands ready reads first flexible = tt
 
 -- a text without its byte order mark is no longer than it
 strip_bom_within : (bytes : List ℕ) → length (strip_bom bytes) ≤ length bytes

@@ -1,13 +1,14 @@
 // The records of a text: all of them in a list, or one at a time.
 
-ghost use Rattle.std.specs.Prelude.{◌≡◌, ◌<◌, ◌^◌, ◌≤◌, ◌∷◌, ◌++◌, [], length, slice_index_or, IfOk, OnOk, OnErr, IsTrue, ◌↔◌};
+ghost use Rattle.std.specs.Prelude.{◌≡◌, ◌<◌, ◌^◌, ◌≤◌, ◌∷◌, ◌++◌, [], length, slice_index_or, IfOk, OnOk, OnErr, IsTrue, ◌↔◌, true, false};
 ghost use Rattle.std.specs.Slice.Iter.{iter_rest};
-ghost use Rattle.csv.specs.Reading.{NotLengths, error_kind};
+ghost use Rattle.csv.specs.Reading.{NotLengths, Ready, error_kind, names_headers};
+ghost use Rattle.pb_rows.specs.InHand.{IsBetween, IsReady, ReadsFirst, records_left};
 ghost use Rattle.pb_rows.specs.Records.{records_of};
 ghost use Rattle.pb_rows.specs.RecordsLeft.{FillsNext, TakesNext};
 
 use crate::row::Row;
-use csv::{Error, Reader, ReaderBuilder};
+use csv::{ByteRecord, Error, Reader, ReaderBuilder};
 use std::alloc::{AllocError, Global};
 use std::marker::Model;
 use std::slice::Iter;
@@ -41,7 +42,6 @@ impl<'a> Records<'a> {
     {
         count_fits(bytes);
         let reader = ReaderBuilder::new()
-            .has_headers(false)
             .flexible(true)
             .from_reader(alloc, bytes);
         Records {
@@ -88,7 +88,7 @@ impl<'a> Records<'a> {
             row.clear();
             return Ok(false);
         }
-        match row.read(&mut self.reader) {
+        match read_next(self.alloc, &mut self.reader, self.taken == 0, row) {
             Ok(true) => {
                 self.taken += 1;
                 Ok(true)
@@ -101,7 +101,7 @@ impl<'a> Records<'a> {
             Err(error) => {
                 self.ended = true;
                 row.clear();
-                Err(out_of_memory(error))
+                Err(error)
             }
         }
     }
@@ -188,6 +188,41 @@ impl Rows {
     {
         &self.rows[i]
     }
+}
+
+// Reads the next record of a reader into a row, and returns whether there was one. Before its first record the reader is given a
+// header row without fields: else it would keep that record as its header row, in two copies more.
+fn read_next(
+    alloc: Global,
+    reader: &mut Reader<&[u8]>,
+    first: bool,
+    row: &mut Row,
+) -> Result<bool, AllocError>
+    requires stands { IsBetween reader.old }
+    requires ready { IsReady first reader.old }
+    ensures reads { IfOk result (λ found. ReadsFirst reader.old reader.new found row.new) }
+{
+    if first {
+        give_header(alloc, reader)?;
+    }
+    match row.read(reader) {
+        Ok(found) => Ok(found),
+        Err(error) => Err(out_of_memory(error)),
+    }
+}
+
+// Gives a reader a header row without fields, so that its next record is one like all others.
+fn give_header(alloc: Global, reader: &mut Reader<&[u8]>) -> Result<(), AllocError>
+    requires stands { IsBetween reader.old }
+    requires named { names_headers reader.old ≡ true }
+    ensures stands { OnOk result (IsBetween reader.new) }
+    ensures ready { OnOk result (Ready reader.new) }
+    ensures records { OnOk result
+        (records_left reader.new false ≡ records_left reader.old false) }
+{
+    reader
+        .set_byte_headers(ByteRecord::new(alloc))
+        .map_err(|_| AllocError)
 }
 
 // There are at most as many records as bytes, and the number of bytes fits in 64 bits, as their length shows.

@@ -1,7 +1,7 @@
 // A record: a list of fields, each a list of bytes.
 
 ghost use Rattle.std.specs.Prelude.{◌≡◌, ◌<◌, ◌≤◌, ◌∷◌, ◌++◌, [], length, map, min, take, slice_index_or, IfOk, IfErr, OnOk, OnErr, IsTrue, ◌↔◌};
-ghost use Rattle.csv.specs.Reading.{NotLengths, error_kind};
+ghost use Rattle.csv.specs.Reading.{NotLengths, Ready, error_kind};
 ghost use Rattle.csv.specs.Records.{fields_of, partial_of};
 ghost use Rattle.pb_rows.specs.InHand.{IsBetween, ReadsFirst};
 ghost use Rattle.pb_rows.specs.Number.{whole_text};
@@ -90,7 +90,8 @@ impl Row {
 
     // Takes the next record of a reader in place of the fields, and returns whether there was one.
     pub(crate) fn read(&mut self, reader: &mut Reader<&[u8]>) -> Result<bool, Error>
-        requires { IsBetween reader.old }
+        requires stands { IsBetween reader.old }
+        requires ready { Ready reader.old }
         ensures reads { IfOk result (λ found. ReadsFirst reader.old reader.new found self.new) }
         ensures refused { IfErr result (λ e. NotLengths (error_kind e)) }
     {

@@ -1,4 +1,4 @@
-use Rattle.std.proofs.Common.{◌≡◌, ◌∙◌, arith, refl, inr}
+use Rattle.std.proofs.Common.{◌≡◌, ◌∙◌, arith, refl}
 use Rattle.csv.specs.Reading.{reader_state, strip_bom}
 use Rattle.pb_rows.specs.InHand.{records_in, unread_by}
 use Rattle.pb_rows.specs.Records.{records_of}
@@ -8,21 +8,20 @@ use Rattle.pb_rows.proofs.records.Records.of.Goals as goal
 pub invariant_of-result : goal.invariant_of-result
 invariant_of-result c =
     let fr = c.from_reader-reader.ensures in
-    let named = c.has_headers.ensures in
     let even = c.flexible.ensures in
     let few = few_records_of c.args.bytes.now in
     let size = c.count_fits.ensures in
     let all : records_in (reader_state c.from_reader-reader.result) (unread_by c.from_reader-reader.result) ≡ records_of c.args.bytes.now = rw (fr.state, fr.source) refl in
     record {
       stands = λ _. record {
-        config = rw (even, named) at fr.config ∙ c.new.ensures.config;
-        trim = rw (even, named) at fr.trim ∙ c.new.ensures.trim;
+        config = rw even at fr.config ∙ c.new.ensures.config;
+        trim = rw even at fr.trim ∙ c.new.ensures.trim;
         flexible = rw even at fr.flexible;
-        ready = inr (inr (rw (even, named) at fr.has_headers, fr.headers));
         between = rw fr.state refl;
         bytes = strip_bom c.args.bytes.now;
         unread = fr.source;
       };
+      ready = λ _. rw even at fr.has_headers ∙ c.new.ensures.has_headers;
       few = rw all (omega (arith, few, size));
     }
 
