@@ -1,4 +1,4 @@
-"""docs/STATEMENT.md: what must be believed, from the contract of the call that `main` makes down."""
+"""docs/STATEMENT.md: what must be believed, from the contract of the call of `main` down."""
 
 from __future__ import annotations
 
@@ -356,7 +356,8 @@ def chapters(sources: Sources, page: Page) -> dict[str, list[Reached]]:
 
 def opening(sources: Sources, title: str) -> list[str]:
     """Return the paragraph of docs/DEFINITIONS.md with this title."""
-    found = re.search(rf"^\*\*{re.escape(title)}\.\*\* (.*?)\n\n", sources.text(OPENINGS), re.M | re.S)
+    head = rf"^\*\*{re.escape(title)}\.\*\* "
+    found = re.search(rf"{head}(.*?)\n\n", sources.text(OPENINGS), re.M | re.S)
     if not found:
         raise Unknown(f"{OPENINGS} has no paragraph '{title}'")
     return paragraph(found[1])
@@ -386,7 +387,7 @@ def heart(page: Page) -> list[str]:
 
 
 def file_of(page: Page, reached: Reached) -> list[str]:
-    """Return what a chapter shows of a file: its head and its definitions, except those in front."""
+    """Return what a chapter shows of a file: its head, and what of it isn't in front."""
     spec, definitions = reached
     head = re.sub(r"^-- (?:Statement\. |Inside\. )?", "", spec.head)
     in_front = [name for place, name in HEART if place == in_crate(spec)]
