@@ -1,4 +1,4 @@
-"""docs/STATEMENT.md: what must be believed, from the contract of the call that `main` makes down."""
+"""docs/STATEMENT.md: what must be believed, from the contract of the call of `main` down."""
 
 from __future__ import annotations
 
@@ -8,7 +8,7 @@ from collections.abc import Iterator
 from dataclasses import dataclass, field
 from functools import cache
 
-from .guide import anchor_of, contents_of
+from .guide import anchor_of
 from .rust import Function, functions_in, item_of, of_libraries
 from .sources import Definition, Imports, Sources, Spec, Unknown, imports
 
@@ -21,6 +21,17 @@ MADE_OF_ARGUMENTS = ("Words",)
 IN_WORDS = ".ci/documentation/clauses.md"
 # How the signs of the contract and of the definitions are read.
 SIGNS = ".ci/documentation/signs.md"
+# The definitions that stand in front of the chapters, each with its file.
+HEART = (
+    ("pb_session/Session", "IsSessionText"),
+    ("pb_book/Answer", "answer_of"),
+    ("pb_session/Session", "IsReport"),
+    ("pb_stage/Certified", "IsCertifiedStage"),
+)
+# The chapters by the questions of a reader, and the paragraphs with which they open.
+CHAPTERS = ".ci/documentation/chapters.txt"
+OPENINGS = "docs/DEFINITIONS.md"
+HEART_TITLE = "The heart of it"
 # What README.md promises beside the contract of the call: laws over the same words.
 LAWS = (
     "run_text_law",
@@ -312,25 +323,102 @@ def place_of(module: str) -> str:
     return f"`{crate}/{part}/{'/'.join(place)}.antt`"
 
 
-def chapters(sources: Sources, page: Page) -> list[tuple[str, list[Reached]]]:
-    """Return the files by the layers of their crates, the highest first."""
-    found = []
-    for layer, crates in reversed(sources.layers.items()):
-        files = [reached for reached in page.files if reached[0].crate in crates]
-        if files:
-            found.append((layer[0].upper() + layer[1:], files))
+def in_crate(spec: Spec) -> str:
+    """Return a file of definitions as the chapters name it: its crate, and its place there."""
+    return f"{spec.crate}/{spec.path.partition('/specs/')[2].removesuffix('.antt')}"
+
+
+def plan(sources: Sources) -> dict[str, list[str]]:
+    """Return the titles of the chapters, each with the crates and files that it names."""
+    found = {}
+    for block in re.sub(r"(?m)^#.*\n", "", sources.text(CHAPTERS)).strip().split("\n\n"):
+        title, _, names = block.partition("\n")
+        found[title] = names.split()
     return found
 
 
+def chapters(sources: Sources, page: Page) -> dict[str, list[Reached]]:
+    """Return the files of each chapter, in the order in which a reader meets them."""
+    named = {name: title for title, names in plan(sources).items() for name in names}
+    found: dict[str, list[Reached]] = {title: [] for title in plan(sources)}
+    used = set()
+    for reached in page.files:
+        spec = reached[0]
+        name = in_crate(spec) if in_crate(spec) in named else spec.crate
+        if name not in named:
+            raise Unknown(f"{CHAPTERS} has no chapter for {spec.path}")
+        found[named[name]].append(reached)
+        used.add(name)
+    if unused := sorted(set(named) - used):
+        raise Unknown(f"{CHAPTERS} names what isn't on the page: {', '.join(unused)}")
+    return found
+
+
+def opening(sources: Sources, title: str) -> list[str]:
+    """Return the paragraph of docs/DEFINITIONS.md with this title."""
+    head = rf"^\*\*{re.escape(title)}\.\*\* "
+    found = re.search(rf"{head}(.*?)\n\n", sources.text(OPENINGS), re.M | re.S)
+    if not found:
+        raise Unknown(f"{OPENINGS} has no paragraph '{title}'")
+    return paragraph(found[1])
+
+
 def in_words(sources: Sources, crates: set[str]) -> list[str]:
-    """Return a line on where docs/DEFINITIONS.md has crates in words, if it has them."""
-    headings = re.findall(r"^## (.*)$", sources.text("docs/DEFINITIONS.md"), re.M)
+    """Return a line on where docs/DEFINITIONS.md has more of crates in words."""
+    headings = re.findall(r"^## (.*)$", sources.text(OPENINGS), re.M)
     links = [
         f"[{re.sub(r' [(]`.*?`[)]', '', heading)}](DEFINITIONS.md{anchor_of(heading)})"
         for heading in headings
         if crates & set(re.findall(r"`(\w+)`", heading))
     ]
-    return ["", f"In words: {', '.join(links)}."] if links else []
+    return ["", *paragraph(f"More in words: {', '.join(links)}.")] if links else []
+
+
+def heart(page: Page) -> list[str]:
+    """Return the definitions that stand in front, each with its file."""
+    lines = []
+    for place, name in HEART:
+        found = [reached for reached in page.files if in_crate(reached[0]) == place]
+        if not found or name not in found[0][0].names:
+            raise Unknown(f"the page has no definition {name} of {place}")
+        spec = found[0][0]
+        lines += ["", f"In `{short(spec.path)}`:", "", *code_block("antt", spec.names[name].text)]
+    return lines
+
+
+def file_of(page: Page, reached: Reached) -> list[str]:
+    """Return what a chapter shows of a file: its head, and what of it isn't in front."""
+    spec, definitions = reached
+    head = re.sub(r"^-- (?:Statement\. |Inside\. )?", "", spec.head)
+    in_front = [name for place, name in HEART if place == in_crate(spec)]
+    lines = ["", f"### `{short(spec.path)}`", "", *([head, ""] if head else [])]
+    if in_front:
+        names = ", ".join(f"`{name}`" for name in in_front)
+        lines += [f"In front, in [{HEART_TITLE}]({anchor_of(HEART_TITLE)}): {names}.", ""]
+    lines += page.here(part_of(reached))
+    return lines + code_block(
+        "antt", "\n\n".join(it.text for it in definitions if it.name not in in_front)
+    )
+
+
+def contents(body: str) -> list[str]:
+    """Return the headings of a text as a list of links, those of files by their crates."""
+    lines: list[str] = []
+    crate = ""
+    for deep, title in re.findall(r"^##(#?) (.*)$", body, re.M):
+        link = f"[{title}]({anchor_of(title)})"
+        if not deep:
+            lines.append(f"- {link}")
+            crate = ""
+            continue
+        here, _, name = title.strip("`").removesuffix(".antt").partition("/specs/")
+        link = f"[{name}]({anchor_of(title)})"
+        if here == crate:
+            lines[-1] += f", {link}"
+        else:
+            lines.append(f"  - `{here}`: {link}")
+            crate = here
+    return lines
 
 
 def code_block(language: str, text: str) -> list[str]:
@@ -355,8 +443,13 @@ def shown(page: Page, parts: list[Part]) -> list[str]:
 def body_of(sources: Sources, page: Page) -> list[str]:
     """Return the page without its head."""
     lines = []
-    for text in (IN_WORDS, SIGNS):
-        lines += [*sources.text(text).rstrip().split("\n"), ""]
+    lines += [*sources.text(IN_WORDS).rstrip().split("\n"), "", f"## {HEART_TITLE}", ""]
+    lines += paragraph(
+        "Four definitions carry most of what is claimed: the text of a session, the answer to a"
+        " record, the report of a period, and what is promised of each of its stages. The chapters"
+        " below say what their words mean."
+    )
+    lines += [*heart(page), "", *sources.text(SIGNS).rstrip().split("\n"), ""]
     lines += [f"## The contract of `{TOP_CALL}`", "", f"In `{short(page.run.path)}`:", ""]
     lines += [*page.here(page.run), *code_block("rust", page.run.text), "", "## What it takes", ""]
     lines += paragraph(
@@ -376,14 +469,11 @@ def body_of(sources: Sources, page: Page) -> list[str]:
         " periods and plain rows."
     )
     lines += shown(page, page.laws)
-    for layer, files in chapters(sources, page):
-        lines += ["", f"## {layer}", *in_words(sources, {spec.crate for spec, _ in files})]
+    for title, files in chapters(sources, page).items():
+        lines += ["", f"## {title}", "", *opening(sources, title)]
+        lines += in_words(sources, {spec.crate for spec, _ in files})
         for reached in files:
-            spec, definitions = reached
-            head = re.sub(r"^-- (?:Statement\. |Inside\. )?", "", spec.head)
-            lines += ["", f"### `{short(spec.path)}`", "", *([head, ""] if head else [])]
-            lines += page.here(part_of(reached))
-            lines += code_block("antt", "\n\n".join(it.text for it in definitions))
+            lines += file_of(page, reached)
     lines += ["", "## Types of the code"]
     for path, text in page.reach.types:
         lines += ["", f"In `{short(path)}`:", "", *code_block("rust", text)]
@@ -408,9 +498,8 @@ def document(sources: Sources) -> str:
             f"The program is proved to meet the contract of `pb_cli::{TOP_CALL}`, and a few laws"
             " are proved as well. To accept these claims, a reader must believe that their words"
             f" mean what they should. This page has all of these words: {count} definitions in"
-            f" {len(page.files)} files, by the layers of their crates from the program down, and"
-            f" then the {len(page.reach.types)} types and constants of the code to which they"
-            " refer."
+            f" {len(page.files)} files, in chapters by the questions of a reader, and then the"
+            f" {len(page.reach.types)} types and constants of the code to which they refer."
             " Words that aren't here come from the toolchain's libraries:"
             f" {libraries}. Nothing else in the repository has to be read to know what is claimed:"
             " bodies, invariants, lemmas and the other contracts only serve to prove it."
@@ -418,7 +507,7 @@ def document(sources: Sources) -> str:
         "",
         "## Contents",
         "",
-        *contents_of("\n".join(body)),
+        *contents("\n".join(body)),
         "",
     ]
     return "\n".join([*head, *body]) + "\n"

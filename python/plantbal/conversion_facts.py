@@ -11,6 +11,7 @@ from decimal import Decimal
 from fractions import Fraction
 
 from plantbal.cells import GRADES, GRAMS, VOLUMES, Reader, rounded_down
+from plantbal.conversion_plant import Stream
 from plantbal.conversion_readings import Readings
 from plantbal.conversion_tables import Row
 from plantbal.faults import InputFault, Place
@@ -47,9 +48,7 @@ class Converter(Readings):
             if stream is None:
                 continue
             with self.kept():
-                density = self.reader.density(row["density"]) or stream.density
-                unit = self.reader.unit(row["unit"], GRAMS | VOLUMES, stream.unit or "t")
-                grams = self.reader.grams(row["amount"], unit, density, "amount")
+                density, grams = self._amount(row, stream)
                 error = self.reader.error(row["error"], density)
                 if day is not None:
                     self._book(stream, day, grams, error, row["amount"])
@@ -63,9 +62,7 @@ class Converter(Readings):
             if stream is None:
                 continue
             with self.kept():
-                density = self.reader.density(row["density"]) or stream.density
-                unit = self.reader.unit(row["unit"], GRAMS | VOLUMES, stream.unit or "t")
-                grams = self.reader.grams(row["amount"], unit, density, "amount")
+                density, grams = self._amount(row, stream)
                 if not self.reader.is_missing(row["error"]):
                     error = self.reader.error(row["error"], density)
                 elif stream.error is not None:
@@ -88,6 +85,12 @@ class Converter(Readings):
                 }
                 if self.put(["transfer", *fields, str(error.variance(grams))], cells):
                     self.tickets.append((first, last, row["id"]))
+
+    def _amount(self, row: Row, stream: Stream) -> tuple[Fraction | None, int]:
+        """Return the density of a row, or of its stream, and the row's amount in grams."""
+        density = self.reader.density(row["density"]) or stream.density
+        unit = self.reader.unit(row["unit"], GRAMS | VOLUMES, stream.unit or "t")
+        return density, self.reader.grams(row["amount"], unit, density, "amount")
 
     def read_dips(self) -> None:
         """Read the dips of tanks."""

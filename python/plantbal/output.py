@@ -348,16 +348,7 @@ class Output:
     @cached_property
     def classes(self) -> pandas.DataFrame:
         """The streams of designs; `design` is the number of the design, counted from 0."""
-        rows: list[Values] = []
-        designs: list[int] = []
-        number = -1
-        for row in self.rows:
-            if row["row"] == "design":
-                number += 1
-            elif row["row"] == "class":
-                rows.append(row)
-                designs.append(number)
-        return _frame("class", rows, {"design": designs})
+        return self._under("design", "class")
 
     @cached_property
     def advice(self) -> pandas.DataFrame:
@@ -366,16 +357,7 @@ class Output:
         `advice` is the number of the row, counted from 0; `parts` is the stream and the way back
         over streams that stay without a meter, none of which costs less.
         """
-        rows: list[Values] = []
-        numbers: list[int] = []
-        number = -1
-        for row in self.rows:
-            if row["row"] == "advise":
-                number += 1
-            elif row["row"] == "meter":
-                rows.append(row)
-                numbers.append(number)
-        return _frame("meter", rows, {"advice": numbers})
+        return self._under("advise", "meter", "advice")
 
     @cached_property
     def components(self) -> pandas.DataFrame:
@@ -452,6 +434,19 @@ class Output:
             else:
                 frame[name] = [float("nan") if t is None else float(t) for t in amounts]
         return frame.reset_index(drop=True)
+
+    def _under(self, head: str, kind: str, name: str = "") -> pandas.DataFrame:
+        """Return the rows of a kind, each with the number of the head that it follows, from 0."""
+        rows: list[Values] = []
+        numbers: list[int] = []
+        number = -1
+        for row in self.rows:
+            if row["row"] == head:
+                number += 1
+            elif row["row"] == kind:
+                rows.append(row)
+                numbers.append(number)
+        return _frame(kind, rows, {name or head: numbers})
 
     def _booked(self) -> pandas.DataFrame:
         """Return the flows to book and what belongs to them in tonnes, with standard deviations."""

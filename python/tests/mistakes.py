@@ -18,11 +18,11 @@ Edit = Callable[[bytes], bytes]
 
 @dataclass(frozen=True)
 class Mistake:
-    """A mistake: how it is made, and by what it is told.
+    """A mistake: how it is made, and what finds it.
 
     `refused` are the codes of the refused rows, `lint` those of errors and warnings of lint, `verdict`
     is that of the global test (`-` if there is no report), `suspects` says whether a measurement test
-    rejects. One that nothing tells, and that does harm, has the words of the guide for it.
+    rejects. One that nothing finds, and that does harm, has the words of the guide for it.
     """
 
     name: str
@@ -41,7 +41,7 @@ class Mistake:
 
     @property
     def is_told(self) -> bool:
-        """Whether anything tells it."""
+        """Whether anything finds it."""
         return bool(self.refused or self.lint or self.suspects or self.verdict == "reject")
 
 

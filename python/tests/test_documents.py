@@ -2,6 +2,7 @@
 
 from __future__ import annotations
 
+import re
 from collections.abc import Callable
 
 import pytest
@@ -180,3 +181,38 @@ def test_functions_of_code() -> None:
     assert add.parameters == [("one", "(u8, T)"), ("_two", "&[T]")]
     assert add.body is not None and add.body.strip() == 'self.put("", one)'
     assert (law.called, law.contract.strip(), law.body) == ("one_law", "ensures { OneLaw }", "")
+
+
+def chapters_with(old: str, new: str) -> Sources:
+    """Sources in which the list of chapters has another text in one place."""
+    text = SAME.text(statement.CHAPTERS)
+    assert text.count(old) == 1
+    return Sources({statement.CHAPTERS: text.replace(old, new)})
+
+
+def test_page_is_in_chapters_with_their_paragraphs() -> None:
+    page = statement.document(SAME)
+    titles = list(statement.plan(SAME))
+    heads = [f"\n## {title}\n\n" for title in ("The heart of it", *titles)]
+    places = [page.index(head) for head in heads]
+    assert places == sorted(places) and len(titles) == 8
+    words = " ".join(page.split())
+    for title in titles:
+        assert f"## {title} {' '.join(' '.join(statement.opening(SAME, title)).split())}" in words
+    for _, name in statement.HEART:
+        front, rest = page[: places[1]], page[places[1] :]
+        defined = re.compile(rf"^(?:abbrev |pub |record )+{name}\b", re.M)
+        assert defined.search(front) and not defined.search(rest)
+
+
+@pytest.mark.parametrize(
+    "old, new, said",
+    [
+        (" pb_io ", " ", "no chapter for crates/pb_io/specs/"),
+        (" pb_io ", " pb_io pb_nowhere ", "names what isn't on the page: pb_nowhere"),
+        ("What a check says\n", "What else\n", "has no paragraph 'What else'"),
+    ],
+)
+def test_a_file_without_a_chapter_is_told(old: str, new: str, said: str) -> None:
+    with pytest.raises(SystemExit, match=said):
+        statement.document(chapters_with(old, new))

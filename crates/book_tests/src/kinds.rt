@@ -44,15 +44,43 @@ fn is_written(
 }
 
 /// Rows of version 1.
-const ROWS: &[u8] =
-    b"unit,U\ntank,T,1\nstrap,T,100000,1000000000000\nstream,S,U,env,metered,10000000000000000000\nstream,S,U,env,batch,1\nstream,S,U,env,plain,0\nperiod,p,1900-01-01,2199-12-31\ncritical,global,2000,0\ncritical,nodal,3841\ncritical,measure,1000000000000\nreading,r1,S,2024-02-29,-10000000000000,0\ntransfer,t1,S,2024-12-31,2025-01-01,5,10000000000000000000\ndip,d1,T,1970-01-01,0,20000000,7\nlate,reading,r1,S,2024-02-29,10000000000000,0\nlate,transfer,t1,S,2024-12-31,2025-01-01,5,1\nlate,dip,d1,T,1969-12-31,0,1,7\namend,r1,-1,2,typed wrong\namend,d1,0,1,2,\"a meter, read late\"\nstrike,r1,~\nclose,p\nassay,cu,S,p,1000000,0\nassay,p,T,cu,0,100000000\n";
+const ROWS: &[u8] = b"\
+unit,U
+tank,T,1
+strap,T,100000,1000000000000
+stream,S,U,env,metered,10000000000000000000
+stream,S,U,env,batch,1
+stream,S,U,env,plain,0
+period,p,1900-01-01,2199-12-31
+critical,global,2000,0
+critical,nodal,3841
+critical,measure,1000000000000
+reading,r1,S,2024-02-29,-10000000000000,0
+transfer,t1,S,2024-12-31,2025-01-01,5,10000000000000000000
+dip,d1,T,1970-01-01,0,20000000,7
+late,reading,r1,S,2024-02-29,10000000000000,0
+late,transfer,t1,S,2024-12-31,2025-01-01,5,1
+late,dip,d1,T,1969-12-31,0,1,7
+amend,r1,-1,2,typed wrong
+amend,d1,0,1,2,\"a meter, read late\"
+strike,r1,~
+close,p
+assay,cu,S,p,1000000,0
+assay,p,T,cu,0,100000000
+";
 
 /// Rows that begin a session of either version.
 const FIRST_ROWS: &[u8] = b"version,2\nunit,U\nassay,cu,S,p,31000,2\n";
 
 /// Rows of version 2.
-const ROWS_OF_VERSION_2: &[u8] =
-    b"boundary,PORT\ntank,T,1,2024-03-02,2199-12-31\nstream,S,U,PORT,metered,1,1900-01-01,2024-03-01\nstream,S,U,PORT,batch,7,2024-03-01,2024-03-01\nstream,S,U,PORT,plain,0,2024-03-01,2024-02-29\nassay,cu,S,p,31000,2\n";
+const ROWS_OF_VERSION_2: &[u8] = b"\
+boundary,PORT
+tank,T,1,2024-03-02,2199-12-31
+stream,S,U,PORT,metered,1,1900-01-01,2024-03-01
+stream,S,U,PORT,batch,7,2024-03-01,2024-03-01
+stream,S,U,PORT,plain,0,2024-03-01,2024-02-29
+assay,cu,S,p,31000,2
+";
 
 #[test]
 fn writes_what_it_reads(rt: HostRuntime) -> Result<(), Fail> {

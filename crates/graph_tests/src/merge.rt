@@ -3,18 +3,10 @@
 ghost use Rattle.std.specs.Prelude.{◌≤◌};
 ghost use Rattle.pb_limits.specs.Limits.{most_nodes};
 
-use pb_graph::{Groups, Meas, Stream};
+use pb_graph::{Groups, Stream};
 use std::alloc::{AllocError, Global};
 use std::process::Abort;
-use test_graphs::{UNFIT, graph_of, stream};
-
-fn plain(from: u32, to: u32) -> Stream {
-    stream(from, to, None)
-}
-
-fn metered(from: u32, to: u32, variance: i128) -> Stream {
-    stream(from, to, Some(Meas { value: 0, variance }))
-}
+use test_graphs::{UNFIT, graph_of, metered, plain};
 
 /// The number of each node's group, and for each group its least node, whether it is free, and its variance.
 fn check(rt: &impl Abort, groups: &Groups, numbers: &[u32], rows: &[(u32, bool, i128)]) {
@@ -52,15 +44,15 @@ fn groups_are(
 /// A part separate from the environment, a meter beside a plain stream, and streams that join groups in any order.
 #[test]
 fn groups(rt: HostRuntime) -> Result<(), AllocError> {
-    let apart = [metered(1, 2, 1), metered(2, 1, 1)];
-    let beside = [plain(1, 2), metered(1, 2, 1)];
+    let apart = [metered(1, 2, 0, 1), metered(2, 1, 0, 1)];
+    let beside = [plain(1, 2), metered(1, 2, 0, 1)];
     let mixed = [
         plain(3, 5),
-        metered(0, 3, 7),
+        metered(0, 3, 0, 7),
         plain(4, 2),
-        metered(1, 5, 11),
+        metered(1, 5, 0, 11),
         plain(2, 5),
-        metered(3, 4, 100),
+        metered(3, 4, 0, 100),
     ];
     let alloc = rt.alloc();
     let parts = [(0, false, 0), (1, true, 2), (2, true, 2)];

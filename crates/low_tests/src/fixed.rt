@@ -111,7 +111,7 @@ fn roots(rt: HostRuntime) {
 #[test]
 fn roots_rounded_up(rt: HostRuntime) {
     for (n, ceil) in [(0, 0), (1, 1), (2, 2), (4, 2), (5, 3), (1 << 126, 1 << 63)] {
-        assert!(rt; n <= 1 << 126);
+        assert!(rt; n <= 1 << 126, "{n}");
         assert_eq!(rt; root_ceil(n), ceil, "{n}");
     }
 }

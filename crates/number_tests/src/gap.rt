@@ -83,9 +83,9 @@ fn bounds_of(
 ) -> Option<Bounds>
     requires { solver.now.graph ≡ g.now }
 {
-    assert!(rt; stream < g.len());
-    assert!(rt; g.stream(stream).meas.is_some());
-    assert!(rt; sign == 1 || sign == -1);
+    assert!(rt; stream < g.len(), "stream {stream}");
+    assert!(rt; g.stream(stream).meas.is_some(), "stream {stream}");
+    assert!(rt; sign == 1 || sign == -1, "stream {stream}");
     let members = [Member { stream, sign }];
     Some(if least {
         solver.least(&members)

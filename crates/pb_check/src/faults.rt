@@ -22,7 +22,7 @@ pub enum Test {
     Freedom,
     /// The numbers of the gap are those of the flows and the prices.
     Gap,
-    /// The state is converged exactly when the gap is met, and there are no more sweeps than were allowed.
+    /// The state is converged, after no more sweeps than were allowed, if the gap is met; unconverged, after all of them, if it isn't.
     State,
     /// The bounds are those of the prices, the gap and the certificate.
     Bounds,

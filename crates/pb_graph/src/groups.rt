@@ -1,6 +1,7 @@
 // The groups of the nodes of a graph.
 
 ghost use Rattle.std.specs.Prelude.{◌≡◌, ℕ, ◌<◌, ◌≤◌, false, pos, ◌≤ℤ◌, length, get_or, IfOk};
+ghost use Rattle.pb_graph.specs.ProcessGraph.{IsProcessGraph};
 ghost use Rattle.pb_graph.specs.Groups.{group_at, group_count};
 ghost use Rattle.pb_graph.specs.Variance.{most_group_variance};
 ghost use Rattle.pb_graph.specs.Grouping.{AreGroupsOf, least_at};
@@ -45,7 +46,8 @@ impl Model for Groups {
 impl Groups {
     /// The groups of a graph.
     pub fn of(alloc: Global, graph: &Graph) -> Result<Groups, AllocError>
-        ensures { IfOk result (AreGroupsOf graph.now) }
+        ensures limits { IsProcessGraph graph.now }
+        ensures groups { IfOk result (AreGroupsOf graph.now) }
     {
         let parts = unmeasured_parts(alloc, graph.nodes(), graph.streams())?;
         let Numbers { group, least } = number_all(alloc, parts.labels())?;

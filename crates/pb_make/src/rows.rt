@@ -86,7 +86,8 @@ pub fn write_unit(text: &mut Vec<u8>, i: u32) -> Result<(), AllocError>
 
 /// Appends the row of the stream with this number.
 pub fn write_stream(text: &mut Vec<u8>, i: u32, stream: &MadeStream) -> Result<(), AllocError>
-    ensures ok { OnOk result (AddsLine text.old.items text.new.items (made_stream_row i stream.now)) }
+    ensures ok { OnOk result
+        (AddsLine text.old.items text.new.items (made_stream_row i stream.now)) }
 {
     let alloc = *text.allocator();
     let name = numbered(alloc, b's', i)?;

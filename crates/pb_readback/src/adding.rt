@@ -51,7 +51,8 @@ impl Draft {
     pub(crate) fn read(&mut self, alloc: Global, row: &Row) -> Result<Option<RowFault>, AllocError>
         requires { IsUnderWay self.old }
         ensures fault { IfOk result (λ fault. fault ≡ fault_behind self.old row.now) }
-        ensures told { IfOk result (λ fault. fault ≡ None → self.new ≡ draft_with_row self.old row.now) }
+        ensures told { IfOk result
+            (λ fault. fault ≡ None → self.new ≡ draft_with_row self.old row.now) }
     {
         let fields = Fields::all(row);
         match kind_among(self.kinds_next(), &fields) {

@@ -158,6 +158,5 @@ pub fn nodal_tests(
     ensures numbers { IfOk result (All IsNodalNumber) }
 {
     let groups = Groups::of(alloc, graph)?;
-    let _nodes = graph.nodes();
     free_tests(alloc, graph, &groups, critical)
 }

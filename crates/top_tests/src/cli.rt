@@ -11,11 +11,30 @@ use std::alloc::{AllocError, Global};
 use std::process::Abort;
 
 /// The session of two meters that disagree, and its report, with tests.
-const TWO_METERS: &str =
-    "unit,U\nstream,A,env,U,metered,1\nstream,B,U,env,metered,1\nperiod,d1,2024-03-01,2024-03-01\ncritical,global,1,3841\nreading,r1,A,2024-03-01,102000000,999999999999\nreading,r2,B,2024-03-01,100000000,999999999999\nreport,d1\n";
+const TWO_METERS: &str = "\
+unit,U
+stream,A,env,U,metered,1
+stream,B,U,env,metered,1
+period,d1,2024-03-01,2024-03-01
+critical,global,1,3841
+reading,r1,A,2024-03-01,102000000,999999999999
+reading,r2,B,2024-03-01,100000000,999999999999
+report,d1
+";
 
-const REPORT: &str =
-    "report,d1,0,2,2,10,5000\nnode,env,0\nnode,U,-72057594038\nstream,A,env,U,102000000,1000000000000,redundant,101000000,100999997,101000002,100999998,101000001,cut,env,-A +B\nstream,B,U,env,100000000,1000000000000,redundant,101000000,100999998,101000003,100999999,101000002,cut,U,+A -B\nsolved,1,converged,2,0,1,1999,2000\nglobal,3841,accept\nnodal,U,2000000,2000000000000,,nocritical\nmeasure,A,1999,2000,,nocritical\nmeasure,B,1999,2000,,nocritical\nend,d1,0\n";
+const REPORT: &str = "\
+report,d1,0,2,2,10,5000
+node,env,0
+node,U,-72057594038
+stream,A,env,U,102000000,1000000000000,redundant,101000000,100999997,101000002,100999998,101000001,cut,env,-A +B
+stream,B,U,env,100000000,1000000000000,redundant,101000000,100999998,101000003,100999999,101000002,cut,U,+A -B
+solved,1,converged,2,0,1,1999,2000
+global,3841,accept
+nodal,U,2000000,2000000000000,,nocritical
+measure,A,1999,2000,,nocritical
+measure,B,1999,2000,,nocritical
+end,d1,0
+";
 
 /// How a run over ends in memory goes: its words, the most bytes of a take and of a put, the number of the take and of the put that fails,
 /// counted from 1 (0 for none), and how many bytes there is room for.

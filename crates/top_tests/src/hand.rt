@@ -73,8 +73,14 @@ const CLASSES: &[u8] =
     b"design,2,2\nclass,P,U,env,no,unobservable,cycle,,+R -P\nclass,R,U,env,no,unobservable,cycle,,+R -P\n";
 
 /// The report of a unit with one unmeasured stream.
-const REPORT: &str =
-    "report,d1,0,2,1,10,5000\nnode,env,0\nnode,U,0\nstream,A,U,env,,,observable,0,0,0,0,0,cut,U,-A\nsolved,0,converged,0,0,0,0,0\nend,d1,0\n";
+const REPORT: &str = "\
+report,d1,0,2,1,10,5000
+node,env,0
+node,U,0
+stream,A,U,env,,,observable,0,0,0,0,0,cut,U,-A
+solved,0,converged,0,0,0,0,0
+end,d1,0
+";
 
 #[test]
 fn takes_bytes_in_hand(rt: HostRuntime) -> Result<(), AllocError> {

@@ -13,5 +13,5 @@ returns-clause-numbers c =
     let grouping = c.in_ok-groups.groups in
     IfOk-weaker c.free_tests.result (λ (tests : List NodalTest). tests ≡ nodal_tests_below grouping.group g.streams c.args.critical (group_count grouping.group))
     (λ (tests : List NodalTest). All IsNodalNumber tests)
-    (λ tests is. nodal_range g c.args.critical tests c.nodes-nodes.ensures.limits (record { group = grouping.group; groups = c.in_ok-groups.ensures.groups; tested = is }))
+    (λ tests is. nodal_range g c.args.critical tests c.in_ok-groups.ensures.limits (record { group = grouping.group; groups = c.in_ok-groups.ensures.groups.groups; tested = is }))
     c.free_tests.ensures.value

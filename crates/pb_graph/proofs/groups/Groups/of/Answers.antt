@@ -56,5 +56,5 @@ made c =
 pub invariant_of-result : goal.invariant_of-result
 invariant_of-result c = made_grouping c.args.graph.now c.in_ok-parts.parts _ (made c)
 
-pub returns : goal.returns
-returns c = let front = (goal.at.returns c).In_ok-free in made_groups c.args.graph.now c.in_ok-parts.parts _ (made front)
+pub returns-clause-groups : goal.returns-clause-groups
+returns-clause-groups c = let front = (goal.at.returns-clause-groups c).In_ok-free in made_groups c.args.graph.now c.in_ok-parts.parts _ (made front)
