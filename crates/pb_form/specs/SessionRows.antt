@@ -1,6 +1,7 @@
 -- Statement. The rows of a session: the columns of each kind.
 use Prim.Native.String.{String}
-use Rattle.std.specs.Prelude.{ℕ, ◌^◌, Bool, true, false, List, [], ◌∷◌, ◌++◌, Option, Some, None, Result, Ok, Err, filter, map, slice_get}
+use Rattle.std.specs.Prelude.{ℕ, ◌^◌, Bool, true, false, List, [], ◌∷◌, ◌++◌, Result, Ok, Err, filter, map, slice_get}
+use Rattle.std.specs.Option.{ok_or}
 use Rattle.pb_limits.specs.Limits.{most_critical, most_density, most_freedom, most_grade, most_grade_variance, most_grams, most_level, most_row_variance, most_volume}
 use Rattle.pb_form.specs.Columns.{Column, Schema, column, row, word_column}
 use Rattle.pb_form.specs.Holds.{Holds, Name, Reason, Date, either_way, from_one, from_zero}
@@ -147,14 +148,9 @@ kinds_of_version_1 = filter is_of_version_1 session_kinds
 abbrev pub kinds_of_version_2 : List SessionKind
 kinds_of_version_2 = filter is_of_version_2 session_kinds
 
--- the kind at a place among some kinds
-abbrev pub kind_at : Option SessionKind → Result SessionKind FormFault
-kind_at (Some kind) = Ok kind
-kind_at None = Err fault.Kind
-
 -- the kind, among some kinds, whose schema a row is of
 abbrev pub kind_in : List SessionKind → Result ℕ FormFault → Result SessionKind FormFault
-kind_in kinds (Ok place) = kind_at (slice_get kinds place)
+kind_in kinds (Ok place) = ok_or (slice_get kinds place) fault.Kind
 kind_in kinds (Err fault) = Err fault
 
 -- The kind of a row of a session that has rows of these kinds, or why it has none.
