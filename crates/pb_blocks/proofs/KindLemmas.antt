@@ -1,12 +1,13 @@
 -- The kind of a row among one.
 use denote.Enum.Bare.{sameb}
 use Rattle.std.specs.Prelude.{◌||◌, not, is_ok, position, if◌then◌else◌}
+use Rattle.std.specs.Option.{ok_or}
 use Rattle.std.proofs.Common.{◌≡◌, ℕ, Bool, true, false, List, [], ◌∷◌, length, Some, None, Result, Err, refl, sym, inl, inr}
 use Rattle.std.proofs.lemmas.Bool.{and_parts, cases_Bool}
 use Rattle.pb_form.specs.contracts.fault.FormFault.{the_type}
 use Rattle.pb_form.specs.Columns.{Schema}
 use Rattle.pb_form.specs.Reading.{has_count}
-use Rattle.pb_form.specs.Telling.{agrees, has_words, is_of, schema_told, told_at}
+use Rattle.pb_form.specs.Telling.{agrees, has_words, is_of, schema_told, untold}
 use Rattle.pb_form.specs.declared.fault.FormFault.{FormFault}
 use Rattle.pb_form.specs.declared.fault.FormFault.TheVariants as form
 
@@ -21,7 +22,7 @@ alone test x = elim (cases_Bool (test x)) [
 pub told_alone : (schema : Schema) (row : List (List ℕ)) → is_ok (schema_told (schema ∷ []) row) ≡ is_of row schema
 told_alone schema row = rw (alone (is_of row) schema) (by (is_of row schema))
   where
-    by : (b : Bool) → is_ok (told_at (schema ∷ []) row (if b then Some 0 else None)) ≡ b
+    by : (b : Bool) → is_ok {T = ℕ} (ok_or (if b then Some 0 else None) (untold (schema ∷ []) row)) ≡ b
     by true = refl
     by false = refl
 

@@ -7,7 +7,7 @@ use Rattle.std.proofs.lemmas.Bool.Decides.{nat_tests}
 use Rattle.std.proofs.lemmas.Int.{ints}
 use Rattle.pb_rows.specs.Name.{is_name}
 use Rattle.pb_rows.specs.Number.{number, within}
-use Rattle.pb_form.specs.Columns.{Column, Schema, column, optional}
+use Rattle.pb_form.specs.Columns.{Column, Schema}
 use Rattle.pb_form.specs.Field.{field_read, formed, found}
 use Rattle.pb_form.specs.Holds.{Name as NameColumn, Number as NumberColumn, Word as WordColumn}
 use Rattle.pb_form.specs.OutputRows.{output_columns, output_schema}
@@ -122,27 +122,27 @@ says_in : (kind : OutputKind) (row : List (List ℕ)) (values : List Value) (pla
 says_in kind row values place asked read has = says_at (output_columns kind) row values place asked (are_read (output_schema kind) row values read) has
 
 pub number_read : (kind : OutputKind) (row : List (List ℕ)) (values : List Value) (place : ℕ) (key : List ℕ) (lo hi : ℤ)
-    → row_read (output_schema kind) row ≡ Ok values → HasColumn kind place (column key (NumberColumn lo hi)) → LiesWithin lo hi (number_at values place)
+    → row_read (output_schema kind) row ≡ Ok values → HasColumn kind place (record { key = key; holds = NumberColumn lo hi; optional = false }) → LiesWithin lo hi (number_at values place)
 number_read kind row values place key lo hi read has =
-    let here = says_in kind row values place (column key (NumberColumn lo hi)) read has in
+    let here = says_in kind row values place (record { key = key; holds = NumberColumn lo hi; optional = false }) read has in
     rw (here.at) (number_says lo hi (number (field row place)) here.value here.says)
 
 pub optional_read : (kind : OutputKind) (row : List (List ℕ)) (values : List Value) (place : ℕ) (key : List ℕ) (lo hi : ℤ)
-    → row_read (output_schema kind) row ≡ Ok values → HasColumn kind place (optional key (NumberColumn lo hi)) → IfSome (optional_at values place) (LiesWithin lo hi)
+    → row_read (output_schema kind) row ≡ Ok values → HasColumn kind place (record { key = key; holds = NumberColumn lo hi; optional = true }) → IfSome (optional_at values place) (LiesWithin lo hi)
 optional_read kind row values place key lo hi read has =
-    let here = says_in kind row values place (optional key (NumberColumn lo hi)) read has in
+    let here = says_in kind row values place (record { key = key; holds = NumberColumn lo hi; optional = true }) read has in
     rw (here.at) (optional_says lo hi (length (field row place) == 0) (number (field row place)) here.value here.says)
 
 pub word_read : (kind : OutputKind) (row : List (List ℕ)) (values : List Value) (place : ℕ) (key : List ℕ) (words : List (List ℕ))
-    → row_read (output_schema kind) row ≡ Ok values → HasColumn kind place (column key (WordColumn words)) → optional_at values place ≡ None
+    → row_read (output_schema kind) row ≡ Ok values → HasColumn kind place (record { key = key; holds = WordColumn words; optional = false }) → optional_at values place ≡ None
 word_read kind row values place key words read has =
-    let here = says_in kind row values place (column key (WordColumn words)) read has in
+    let here = says_in kind row values place (record { key = key; holds = WordColumn words; optional = false }) read has in
     rw (here.at) (word_says (position (bytes_eq (field row place)) words) here.value here.says)
 
 pub name_read : (kind : OutputKind) (row : List (List ℕ)) (values : List Value) (place : ℕ) (key : List ℕ) → row_read (output_schema kind) row ≡ Ok values
-    → HasColumn kind place (column key NameColumn) → is_name (field row place) ≡ true
+    → HasColumn kind place (record { key = key; holds = NameColumn; optional = false }) → is_name (field row place) ≡ true
 name_read kind row values place key read has =
-    let here = says_in kind row values place (column key NameColumn) read has in
+    let here = says_in kind row values place (record { key = key; holds = NameColumn; optional = false }) read has in
     name_says (field row place) here.value here.says
 
 pub row_read_holds : RowReadLaw

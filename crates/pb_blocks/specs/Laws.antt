@@ -1,7 +1,7 @@
 -- Statement. What a row that was read says fits its columns.
-use Rattle.std.specs.Prelude.{◌≡◌, ◌≤ℤ◌, ℕ, ℤ, true, List, Some, Ok, IfSome, slice_get}
+use Rattle.std.specs.Prelude.{◌≡◌, ◌≤ℤ◌, ℕ, ℤ, true, false, List, Some, Ok, IfSome, slice_get}
 use Rattle.pb_rows.specs.Name.{is_name}
-use Rattle.pb_form.specs.Columns.{Column, column, optional}
+use Rattle.pb_form.specs.Columns.{Column}
 use Rattle.pb_form.specs.Holds.{Name, Number}
 use Rattle.pb_form.specs.OutputRows.{output_columns, output_schema}
 use Rattle.pb_form.specs.Reading.{row_read}
@@ -21,11 +21,11 @@ HasColumn kind place column = slice_get (output_columns kind) place ≡ Some col
 -- The numbers of a row that was read lie in the ranges of their columns, and its names have the form of names.
 pub record RowReadLaw : Type 0 where
   pub numbers : (kind : OutputKind) (row : List (List ℕ)) (values : List Value) (place : ℕ) (key : List ℕ) (lo hi : ℤ)
-      → row_read (output_schema kind) row ≡ Ok values → HasColumn kind place (column key (Number lo hi))
+      → row_read (output_schema kind) row ≡ Ok values → HasColumn kind place (record { key = key; holds = Number lo hi; optional = false })
       → LiesWithin lo hi (number_at values place)
   pub optionals : (kind : OutputKind) (row : List (List ℕ)) (values : List Value) (place : ℕ) (key : List ℕ) (lo hi : ℤ)
-      → row_read (output_schema kind) row ≡ Ok values → HasColumn kind place (optional key (Number lo hi))
+      → row_read (output_schema kind) row ≡ Ok values → HasColumn kind place (record { key = key; holds = Number lo hi; optional = true })
       → IfSome (optional_at values place) (LiesWithin lo hi)
   pub names : (kind : OutputKind) (row : List (List ℕ)) (values : List Value) (place : ℕ) (key : List ℕ)
-      → row_read (output_schema kind) row ≡ Ok values → HasColumn kind place (column key Name)
+      → row_read (output_schema kind) row ≡ Ok values → HasColumn kind place (record { key = key; holds = Name; optional = false })
       → is_name (field row place) ≡ true

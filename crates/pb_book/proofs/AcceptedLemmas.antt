@@ -13,7 +13,8 @@ use Rattle.pb_form.specs.declared.fault.FormFault.{FormFault}
 use Rattle.pb_kinds.specs.declared.rows.Request.{Request}
 use Rattle.pb_kinds.specs.declared.rows.Request.TheVariants as asked
 use Rattle.pb_book.specs.Accepted.{AreAccepted, IsAcceptable}
-use Rattle.pb_book.specs.Answer.{Answer, advise_or_refused, after, after_answer, answer_if, answer_to, component_or_refused, history_or_refused, report_or_refused, stored_or_refused}
+use Rattle.pb_book.specs.Answer.{Answer, after, after_answer, answer_if, answer_to, component_or_refused, Says, Stores, if_known, unless_refused}
+use Rattle.pb_book.specs.declared.answer.Accepted.TheVariants as answered
 use Rattle.pb_book.specs.Assays.{has_assay}
 use Rattle.pb_kinds.specs.Costs.{named_costs}
 use Rattle.pb_kinds.specs.Laws.{StoredLaw}
@@ -54,20 +55,20 @@ accepted_more rows stored right fine i row is = elim (cases_lt i (length rows)) 
 
 -- the rows after a request
 stored_then : (rows : List StoredRow) (at : ℕ) (effect : Effect) → AreAccepted rows → IsEffectInRange effect → may_do (version_at rows) effect ≡ true → (cause : Option Refused)
-    → refusal_of rows effect ≡ cause → AreAccepted (after_answer rows at (stored_or_refused effect cause))
+    → refusal_of rows effect ≡ cause → AreAccepted (after_answer rows at (unless_refused (Stores effect) cause))
 stored_then rows at effect right range may (Some cause) is = right
 stored_then rows at effect right range may None is =
     accepted_more rows (record { at = at; effect = effect }) right (record { no_cause = is; in_range = range; may = may })
 
-reported : (rows : List StoredRow) (at : ℕ) → AreAccepted rows → (place : Option ℕ) → AreAccepted (after_answer rows at (report_or_refused place))
+reported : (rows : List StoredRow) (at : ℕ) → AreAccepted rows → (place : Option ℕ) → AreAccepted (after_answer rows at (if_known answered.Report place))
 reported rows at right (Some place) = right
 reported rows at right None = right
 
-told : (rows : List StoredRow) (at : ℕ) → AreAccepted rows → (place : Option ℕ) → AreAccepted (after_answer rows at (history_or_refused place))
+told : (rows : List StoredRow) (at : ℕ) → AreAccepted rows → (place : Option ℕ) → AreAccepted (after_answer rows at (if_known answered.History place))
 told rows at right (Some place) = right
 told rows at right None = right
 
-advised : (rows : List StoredRow) (at : ℕ) → AreAccepted rows → (cause : Option Refused) → AreAccepted (after_answer rows at (advise_or_refused cause))
+advised : (rows : List StoredRow) (at : ℕ) → AreAccepted rows → (cause : Option Refused) → AreAccepted (after_answer rows at (unless_refused (Says answered.Advise) cause))
 advised rows at right (Some cause) = right
 advised rows at right None = right
 

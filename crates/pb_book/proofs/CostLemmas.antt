@@ -22,7 +22,8 @@ use Rattle.pb_kinds.specs.Requests.{request_in}
 use Rattle.pb_book.specs.declared.answer.Accepted.TheVariants.{Advise}
 use Rattle.pb_book.specs.declared.answer.Refused.{Refused}
 use Rattle.pb_book.specs.declared.rows.StoredRow.{StoredRow}
-use Rattle.pb_book.specs.Answer.{Answer, Says, answer_if, component_or_refused, history_or_refused, report_or_refused, stored_or_refused}
+use Rattle.pb_book.specs.Answer.{Answer, Says, answer_if, component_or_refused, Stores, if_known, unless_refused}
+use Rattle.pb_book.specs.declared.answer.Accepted.TheVariants as answered
 use Rattle.pb_book.specs.Assays.{has_assay}
 use Rattle.pb_book.specs.Costs.{cost_after, cost_named, cost_of_arc, cost_of_kind, is_cost_of, names_twice}
 use Rattle.pb_book.specs.Laws.{MeterCostsLaw}
@@ -32,15 +33,15 @@ use Rattle.pb_book.proofs.WindowAnswerLemmas.{by_window}
 
 -- ---- a record that is accepted as one that asks for advice asks for it
 
-no_store : (effect : Effect) (cause : Option Refused) → stored_or_refused effect cause ≡ Says Advise → ⊥
+no_store : (effect : Effect) (cause : Option Refused) → unless_refused (Stores effect) cause ≡ Says Advise → ⊥
 no_store effect (Some cause) is = cc is
 no_store effect None is = cc is
 
-no_report : (place : Option ℕ) → report_or_refused place ≡ Says Advise → ⊥
+no_report : (place : Option ℕ) → if_known answered.Report place ≡ Says Advise → ⊥
 no_report (Some place) is = cc is
 no_report None is = cc is
 
-no_history : (place : Option ℕ) → history_or_refused place ≡ Says Advise → ⊥
+no_history : (place : Option ℕ) → if_known answered.History place ≡ Says Advise → ⊥
 no_history (Some place) is = cc is
 no_history None is = cc is
 

@@ -28,7 +28,8 @@ use Rattle.pb_book.specs.declared.answer.Accepted.TheVariants.{Component}
 use Rattle.pb_book.specs.declared.answer.Refused.{Refused}
 use Rattle.pb_periods.specs.declared.period.Period.{Period}
 use Rattle.pb_book.specs.declared.rows.StoredRow.{StoredRow}
-use Rattle.pb_book.specs.Answer.{Answer, Says, advise_or_refused, after, after_answer, answer_if, answer_of, component_or_refused, history_or_refused, report_or_refused, stored_or_refused}
+use Rattle.pb_book.specs.Answer.{Answer, Says, after, after_answer, answer_if, answer_of, component_or_refused, Stores, if_known, unless_refused}
+use Rattle.pb_book.specs.declared.answer.Accepted.TheVariants as answered
 use Rattle.pb_periods.specs.Apart.{is_named}
 use Rattle.pb_book.specs.Assays.{assay_by, assays_of, has_assay}
 use Rattle.pb_facts.specs.Assays.{is_assay_of, is_assay_over}
@@ -47,19 +48,19 @@ IsNamedRow stored = list_all is_name (effect_names stored.effect) ≡ true
 after_named : StoredLaw → (rows : List StoredRow) (at : ℕ) (fields : List (List ℕ)) → HaveWellFormedNames rows → HaveWellFormedNames (after rows at fields)
 after_named law rows at fields named = by (request_in (version_at rows) fields) (λ effect is. law.named (version_at rows) fields effect is)
   where
-    stored_then : (effect : Effect) → list_all is_name (effect_names effect) ≡ true → (cause : Option Refused) → HaveWellFormedNames (after_answer rows at (stored_or_refused effect cause))
+    stored_then : (effect : Effect) → list_all is_name (effect_names effect) ≡ true → (cause : Option Refused) → HaveWellFormedNames (after_answer rows at (unless_refused (Stores effect) cause))
     stored_then effect is (Some cause) = named
     stored_then effect is None = All-push IsNamedRow rows (record { at = at; effect = effect }) named is
 
-    reported : (place : Option ℕ) → HaveWellFormedNames (after_answer rows at (report_or_refused place))
+    reported : (place : Option ℕ) → HaveWellFormedNames (after_answer rows at (if_known answered.Report place))
     reported (Some place) = named
     reported None = named
 
-    told : (place : Option ℕ) → HaveWellFormedNames (after_answer rows at (history_or_refused place))
+    told : (place : Option ℕ) → HaveWellFormedNames (after_answer rows at (if_known answered.History place))
     told (Some place) = named
     told None = named
 
-    advised : (cause : Option Refused) → HaveWellFormedNames (after_answer rows at (advise_or_refused cause))
+    advised : (cause : Option Refused) → HaveWellFormedNames (after_answer rows at (unless_refused (Says answered.Advise) cause))
     advised (Some cause) = named
     advised None = named
 
@@ -215,19 +216,19 @@ assayed_named component period (assay ∷ assays) all some = elim (cases_Bool (i
 ]
 
 -- so does a component whose balance is answered
-no_store : (effect : Effect) (cause : Option Refused) (component : List ℕ) (period : ℕ) → stored_or_refused effect cause ≡ Says (Component component period) → ⊥
+no_store : (effect : Effect) (cause : Option Refused) (component : List ℕ) (period : ℕ) → unless_refused (Stores effect) cause ≡ Says (Component component period) → ⊥
 no_store effect (Some cause) component period is = cc is
 no_store effect None component period is = cc is
 
-no_report : (place : Option ℕ) (component : List ℕ) (period : ℕ) → report_or_refused place ≡ Says (Component component period) → ⊥
+no_report : (place : Option ℕ) (component : List ℕ) (period : ℕ) → if_known answered.Report place ≡ Says (Component component period) → ⊥
 no_report (Some place) component period is = cc is
 no_report None component period is = cc is
 
-no_history : (place : Option ℕ) (component : List ℕ) (period : ℕ) → history_or_refused place ≡ Says (Component component period) → ⊥
+no_history : (place : Option ℕ) (component : List ℕ) (period : ℕ) → if_known answered.History place ≡ Says (Component component period) → ⊥
 no_history (Some place) component period is = cc is
 no_history None component period is = cc is
 
-no_advice : (cause : Option Refused) (component : List ℕ) (period : ℕ) → advise_or_refused cause ≡ Says (Component component period) → ⊥
+no_advice : (cause : Option Refused) (component : List ℕ) (period : ℕ) → unless_refused (Says answered.Advise) cause ≡ Says (Component component period) → ⊥
 no_advice (Some cause) component period is = cc is
 no_advice None component period is = cc is
 

@@ -16,7 +16,7 @@ use Rattle.pb_kinds.specs.declared.rows.Request.TheVariants as asked
 use Rattle.pb_kinds.specs.Costs.{named_costs}
 use Rattle.pb_kinds.specs.Requests.{asked_by, declares, request_in}
 use Rattle.pb_book.specs.declared.rows.StoredRow.{StoredRow}
-use Rattle.pb_book.specs.Answer.{answer_if, stored_or_refused}
+use Rattle.pb_book.specs.Answer.{answer_if, Stores, unless_refused}
 use Rattle.pb_book.specs.Assays.{assays_of}
 use Rattle.pb_book.specs.Refusals.{refusal_behind}
 use Rattle.pb_book.specs.Rows.{declared_of, facts_of, periods_of}
@@ -28,7 +28,7 @@ same_answer : (rows : List StoredRow) (costs : List NamedCost) (request : Result
 same_answer rows costs (Err fault) one = refl
 same_answer rows costs (Ok asked.Blank) one = refl
 same_answer rows costs (Ok (asked.Store effect)) one =
-    ap (λ (version : Version). stored_or_refused effect (refusal_behind version (declared_of rows) (facts_of rows) (periods_of rows) (assays_of rows) effect)) one
+    ap (λ (version : Version). unless_refused (Stores effect) (refusal_behind version (declared_of rows) (facts_of rows) (periods_of rows) (assays_of rows) effect)) one
 same_answer rows costs (Ok asked.Design) one = refl
 same_answer rows costs (Ok (asked.Report name)) one = refl
 same_answer rows costs (Ok (asked.History name)) one = refl

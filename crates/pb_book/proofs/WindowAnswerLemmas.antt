@@ -12,7 +12,8 @@ use Rattle.pb_book.specs.declared.answer.Accepted.TheVariants.{Window}
 use Rattle.pb_book.specs.declared.answer.Refused.{Refused}
 use Rattle.pb_periods.specs.declared.period.Period.{Period}
 use Rattle.pb_book.specs.declared.rows.StoredRow.{StoredRow}
-use Rattle.pb_book.specs.Answer.{Answer, Refuses, Says, advise_or_refused, answer_if, component_or_refused, history_or_refused, report_or_refused, stored_or_refused, window_or_refused, window_unless}
+use Rattle.pb_book.specs.Answer.{Answer, Refuses, Says, answer_if, component_or_refused, window_or_refused, Stores, if_known, unless_refused}
+use Rattle.pb_book.specs.declared.answer.Accepted.TheVariants as answered
 use Rattle.pb_book.specs.Assays.{has_assay}
 use Rattle.pb_book.specs.Costs.{refusal_of_costs}
 use Rattle.pb_book.specs.Laws.{AskedWindowLaw}
@@ -23,7 +24,7 @@ use Rattle.pb_book.specs.Windows.{IsWindowAsked, refusal_of_ends, refusal_of_win
 -- ---- a window is refused, or asked for
 
 unless : (P : Answer → Type 0) → ((cause : Refused) → P (Refuses cause)) → (first last : ℕ) → P (Says (Window first last)) → (cause : Option Refused)
-    → P (window_unless first last cause)
+    → P (unless_refused (Says (answered.Window first last)) cause)
 unless P refused first last says (Some cause) = refused cause
 unless P refused first last says None = says
 
@@ -36,19 +37,19 @@ by_window P refused says rows None other = refused _
 
 -- ---- a window that is asked for
 
-no_store : (effect : Effect) (cause : Option Refused) (first last : ℕ) → stored_or_refused effect cause ≡ Says (Window first last) → ⊥
+no_store : (effect : Effect) (cause : Option Refused) (first last : ℕ) → unless_refused (Stores effect) cause ≡ Says (Window first last) → ⊥
 no_store effect (Some cause) first last is = cc is
 no_store effect None first last is = cc is
 
-no_report : (place : Option ℕ) (first last : ℕ) → report_or_refused place ≡ Says (Window first last) → ⊥
+no_report : (place : Option ℕ) (first last : ℕ) → if_known answered.Report place ≡ Says (Window first last) → ⊥
 no_report (Some place) first last is = cc is
 no_report None first last is = cc is
 
-no_history : (place : Option ℕ) (first last : ℕ) → history_or_refused place ≡ Says (Window first last) → ⊥
+no_history : (place : Option ℕ) (first last : ℕ) → if_known answered.History place ≡ Says (Window first last) → ⊥
 no_history (Some place) first last is = cc is
 no_history None first last is = cc is
 
-no_advice : (cause : Option Refused) (first last : ℕ) → advise_or_refused cause ≡ Says (Window first last) → ⊥
+no_advice : (cause : Option Refused) (first last : ℕ) → unless_refused (Says answered.Advise) cause ≡ Says (Window first last) → ⊥
 no_advice (Some cause) first last is = cc is
 no_advice None first last is = cc is
 
@@ -64,7 +65,7 @@ ends_of rows first last (Some one) (Some other) begins ends none = record { one 
 ends_of rows first last (Some one) None begins ends none = cc none
 ends_of rows first last None other begins ends none = cc none
 
-unless_asked : (rows : List StoredRow) (i k first last : ℕ) (cause : Option Refused) → refusal_of_window rows i k ≡ cause → window_unless i k cause ≡ Says (Window first last)
+unless_asked : (rows : List StoredRow) (i k first last : ℕ) (cause : Option Refused) → refusal_of_window rows i k ≡ cause → unless_refused (Says (answered.Window i k)) cause ≡ Says (Window first last)
     → IsWindowAsked rows first last
 unless_asked rows i k first last (Some cause) is says = cc says
 unless_asked rows i k first last None is says =

@@ -51,34 +51,19 @@ pub data Answer : Type 0 where
   Stores : Effect → Answer
   Says : Accepted → Answer
 
--- a row is refused if there is a cause, and otherwise joins the stored rows
-abbrev pub stored_or_refused : Effect → Option Refused → Answer
-stored_or_refused effect (Some cause) = Refuses cause
-stored_or_refused effect None = Stores effect
+-- this answer, unless there is a cause to refuse the record
+abbrev pub unless_refused : Answer → Option Refused → Answer
+unless_refused answer (Some cause) = Refuses cause
+unless_refused answer None = answer
 
--- a report is refused unless its period exists
-abbrev pub report_or_refused : Option ℕ → Answer
-report_or_refused (Some period) = Says (Report period)
-report_or_refused None = Refuses Unknown
-
--- so is a history
-abbrev pub history_or_refused : Option ℕ → Answer
-history_or_refused (Some period) = Says (History period)
-history_or_refused None = Refuses Unknown
-
--- advice is refused if there is a cause to refuse its costs
-abbrev pub advise_or_refused : Option Refused → Answer
-advise_or_refused (Some cause) = Refuses cause
-advise_or_refused None = Says Advise
-
--- a window is refused if there is a cause
-abbrev pub window_unless : ℕ → ℕ → Option Refused → Answer
-window_unless first last (Some cause) = Refuses cause
-window_unless first last None = Says (Window first last)
+-- what the book says of a period, by its place; a record that names no period is refused
+abbrev pub if_known : (ℕ → Accepted) → Option ℕ → Answer
+if_known accepted (Some period) = Says (accepted period)
+if_known accepted None = Refuses Unknown
 
 -- a window is refused unless its first and last periods exist
 abbrev pub window_or_refused : List StoredRow → Option ℕ → Option ℕ → Answer
-window_or_refused rows (Some first) (Some last) = window_unless first last (refusal_of_window rows first last)
+window_or_refused rows (Some first) (Some last) = unless_refused (Says (Window first last)) (refusal_of_window rows first last)
 window_or_refused rows first last = Refuses Unknown
 
 -- the balance of a component over a period is refused unless the period exists and there is an assay of the component over it
@@ -89,11 +74,11 @@ component_or_refused component assayed period = Refuses Unknown
 -- the answer to a request, given the costs that its record names
 abbrev pub answer_to : List StoredRow → List NamedCost → Request → Answer
 answer_to rows costs asked.Blank = Says Blank
-answer_to rows costs (asked.Store effect) = stored_or_refused effect (refusal_of rows effect)
+answer_to rows costs (asked.Store effect) = unless_refused (Stores effect) (refusal_of rows effect)
 answer_to rows costs asked.Design = Says Design
-answer_to rows costs (asked.Report period) = report_or_refused (period_place rows period)
-answer_to rows costs (asked.History period) = history_or_refused (period_place rows period)
-answer_to rows costs asked.Advise = advise_or_refused (refusal_of_costs (declared_of rows) costs)
+answer_to rows costs (asked.Report period) = if_known Report (period_place rows period)
+answer_to rows costs (asked.History period) = if_known History (period_place rows period)
+answer_to rows costs asked.Advise = unless_refused (Says Advise) (refusal_of_costs (declared_of rows) costs)
 answer_to rows costs (asked.Window first last) = window_or_refused rows (period_place rows first) (period_place rows last)
 answer_to rows costs (asked.Component component period) =
     component_or_refused component (has_assay rows component period) (period_place rows period)

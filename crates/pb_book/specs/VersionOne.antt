@@ -13,7 +13,7 @@ use Rattle.pb_kinds.specs.Costs.{named_costs}
 use Rattle.pb_kinds.specs.Requests.{request_in}
 use Rattle.pb_book.specs.declared.answer.Refused.{Refused}
 use Rattle.pb_book.specs.declared.rows.StoredRow.{StoredRow}
-use Rattle.pb_book.specs.Answer.{Answer, Refuses, Stores, answer_of, answer_to, cause_of, stored_or_refused}
+use Rattle.pb_book.specs.Answer.{Answer, Refuses, Stores, answer_of, answer_to, cause_of, unless_refused}
 use Rattle.pb_book.specs.Assays.{assays_of}
 use Rattle.pb_book.specs.Refusals.{refusal_behind}
 use Rattle.pb_book.specs.Rows.{declared_of, facts_of, periods_of}
@@ -24,7 +24,7 @@ first_refusal_of rows effect = refusal_behind One (declared_of rows) (facts_of r
 
 -- the answer to a request, or to a record that has a fault, as in a session of version 1
 abbrev pub first_answer_to : List StoredRow → List NamedCost → Request → Answer
-first_answer_to rows costs (Store effect) = stored_or_refused effect (first_refusal_of rows effect)
+first_answer_to rows costs (Store effect) = unless_refused (Stores effect) (first_refusal_of rows effect)
 first_answer_to rows costs request = answer_to rows costs request
 
 abbrev pub first_answer_if : List StoredRow → List NamedCost → Result Request FormFault → Answer

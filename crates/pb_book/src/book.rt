@@ -15,7 +15,8 @@ ghost use Rattle.pb_kinds.specs.Versions.{may_ask, may_do};
 ghost use Rattle.pb_book.specs.declared.answer.Accepted.TheVariants.{Advise, Stored};
 ghost use Rattle.pb_book.specs.declared.answer.NotAccepted.TheVariants.{NoMemory};
 ghost use Rattle.pb_book.specs.Accepted.{AreAccepted, AreInTables, IsAcceptable};
-ghost use Rattle.pb_book.specs.Answer.{Says, advise_or_refused, after, after_answer, answer_of, answer_to, component_or_refused, said_of, stored_or_refused, window_or_refused, window_unless};
+ghost use Rattle.pb_book.specs.Answer.{Says, after, after_answer, answer_of, answer_to, component_or_refused, said_of, window_or_refused, Stores, unless_refused};
+ghost use Rattle.pb_book.specs.declared.answer.Accepted.TheVariants as answered;
 ghost use Rattle.pb_periods.specs.Apart.{AreApart};
 ghost use Rattle.pb_book.specs.Assays.{assays_of, grade_of, has_assay};
 ghost use Rattle.pb_book.specs.Costs.{meter_costs, refusal_of_costs};
@@ -405,7 +406,8 @@ impl Book {
         requires first { first < length (periods_of self.now) }
         requires last { last < length (periods_of self.now) }
         ensures { result ≢ Err NoMemory → result
-            ≡ said_of (window_unless first last (refusal_of_window self.now first last)) }
+            ≡ said_of (unless_refused (Says (answered.Window first last))
+            (refusal_of_window self.now first last)) }
     {
         let alloc = *self.places.allocator();
         let (one, other) = (self.periods.at(first), self.periods.at(last));
@@ -434,7 +436,7 @@ impl Book {
     // Accepts the request for advice, or returns why the costs that a record names are refused.
     fn advise(&self, row: &Row) -> Result<Accepted, NotAccepted>
         requires { request_in (version_at self.now) row.now ≡ Ok Request.Advise }
-        ensures { result ≢ Err NoMemory → result ≡ said_of (advise_or_refused
+        ensures { result ≢ Err NoMemory → result ≡ said_of (unless_refused (Says answered.Advise)
             (refusal_of_costs (declared_of self.now) (named_costs row.now))) }
     {
         let named = NamedCosts::of(row);
@@ -448,11 +450,11 @@ impl Book {
     fn store(&mut self, at: u32, effect: &Effect) -> Result<Accepted, NotAccepted>
         requires in_range { IsEffectInRange effect.now }
         requires may { may_do (version_at self.old) effect.now ≡ true }
-        ensures answer { result ≢ Err NoMemory
-            → result ≡ said_of (stored_or_refused effect.now (refusal_of self.old effect.now)) }
+        ensures answer { result ≢ Err NoMemory → result
+            ≡ said_of (unless_refused (Stores effect.now) (refusal_of self.old effect.now)) }
         ensures stored { result ≢ Err NoMemory → self.new
             ≡ after_answer self.old at
-            (stored_or_refused effect.now (refusal_of self.old effect.now)) }
+            (unless_refused (Stores effect.now) (refusal_of self.old effect.now)) }
         ensures unchanged { result ≡ Err NoMemory → self.new ≡ self.old }
         ensures no_repeats { result ≡ Ok Stored → NoRepeats (facts_of self.new) }
     {

@@ -6,7 +6,6 @@ use Rattle.pb_study.specs.declared.results.Stage.{Stage}
 use Rattle.pb_check.specs.declared.faults.Test.{Test}
 use Rattle.pb_check.specs.declared.faults.Test.TheVariants.{Class, Witness, Balance, Price, Box, Freedom, Gap, State, Bounds, Statistic, Nodal, Verdict, Least}
 use Rattle.pb_check.specs.declared.faults.Fault.{Fault}
-use Rattle.pb_check.specs.Asked.{HaveClasses, AreShown, AreEven, AreGroupPrices, AreInBox, IsFreedom}
 use Rattle.pb_check.specs.Verdict.{test_code, Passes, Fails, IsPassed, IsFirstFault}
 use Rattle.pb_check.specs.Among.{IsAmong}
 
@@ -111,22 +110,22 @@ pub first_failed : (stage : Stage) (gap sweeps : ℕ) (test : Test) (fault : Fau
 first_failed stage gap sweeps test fault among = record { before = λ other less. among.3 other (code_least other) less; fails = among.2 }
 
 -- ---- the first six
-pub after_1 : (stage : Stage) (gap sweeps : ℕ) → HaveClasses stage → IsAmong stage gap sweeps 1 1 None
+pub after_1 : (stage : Stage) (gap sweeps : ℕ) → Passes stage gap sweeps Class → IsAmong stage gap sweeps 1 1 None
 after_1 stage gap sweeps passes = passed stage gap sweeps 1 0 Class refl (none_yet stage gap sweeps) passes
 
-pub after_2 : (stage : Stage) (gap sweeps : ℕ) → HaveClasses stage → AreShown stage → IsAmong stage gap sweeps 1 2 None
+pub after_2 : (stage : Stage) (gap sweeps : ℕ) → Passes stage gap sweeps Class → Passes stage gap sweeps Witness → IsAmong stage gap sweeps 1 2 None
 after_2 stage gap sweeps one passes = passed stage gap sweeps 1 1 Witness refl (after_1 stage gap sweeps one) passes
 
-pub after_3 : (stage : Stage) (gap sweeps : ℕ) → HaveClasses stage → AreShown stage → AreEven stage → IsAmong stage gap sweeps 1 3 None
+pub after_3 : (stage : Stage) (gap sweeps : ℕ) → Passes stage gap sweeps Class → Passes stage gap sweeps Witness → Passes stage gap sweeps Balance → IsAmong stage gap sweeps 1 3 None
 after_3 stage gap sweeps one two passes = passed stage gap sweeps 1 2 Balance refl (after_2 stage gap sweeps one two) passes
 
-pub after_4 : (stage : Stage) (gap sweeps : ℕ) → HaveClasses stage → AreShown stage → AreEven stage → AreGroupPrices stage → IsAmong stage gap sweeps 1 4 None
+pub after_4 : (stage : Stage) (gap sweeps : ℕ) → Passes stage gap sweeps Class → Passes stage gap sweeps Witness → Passes stage gap sweeps Balance → Passes stage gap sweeps Price → IsAmong stage gap sweeps 1 4 None
 after_4 stage gap sweeps one two three passes = passed stage gap sweeps 1 3 Price refl (after_3 stage gap sweeps one two three) passes
 
-pub after_5 : (stage : Stage) (gap sweeps : ℕ) → HaveClasses stage → AreShown stage → AreEven stage → AreGroupPrices stage → AreInBox stage
+pub after_5 : (stage : Stage) (gap sweeps : ℕ) → Passes stage gap sweeps Class → Passes stage gap sweeps Witness → Passes stage gap sweeps Balance → Passes stage gap sweeps Price → Passes stage gap sweeps Box
     → IsAmong stage gap sweeps 1 5 None
 after_5 stage gap sweeps one two three four passes = passed stage gap sweeps 1 4 Box refl (after_4 stage gap sweeps one two three four) passes
 
-pub after_6 : (stage : Stage) (gap sweeps : ℕ) → HaveClasses stage → AreShown stage → AreEven stage → AreGroupPrices stage → AreInBox stage → IsFreedom stage
+pub after_6 : (stage : Stage) (gap sweeps : ℕ) → Passes stage gap sweeps Class → Passes stage gap sweeps Witness → Passes stage gap sweeps Balance → Passes stage gap sweeps Price → Passes stage gap sweeps Box → Passes stage gap sweeps Freedom
     → IsAmong stage gap sweeps 1 6 None
 after_6 stage gap sweeps one two three four five passes = passed stage gap sweeps 1 5 Freedom refl (after_5 stage gap sweeps one two three four five) passes

@@ -1,6 +1,6 @@
 -- The box of a measured stream, by how much the prices at its ends differ.
 use Rattle.std.proofs.Common.{◌≡◌, ◌∙◌, ℕ, ◌<◌, ◌≤◌, ℤ, pos, negsuc, ◌-ℤ◌, ◌*ℤ◌, ◌≤ℤ◌, ◌<ℤ◌, unsigned_abs, Option, Some, None, slice_get, get_or, length, sym, ap, ap₂, subst, arith}
-use Rattle.std.specs.Prelude.{IfSome}
+use Rattle.std.specs.Prelude.{IfSome, All}
 use Rattle.std.proofs.lemmas.Int.{ints}
 use Rattle.std.proofs.lemmas.Option.{get_or_from_slice_get, slice_get-get_or}
 use Rattle.pb_fixed.proofs.Order.{le_trans, mul_mono, le_by_eq}
@@ -16,7 +16,7 @@ use Rattle.pb_dual.specs.Candidates.{room_of}
 use Rattle.pb_stage.specs.Printed.{printed_price}
 use Rattle.pb_check.specs.declared.faults.Fault.{Fault}
 use Rattle.pb_check.specs.declared.faults.Place.{Place}
-use Rattle.pb_check.specs.Asked.{IsInBoxAt, AreInBox}
+use Rattle.pb_check.specs.Asked.{IsInBoxAt}
 use Rattle.pb_check.specs.Faults.{IsBoxFault, IsOutOfBox}
 
 -- the size of a product
@@ -93,7 +93,7 @@ outside stage j s m stated found fault seen room far is =
     }
 
 -- each measured flow is in the box, or the first that isn't makes the fault
-pub all_inside : (stage : Stage) → ((k : ℕ) → k < length stage.graph.streams → IsInBoxAt stage k) → AreInBox stage
+pub all_inside : (stage : Stage) → ((k : ℕ) → k < length stage.graph.streams → IsInBoxAt stage k) → (All (IsInBox (printed_price stage)) stage.graph.streams)
 all_inside stage each = λ k d lt. each k lt (get_or stage.graph.streams k d) (slice_get-get_or stage.graph.streams k d lt)
 
 pub box_fault_is : (stage : Stage) (j : ℕ) (fault : Fault) → j < length stage.graph.streams → ((k : ℕ) → k < j → IsInBoxAt stage k) → IsOutOfBox stage j fault → IsBoxFault stage fault

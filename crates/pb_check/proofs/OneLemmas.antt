@@ -8,6 +8,7 @@ use Rattle.std.proofs.lemmas.Option.{slice_get-map}
 use Rattle.pb_fixed.proofs.Lists.{some_same, all_each}
 use Rattle.pb_graph.specs.declared.records.Meas.{Meas}
 use Rattle.pb_graph.specs.declared.records.Stream.{Stream}
+use Rattle.pb_graph.specs.Certificates.{IsCertified}
 use Rattle.pb_study.specs.declared.results.Bounds.{Bounds as BoundsOf}
 use Rattle.pb_study.specs.declared.results.NodalTest.{NodalTest}
 use Rattle.pb_study.specs.declared.results.MeasureTest.{MeasureTest}
@@ -29,9 +30,9 @@ use Rattle.pb_check.specs.declared.faults.Test.TheVariants.{Class, Witness, Bala
 use Rattle.pb_check.specs.declared.faults.Place.TheVariants.{Node, Whole}
 use Rattle.pb_check.specs.declared.faults.Place.{Place}
 use Rattle.pb_check.specs.declared.faults.Fault.{Fault}
-use Rattle.pb_check.specs.Asked.{HasClassAt, IsShownAt, IsEvenAt, HasGroupPriceAt, IsInBoxAt, HasBoundsAt, HasLeastBoundsAt, IsLeastOfGroup, AreVerdicts, AreNodalRows}
+use Rattle.pb_check.specs.Asked.{HasClassAt, IsEvenAt, HasGroupPriceAt, IsInBoxAt, IsLeastOfGroup, AreVerdicts, AreNodalRows, AtStream}
 use Rattle.pb_check.specs.First.{IsFirstOf}
-use Rattle.pb_check.specs.Faults.{bare_fault_at, bounds_numbers, fault_at, row_numbers, AreVerdictsFault, DifferAt, IsStreamFault, IsBalanceFault, IsPriceFault, IsBoxFault, IsFreedomFault, IsBoundsFault, IsRowAt, IsRowsFault, IsNodalRowsFault, IsLeastFault}
+use Rattle.pb_check.specs.Faults.{bare_fault_at, bounds_numbers, fault_at, row_numbers, AreVerdictsFault, DifferAt, IsStreamFault, IsBalanceFault, IsPriceFault, IsBoxFault, IsFreedomFault, IsRowAt, IsRowsFault, IsNodalRowsFault, IsLeastFault, IsEndsFault}
 use Rattle.pb_check.specs.Verdict.{test_code, Passes, Fails}
 use Rattle.pb_check.specs.VerdictLaws.{HasFault, NotBothLaw, OneFaultLaw}
 use Rattle.pb_check.proofs.DecideLemmas.{one_first}
@@ -103,7 +104,7 @@ not_both_of law stage gap sweeps Bounds fault passes fails = fails.first.without
 not_both_of law stage gap sweeps Statistic fault passes fails = fails.differ (passes.low, passes.high)
 not_both_of law stage gap sweeps Nodal fault passes fails = no_nodal_fault law stage stage.tests fault passes fails
 not_both_of law stage gap sweeps Verdict fault passes fails = no_verdict_fault stage stage.tests fault passes fails
-not_both_of law stage gap sweeps Least fault passes fails = fails.first.without (λ result here. passes fails.have fails.stream result here)
+not_both_of law stage gap sweeps Least fault passes (have, fails) = fails.first.without (λ result here. passes have fails.stream result here)
 
 pub not_both_by : OneNodalTestsLaw → NotBothLaw
 not_both_by law stage gap sweeps limits formed passed fault =
@@ -148,15 +149,15 @@ differ_one j k stated other found also a b place same_stated same_found x y =
     let there : x.there ≡ y.there = some_same (sym x.found_is ∙ same_found ∙ y.found_is) in
     x.is ∙ ap (λ (i : ℕ). bounds_at i x.here x.there) place ∙ ap₂ (bounds_at k) here there ∙ sym y.is
 
-bounds_one : (stage : Stage) (a b : Fault) → IsBoundsFault stage a → IsBoundsFault stage b → a ≡ b
+bounds_one : (stage : Stage) (a b : Fault) → IsEndsFault stage (λ r. r.bounds) (found_bounds stage) a → IsEndsFault stage (λ r. r.bounds) (found_bounds stage) b → a ≡ b
 bounds_one stage a b one other =
-    let same = one_first (HasBoundsAt stage) (length stage.graph.streams) one.stream other.stream one.first other.first in
+    let same = one_first (AtStream stage (λ j r. r.bounds ≡ found_bounds stage j r)) (length stage.graph.streams) one.stream other.stream one.first other.first in
     let result : one.result ≡ other.result = some_same (sym one.result_is ∙ ap (slice_get stage.streams) same ∙ other.result_is) in
     differ_one one.stream other.stream _ _ _ _ a b same (ap (λ (r : StreamResult). r.bounds) result) (ap₂ (found_bounds stage) same result) one.differs other.differs
 
 least_one : (stage : Stage) (a b : Fault) → IsLeastFault stage a → IsLeastFault stage b → a ≡ b
-least_one stage a b one other =
-    let same = one_first (HasLeastBoundsAt stage) (length stage.graph.streams) one.stream other.stream one.first other.first in
+least_one stage a b (have, one) (also, other) =
+    let same = one_first (AtStream stage (λ j r. r.least ≡ found_least stage j r)) (length stage.graph.streams) one.stream other.stream one.first other.first in
     let result : one.result ≡ other.result = some_same (sym one.result_is ∙ ap (slice_get stage.streams) same ∙ other.result_is) in
     differ_one one.stream other.stream _ _ _ _ a b same (ap (λ (r : StreamResult). r.least) result) (ap₂ (found_least stage) same result) one.differs other.differs
 
@@ -203,7 +204,7 @@ verdict_one stage (Some tests) a b one other = judged_one stage tests a b one ot
 
 one_of : OneNodalTestsLaw → (stage : Stage) (gap sweeps : ℕ) (test : Test) (a b : Fault) → Fails stage gap sweeps test a → Fails stage gap sweeps test b → a ≡ b
 one_of law stage gap sweeps Class a b one other = stream_one stage (HasClassAt stage) a b one other
-one_of law stage gap sweeps Witness a b one other = stream_one stage (IsShownAt stage) a b one other
+one_of law stage gap sweeps Witness a b one other = stream_one stage (AtStream stage (λ j r. IsCertified stage.graph j r.classified)) a b one other
 one_of law stage gap sweeps Balance a b one other = balance_one stage a b one other
 one_of law stage gap sweeps Price a b one other = price_one stage a b one other
 one_of law stage gap sweeps Box a b one other = box_one stage a b one other

@@ -22,11 +22,11 @@ use Rattle.pb_gap.specs.StreamBounds.{stream_bounds}
 use Rattle.pb_gap.specs.LeastBounds.{stream_least_bounds}
 use Rattle.pb_gap.specs.Solution.{IsSolution, OneStateLaw}
 use Rattle.pb_gap.specs.Laws.{AreGaps}
-use Rattle.pb_stage.specs.Printed.{have_least, printed_flows, printed_gap, printed_price}
-use Rattle.pb_stage.specs.Certified.{AreShownTests, IsShownStage}
+use Rattle.pb_stage.specs.Printed.{have_least, printed_flows, printed_gap, printed_price, EachStream, HasLeastBounds}
+use Rattle.pb_stage.specs.Certified.{AreShownTests, IsShownStage, found_least}
 use Rattle.pb_check.specs.declared.faults.Test.TheVariants.{Balance, Price, Box, Freedom, State, Statistic, Nodal, Least}
 use Rattle.pb_check.specs.declared.faults.Test.{Test}
-use Rattle.pb_check.specs.Asked.{AreNodalRows, AreVerdicts, HasClass, HaveLeastBounds, IsStateAt, found_gap, is_bounded, is_of_measured}
+use Rattle.pb_check.specs.Asked.{AreNodalRows, AreVerdicts, HasClass, IsStateAt, found_gap, is_bounded, is_of_measured}
 use Rattle.pb_check.specs.Verdict.{IsPassed}
 use Rattle.pb_check.proofs.FirstLemmas.{each_fails}
 
@@ -61,7 +61,7 @@ class_least_bounded g j s Nonredundant w price ss flows gap shows = refl
 class_least_bounded g j s Observable (Cycle steps) price ss flows gap shows = absurd shows
 
 -- if some stream has least bounds, a stream with bounds has them; if none has, none has
-least_beside : (stage : Stage) (j : ℕ) (s : Stream) (r : StreamResult) → HaveLeastBounds stage → slice_get stage.streams j ≡ Some r
+least_beside : (stage : Stage) (j : ℕ) (s : Stream) (r : StreamResult) → (HasLeastBounds stage → EachStream stage (λ j r. r.least ≡ found_least stage j r)) → slice_get stage.streams j ≡ Some r
     → Shows stage.graph j s r.classified.class r.classified.witness → is_some r.bounds ≡ is_bounded r.classified.class
     → is_some r.least ≡ (is_some r.bounds && have_least stage.streams)
 least_beside stage j s r numbers there shows bounded = elim (cases_Bool (have_least stage.streams)) [

@@ -18,7 +18,7 @@ use Rattle.pb_study.specs.declared.results.Tests.{Tests}
 use Rattle.pb_study.specs.declared.results.Stage.{Stage}
 use Rattle.pb_graph.specs.ProcessGraph.{IsProcessGraph}
 use Rattle.pb_study.specs.WellFormed.{IsWellFormed}
-use Rattle.pb_graph.specs.Balance.{net_of}
+use Rattle.pb_graph.specs.Balance.{net_of, IsBalanced}
 use Rattle.pb_graph.specs.Certificates.{Shows, IsCertified}
 use Rattle.pb_graph.specs.Groups.{IsFreeGroup, is_free_group, group_at}
 use Rattle.pb_graph.specs.Prices.{IsInBox, most_adjustment, rise_of}
@@ -33,14 +33,15 @@ use Rattle.pb_gap.specs.Statistic.{high_of}
 use Rattle.pb_stage.specs.Laws.{SomeNodalTestsLaw}
 use Rattle.pb_stage.specs.Nodal.{AreNodalTests}
 use Rattle.pb_stage.specs.Verdicts.{global_verdict}
-use Rattle.pb_stage.specs.Printed.{printed_price, printed_flows, printed_gap, have_least}
-use Rattle.pb_stage.specs.Certified.{IsMeasureVerdict, IsNodalVerdict, unjudged}
+use Rattle.pb_stage.specs.Printed.{printed_price, printed_flows, printed_gap, have_least, EachStream, HasLeastBounds}
+use Rattle.pb_stage.specs.Certified.{IsMeasureVerdict, IsNodalVerdict, unjudged, found_bounds, found_least}
+use Rattle.pb_stage.specs.Freedom.{HasFreedom}
 use Rattle.pb_check.specs.declared.faults.Place.TheVariants.{Node, Whole}
 use Rattle.pb_check.specs.declared.faults.Place.{Place}
 use Rattle.pb_check.specs.declared.faults.Fault.{Fault}
-use Rattle.pb_check.specs.Asked.{is_bounded, HasClass, HasClassAt, HaveClasses, IsShownAt, AreShown, IsEvenAt, AreEven, HasGroupPriceAt, AreGroupPrices, IsInBoxAt, AreInBox, IsFreedom, found_gap, IsGapOfFlows, IsStateAt, IsStateOfGap, HasBoundsAt, HaveBounds, found_low, IsStatistic, AreNodalRows, IsNodal, IsGlobalVerdict, AreVerdicts, IsJudged, HasLeastBoundsAt, HaveLeastBounds}
+use Rattle.pb_check.specs.Asked.{is_bounded, HasClass, HasClassAt, IsEvenAt, HasGroupPriceAt, AreGroupPrices, IsInBoxAt, found_gap, IsStateAt, IsStateOfGap, found_low, IsStatistic, AreNodalRows, IsGlobalVerdict, AreVerdicts, AtStream}
 use Rattle.pb_check.specs.First.{IsFirstOf}
-use Rattle.pb_check.specs.Faults.{bare_fault_at, bounds_numbers, fault_at, AreVerdictsFault, DifferAt, IsStreamFault, IsClassFault, IsWitnessFault, IsBalanceFault, IsPriceFault, IsBoxFault, IsFreedomFault, IsGapFault, IsStateFault, IsBoundsFault, IsStatisticFault, IsRowAt, IsRowsFault, IsNodalRowsFault, IsNodalFault, IsVerdictFault, IsLeastFault}
+use Rattle.pb_check.specs.Faults.{bare_fault_at, bounds_numbers, fault_at, AreVerdictsFault, DifferAt, IsStreamFault, IsBalanceFault, IsPriceFault, IsBoxFault, IsFreedomFault, IsStateFault, IsStatisticFault, IsRowAt, IsRowsFault, IsNodalRowsFault, IsLeastFault, IsEndsFault, GapsDiffer}
 use Rattle.pb_check.proofs.DecideLemmas.{decided_both, decided_as, decided_not, decided_if, each_or_first}
 use Rattle.pb_check.proofs.GroupLemmas.{prices_by_nodes, some_least, has_price}
 use Rattle.pb_check.proofs.OwnLemmas.{class_bounded}
@@ -72,13 +73,13 @@ class_at_decided stage j =
     (λ s. at_decided (λ (r : StreamResult). HasClass (have_least stage.streams) s r) (λ r. decided_as (λ p. record { measured = p.0; bounded = p.1.0; least_bounded = p.1.1 }) (λ h. (h.measured, (h.bounded, h.least_bounded)))
     (decided_both (bits_decided _ _) (decided_both (bits_decided _ _) (bits_decided _ _)))) (slice_get stage.streams j)) (slice_get stage.graph.streams j))
 
-pub class_either : (stage : Stage) → Either (HaveClasses stage) (IsClassFault stage)
+pub class_either : (stage : Stage) → Either ((j : ℕ) → HasClassAt stage j) (IsStreamFault stage (HasClassAt stage))
 class_either stage = elim (stream_either stage (HasClassAt stage) (λ j lt. class_at_decided stage j)) [
   | inl each ↦ inl (λ j s r here there. each j (slice_get_within stage.graph.streams j s here) s r here there)
   | inr fault ↦ inr fault
 ]
 
-shown_at_decided : (stage : Stage) (j : ℕ) → j < length stage.graph.streams → IsDecidable (IsShownAt stage j)
+shown_at_decided : (stage : Stage) (j : ℕ) → j < length stage.graph.streams → IsDecidable (AtStream stage (λ j r. IsCertified stage.graph j r.classified) j)
 shown_at_decided stage j lt =
     let (s, here) = some_at stage.graph.streams j lt in
     at_decided (λ (r : StreamResult). IsCertified stage.graph j r.classified)
@@ -86,14 +87,14 @@ shown_at_decided stage j lt =
     (λ (t, there, shows). subst (λ (u : Stream). Shows stage.graph j u r.classified.class r.classified.witness) (some_same (sym there ∙ here)) shows)
     (shows_decided stage.graph j s r.classified.class r.classified.witness)) (slice_get stage.streams j)
 
-pub witness_either : (stage : Stage) → IsWellFormed stage → Either (AreShown stage) (IsWitnessFault stage)
-witness_either stage formed = elim (stream_either stage (IsShownAt stage) (shown_at_decided stage)) [
+pub witness_either : (stage : Stage) → IsWellFormed stage → Either (EachStream stage (λ j r. IsCertified stage.graph j r.classified)) (IsStreamFault stage (AtStream stage (λ j r. IsCertified stage.graph j r.classified)))
+witness_either stage formed = elim (stream_either stage (AtStream stage (λ j r. IsCertified stage.graph j r.classified)) (shown_at_decided stage)) [
   | inl each ↦ inl (λ j r there. each j (omega (arith, slice_get_within stage.streams j r there, formed.each_stream)) r there)
   | inr fault ↦ inr fault
 ]
 
 -- ---- 3
-pub balance_either : (stage : Stage) → IsWellFormed stage → Either (AreEven stage) (IsBalanceFault stage)
+pub balance_either : (stage : Stage) → IsWellFormed stage → Either (IsBalanced stage.graph (printed_flows stage)) (IsBalanceFault stage)
 balance_either stage formed = elim (each_or_first (IsEvenAt stage) stage.graph.nodes (λ n lt. int_decided (net_of n stage.graph.streams (printed_flows stage)) (pos 0))) [
   | inl each ↦ inl (record { each = length-map stage.streams (λ (r : StreamResult). r.flow) ∙ formed.each_stream; even = each })
   | inr (n, first) ↦ inr (fault_at (Node n) (pos 0, net_of n stage.graph.streams (printed_flows stage)), record { node = n; first = first; is = refl })
@@ -136,7 +137,7 @@ box_meas : (price : ℕ → ℤ) (s : Stream) (o : Option Meas) → s.meas ≡ o
 box_meas price s None is out = absurd (out (subst (λ (o : Option Meas). IfSome o (λ meas. unsigned_abs (meas.variance *ℤ rise_of price s) ≤ most_adjustment)) (sym is) tt))
 box_meas price s (Some m) is out = (m, is)
 
-pub box_either : (stage : Stage) → Either (AreInBox stage) (IsBoxFault stage)
+pub box_either : (stage : Stage) → Either (All (IsInBox (printed_price stage)) stage.graph.streams) (IsBoxFault stage)
 box_either stage =
     let price = printed_price stage in
     let ss = stage.graph.streams in
@@ -150,7 +151,7 @@ box_either stage =
     ]
 
 -- ---- 6
-pub freedom_either : (stage : Stage) → IsProcessGraph stage.graph → Either (IsFreedom stage) (IsFreedomFault stage)
+pub freedom_either : (stage : Stage) → IsProcessGraph stage.graph → Either (HasFreedom stage.graph.streams stage.dof) (IsFreedomFault stage)
 freedom_either stage limits =
     let (held, forest) = some_forest_law stage.graph.streams in
     let dof = degrees_of_freedom stage.graph.streams held in
@@ -163,7 +164,7 @@ freedom_either stage limits =
 abbrev gap_of_numbers : ℕ → ℕ → GapOf
 gap_of_numbers g h = record { g = g; h = h }
 
-pub gap_either : (stage : Stage) → Either (IsGapOfFlows stage) (IsGapFault stage)
+pub gap_either : (stage : Stage) → Either (printed_gap stage ≡ found_gap stage) (GapsDiffer (printed_gap stage) (found_gap stage))
 gap_either stage = elim (cases_eq stage.h (found_gap stage).h) [
   | inl same_h ↦ elim (cases_eq stage.g (found_gap stage).g) [
     | inl same_g ↦ inl (ap₂ gap_of_numbers same_g same_h)
@@ -218,12 +219,12 @@ differ_of j printed rule other ne = (
   },
 )
 
-pub bounds_either : (stage : Stage) → IsWellFormed stage → HaveClasses stage → AreShown stage → Either (HaveBounds stage) (IsBoundsFault stage)
+pub bounds_either : (stage : Stage) → IsWellFormed stage → ((j : ℕ) → HasClassAt stage j) → EachStream stage (λ j r. IsCertified stage.graph j r.classified) → Either (EachStream stage (λ j r. r.bounds ≡ found_bounds stage j r)) (IsEndsFault stage (λ r. r.bounds) (found_bounds stage))
 bounds_either stage formed classes shown =
     let price = printed_price stage in
     let ss = stage.graph.streams in
     let gap = printed_gap stage in
-    elim (each_or_first (HasBoundsAt stage) (length ss)
+    elim (each_or_first (AtStream stage (λ j r. r.bounds ≡ found_bounds stage j r)) (length ss)
     (λ j lt. at_decided (λ (r : StreamResult). r.bounds ≡ stream_bounds price ss gap j r.classified) (λ r. option_decided bounds_decided _ _) (slice_get stage.streams j))) [
       | inl each ↦ inl (λ j r there. each j (omega (arith, slice_get_within stage.streams j r there, formed.each_stream)) r there)
       | inr (j, first) ↦
@@ -312,7 +313,7 @@ nodal_by stage rule are (Some tests) = elim (rows_either tests.nodal rule) [
   | inr (fault, says) ↦ inr (fault, record { rule = rule; are = are; says = says })
 ]
 
-pub nodal_either : SomeNodalTestsLaw → (stage : Stage) → IsProcessGraph stage.graph → Either (IsNodal stage) (IsNodalFault stage)
+pub nodal_either : SomeNodalTestsLaw → (stage : Stage) → IsProcessGraph stage.graph → Either (IfSome stage.tests (AreNodalRows stage)) (λ fault. IsSomeAnd stage.tests (λ tests. IsNodalRowsFault stage tests fault))
 nodal_either law stage limits = let (rule, are) = law stage.graph None limits in nodal_by stage rule are stage.tests
 
 -- ---- 12
@@ -341,11 +342,11 @@ judged_by : (stage : Stage) (o : Option Tests) → Either (IfSome o (AreVerdicts
 judged_by stage None = inl tt
 judged_by stage (Some tests) = verdicts_by stage tests
 
-pub verdict_either : (stage : Stage) → Either (IsJudged stage) (IsVerdictFault stage)
+pub verdict_either : (stage : Stage) → Either (IfSome stage.tests (AreVerdicts stage)) (λ fault. IsSomeAnd stage.tests (λ tests. AreVerdictsFault stage tests fault))
 verdict_either stage = judged_by stage stage.tests
 
 -- ---- 13
-pub least_either : (stage : Stage) → IsWellFormed stage → HaveClasses stage → AreShown stage → Either (HaveLeastBounds stage) (IsLeastFault stage)
+pub least_either : (stage : Stage) → IsWellFormed stage → ((j : ℕ) → HasClassAt stage j) → EachStream stage (λ j r. IsCertified stage.graph j r.classified) → Either (HasLeastBounds stage → EachStream stage (λ j r. r.least ≡ found_least stage j r)) (IsLeastFault stage)
 least_either stage formed classes shown =
     let price = printed_price stage in
     let ss = stage.graph.streams in
@@ -353,7 +354,7 @@ least_either stage formed classes shown =
     let gap = printed_gap stage in
     elim (cases_Bool (have_least stage.streams)) [
       | inr none ↦ inl (λ have. cc (none, have))
-      | inl have ↦ elim (each_or_first (HasLeastBoundsAt stage) (length ss)
+      | inl have ↦ elim (each_or_first (AtStream stage (λ j r. r.least ≡ found_least stage j r)) (length ss)
           (λ j lt. at_decided (λ (r : StreamResult). r.least ≡ stream_least_bounds price ss flows gap j r.classified) (λ r. option_decided bounds_decided _ _) (slice_get stage.streams j))) [
             | inl each ↦ inl (λ have j r there. each j (omega (arith, slice_get_within stage.streams j r there, formed.each_stream)) r there)
             | inr (j, first) ↦
@@ -362,6 +363,6 @@ least_either stage formed classes shown =
                 λ e. first.without (λ t at. subst (λ (u : StreamResult). u.least ≡ stream_least_bounds price ss flows gap j u.classified) (some_same (sym there ∙ at)) e) in
                 let other = other_of r.least (stream_least_bounds price ss flows gap j r.classified) _ (result_least_bounded stage j r have classes shown there) refl ne in
                 let (fault, differs) = differ_of j r.least (stream_least_bounds price ss flows gap j r.classified) other ne in
-                inr (fault, record { have = have; stream = j; result = r; first = first; result_is = there; differs = differs })
+                inr (fault, (have, record { stream = j; result = r; first = first; result_is = there; differs = differs }))
           ]
     ]

@@ -6,6 +6,7 @@ use Rattle.std.proofs.lemmas.Option.{slice_get-get_or, slice_get_within}
 use Rattle.pb_fixed.proofs.Lists.{all_each, some_same}
 use Rattle.pb_graph.specs.declared.records.Witness.{Witness}
 use Rattle.pb_graph.specs.declared.records.Witness.TheVariants.{Cut, Cycle}
+use Rattle.pb_graph.specs.Certificates.{IsCertified}
 use Rattle.pb_study.specs.declared.results.Bounds.{Bounds}
 use Rattle.pb_study.specs.declared.results.StreamResult.{StreamResult}
 use Rattle.pb_study.specs.declared.results.Stage.{Stage}
@@ -17,11 +18,12 @@ use Rattle.pb_gap.specs.Gap.{MeetsGap, gap_of, standard_deviations_of}
 use Rattle.pb_gap.specs.FlowPair.{AreMeasured, PairedFlows}
 use Rattle.pb_gap.specs.StreamBounds.{stream_bounds}
 use Rattle.pb_gap.specs.LeastBounds.{stream_least_bounds}
-use Rattle.pb_stage.specs.Printed.{have_least, printed_flows, printed_gap, printed_price, HasLeastBounds}
+use Rattle.pb_stage.specs.Printed.{have_least, printed_flows, printed_gap, printed_price, HasLeastBounds, EachStream}
 use Rattle.pb_stage.specs.Signs.{AreWitnessSigns}
+use Rattle.pb_stage.specs.Certified.{found_bounds, found_least}
 use Rattle.pb_check.specs.declared.faults.Fault.{Fault}
-use Rattle.pb_check.specs.Asked.{AreShown, HasBoundsAt, HasLeastBoundsAt, HaveBounds, HaveClasses, HaveLeastBounds, IsGapOfFlows, found_gap, is_bounded}
-use Rattle.pb_check.specs.Faults.{DifferAt, IsBoundsFault, IsLeastFault}
+use Rattle.pb_check.specs.Asked.{found_gap, is_bounded, AtStream, HasClassAt}
+use Rattle.pb_check.specs.Faults.{DifferAt, IsLeastFault, IsEndsFault}
 use Rattle.pb_check.specs.Pairs.{IsPairOf}
 use Rattle.pb_check.proofs.OwnLemmas.{class_bounded, class_least_bounded}
 
@@ -29,7 +31,7 @@ use Rattle.pb_check.proofs.OwnLemmas.{class_bounded, class_least_bounded}
 pub found_is : (stage : Stage) (pair : PairedFlows) → IsPairOf stage pair → gap_of (printed_price stage) pair.graph.streams pair.flows ≡ found_gap stage
 found_is stage pair is = λ i. gap_of (printed_price stage) (is.graph i).streams (is.flows i)
 
-pub met_printed : (stage : Stage) (pair : PairedFlows) (gap : ℕ) (P : Type 0) → IsPairOf stage pair → IsGapOfFlows stage → (P ↔ MeetsGap gap (gap_of (printed_price stage) pair.graph.streams pair.flows))
+pub met_printed : (stage : Stage) (pair : PairedFlows) (gap : ℕ) (P : Type 0) → IsPairOf stage pair → (printed_gap stage ≡ found_gap stage) → (P ↔ MeetsGap gap (gap_of (printed_price stage) pair.graph.streams pair.flows))
     → P ↔ MeetsGap gap (printed_gap stage)
 met_printed stage pair gap P is gap_is met = subst (λ (g : Gap). P ↔ MeetsGap gap g) (found_is stage pair is ∙ sym gap_is) met
 
@@ -42,14 +44,14 @@ pub result_signs : (stage : Stage) (j : ℕ) (r : StreamResult) → IsWellFormed
 result_signs stage j r formed at = signs_within stage.graph r.classified.witness (all_each (IsResultWithin stage.graph) stage.streams formed.results j r at).witness
 
 -- a stream has bounds exactly when the rule gives it some
-pub result_bounded : (stage : Stage) (j : ℕ) (r : StreamResult) → HaveClasses stage → AreShown stage → slice_get stage.streams j ≡ Some r
+pub result_bounded : (stage : Stage) (j : ℕ) (r : StreamResult) → ((j : ℕ) → HasClassAt stage j) → EachStream stage (λ j r. IsCertified stage.graph j r.classified) → slice_get stage.streams j ≡ Some r
     → is_some r.bounds ≡ is_some (stream_bounds (printed_price stage) stage.graph.streams (printed_gap stage) j r.classified)
 result_bounded stage j r classes shown at =
     let (s, there, shows) = shown j r at in
     (classes j s r there at).bounded ∙ sym (class_bounded stage.graph j s r.classified.class r.classified.witness (printed_price stage) stage.graph.streams (printed_gap stage) shows)
 
 -- and, if the stage has any, least bounds exactly when the rule gives it some
-pub result_least_bounded : (stage : Stage) (j : ℕ) (r : StreamResult) → HasLeastBounds stage → HaveClasses stage → AreShown stage → slice_get stage.streams j ≡ Some r
+pub result_least_bounded : (stage : Stage) (j : ℕ) (r : StreamResult) → HasLeastBounds stage → ((j : ℕ) → HasClassAt stage j) → EachStream stage (λ j r. IsCertified stage.graph j r.classified) → slice_get stage.streams j ≡ Some r
     → is_some r.least ≡ is_some (stream_least_bounds (printed_price stage) stage.graph.streams (printed_flows stage) (printed_gap stage) j r.classified)
 result_least_bounded stage j r have classes shown at =
     let (s, there, shows) = shown j r at in
@@ -82,8 +84,8 @@ measured stage roots flows limits formed rooted printed = record {
 -- ---- the streams of a stage, one by one
 -- the first stream that has other bounds than the rule gives
 pub bounds_fail : (stage : Stage) (j : ℕ) (r : StreamResult) (found : Option Bounds) (fault : Fault) → IsWellFormed stage → slice_get stage.streams j ≡ Some r
-    → found ≡ stream_bounds (printed_price stage) stage.graph.streams (printed_gap stage) j r.classified → ((k : ℕ) → k < j → HasBoundsAt stage k) → DifferAt j r.bounds found fault
-    → IsBoundsFault stage fault
+    → found ≡ stream_bounds (printed_price stage) stage.graph.streams (printed_gap stage) j r.classified → ((k : ℕ) → k < j → AtStream stage (λ j r. r.bounds ≡ found_bounds stage j r) k) → DifferAt j r.bounds found fault
+    → IsEndsFault stage (λ r. r.bounds) (found_bounds stage) fault
 bounds_fail stage j r found fault formed at found_is before differ = record {
   stream = j;
   result = r;
@@ -98,44 +100,46 @@ bounds_fail stage j r found fault formed at found_is before differ = record {
 
 -- the stream at a place has the bounds that the rule gives
 pub bounds_here : (stage : Stage) (j : ℕ) (r : StreamResult) (found : Option Bounds) → slice_get stage.streams j ≡ Some r
-    → found ≡ stream_bounds (printed_price stage) stage.graph.streams (printed_gap stage) j r.classified → r.bounds ≡ found → HasBoundsAt stage j
+    → found ≡ stream_bounds (printed_price stage) stage.graph.streams (printed_gap stage) j r.classified → r.bounds ≡ found → AtStream stage (λ j r. r.bounds ≡ found_bounds stage j r) j
 bounds_here stage j r found at found_is same q there =
     subst (λ (r : StreamResult). r.bounds ≡ stream_bounds (printed_price stage) stage.graph.streams (printed_gap stage) j r.classified) (some_same (sym at ∙ there)) (same ∙ found_is)
 
-pub all_bounds : (stage : Stage) (n : ℕ) → length stage.streams ≤ n → ((k : ℕ) → k < n → HasBoundsAt stage k) → HaveBounds stage
+pub all_bounds : (stage : Stage) (n : ℕ) → length stage.streams ≤ n → ((k : ℕ) → k < n → AtStream stage (λ j r. r.bounds ≡ found_bounds stage j r) k) → EachStream stage (λ j r. r.bounds ≡ found_bounds stage j r)
 all_bounds stage n end each j r at = each j (omega (arith, slice_get_within stage.streams j r at, end)) r at
 
 -- the first stream that has other least bounds than the rule gives
 pub least_fail : (stage : Stage) (j : ℕ) (r : StreamResult) (found : Option Bounds) (fault : Fault) → HasLeastBounds stage → IsWellFormed stage → slice_get stage.streams j ≡ Some r
     → found ≡ stream_least_bounds (printed_price stage) stage.graph.streams (printed_flows stage) (printed_gap stage) j r.classified
-    → ((k : ℕ) → k < j → HasLeastBoundsAt stage k) → DifferAt j r.least found fault
+    → ((k : ℕ) → k < j → AtStream stage (λ j r. r.least ≡ found_least stage j r) k) → DifferAt j r.least found fault
     → IsLeastFault stage fault
-least_fail stage j r found fault have formed at found_is before differ = record {
-  have = have;
-  stream = j;
-  result = r;
-  first = record {
-    within = omega (arith, slice_get_within stage.streams j r at, formed.each_stream);
-    before = before;
-    without = λ all. differ.differ (some_same (sym differ.stated_is ∙ all r at ∙ sym found_is ∙ differ.found_is));
-  };
-  result_is = at;
-  differs = subst (λ (o : Option Bounds). DifferAt j r.least o fault) found_is differ;
-}
+least_fail stage j r found fault have formed at found_is before differ = (
+  have,
+  record {
+    stream = j;
+    result = r;
+    first = record {
+      within = omega (arith, slice_get_within stage.streams j r at, formed.each_stream);
+      before = before;
+      without = λ all. differ.differ (some_same (sym differ.stated_is ∙ all r at ∙ sym found_is ∙ differ.found_is));
+    };
+    result_is = at;
+    differs = subst (λ (o : Option Bounds). DifferAt j r.least o fault) found_is differ;
+  },
+)
 
 -- the stream at a place has the least bounds that the rule gives
 pub least_here : (stage : Stage) (j : ℕ) (r : StreamResult) (found : Option Bounds) → slice_get stage.streams j ≡ Some r
-    → found ≡ stream_least_bounds (printed_price stage) stage.graph.streams (printed_flows stage) (printed_gap stage) j r.classified → r.least ≡ found → HasLeastBoundsAt stage j
+    → found ≡ stream_least_bounds (printed_price stage) stage.graph.streams (printed_flows stage) (printed_gap stage) j r.classified → r.least ≡ found → AtStream stage (λ j r. r.least ≡ found_least stage j r) j
 least_here stage j r found at found_is same q there =
     subst (λ (r : StreamResult). r.least ≡ stream_least_bounds (printed_price stage) stage.graph.streams (printed_flows stage) (printed_gap stage) j r.classified)
     (some_same (sym at ∙ there)) (same ∙ found_is)
 
-pub all_least : (stage : Stage) (n : ℕ) → length stage.streams ≤ n → ((k : ℕ) → k < n → HasLeastBoundsAt stage k) → HaveLeastBounds stage
+pub all_least : (stage : Stage) (n : ℕ) → length stage.streams ≤ n → ((k : ℕ) → k < n → AtStream stage (λ j r. r.least ≡ found_least stage j r) k) → (HasLeastBounds stage → EachStream stage (λ j r. r.least ≡ found_least stage j r))
 all_least stage n end each have j r at = each j (omega (arith, slice_get_within stage.streams j r at, end)) r at
 
 -- whether the stage has least bounds, by what its results say
 pub have_by : (stage : Stage) (results : List StreamResult) (b : Bool) → results ≡ stage.streams → b ≡ have_least results → b ≡ true → HasLeastBounds stage
 have_by stage results b same is yes_ = sym (is ∙ ap have_least same) ∙ yes_
 
-pub none_by : (stage : Stage) (results : List StreamResult) (b : Bool) → results ≡ stage.streams → b ≡ have_least results → b ≡ false → HaveLeastBounds stage
+pub none_by : (stage : Stage) (results : List StreamResult) (b : Bool) → results ≡ stage.streams → b ≡ have_least results → b ≡ false → (HasLeastBounds stage → EachStream stage (λ j r. r.least ≡ found_least stage j r))
 none_by stage results b same is no_ have = absurd (let here : b ≡ have_least stage.streams = is ∙ ap have_least same in cc (here, no_, have))

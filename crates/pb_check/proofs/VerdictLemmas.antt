@@ -89,7 +89,7 @@ place_of stage gap sweeps Bounds fault formed fails = within_by stage fault _ fa
 place_of stage gap sweeps Statistic fault formed fails = within_by stage fault _ fails.is tt
 place_of stage gap sweeps Nodal fault formed fails = rows_within stage stage.tests fault formed.tests fails
 place_of stage gap sweeps Verdict fault formed fails = verdicts_within stage stage.tests fault formed.each_stream formed.tests fails
-place_of stage gap sweeps Least fault formed fails = within_by stage fault _ fails.differs.is (omega (arith, fails.first.within, formed.each_stream))
+place_of stage gap sweeps Least fault formed (have, fails) = within_by stage fault _ fails.differs.is (omega (arith, fails.first.within, formed.each_stream))
 
 pub place_law : PlaceLaw
 place_law stage gap sweeps formed fault =

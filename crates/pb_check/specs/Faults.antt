@@ -1,6 +1,6 @@
 -- Statement. The fault that each test reports: the first place in order at which what the test asks isn't so, what the stage states there,
 -- and what the rule gives.
-use Rattle.std.specs.Prelude.{◌≡◌, ◌≢◌, ◌⊎◌, ◌==◌, ℕ, ℤ, pos, negsuc, unsigned_abs, List, length, Option, Some, None, All, IsSomeAnd, slice_get, if◌then◌else◌}
+use Rattle.std.specs.Prelude.{◌≡◌, ◌≢◌, ◌⊎◌, ◌==◌, ℕ, ℤ, pos, negsuc, unsigned_abs, List, length, Option, Some, None, All, slice_get, if◌then◌else◌}
 use Rattle.std.specs.Ordering.{int_eq}
 use Rattle.pb_graph.specs.declared.records.Meas.{Meas}
 use Rattle.pb_graph.specs.declared.records.Stream.{Stream}
@@ -17,14 +17,14 @@ use Rattle.pb_dual.specs.Candidates.{room_of}
 use Rattle.pb_gap.specs.declared.gap.Gap.{Gap}
 use Rattle.pb_gap.specs.Statistic.{high_of}
 use Rattle.pb_stage.specs.Nodal.{AreNodalTests}
-use Rattle.pb_stage.specs.Printed.{printed_price, printed_flows, printed_gap, HasLeastBounds}
+use Rattle.pb_stage.specs.Printed.{printed_price, printed_flows, HasLeastBounds}
 use Rattle.pb_stage.specs.Freedom.{HasFreedom}
-use Rattle.pb_stage.specs.Certified.{IsMeasureVerdict, IsNodalVerdict, found_bounds, found_least, unjudged}
+use Rattle.pb_stage.specs.Certified.{IsMeasureVerdict, IsNodalVerdict, found_least, unjudged}
 use Rattle.pb_check.specs.declared.faults.Fault.{Fault}
 use Rattle.pb_check.specs.declared.faults.Place.{Place}
 use Rattle.pb_check.specs.declared.faults.Place.TheVariants.{Node, Whole}
 use Rattle.pb_check.specs.First.{IsFirstOf, IsFirstWithout}
-use Rattle.pb_check.specs.Asked.{HasClassAt, IsShownAt, IsEvenAt, IsLeastOfGroup, HasGroupPriceAt, IsInBoxAt, found_gap, IsStateOfGap, HasBoundsAt, HasLeastBoundsAt, found_low, IsGlobalVerdict}
+use Rattle.pb_check.specs.Asked.{AtStream, IsEvenAt, IsLeastOfGroup, HasGroupPriceAt, IsInBoxAt, IsStateOfGap, found_low, IsGlobalVerdict}
 
 -- of two pairs of numbers, each stated and found, the first pair that differs; the second pair if the first agrees
 abbrev pub first_differing : ℤ → ℤ → ℤ → ℤ → ℤ × ℤ
@@ -45,12 +45,6 @@ pub record IsStreamFault (stage : Stage) (P : ℕ → Type 0) (fault : Fault) : 
   pub stream : ℕ
   pub first : IsFirstWithout P (length stage.graph.streams) stream
   pub is : fault ≡ bare_fault_at (Place.Stream stream)
-
-abbrev pub IsClassFault : Stage → Fault → Type 0
-IsClassFault stage = IsStreamFault stage (HasClassAt stage)
-
-abbrev pub IsWitnessFault : Stage → Fault → Type 0
-IsWitnessFault stage = IsStreamFault stage (IsShownAt stage)
 
 -- ---- 3: the net flow at the first node where it isn't 0
 pub record IsBalanceFault (stage : Stage) (fault : Fault) : Type 0 where
@@ -111,9 +105,6 @@ pub record GapsDiffer (stated found : Gap) (fault : Fault) : Type 0 where
   pub differ : stated ≢ found
   pub is : fault ≡ fault_at Whole (gap_numbers stated found)
 
-abbrev pub IsGapFault : Stage → Fault → Type 0
-IsGapFault stage = GapsDiffer (printed_gap stage) (found_gap stage)
-
 -- ---- 8: the sweeps done, and those that were allowed
 pub record IsStateFault (stage : Stage) (gap sweeps : ℕ) (fault : Fault) : Type 0 where
   pub differs : IsStateOfGap stage gap sweeps → ⊥
@@ -132,12 +123,14 @@ pub record DifferAt (stream : ℕ) (stated found : Option Bounds) (fault : Fault
   pub differ : here ≢ there
   pub is : fault ≡ fault_at (Place.Stream stream) (bounds_numbers here there)
 
-pub record IsBoundsFault (stage : Stage) (fault : Fault) : Type 0 where
+-- the first stream whose stated bounds aren't those found
+pub record IsEndsFault (stage : Stage) (stated : StreamResult → Option Bounds)
+    (found : ℕ → StreamResult → Option Bounds) (fault : Fault) : Type 0 where
   pub stream : ℕ
   pub result : StreamResult
-  pub first : IsFirstWithout (HasBoundsAt stage) (length stage.graph.streams) stream
+  pub first : IsFirstWithout (AtStream stage (λ j r. stated r ≡ found j r)) (length stage.graph.streams) stream
   pub result_is : slice_get stage.streams stream ≡ Some result
-  pub differs : DifferAt stream result.bounds (found_bounds stage stream result) fault
+  pub differs : DifferAt stream (stated result) (found stream result) fault
 
 -- ---- 10: the low end, and that of the rule; if these agree, the high end, with -1 for none
 abbrev pub high_or_none : Option ℤ → ℤ
@@ -197,9 +190,6 @@ pub record IsNodalRowsFault (stage : Stage) (tests : Tests) (fault : Fault) : Ty
   pub are : AreNodalTests stage.graph None rule
   pub says : IsRowsFault tests.nodal rule fault
 
-abbrev pub IsNodalFault : Stage → Fault → Type 0
-IsNodalFault stage fault = IsSomeAnd stage.tests (λ tests. IsNodalRowsFault stage tests fault)
-
 -- ---- 12: the first verdict that doesn't follow, in the order of the whole, the nodes and the streams; without numbers
 pub record IsGlobalFault (stage : Stage) (tests : Tests) (fault : Fault) : Type 0 where
   pub differs : IsGlobalVerdict stage tests → ⊥
@@ -223,15 +213,7 @@ AreVerdictsFault stage tests fault =
     ⊎ ((IsGlobalVerdict stage tests × IsFirstNodal tests.nodal fault)
     ⊎ (IsGlobalVerdict stage tests × All IsNodalVerdict tests.nodal × IsFirstMeasure tests.measure fault))
 
-abbrev pub IsVerdictFault : Stage → Fault → Type 0
-IsVerdictFault stage fault = IsSomeAnd stage.tests (λ tests. AreVerdictsFault stage tests fault)
-
 -- ---- 13: in a stage that has least bounds, least_lo of the first stream whose least bounds aren't those of the rule, and that of the
 -- rule; if these agree, least_hi
-pub record IsLeastFault (stage : Stage) (fault : Fault) : Type 0 where
-  pub have : HasLeastBounds stage
-  pub stream : ℕ
-  pub result : StreamResult
-  pub first : IsFirstWithout (HasLeastBoundsAt stage) (length stage.graph.streams) stream
-  pub result_is : slice_get stage.streams stream ≡ Some result
-  pub differs : DifferAt stream result.least (found_least stage stream result) fault
+abbrev pub IsLeastFault : Stage → Fault → Type 0
+IsLeastFault stage fault = HasLeastBounds stage × IsEndsFault stage (λ r. r.least) (found_least stage) fault

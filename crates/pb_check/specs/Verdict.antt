@@ -1,6 +1,12 @@
 -- Statement. The verdict on a stage: it passes all tests, or there is a first one that it fails.
-use Rattle.std.specs.Prelude.{ℕ, ℤ, ◌<◌, length}
+use Rattle.std.specs.Prelude.{◌≡◌, ℕ, ℤ, ◌<◌, length, All, IfSome, IsSomeAnd}
+use Rattle.pb_graph.specs.Balance.{IsBalanced}
+use Rattle.pb_graph.specs.Certificates.{IsCertified}
+use Rattle.pb_graph.specs.Prices.{IsInBox}
 use Rattle.pb_study.specs.declared.results.Stage.{Stage}
+use Rattle.pb_stage.specs.Certified.{found_bounds, found_least}
+use Rattle.pb_stage.specs.Freedom.{HasFreedom}
+use Rattle.pb_stage.specs.Printed.{EachStream, HasLeastBounds, printed_flows, printed_gap, printed_price}
 use Rattle.pb_check.specs.declared.faults.Test.{Test}
 use Rattle.pb_check.specs.declared.faults.Test.TheVariants.{Class, Witness, Balance, Price, Box, Freedom, Gap, State, Bounds, Statistic, Nodal, Verdict, Least}
 use Rattle.pb_check.specs.declared.faults.Place.{Place}
@@ -8,8 +14,8 @@ use Rattle.pb_check.specs.declared.faults.Place.TheVariants.{Node, Stream, Whole
 use Rattle.pb_check.specs.declared.faults.CheckFault.{CheckFault}
 use Rattle.pb_check.specs.declared.faults.CheckFault.TheVariants.{At, NoMemory}
 use Rattle.pb_check.specs.declared.faults.Fault.{Fault}
-use Rattle.pb_check.specs.Asked.{HaveClasses, AreShown, AreEven, AreGroupPrices, AreInBox, IsFreedom, IsGapOfFlows, IsStateOfGap, HaveBounds, IsStatistic, IsNodal, IsJudged, HaveLeastBounds}
-use Rattle.pb_check.specs.Faults.{IsClassFault, IsWitnessFault, IsBalanceFault, IsPriceFault, IsBoxFault, IsFreedomFault, IsGapFault, IsStateFault, IsBoundsFault, IsStatisticFault, IsNodalFault, IsVerdictFault, IsLeastFault}
+use Rattle.pb_check.specs.Asked.{AtStream, HasClassAt, AreGroupPrices, found_gap, IsStateOfGap, IsStatistic, AreNodalRows, AreVerdicts}
+use Rattle.pb_check.specs.Faults.{IsStreamFault, IsBalanceFault, IsPriceFault, IsBoxFault, IsFreedomFault, GapsDiffer, IsStateFault, IsEndsFault, IsStatisticFault, IsNodalRowsFault, AreVerdictsFault, IsLeastFault}
 
 -- the number of a test, from 1; the tests are made in this order
 abbrev pub test_code : Test → ℕ
@@ -27,37 +33,37 @@ test_code Nodal = 11
 test_code Verdict = 12
 test_code Least = 13
 
--- what a test asks of a stage that was to meet this gap in these sweeps
+-- What a test asks of a stage that was to meet this gap in these sweeps.
 abbrev pub Passes : Stage → ℕ → ℕ → Test → Type 0
-Passes stage gap sweeps Class = HaveClasses stage
-Passes stage gap sweeps Witness = AreShown stage
-Passes stage gap sweeps Balance = AreEven stage
+Passes stage gap sweeps Class = (j : ℕ) → HasClassAt stage j
+Passes stage gap sweeps Witness = EachStream stage (λ j r. IsCertified stage.graph j r.classified)
+Passes stage gap sweeps Balance = IsBalanced stage.graph (printed_flows stage)
 Passes stage gap sweeps Price = AreGroupPrices stage
-Passes stage gap sweeps Box = AreInBox stage
-Passes stage gap sweeps Freedom = IsFreedom stage
-Passes stage gap sweeps Gap = IsGapOfFlows stage
+Passes stage gap sweeps Box = All (IsInBox (printed_price stage)) stage.graph.streams
+Passes stage gap sweeps Freedom = HasFreedom stage.graph.streams stage.dof
+Passes stage gap sweeps Gap = printed_gap stage ≡ found_gap stage
 Passes stage gap sweeps State = IsStateOfGap stage gap sweeps
-Passes stage gap sweeps Bounds = HaveBounds stage
+Passes stage gap sweeps Bounds = EachStream stage (λ j r. r.bounds ≡ found_bounds stage j r)
 Passes stage gap sweeps Statistic = IsStatistic stage
-Passes stage gap sweeps Nodal = IsNodal stage
-Passes stage gap sweeps Verdict = IsJudged stage
-Passes stage gap sweeps Least = HaveLeastBounds stage
+Passes stage gap sweeps Nodal = IfSome stage.tests (AreNodalRows stage)
+Passes stage gap sweeps Verdict = IfSome stage.tests (AreVerdicts stage)
+Passes stage gap sweeps Least = HasLeastBounds stage → EachStream stage (λ j r. r.least ≡ found_least stage j r)
 
--- the fault that it reports if it fails
+-- The fault that it reports if it fails.
 abbrev pub Fails : Stage → ℕ → ℕ → Test → Fault → Type 0
-Fails stage gap sweeps Class = IsClassFault stage
-Fails stage gap sweeps Witness = IsWitnessFault stage
-Fails stage gap sweeps Balance = IsBalanceFault stage
-Fails stage gap sweeps Price = IsPriceFault stage
-Fails stage gap sweeps Box = IsBoxFault stage
-Fails stage gap sweeps Freedom = IsFreedomFault stage
-Fails stage gap sweeps Gap = IsGapFault stage
-Fails stage gap sweeps State = IsStateFault stage gap sweeps
-Fails stage gap sweeps Bounds = IsBoundsFault stage
-Fails stage gap sweeps Statistic = IsStatisticFault stage
-Fails stage gap sweeps Nodal = IsNodalFault stage
-Fails stage gap sweeps Verdict = IsVerdictFault stage
-Fails stage gap sweeps Least = IsLeastFault stage
+Fails stage gap sweeps Class fault = IsStreamFault stage (HasClassAt stage) fault
+Fails stage gap sweeps Witness fault = IsStreamFault stage (AtStream stage (λ j r. IsCertified stage.graph j r.classified)) fault
+Fails stage gap sweeps Balance fault = IsBalanceFault stage fault
+Fails stage gap sweeps Price fault = IsPriceFault stage fault
+Fails stage gap sweeps Box fault = IsBoxFault stage fault
+Fails stage gap sweeps Freedom fault = IsFreedomFault stage fault
+Fails stage gap sweeps Gap fault = GapsDiffer (printed_gap stage) (found_gap stage) fault
+Fails stage gap sweeps State fault = IsStateFault stage gap sweeps fault
+Fails stage gap sweeps Bounds fault = IsEndsFault stage (λ r. r.bounds) (found_bounds stage) fault
+Fails stage gap sweeps Statistic fault = IsStatisticFault stage fault
+Fails stage gap sweeps Nodal fault = IsSomeAnd stage.tests (λ tests. IsNodalRowsFault stage tests fault)
+Fails stage gap sweeps Verdict fault = IsSomeAnd stage.tests (λ tests. AreVerdictsFault stage tests fault)
+Fails stage gap sweeps Least fault = IsLeastFault stage fault
 
 -- A stage passes if it passes all tests.
 abbrev pub IsPassed : Stage → ℕ → ℕ → Type 0

@@ -4,11 +4,10 @@ ghost use Rattle.std.specs.Prelude.{◌≡◌, ℕ, ◌<◌, ◌≤◌, ◌*◌,
 ghost use Rattle.pb_fixed.specs.Sums.{item};
 ghost use Rattle.pb_limits.specs.Limits.{most_streams};
 ghost use Rattle.pb_graph.specs.ProcessGraph.{IsStream};
-ghost use Rattle.pb_graph.specs.Balance.{brought_to, net_of};
+ghost use Rattle.pb_graph.specs.Balance.{brought_to, net_of, IsBalanced};
 ghost use Rattle.pb_graph.specs.WellFormed.{IsFlow};
 ghost use Rattle.pb_study.specs.WellFormed.{IsWellFormed};
 ghost use Rattle.pb_stage.specs.Printed.{printed_flows};
-ghost use Rattle.pb_check.specs.Asked.{AreEven};
 ghost use Rattle.pb_check.specs.Faults.{IsBalanceFault};
 
 use crate::faults::{Fault, at_node};
@@ -62,7 +61,8 @@ fn first_uneven(stage: &Stage, nets: &[i128]) -> Option<Fault>
     requires each { length nets.now ≡ stage.now.graph.nodes }
     requires value { (n : ℕ) → item nets.now n
         ≡ net_of n stage.now.graph.streams (printed_flows stage.now) }
-    ensures { MatchOption result (AreEven stage.now) (IsBalanceFault stage.now) }
+    ensures { MatchOption result (IsBalanced stage.now.graph (printed_flows stage.now))
+        (IsBalanceFault stage.now) }
 {
     for node in 0..stage.graph.nodes() {
         let found = nets[node as usize];
@@ -77,7 +77,8 @@ fn first_uneven(stage: &Stage, nets: &[i128]) -> Option<Fault>
 pub fn balance_fault(alloc: Global, stage: &Stage) -> Result<Option<Fault>, AllocError>
     requires { IsWellFormed stage.now }
     ensures { IfOk result
-        (λ fault. MatchOption fault (AreEven stage.now) (IsBalanceFault stage.now)) }
+        (λ fault. MatchOption fault (IsBalanced stage.now.graph (printed_flows stage.now))
+        (IsBalanceFault stage.now)) }
 {
     let mut nets = vec![in alloc; 0i128; stage.graph.nodes() as usize]?;
     gather(stage, &mut nets);

@@ -1,15 +1,16 @@
 // Test 9: the bounds of each stream.
 
-ghost use Rattle.std.specs.Prelude.{◌≡◌, is_some, IfOk, MatchOption};
+ghost use Rattle.std.specs.Prelude.{◌≡◌, is_some, IfOk, MatchOption, ℕ};
 ghost use Rattle.pb_graph.specs.Certificates.{IsCertified};
 ghost use Rattle.pb_study.specs.WellFormed.{IsWellFormed};
 ghost use Rattle.pb_gap.specs.GapRange.{IsGapInRange};
 ghost use Rattle.pb_gap.specs.StreamBounds.{stream_bounds};
-ghost use Rattle.pb_stage.specs.Printed.{printed_gap, printed_price};
+ghost use Rattle.pb_stage.specs.Printed.{printed_gap, printed_price, EachStream};
 ghost use Rattle.pb_stage.specs.Signs.{AreWitnessSigns};
-ghost use Rattle.pb_check.specs.Asked.{AreShown, HaveBounds, HaveClasses};
-ghost use Rattle.pb_check.specs.Faults.{DifferAt, IsBoundsFault};
+ghost use Rattle.pb_stage.specs.Certified.{found_bounds};
+ghost use Rattle.pb_check.specs.Faults.{DifferAt, IsEndsFault};
 ghost use Rattle.pb_check.specs.Pairs.{IsPairOf};
+ghost use Rattle.pb_check.specs.Asked.{HasClassAt};
 
 use crate::faults::{Fault, Place};
 use pb_gap::{FlowPair, Gap};
@@ -85,10 +86,12 @@ pub fn bounds_fault(
     requires pair { IsPairOf stage.now pair.now }
     requires gap { gap ≡ printed_gap stage.now }
     requires range { IsGapInRange gap }
-    requires classes { HaveClasses stage.now }
-    requires shown { AreShown stage.now }
+    requires classes { (j : ℕ) → HasClassAt stage.now j }
+    requires shown { EachStream stage.now (λ j r. IsCertified stage.now.graph j r.classified) }
     ensures { IfOk result
-        (λ found. MatchOption found (HaveBounds stage.now) (IsBoundsFault stage.now)) }
+        (λ found. MatchOption found
+        (EachStream stage.now (λ j r. r.bounds ≡ found_bounds stage.now j r))
+        (IsEndsFault stage.now (λ r. r.bounds) (found_bounds stage.now))) }
 {
     for j in 0..stage.graph.len() {
         let printed = stage.streams.at(j as usize);

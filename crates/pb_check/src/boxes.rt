@@ -1,11 +1,13 @@
 // Test 5: the box of each measured stream.
 
-ghost use Rattle.std.specs.Prelude.{◌≡◌, ◌<◌, ◌≤◌, ◌^◌, ℕ, pos, ◌≤ℤ◌, ◌-ℤ◌, unsigned_abs, length, MatchOption};
+ghost use Rattle.std.specs.Prelude.{◌≡◌, ◌<◌, ◌≤◌, ◌^◌, ℕ, pos, ◌≤ℤ◌, ◌-ℤ◌, unsigned_abs, length, MatchOption, All};
 ghost use Rattle.pb_graph.specs.ProcessGraph.{IsMeasurement, IsProcessGraph};
 ghost use Rattle.pb_graph.specs.WellFormed.{IsPrice};
+ghost use Rattle.pb_graph.specs.Prices.{IsInBox};
 ghost use Rattle.pb_study.specs.WellFormed.{IsWellFormed};
 ghost use Rattle.pb_dual.specs.Candidates.{room_of};
-ghost use Rattle.pb_check.specs.Asked.{IsInBoxAt, AreInBox};
+ghost use Rattle.pb_stage.specs.Printed.{printed_price};
+ghost use Rattle.pb_check.specs.Asked.{IsInBoxAt};
 ghost use Rattle.pb_check.specs.Faults.{IsBoxFault, IsOutOfBox};
 
 use crate::faults::{Fault, Place};
@@ -59,7 +61,8 @@ fn out_of_box(stage: &Stage, place: u32) -> Option<Fault>
 /// Test 5: the adjustment of each measured flow is within its limit.
 pub fn box_fault(stage: &Stage) -> Option<Fault>
     requires { IsWellFormed stage.now }
-    ensures { MatchOption result (AreInBox stage.now) (IsBoxFault stage.now) }
+    ensures { MatchOption result
+        (All (IsInBox (printed_price stage.now)) stage.now.graph.streams) (IsBoxFault stage.now) }
 {
     for place in 0..stage.graph.len() {
         if let Some(fault) = out_of_box(stage, place) {

@@ -1,16 +1,16 @@
 // Tests 1 and 2: the class of each stream, and the cut or cycle that shows it.
 
-ghost use Rattle.std.specs.Prelude.{◌≡◌, ◌↔◌, ◌==◌, ◌<◌, Some, None, length, slice_get, IsSome, All, IsTrue, MatchOption};
+ghost use Rattle.std.specs.Prelude.{◌≡◌, ◌↔◌, ◌==◌, ◌<◌, Some, None, length, slice_get, IsSome, All, IsTrue, MatchOption, ℕ};
 ghost use Rattle.std.specs.List.{list_any};
 ghost use Rattle.pb_graph.specs.declared.records.Member.{Member};
 ghost use Rattle.pb_graph.specs.declared.records.Step.{Step};
 ghost use Rattle.pb_graph.specs.declared.records.Stream.{Stream};
-ghost use Rattle.pb_graph.specs.Certificates.{CutsOff, GoesRound, Shows};
+ghost use Rattle.pb_graph.specs.Certificates.{CutsOff, GoesRound, Shows, IsCertified};
 ghost use Rattle.pb_study.specs.WellFormed.{IsWellFormed};
-ghost use Rattle.pb_stage.specs.Printed.{have_least};
+ghost use Rattle.pb_stage.specs.Printed.{have_least, EachStream};
 ghost use Rattle.pb_check.specs.Others.{IsOtherMeasured, IsOtherUnmeasured};
-ghost use Rattle.pb_check.specs.Asked.{is_of_measured, is_bounded, HasClass, HasClassAt, HaveClasses, IsShownAt, AreShown};
-ghost use Rattle.pb_check.specs.Faults.{IsClassFault, IsWitnessFault};
+ghost use Rattle.pb_check.specs.Asked.{is_of_measured, is_bounded, HasClass, HasClassAt, AtStream};
+ghost use Rattle.pb_check.specs.Faults.{IsStreamFault};
 
 use crate::faults::{Fault, at_stream};
 use crate::least::have_least;
@@ -61,7 +61,8 @@ fn has_class_at(stage: &Stage, in_stage: bool, j: u32) -> bool
 /// bounds exactly when it has bounds and some stream has least bounds.
 pub fn class_fault(stage: &Stage) -> Option<Fault>
     requires { IsWellFormed stage.now }
-    ensures { MatchOption result (HaveClasses stage.now) (IsClassFault stage.now) }
+    ensures { MatchOption result ((j : ℕ) → HasClassAt stage.now j)
+        (IsStreamFault stage.now (HasClassAt stage.now)) }
 {
     let in_stage = have_least(stage.streams.as_slice());
     for j in 0..stage.graph.len() {
@@ -186,7 +187,8 @@ fn shows(graph: &Graph, id: u32, stream: &Stream, class: Class, witness: &Witnes
 fn is_shown_at(stage: &Stage, j: u32) -> bool
     requires formed { IsWellFormed stage.now }
     requires place { j < length stage.now.graph.streams }
-    ensures { IsTrue result ↔ IsShownAt stage.now j }
+    ensures { IsTrue result
+        ↔ AtStream stage.now (λ j r. IsCertified stage.now.graph j r.classified) j }
 {
     let classified = &stage.streams.at(j as usize).classified;
     let stream = stage.graph.stream(j);
@@ -202,7 +204,10 @@ fn is_shown_at(stage: &Stage, j: u32) -> bool
 /// Test 2: the printed cut or cycle shows the class of each stream. The work is proportional to the numbers of members and steps.
 pub fn witness_fault(stage: &Stage) -> Option<Fault>
     requires { IsWellFormed stage.now }
-    ensures { MatchOption result (AreShown stage.now) (IsWitnessFault stage.now) }
+    ensures { MatchOption result
+        (EachStream stage.now (λ j r. IsCertified stage.now.graph j r.classified))
+        (IsStreamFault stage.now
+        (AtStream stage.now (λ j r. IsCertified stage.now.graph j r.classified))) }
 {
     for j in 0..stage.graph.len() {
         if !is_shown_at(stage, j) {

@@ -1,7 +1,7 @@
 // Test 6: the degrees of freedom.
 
 ghost use Rattle.std.specs.Prelude.{IfOk, MatchOption};
-ghost use Rattle.pb_check.specs.Asked.{IsFreedom};
+ghost use Rattle.pb_stage.specs.Freedom.{HasFreedom};
 ghost use Rattle.pb_check.specs.Faults.{IsFreedomFault};
 
 use crate::faults::{Fault, whole};
@@ -12,7 +12,8 @@ use std::alloc::{AllocError, Global};
 /// Test 6: the degrees of freedom are the number of measured streams in the spanning forest.
 pub fn freedom_fault(alloc: Global, stage: &Stage) -> Result<Option<Fault>, AllocError>
     ensures { IfOk result
-        (λ fault. MatchOption fault (IsFreedom stage.now) (IsFreedomFault stage.now)) }
+        (λ fault. MatchOption fault (HasFreedom stage.now.graph.streams stage.now.dof)
+        (IsFreedomFault stage.now)) }
 {
     let dof = Forest::of(alloc, &stage.graph)?.rank();
     if stage.dof == dof {

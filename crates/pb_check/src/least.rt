@@ -1,15 +1,16 @@
 // Test 13: the least bounds of each stream, if the stage has any.
 
-ghost use Rattle.std.specs.Prelude.{◌≡◌, IfOk, MatchOption};
+ghost use Rattle.std.specs.Prelude.{◌≡◌, IfOk, MatchOption, ℕ};
 ghost use Rattle.pb_graph.specs.Certificates.{IsCertified};
 ghost use Rattle.pb_study.specs.WellFormed.{IsWellFormed};
 ghost use Rattle.pb_gap.specs.GapRange.{IsGapInRange};
 ghost use Rattle.pb_gap.specs.LeastBounds.{stream_least_bounds};
-ghost use Rattle.pb_stage.specs.Printed.{have_least, printed_flows, printed_gap, printed_price};
+ghost use Rattle.pb_stage.specs.Printed.{have_least, printed_flows, printed_gap, printed_price, EachStream, HasLeastBounds};
 ghost use Rattle.pb_stage.specs.Signs.{AreWitnessSigns};
-ghost use Rattle.pb_check.specs.Asked.{AreShown, HaveClasses, HaveLeastBounds};
+ghost use Rattle.pb_stage.specs.Certified.{found_least};
 ghost use Rattle.pb_check.specs.Faults.{IsLeastFault};
 ghost use Rattle.pb_check.specs.Pairs.{IsPairOf};
+ghost use Rattle.pb_check.specs.Asked.{HasClassAt};
 
 use crate::bounds::bounds_difference;
 use crate::faults::Fault;
@@ -61,10 +62,13 @@ pub fn least_fault(
     requires pair { IsPairOf stage.now pair.now }
     requires gap { gap ≡ printed_gap stage.now }
     requires range { IsGapInRange gap }
-    requires classes { HaveClasses stage.now }
-    requires shown { AreShown stage.now }
+    requires classes { (j : ℕ) → HasClassAt stage.now j }
+    requires shown { EachStream stage.now (λ j r. IsCertified stage.now.graph j r.classified) }
     ensures { IfOk result
-        (λ found. MatchOption found (HaveLeastBounds stage.now) (IsLeastFault stage.now)) }
+        (λ found. MatchOption found
+        (HasLeastBounds stage.now
+        → EachStream stage.now (λ j r. r.least ≡ found_least stage.now j r))
+        (IsLeastFault stage.now)) }
 {
     if !have_least(stage.streams.as_slice()) {
         return Ok(None);

@@ -7,8 +7,8 @@ ghost use Rattle.pb_gap.specs.Gap.{MeetsGap};
 ghost use Rattle.pb_gap.specs.GapRange.{IsGapInRange};
 ghost use Rattle.pb_stage.specs.Printed.{printed_gap};
 ghost use Rattle.pb_check.specs.declared.faults.Test.{Test as TestValue};
-ghost use Rattle.pb_check.specs.Asked.{IsGapOfFlows, IsStateAt, IsStateOfGap, IsStatistic};
-ghost use Rattle.pb_check.specs.Faults.{EndsDiffer, GapsDiffer, IsGapFault, IsStateFault, IsStatisticFault, high_or_none};
+ghost use Rattle.pb_check.specs.Asked.{IsStateAt, IsStateOfGap, IsStatistic, found_gap};
+ghost use Rattle.pb_check.specs.Faults.{EndsDiffer, GapsDiffer, IsStateFault, IsStatisticFault, high_or_none};
 ghost use Rattle.pb_check.specs.Verdict.{Passes, test_code};
 ghost use Rattle.pb_check.specs.Among.{IsAmong};
 ghost use Rattle.pb_check.specs.Pairs.{IsPairOf};
@@ -49,7 +49,8 @@ fn gap_fault(stage: &Stage, pair: &FlowPair, deviations: &mut [i128]) -> Option<
     requires formed { IsWellFormed stage.now }
     requires pair { IsPairOf stage.now pair.now }
     requires room { length deviations.old ≡ length pair.now.graph.streams }
-    ensures { MatchOption result (IsGapOfFlows stage.now) (IsGapFault stage.now) }
+    ensures { MatchOption result (printed_gap stage.now ≡ found_gap stage.now)
+        (GapsDiffer (printed_gap stage.now) (found_gap stage.now)) }
 {
     gap_difference(printed_gap(stage), pair.gap(deviations))
 }
@@ -85,7 +86,7 @@ fn state_fault(
 ) -> Option<Fault>
     requires pair { IsPairOf stage.now pair.now }
     requires room { length deviations.old ≡ length pair.now.graph.streams }
-    requires gap_is { IsGapOfFlows stage.now }
+    requires gap_is { printed_gap stage.now ≡ found_gap stage.now }
     ensures { MatchOption result (IsStateOfGap stage.now gap sweeps)
         (IsStateFault stage.now gap sweeps) }
 {

@@ -1,13 +1,15 @@
 -- The text of a day writes it: it stands among the texts of all dates.
 use Rattle.std.specs.Prelude.{◌==◌, ◌||◌, map, Option, Some, None, if◌then◌else◌}
-use Rattle.std.specs.List.{flat_map, range_with_len}
+use Rattle.std.specs.List.{find, flat_map, range_with_len}
+use Rattle.std.specs.Option.{option_eq, unwrap_or}
+use Rattle.std.specs.Ordering.{int_eq}
 use Rattle.std.proofs.Common.{◌≡◌, ◌∙◌, ◌⊎◌, inl, inr, ◌≤◌, ◌<◌, ◌+◌, ℕ, zero, suc, ℤ, pos, Bool, true, false, List, [], ◌∷◌, ◌++◌, refl, sym, ap, subst, arith}
 use Rattle.std.proofs.lemmas.Bool.{cases_Bool, eqb-false, eqb-true}
 use Rattle.std.proofs.lemmas.Bool.Decides.{Decides-int_eq}
 use Rattle.jiff_core.specs.Calendar.{days_in_month, is_leap_year}
 use Rattle.pb_rows.specs.Date.{IsDate, IsDay, date_text, day_of, first_year}
 use Rattle.pb_rows.specs.Texts.{HaveOneDateText}
-use Rattle.pb_form.specs.Days.{dates_of_month, dates_of_year, dates_of_years, text_of_day, first_writing, is_this_day}
+use Rattle.pb_form.specs.Days.{dates_of_month, dates_of_year, dates_of_years, text_of_day, first_writing}
 
 -- ---- items of lists
 
@@ -73,19 +75,19 @@ in_dates year month day date =
 
 -- ---- the text that is found
 
-this_day : (day : ℤ) (o : Option ℤ) → is_this_day day o ≡ true → o ≡ Some day
+this_day : (day : ℤ) (o : Option ℤ) → option_eq int_eq o (Some day) ≡ true → o ≡ Some day
 this_day day None is = cc is
 this_day day (Some other) is = ap (λ (d : ℤ). Some d) ((Decides-int_eq other day).0 is)
 
-own_day : (day : ℤ) (o : Option ℤ) → o ≡ Some day → is_this_day day o ≡ true
+own_day : (day : ℤ) (o : Option ℤ) → o ≡ Some day → option_eq int_eq o (Some day) ≡ true
 own_day day o is = rw is ((Decides-int_eq day day).1 refl)
 
 first_found : (day : ℤ) (text : List ℕ) (texts : List (List ℕ)) → IsIn text texts → day_of text ≡ Some day → day_of (first_writing day texts) ≡ Some day
 first_found day text [] is reads = absurd is
-first_found day text (other ∷ texts) is reads = by (is_this_day day (day_of other)) refl is (λ rest. first_found day text texts rest reads)
+first_found day text (other ∷ texts) is reads = by (option_eq int_eq (day_of other) (Some day)) refl is (λ rest. first_found day text texts rest reads)
   where
-    by : (b : Bool) → is_this_day day (day_of other) ≡ b → (text ≡ other) ⊎ IsIn text texts → (IsIn text texts → day_of (first_writing day texts) ≡ Some day)
-        → day_of (if b then other else first_writing day texts) ≡ Some day
+    by : (b : Bool) → option_eq int_eq (day_of other) (Some day) ≡ b → (text ≡ other) ⊎ IsIn text texts → (IsIn text texts → day_of (first_writing day texts) ≡ Some day)
+        → day_of (unwrap_or (if b then Some other else find (λ text. option_eq int_eq (day_of text) (Some day)) texts) []) ≡ Some day
     by true here is later = this_day day (day_of other) here
     by false here (inl same) later = let own = own_day day (day_of other) (ap day_of (sym same) ∙ reads) in cc (sym own ∙ here)
     by false here (inr rest) later = later rest
@@ -102,9 +104,10 @@ day_reads law n range =
 -- Another day has no text.
 none_found : (day : ℤ) → ((text : List ℕ) → day_of text ≡ Some day → ⊥) → (texts : List (List ℕ)) → first_writing day texts ≡ []
 none_found day none [] = refl
-none_found day none (other ∷ texts) = by (is_this_day day (day_of other)) refl (none_found day none texts)
+none_found day none (other ∷ texts) = by (option_eq int_eq (day_of other) (Some day)) refl (none_found day none texts)
   where
-    by : (b : Bool) → is_this_day day (day_of other) ≡ b → first_writing day texts ≡ [] → (if b then other else first_writing day texts) ≡ []
+    by : (b : Bool) → option_eq int_eq (day_of other) (Some day) ≡ b → first_writing day texts ≡ []
+        → unwrap_or (if b then Some other else find (λ text. option_eq int_eq (day_of text) (Some day)) texts) [] ≡ []
     by true here later = absurd (none other (this_day day (day_of other) here))
     by false here later = later
 

@@ -1,7 +1,7 @@
 -- A record is of one kind: no two schemas of a table have their words and their number of fields in common.
 use Rattle.std.specs.Prelude.{◌&&◌, ◌||◌, ◌==◌, bytes_eq, filter, map, nat_lt, not, position, slice_get, Some, Option, Result, Ok, Err, if◌then◌else◌}
 use Rattle.std.specs.List.{list_all, prefix_len}
-use Rattle.std.specs.Option.{option_map}
+use Rattle.std.specs.Option.{ok_or, option_map}
 use Rattle.std.proofs.Common.{◌≡◌, ◌∙◌, ◌<◌, ◌≤◌, ◌⊎◌, ◌+◌, ◌-◌, ℕ, zero, suc, Bool, true, false, List, [], ◌∷◌, length, drop, length-drop, get_or, take, refl, sym, ap, subst, arith, inl, inr}
 use Rattle.std.proofs.lemmas.Bool.{and_parts, cases_Bool, cases_lt, ne_eqb}
 use Rattle.std.proofs.lemmas.Bool.Decides.{nat_tests}
@@ -16,9 +16,9 @@ use Rattle.pb_form.specs.Field.{field_read, found, held_in}
 use Rattle.pb_form.specs.Holds as holds
 use Rattle.pb_form.specs.Laws.{OneKindLaw}
 use Rattle.pb_form.specs.Reading.{fields_read, has_count, repeated, row_read}
-use Rattle.pb_form.specs.SessionRows.{is_of_version_1, is_of_version_2, kind_at, kind_in, kinds_of_version_1, kinds_of_version_2, session_columns, session_kinds, session_schema, session_schemas, session_tail, session_told}
+use Rattle.pb_form.specs.SessionRows.{is_of_version_1, is_of_version_2, kind_in, kinds_of_version_1, kinds_of_version_2, session_columns, session_kinds, session_schema, session_schemas, session_tail, session_told}
 use Rattle.pb_form.specs.Seen.{schema_seen}
-use Rattle.pb_form.specs.Telling.{agrees, has_word, is_of, schema_told, told_at}
+use Rattle.pb_form.specs.Telling.{agrees, has_word, is_of, schema_told, untold}
 use Rattle.pb_form.specs.Value.{Value, Word}
 use Rattle.pb_form.specs.declared.column.Schema as coded
 use Rattle.pb_form.specs.declared.fault.FormFault.{FormFault}
@@ -345,7 +345,7 @@ pub kind_from_told : (start place : ℕ) (fields : List (List ℕ)) → schema_t
 unfolding session_told
 kind_from_told start place fields told within =
     let there : place < length (drop start session_kinds) = omega (arith, length-drop start session_kinds, within) in
-    ap (kind_in (drop start session_kinds)) told ∙ ap kind_at (slice_get-get_or (drop start session_kinds) place kind.Version there)
+    ap (kind_in (drop start session_kinds)) told ∙ ap (λ (o : Option SessionKind). ok_or o fault.Kind) (slice_get-get_or (drop start session_kinds) place kind.Version there)
     ∙ ap (λ (it : SessionKind). (let told_kind : Result SessionKind FormFault = Ok it in told_kind)) (get_or-drop start session_kinds place kind.Version)
 
 -- or why there is none
@@ -396,7 +396,7 @@ told kinds it values fields are at reads =
     let schema_there : slice_get (map session_schema kinds) at.0 ≡ Some (session_schema it) =
     slice_get-map session_schema kinds at.0 ∙ ap (λ (o : Option SessionKind). option_map session_schema o) at.1 in
     let place = place_told (map session_schema kinds) at.0 (session_schema it) values fields are.apart are.firm schema_there reads in
-    ap (λ (o : Option ℕ). kind_in kinds (told_at (map session_schema kinds) fields o)) place ∙ ap kind_at at.1
+    ap (λ (o : Option ℕ). kind_in kinds (ok_or o (untold (map session_schema kinds) fields))) place ∙ ap (λ (o : Option SessionKind). ok_or o fault.Kind) at.1
 
 -- some of the schemas of a table differ too
 apart_after : (n : ℕ) (schemas : List Schema) → all_differ schemas ≡ true → all_differ (drop n schemas) ≡ true
@@ -437,7 +437,7 @@ reading_told start fields few is =
     let schema_at_place : slice_get (map session_schema (drop start session_kinds)) (16 - start) ≡ Some (session_schema kind.Reading) =
     slice_get-map session_schema (drop start session_kinds) (16 - start) ∙ ap (λ (o : Option SessionKind). option_map session_schema o) at in
     let place = place_first (map session_schema (drop start session_kinds)) (16 - start) (session_schema kind.Reading) fields apart schema_at_place is in
-    ap (λ (o : Option ℕ). kind_in (drop start session_kinds) (told_at (map session_schema (drop start session_kinds)) fields o)) place ∙ ap kind_at at
+    ap (λ (o : Option ℕ). kind_in (drop start session_kinds) (ok_or o (untold (map session_schema (drop start session_kinds)) fields))) place ∙ ap (λ (o : Option SessionKind). ok_or o fault.Kind) at
   where
     at : slice_get (drop start session_kinds) (16 - start) ≡ Some kind.Reading
     at =

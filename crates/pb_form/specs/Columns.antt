@@ -6,7 +6,8 @@
 -- reads as them (Writing), and no two records write the same values (Laws). If the values fit, the record consists of their texts
 -- (Texts, TextLaws). Rows of pairs or more have a tail, whose columns are repeated. Columns that may be missing at the end of a row
 -- make a second schema. The kinds stand in two tables, SessionRows and OutputRows; what a row means beyond its form isn't said here.
-use Rattle.std.specs.Prelude.{ℕ, Bool, true, false, List, [], ◌∷◌}
+use Prim.Native.String.{String}
+use Rattle.std.specs.Prelude.{ℕ, Bool, true, false, List, [], ◌∷◌, codes}
 use Rattle.pb_form.specs.Holds.{Holds, Word}
 
 -- a column: its key, and what it takes; an optional column also takes an empty field
@@ -21,12 +22,16 @@ pub record Schema : Type 0 where
   pub tail : List Column
 
 -- a column that takes no empty field, and one that does
-abbrev pub column : List ℕ → Holds → Column
-column key holds = record { key = key; holds = holds; optional = false }
+abbrev pub column : String → Holds → Column
+column key holds = record { key = codes key; holds = holds; optional = false }
 
-abbrev pub optional : List ℕ → Holds → Column
-optional key holds = record { key = key; holds = holds; optional = true }
+abbrev pub optional : String → Holds → Column
+optional key holds = record { key = codes key; holds = holds; optional = true }
 
 -- a column that identifies the kind of its row: it takes one word
-abbrev pub word_column : List ℕ → List ℕ → Column
-word_column key word = column key (Word (word ∷ []))
+abbrev pub word_column : String → String → Column
+word_column key word = column key (Word (codes word ∷ []))
+
+-- the columns of a kind of rows with this word, and with these columns after the one of the word
+abbrev pub row : String → List Column → List Column
+row word columns = word_column "row" word ∷ columns

@@ -1,6 +1,7 @@
 -- Statement. The text of a day.
-use Rattle.std.specs.Prelude.{ℕ, ℤ, Bool, false, List, [], ◌∷◌, map, Option, Some, None, if◌then◌else◌}
-use Rattle.std.specs.List.{flat_map, range_with_len}
+use Rattle.std.specs.Prelude.{ℕ, ℤ, List, [], map, Some}
+use Rattle.std.specs.List.{find, flat_map, range_with_len}
+use Rattle.std.specs.Option.{option_eq, unwrap_or}
 use Rattle.std.specs.Ordering.{int_eq}
 use Rattle.pb_rows.specs.Date.{date_text, day_of, first_year}
 
@@ -16,15 +17,9 @@ dates_of_year year = flat_map (dates_of_month year) (range_with_len 1 12)
 unfoldable pub dates_of_years : ℕ → List (List ℕ)
 dates_of_years n = flat_map dates_of_year (range_with_len first_year n)
 
--- a text writes this day
-abbrev pub is_this_day : ℤ → Option ℤ → Bool
-is_this_day day None = false
-is_this_day day (Some other) = int_eq other day
-
 -- the first of some texts that writes a day, or nothing
 abbrev pub first_writing : ℤ → List (List ℕ) → List ℕ
-first_writing day [] = []
-first_writing day (text ∷ texts) = if is_this_day day (day_of text) then text else first_writing day texts
+first_writing day texts = unwrap_or (find (λ text. option_eq int_eq (day_of text) (Some day)) texts) []
 
 -- The text `YYYY-MM-DD` of a day from 1900 to 2199: the text that writes it. Any other day has no text.
 unfoldable pub text_of_day : ℤ → List ℕ

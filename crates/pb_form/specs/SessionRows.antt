@@ -1,8 +1,10 @@
 -- Statement. The rows of a session: the columns of each kind.
-use Rattle.std.specs.Prelude.{ℕ, ◌^◌, pos, neg_ℤ, Bool, true, false, List, [], ◌∷◌, ◌++◌, Option, Some, None, Result, Ok, Err, codes, filter, map, slice_get}
+use Prim.Native.String.{String}
+use Rattle.std.specs.Prelude.{ℕ, ◌^◌, Bool, true, false, List, [], ◌∷◌, ◌++◌, Result, Ok, Err, filter, map, slice_get}
+use Rattle.std.specs.Option.{ok_or}
 use Rattle.pb_limits.specs.Limits.{most_critical, most_density, most_freedom, most_grade, most_grade_variance, most_grams, most_level, most_row_variance, most_volume}
-use Rattle.pb_form.specs.Columns.{Column, Schema, column, word_column}
-use Rattle.pb_form.specs.Holds.{Holds, Name, Reason, Number, Date}
+use Rattle.pb_form.specs.Columns.{Column, Schema, column, row, word_column}
+use Rattle.pb_form.specs.Holds.{Holds, Name, Reason, Date, either_way, from_one, from_zero}
 use Rattle.pb_form.specs.Telling.{schema_told}
 use Rattle.pb_form.specs.declared.fault.FormFault.{FormFault}
 use Rattle.pb_form.specs.declared.fault.FormFault.TheVariants as fault
@@ -11,145 +13,96 @@ use Rattle.pb_form.specs.declared.session.SessionKind.TheVariants as kind
 
 -- the base variance of a tank, or of a metered or batch stream, in squared grams; a plain stream has none
 abbrev pub base_variance : Holds
-base_variance = Number (pos 1) (pos most_row_variance)
-
-abbrev pub no_variance : Holds
-no_variance = Number (pos 0) (pos 0)
+base_variance = from_one most_row_variance
 
 -- the variance of a measurement, in squared grams
 abbrev pub row_variance : Holds
-row_variance = Number (pos 0) (pos most_row_variance)
-
--- grams, in either direction
-abbrev pub either_grams : Holds
-either_grams = Number (neg_ℤ (pos most_grams)) (pos most_grams)
-
--- a level, in millimetres
-abbrev pub level_range : Holds
-level_range = Number (pos 0) (pos most_level)
-
--- a volume, in millilitres
-abbrev pub volume_range : Holds
-volume_range = Number (pos 0) (pos most_volume)
-
--- a density, in grams per cubic metre
-abbrev pub density_range : Holds
-density_range = Number (pos 1) (pos most_density)
-
--- degrees of freedom
-abbrev pub freedom_range : Holds
-freedom_range = Number (pos 1) (pos most_freedom)
+row_variance = from_zero most_row_variance
 
 -- a critical value, in thousandths
 abbrev pub critical_range : Holds
-critical_range = Number (pos 0) (pos most_critical)
-
--- a grade, in parts per million
-abbrev pub grade_range : Holds
-grade_range = Number (pos 0) (pos most_grade)
-
--- the variance of a grade, in squares of parts per million
-abbrev pub grade_variance_range : Holds
-grade_variance_range = Number (pos 0) (pos most_grade_variance)
+critical_range = from_zero most_critical
 
 -- the greatest cost of a meter, in any unit
 abbrev pub most_meter_cost : ℕ
 most_meter_cost = 10 ^ 12
 
--- what a meter costs
-abbrev pub cost_range : Holds
-cost_range = Number (pos 0) (pos most_meter_cost)
-
 -- the columns of a kind of streams, which has this word and this base variance
-abbrev pub stream_columns : List ℕ → Holds → List Column
+abbrev pub stream_columns : String → Holds → List Column
 stream_columns word base =
-    word_column (codes "row") (codes "stream") ∷ column (codes "name") Name ∷ column (codes "from") Name ∷ column (codes "to") Name
-    ∷ word_column (codes "word") word ∷ column (codes "base") base ∷ []
+    row "stream" (column "name" Name ∷ column "from" Name ∷ column "to" Name ∷ word_column "word" word ∷ column "base" base ∷ [])
 
 -- the first and the last day on which a tank or a stream is in service
 abbrev pub service_columns : List Column
-service_columns = column (codes "since") Date ∷ column (codes "until") Date ∷ []
+service_columns = column "since" Date ∷ column "until" Date ∷ []
 
 -- the columns of a fact after its word
 abbrev pub reading_columns : List Column
 reading_columns =
-    column (codes "id") Name ∷ column (codes "stream") Name ∷ column (codes "day") Date ∷ column (codes "grams") either_grams
-    ∷ column (codes "variance") row_variance ∷ []
+    column "id" Name ∷ column "stream" Name ∷ column "day" Date ∷ column "grams" (either_way most_grams)
+    ∷ column "variance" row_variance ∷ []
 
 abbrev pub transfer_columns : List Column
 transfer_columns =
-    column (codes "id") Name ∷ column (codes "stream") Name ∷ column (codes "first") Date ∷ column (codes "last") Date
-    ∷ column (codes "grams") either_grams ∷ column (codes "variance") row_variance ∷ []
+    column "id" Name ∷ column "stream" Name ∷ column "first" Date ∷ column "last" Date ∷ column "grams" (either_way most_grams)
+    ∷ column "variance" row_variance ∷ []
 
 abbrev pub dip_columns : List Column
 dip_columns =
-    column (codes "id") Name ∷ column (codes "tank") Name ∷ column (codes "day") Date ∷ column (codes "mm") level_range
-    ∷ column (codes "density") density_range ∷ column (codes "variance") row_variance ∷ []
+    column "id" Name ∷ column "tank" Name ∷ column "day" Date ∷ column "mm" (from_zero most_level)
+    ∷ column "density" (from_one most_density) ∷ column "variance" row_variance ∷ []
 
 -- the columns of a late fact: the word `late`, the fact's word, and the columns of the fact
-abbrev pub late_columns : List ℕ → List Column → List Column
-late_columns word columns = word_column (codes "row") (codes "late") ∷ word_column (codes "word") word ∷ columns
+abbrev pub late_columns : String → List Column → List Column
+late_columns word columns = row "late" (word_column "word" word ∷ columns)
 
 -- The columns of each kind.
 abbrev pub session_columns : SessionKind → List Column
-session_columns kind.Version = word_column (codes "row") (codes "version") ∷ word_column (codes "number") (codes "2") ∷ []
-session_columns kind.Boundary = word_column (codes "row") (codes "boundary") ∷ column (codes "name") Name ∷ []
-session_columns kind.TankInService =
-    word_column (codes "row") (codes "tank") ∷ column (codes "name") Name ∷ column (codes "base") base_variance ∷ service_columns
-session_columns kind.MeteredInService = stream_columns (codes "metered") base_variance ++ service_columns
-session_columns kind.BatchInService = stream_columns (codes "batch") base_variance ++ service_columns
-session_columns kind.PlainInService = stream_columns (codes "plain") no_variance ++ service_columns
-session_columns kind.Unit = word_column (codes "row") (codes "unit") ∷ column (codes "name") Name ∷ []
-session_columns kind.Tank =
-    word_column (codes "row") (codes "tank") ∷ column (codes "name") Name ∷ column (codes "base") base_variance ∷ []
+session_columns kind.Version = row "version" (word_column "number" "2" ∷ [])
+session_columns kind.Boundary = row "boundary" (column "name" Name ∷ [])
+session_columns kind.TankInService = row "tank" (column "name" Name ∷ column "base" base_variance ∷ service_columns)
+session_columns kind.MeteredInService = stream_columns "metered" base_variance ++ service_columns
+session_columns kind.BatchInService = stream_columns "batch" base_variance ++ service_columns
+session_columns kind.PlainInService = stream_columns "plain" (from_zero 0) ++ service_columns
+session_columns kind.Unit = row "unit" (column "name" Name ∷ [])
+session_columns kind.Tank = row "tank" (column "name" Name ∷ column "base" base_variance ∷ [])
 session_columns kind.Strap =
-    word_column (codes "row") (codes "strap") ∷ column (codes "tank") Name ∷ column (codes "mm") level_range
-    ∷ column (codes "ml") volume_range ∷ []
-session_columns kind.StreamMetered = stream_columns (codes "metered") base_variance
-session_columns kind.StreamBatch = stream_columns (codes "batch") base_variance
-session_columns kind.StreamPlain = stream_columns (codes "plain") no_variance
-session_columns kind.Period =
-    word_column (codes "row") (codes "period") ∷ column (codes "name") Name ∷ column (codes "first") Date
-    ∷ column (codes "last") Date ∷ []
+    row "strap" (column "tank" Name ∷ column "mm" (from_zero most_level) ∷ column "ml" (from_zero most_volume) ∷ [])
+session_columns kind.StreamMetered = stream_columns "metered" base_variance
+session_columns kind.StreamBatch = stream_columns "batch" base_variance
+session_columns kind.StreamPlain = stream_columns "plain" (from_zero 0)
+session_columns kind.Period = row "period" (column "name" Name ∷ column "first" Date ∷ column "last" Date ∷ [])
 session_columns kind.CriticalGlobal =
-    word_column (codes "row") (codes "critical") ∷ word_column (codes "word") (codes "global") ∷ column (codes "dof") freedom_range
-    ∷ column (codes "value") critical_range ∷ []
-session_columns kind.CriticalNodal =
-    word_column (codes "row") (codes "critical") ∷ word_column (codes "word") (codes "nodal")
-    ∷ column (codes "value") critical_range ∷ []
-session_columns kind.CriticalMeasure =
-    word_column (codes "row") (codes "critical") ∷ word_column (codes "word") (codes "measure")
-    ∷ column (codes "value") critical_range ∷ []
-session_columns kind.Reading = word_column (codes "row") (codes "reading") ∷ reading_columns
-session_columns kind.Transfer = word_column (codes "row") (codes "transfer") ∷ transfer_columns
-session_columns kind.Dip = word_column (codes "row") (codes "dip") ∷ dip_columns
-session_columns kind.LateReading = late_columns (codes "reading") reading_columns
-session_columns kind.LateTransfer = late_columns (codes "transfer") transfer_columns
-session_columns kind.LateDip = late_columns (codes "dip") dip_columns
+    row "critical" (word_column "word" "global" ∷ column "dof" (from_one most_freedom) ∷ column "value" critical_range ∷ [])
+session_columns kind.CriticalNodal = row "critical" (word_column "word" "nodal" ∷ column "value" critical_range ∷ [])
+session_columns kind.CriticalMeasure = row "critical" (word_column "word" "measure" ∷ column "value" critical_range ∷ [])
+session_columns kind.Reading = row "reading" reading_columns
+session_columns kind.Transfer = row "transfer" transfer_columns
+session_columns kind.Dip = row "dip" dip_columns
+session_columns kind.LateReading = late_columns "reading" reading_columns
+session_columns kind.LateTransfer = late_columns "transfer" transfer_columns
+session_columns kind.LateDip = late_columns "dip" dip_columns
 session_columns kind.AmendAmount =
-    word_column (codes "row") (codes "amend") ∷ column (codes "id") Name ∷ column (codes "grams") either_grams
-    ∷ column (codes "variance") row_variance ∷ column (codes "reason") Reason ∷ []
+    row "amend" (column "id" Name ∷ column "grams" (either_way most_grams) ∷ column "variance" row_variance
+    ∷ column "reason" Reason ∷ [])
 session_columns kind.AmendLevel =
-    word_column (codes "row") (codes "amend") ∷ column (codes "id") Name ∷ column (codes "mm") level_range
-    ∷ column (codes "density") density_range ∷ column (codes "variance") row_variance ∷ column (codes "reason") Reason ∷ []
-session_columns kind.Strike =
-    word_column (codes "row") (codes "strike") ∷ column (codes "id") Name ∷ column (codes "reason") Reason ∷ []
-session_columns kind.Close = word_column (codes "row") (codes "close") ∷ column (codes "period") Name ∷ []
+    row "amend" (column "id" Name ∷ column "mm" (from_zero most_level) ∷ column "density" (from_one most_density)
+    ∷ column "variance" row_variance ∷ column "reason" Reason ∷ [])
+session_columns kind.Strike = row "strike" (column "id" Name ∷ column "reason" Reason ∷ [])
+session_columns kind.Close = row "close" (column "period" Name ∷ [])
 session_columns kind.Assay =
-    word_column (codes "row") (codes "assay") ∷ column (codes "component") Name ∷ column (codes "stream") Name
-    ∷ column (codes "period") Name ∷ column (codes "ppm") grade_range ∷ column (codes "variance") grade_variance_range ∷ []
-session_columns kind.Design = word_column (codes "row") (codes "design") ∷ []
-session_columns kind.Report = word_column (codes "row") (codes "report") ∷ column (codes "period") Name ∷ []
-session_columns kind.History = word_column (codes "row") (codes "history") ∷ column (codes "period") Name ∷ []
-session_columns kind.Advise = word_column (codes "row") (codes "advise") ∷ []
-session_columns kind.Window =
-    word_column (codes "row") (codes "window") ∷ column (codes "first") Name ∷ column (codes "last") Name ∷ []
-session_columns kind.Component =
-    word_column (codes "row") (codes "component") ∷ column (codes "component") Name ∷ column (codes "period") Name ∷ []
+    row "assay" (column "component" Name ∷ column "stream" Name ∷ column "period" Name ∷ column "ppm" (from_zero most_grade)
+    ∷ column "variance" (from_zero most_grade_variance) ∷ [])
+session_columns kind.Design = row "design" []
+session_columns kind.Report = row "report" (column "period" Name ∷ [])
+session_columns kind.History = row "history" (column "period" Name ∷ [])
+session_columns kind.Advise = row "advise" []
+session_columns kind.Window = row "window" (column "first" Name ∷ column "last" Name ∷ [])
+session_columns kind.Component = row "component" (column "component" Name ∷ column "period" Name ∷ [])
 
 -- the columns of a named cost: a stream, and what a meter on it costs
 abbrev pub cost_columns : List Column
-cost_columns = column (codes "stream") Name ∷ column (codes "cost") cost_range ∷ []
+cost_columns = column "stream" Name ∷ column "cost" (from_zero most_meter_cost) ∷ []
 
 -- The columns that are repeated after those of a kind.
 abbrev pub session_tail : SessionKind → List Column
@@ -195,14 +148,9 @@ kinds_of_version_1 = filter is_of_version_1 session_kinds
 abbrev pub kinds_of_version_2 : List SessionKind
 kinds_of_version_2 = filter is_of_version_2 session_kinds
 
--- the kind at a place among some kinds
-abbrev pub kind_at : Option SessionKind → Result SessionKind FormFault
-kind_at (Some kind) = Ok kind
-kind_at None = Err fault.Kind
-
 -- the kind, among some kinds, whose schema a row is of
 abbrev pub kind_in : List SessionKind → Result ℕ FormFault → Result SessionKind FormFault
-kind_in kinds (Ok place) = kind_at (slice_get kinds place)
+kind_in kinds (Ok place) = ok_or (slice_get kinds place) fault.Kind
 kind_in kinds (Err fault) = Err fault
 
 -- The kind of a row of a session that has rows of these kinds, or why it has none.

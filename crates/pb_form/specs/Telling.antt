@@ -1,6 +1,7 @@
 -- Statement. Which of several schemas a row is of, by its words and the number of its fields.
-use Rattle.std.specs.Prelude.{ℕ, Bool, true, ◌&&◌, List, [], ◌∷◌, length, Option, Some, None, Result, Ok, Err, position, bytes_eq, if◌then◌else◌}
+use Rattle.std.specs.Prelude.{ℕ, Bool, true, ◌&&◌, List, [], ◌∷◌, length, Result, position, bytes_eq, if◌then◌else◌}
 use Rattle.std.specs.List.{list_any}
+use Rattle.std.specs.Option.{ok_or}
 use Rattle.pb_form.specs.Columns.{Column, Schema}
 use Rattle.pb_form.specs.Holds.{Holds, Word}
 use Rattle.pb_form.specs.Reading.{has_count}
@@ -29,11 +30,6 @@ has_words fields schema = agrees schema.columns fields
 abbrev pub untold : List Schema → List (List ℕ) → FormFault
 untold schemas fields = if list_any (has_words fields) schemas then fault.Fields else fault.Kind
 
--- the place of the first schema that a row is of
-abbrev pub told_at : List Schema → List (List ℕ) → Option ℕ → Result ℕ FormFault
-told_at schemas fields (Some place) = Ok place
-told_at schemas fields None = Err (untold schemas fields)
-
 -- The place of the first schema that a row is of, or why there is none.
 abbrev pub schema_told : List Schema → List (List ℕ) → Result ℕ FormFault
-schema_told schemas fields = told_at schemas fields (position (is_of fields) schemas)
+schema_told schemas fields = ok_or (position (is_of fields) schemas) (untold schemas fields)

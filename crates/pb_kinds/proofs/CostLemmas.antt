@@ -6,7 +6,7 @@ use Rattle.std.proofs.lemmas.Int.{ints, to_z-of_z}
 use Rattle.std.proofs.lemmas.List.{length-map}
 use Rattle.std.proofs.lemmas.List.Elements.{All-cons, All-nil}
 use Rattle.pb_rows.specs.Records.{without_trailing_empty}
-use Rattle.pb_form.specs.Columns.{Column, Schema, column}
+use Rattle.pb_form.specs.Columns.{Column, Schema}
 use Rattle.pb_form.specs.Field.{field_read}
 use Rattle.pb_form.specs.Holds as holds
 use Rattle.pb_form.specs.Laws.{FittingLaw}
@@ -30,7 +30,7 @@ use Rattle.pb_kinds.specs.Costs.{IsMeterCost, costs_by, costs_in}
 use Rattle.pb_kinds.specs.Laws.{NamedCostsLaw}
 use Rattle.pb_kinds.specs.Requests.{asked_by, asked_in, declares, kinds_of, name_there, number_there, request_by, request_if, request_in, request_of}
 use Rattle.pb_kinds.specs.There.{ArePairs, IsNameThere, IsNumberThere, pairs_read}
-use Rattle.pb_kinds.proofs.ThereLemmas.{name_is, number_is}
+use Rattle.pb_kinds.proofs.ThereLemmas.{name_is, number_is, column_of}
 
 -- ---- a record that asks for advice
 
@@ -144,10 +144,10 @@ joined_parts (Err bad) (Err other) values says = absurd (cc says)
 
 -- the columns of a pair
 abbrev stream_column : Column
-stream_column = slice_index_or cost_columns 0 (column [] holds.Items)
+stream_column = slice_index_or cost_columns 0 (column_of [] holds.Items)
 
 abbrev cost_column : Column
-cost_column = slice_index_or cost_columns 1 (column [] holds.Items)
+cost_column = slice_index_or cost_columns 1 (column_of [] holds.Items)
 
 -- the first pair of some, and those after it
 record ArePairsFrom (a b : List ℕ) (n : ℕ) (pairs : List (List ℕ)) (values : List Value) : Type 0 where

@@ -9,7 +9,7 @@ use Rattle.pb_rows.specs.Date.{IsDay}
 use Rattle.pb_rows.specs.Name.{is_name}
 use Rattle.pb_site.specs.Service.{IsService}
 use Rattle.pb_facts.specs.Fact.{IsFactInRange}
-use Rattle.pb_form.specs.Columns.{Column, column}
+use Rattle.pb_form.specs.Columns.{Column}
 use Rattle.pb_form.specs.Holds as holds
 use Rattle.pb_form.specs.SessionRows.{dip_columns, reading_columns, session_columns, transfer_columns}
 use Rattle.pb_form.specs.Value.{Value}
@@ -21,36 +21,36 @@ use Rattle.pb_kinds.specs.declared.rows.Request.TheVariants.{Store}
 use Rattle.pb_kinds.specs.Effects.{effect_names}
 use Rattle.pb_kinds.specs.Ranges.{IsRequestInRange}
 use Rattle.pb_kinds.specs.Requests.{day_there, dip_from, name_there, number_there, reading_from, request_of, service_from, transfer_from}
-use Rattle.pb_kinds.proofs.ThereLemmas.{day_is, fit_after, name_is, number_is}
+use Rattle.pb_kinds.proofs.ThereLemmas.{day_is, fit_after, name_is, number_is, column_of}
 
 -- ---- by the column at a place
 
 between : (columns : List Column) (values : List Value) (at place sum : ℕ) (key : List ℕ) (lo hi : ℤ) → FitEach columns (drop at values) → at + place ≡ sum
-    → slice_get columns place ≡ Some (column key (holds.Number lo hi)) → (lo ≤ℤ number_there values sum) × (number_there values sum ≤ℤ hi)
+    → slice_get columns place ≡ Some (column_of key (holds.Number lo hi)) → (lo ≤ℤ number_there values sum) × (number_there values sum ≤ℤ hi)
 between columns values at place sum key lo hi fit same has =
     let it = number_is columns values at place sum key lo hi fit same has in
     rw it.is (it.least, it.most)
 
 grams : (columns : List Column) (values : List Value) (at place sum : ℕ) (key : List ℕ) → FitEach columns (drop at values) → at + place ≡ sum
-    → slice_get columns place ≡ Some (column key (holds.Number (neg_ℤ (pos most_grams)) (pos most_grams))) → IsGrams (number_there values sum)
+    → slice_get columns place ≡ Some (column_of key (holds.Number (neg_ℤ (pos most_grams)) (pos most_grams))) → IsGrams (number_there values sum)
 grams columns values at place sum key fit same has =
     let is = between columns values at place sum key (neg_ℤ (pos most_grams)) (pos most_grams) fit same has in
     omega (arith, ints, is.0, is.1)
 
 day : (columns : List Column) (values : List Value) (at place sum : ℕ) (key : List ℕ) → FitEach columns (drop at values) → at + place ≡ sum
-    → slice_get columns place ≡ Some (column key holds.Date) → IsDay (day_there values sum)
+    → slice_get columns place ≡ Some (column_of key holds.Date) → IsDay (day_there values sum)
 day columns values at place sum key fit same has =
     let it = day_is columns values at place sum key fit same has in
     rw it.is it.range
 
 named : (columns : List Column) (values : List Value) (at place sum : ℕ) (key : List ℕ) → FitEach columns (drop at values) → at + place ≡ sum
-    → slice_get columns place ≡ Some (column key holds.Name) → is_name (name_there values sum) ≡ true
+    → slice_get columns place ≡ Some (column_of key holds.Name) → is_name (name_there values sum) ≡ true
 named columns values at place sum key fit same has =
     let it = name_is columns values at place sum key fit same has in
     rw it.is it.form
 
-service : (columns : List Column) (values : List Value) (at : ℕ) (since until : List ℕ) → FitEach columns values → slice_get columns at ≡ Some (column since holds.Date)
-    → slice_get columns (at + 1) ≡ Some (column until holds.Date) → IsService (service_from values at)
+service : (columns : List Column) (values : List Value) (at : ℕ) (since until : List ℕ) → FitEach columns values → slice_get columns at ≡ Some (column_of since holds.Date)
+    → slice_get columns (at + 1) ≡ Some (column_of until holds.Date) → IsService (service_from values at)
 service columns values at since until fit begins ends = record {
   since = day columns values 0 at at since fit (omega arith) begins;
   until = day columns values 0 (at + 1) (at + 1) until fit (omega arith) ends;
@@ -173,18 +173,18 @@ two_names a b is other = rw (is, other) refl
 three_names : (a b c : List ℕ) → is_name a ≡ true → is_name b ≡ true → is_name c ≡ true → list_all is_name (a ∷ (b ∷ (c ∷ []))) ≡ true
 three_names a b c is other third = rw (is, other, third) refl
 
-name_one : (columns : List Column) (values : List Value) (key : List ℕ) → FitEach columns values → slice_get columns 1 ≡ Some (column key holds.Name)
+name_one : (columns : List Column) (values : List Value) (key : List ℕ) → FitEach columns values → slice_get columns 1 ≡ Some (column_of key holds.Name)
     → list_all is_name (name_there values 1 ∷ []) ≡ true
 name_one columns values key fit has = one_name (name_there values 1) (named columns values 0 1 1 key fit refl has)
 
-three_from_one : (columns : List Column) (values : List Value) (name from to : List ℕ) → FitEach columns values → slice_get columns 1 ≡ Some (column name holds.Name)
-    → slice_get columns 2 ≡ Some (column from holds.Name) → slice_get columns 3 ≡ Some (column to holds.Name)
+three_from_one : (columns : List Column) (values : List Value) (name from to : List ℕ) → FitEach columns values → slice_get columns 1 ≡ Some (column_of name holds.Name)
+    → slice_get columns 2 ≡ Some (column_of from holds.Name) → slice_get columns 3 ≡ Some (column_of to holds.Name)
     → list_all is_name (name_there values 1 ∷ (name_there values 2 ∷ (name_there values 3 ∷ []))) ≡ true
 three_from_one columns values name from to fit a b c =
     three_names (name_there values 1) (name_there values 2) (name_there values 3) (named columns values 0 1 1 name fit refl a) (named columns values 0 2 2 from fit refl b) (named columns values 0 3 3 to fit refl c)
 
-names_from : (columns : List Column) (values : List Value) (at : ℕ) (id of : List ℕ) → FitEach columns (drop at values) → slice_get columns 0 ≡ Some (column id holds.Name)
-    → slice_get columns 1 ≡ Some (column of holds.Name) → list_all is_name (name_there values at ∷ (name_there values (at + 1) ∷ [])) ≡ true
+names_from : (columns : List Column) (values : List Value) (at : ℕ) (id of : List ℕ) → FitEach columns (drop at values) → slice_get columns 0 ≡ Some (column_of id holds.Name)
+    → slice_get columns 1 ≡ Some (column_of of holds.Name) → list_all is_name (name_there values at ∷ (name_there values (at + 1) ∷ [])) ≡ true
 names_from columns values at id of fit a b =
     two_names (name_there values at) (name_there values (at + 1)) (named columns values at 0 at id fit (omega arith) a) (named columns values at 1 (at + 1) of fit refl b)
 

@@ -1,6 +1,6 @@
 -- A row of a reading whose fields have no fault, and the kind that a record is identified as.
 use Rattle.std.specs.Prelude.{◌&&◌, ◌-◌, ◌==◌, ◌≤ℤ◌, bytes_eq, codes, int_le, map, nat_le, neg_ℤ, position, slice_get, Option, Some, None, Result, Ok, Err, IfOk, if◌then◌else◌}
-use Rattle.std.specs.Option.{option_map}
+use Rattle.std.specs.Option.{ok_or, option_map}
 use Rattle.std.proofs.Common.{◌≡◌, ◌∙◌, ℕ, ℤ, pos, Bool, true, false, List, [], ◌∷◌, length, get_or, refl, subst, sym, ap, arith}
 use Rattle.std.proofs.lemmas.Bool.{and_parts}
 use Rattle.std.proofs.lemmas.Bool.Decides.{nat_tests}
@@ -13,10 +13,11 @@ use Rattle.pb_rows.specs.Name.{is_name}
 use Rattle.pb_rows.specs.Number.{number, within}
 use Rattle.pb_form.specs.Columns.{Schema}
 use Rattle.pb_form.specs.Reading.{are_turns, has_count, row_read}
-use Rattle.pb_form.specs.SessionRows.{kind_at, kind_in, session_columns, session_schema, session_told}
-use Rattle.pb_form.specs.Telling.{agrees, is_of, told_at}
+use Rattle.pb_form.specs.SessionRows.{kind_in, session_columns, session_schema, session_told}
+use Rattle.pb_form.specs.Telling.{agrees, is_of, untold}
 use Rattle.pb_form.specs.Value.{Value, Word, Name, Number, Date}
 use Rattle.pb_form.specs.declared.fault.FormFault.{FormFault}
+use Rattle.pb_form.specs.declared.fault.FormFault.TheVariants as form
 use Rattle.pb_form.specs.declared.session.SessionKind.{SessionKind}
 use Rattle.pb_form.specs.declared.session.SessionKind.TheVariants as kind
 use Rattle.pb_site.specs.declared.declared.Version.{Version}
@@ -115,7 +116,7 @@ pub told_is_of : (kinds : List SessionKind) (fields : List (List ℕ)) (it : Ses
 unfolding session_told
 told_is_of kinds fields it told = by (position (is_of fields) (map session_schema kinds)) refl told
   where
-    here : (place : ℕ) (found : Option SessionKind) → position (is_of fields) (map session_schema kinds) ≡ Some place → slice_get kinds place ≡ found → kind_at found ≡ Ok it
+    here : (place : ℕ) (found : Option SessionKind) → position (is_of fields) (map session_schema kinds) ≡ Some place → slice_get kinds place ≡ found → ok_or found form.Kind ≡ Ok it
         → is_of fields (session_schema it) ≡ true
     here place (Some other) first at is =
         let same : other ≡ it = cc is in
@@ -126,7 +127,7 @@ told_is_of kinds fields it told = by (position (is_of fields) (map session_schem
         ap (is_of fields) (sym its) ∙ (position-Some (is_of fields) (map session_schema kinds) place (session_schema it) first).1
     here place None first at is = cc is
 
-    by : (place : Option ℕ) → position (is_of fields) (map session_schema kinds) ≡ place → kind_in kinds (told_at (map session_schema kinds) fields place) ≡ Ok it
+    by : (place : Option ℕ) → position (is_of fields) (map session_schema kinds) ≡ place → kind_in kinds (ok_or place (untold (map session_schema kinds) fields)) ≡ Ok it
         → is_of fields (session_schema it) ≡ true
     by (Some place) first is = here place (slice_get kinds place) first refl is
     by None none is = cc is

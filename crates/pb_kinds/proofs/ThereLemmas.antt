@@ -5,12 +5,17 @@ use Rattle.std.proofs.lemmas.Bool.{and_parts}
 use Rattle.std.proofs.lemmas.Int.{ints}
 use Rattle.pb_rows.specs.Name.{is_name}
 use Rattle.pb_rows.specs.Reason.{is_reason}
-use Rattle.pb_form.specs.Columns.{Column, column}
+use Rattle.pb_form.specs.Columns.{Column}
+use Rattle.pb_form.specs.Holds.{Holds}
 use Rattle.pb_form.specs.Holds as holds
 use Rattle.pb_form.specs.Value.{Value, Missing, Word, Name, Reason, Number, Date, Items}
 use Rattle.pb_form.specs.Values.{day_in, name_in, number_in, reason_in}
 use Rattle.pb_form.specs.Writing.{FitEach, FitsColumn, FitsIn}
 use Rattle.pb_kinds.specs.There.{IsDayThere, IsLongThere, IsNameThere, IsNumberThere, IsReasonThere}
+
+-- a column that takes no empty field
+abbrev pub column_of : List ℕ → Holds → Column
+column_of key takes = record { key = key; holds = takes; optional = false }
 
 -- ---- one place
 
@@ -84,32 +89,32 @@ of_day values place (Items text) at fit = absurd fit
 -- ---- a name, a reason, a number and a day at a place of a table's columns
 
 pub name_is : (columns : List Column) (values : List Value) (at place sum : ℕ) (key : List ℕ) → FitEach columns (drop at values) → at + place ≡ sum
-    → slice_get columns place ≡ Some (column key holds.Name) → IsNameThere values sum
+    → slice_get columns place ≡ Some (column_of key holds.Name) → IsNameThere values sum
 name_is columns values at place sum key fit same has =
-    let it = there columns values at place sum (column key holds.Name) fit same has in
+    let it = there columns values at place sum (column_of key holds.Name) fit same has in
     of_name values sum it.0 it.1.0 it.1.1
 
 pub reason_is : (columns : List Column) (values : List Value) (at place sum : ℕ) (key : List ℕ) → FitEach columns (drop at values) → at + place ≡ sum
-    → slice_get columns place ≡ Some (column key holds.Reason) → IsReasonThere values sum
+    → slice_get columns place ≡ Some (column_of key holds.Reason) → IsReasonThere values sum
 reason_is columns values at place sum key fit same has =
-    let it = there columns values at place sum (column key holds.Reason) fit same has in
+    let it = there columns values at place sum (column_of key holds.Reason) fit same has in
     of_reason values sum it.0 it.1.0 it.1.1
 
 pub number_is : (columns : List Column) (values : List Value) (at place sum : ℕ) (key : List ℕ) (lo hi : ℤ) → FitEach columns (drop at values) → at + place ≡ sum
-    → slice_get columns place ≡ Some (column key (holds.Number lo hi)) → IsNumberThere lo hi values sum
+    → slice_get columns place ≡ Some (column_of key (holds.Number lo hi)) → IsNumberThere lo hi values sum
 number_is columns values at place sum key lo hi fit same has =
-    let it = there columns values at place sum (column key (holds.Number lo hi)) fit same has in
+    let it = there columns values at place sum (column_of key (holds.Number lo hi)) fit same has in
     of_number lo hi values sum it.0 it.1.0 it.1.1
 
 pub day_is : (columns : List Column) (values : List Value) (at place sum : ℕ) (key : List ℕ) → FitEach columns (drop at values) → at + place ≡ sum
-    → slice_get columns place ≡ Some (column key holds.Date) → IsDayThere values sum
+    → slice_get columns place ≡ Some (column_of key holds.Date) → IsDayThere values sum
 day_is columns values at place sum key fit same has =
-    let it = there columns values at place sum (column key holds.Date) fit same has in
+    let it = there columns values at place sum (column_of key holds.Date) fit same has in
     of_day values sum it.0 it.1.0 it.1.1
 
 -- a number of 64 bits
 pub long_is : (columns : List Column) (values : List Value) (at place sum : ℕ) (key : List ℕ) (lo hi : ℤ) → FitEach columns (drop at values) → at + place ≡ sum
-    → slice_get columns place ≡ Some (column key (holds.Number lo hi)) → (int_le (neg_ℤ (pos (2 ^ 63))) lo && int_le hi (pos (2 ^ 63 - 1))) ≡ true → IsLongThere values sum
+    → slice_get columns place ≡ Some (column_of key (holds.Number lo hi)) → (int_le (neg_ℤ (pos (2 ^ 63))) lo && int_le hi (pos (2 ^ 63 - 1))) ≡ true → IsLongThere values sum
 long_is columns values at place sum key lo hi fit same has narrow =
     let it = number_is columns values at place sum key lo hi fit same has in
     let tests = and_parts (int_le (neg_ℤ (pos (2 ^ 63))) lo) (int_le hi (pos (2 ^ 63 - 1))) narrow in

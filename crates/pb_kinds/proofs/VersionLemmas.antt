@@ -1,10 +1,12 @@
 -- The kinds of the rows of a session of a version, and what these rows may do.
 use Rattle.std.specs.Prelude.{Option, Some, None, Result, Ok, Err, cond, filter, map, slice_get}
+use Rattle.std.specs.Option.{ok_or}
 use Rattle.std.proofs.Common.{◌≡◌, ◌∙◌, ◌⊎◌, ℕ, zero, suc, Bool, true, false, List, [], ◌∷◌, refl, sym, ap, inl, inr}
-use Rattle.pb_form.specs.SessionRows.{is_of_version_1, is_of_version_2, kind_at, kind_in, session_kinds, session_schema, session_told}
+use Rattle.pb_form.specs.SessionRows.{is_of_version_1, is_of_version_2, kind_in, session_kinds, session_schema, session_told}
 use Rattle.pb_form.specs.Telling.{schema_told}
 use Rattle.pb_form.specs.Value.{Value}
 use Rattle.pb_form.specs.declared.fault.FormFault.{FormFault}
+use Rattle.pb_form.specs.declared.fault.FormFault.TheVariants as form
 use Rattle.pb_form.specs.declared.session.SessionKind.{SessionKind}
 use Rattle.pb_form.specs.declared.session.SessionKind.TheVariants as kind
 use Rattle.pb_site.specs.declared.declared.Version.{Version}
@@ -36,7 +38,7 @@ pub told_among : (kinds : List SessionKind) (fields : List (List ℕ)) (it : Ses
 unfolding session_told
 told_among kinds fields it told = by (schema_told (map session_schema kinds) fields) told
   where
-    here : (place : ℕ) (found : Option SessionKind) → slice_get kinds place ≡ found → kind_at found ≡ Ok it → (i : ℕ) × (slice_get kinds i ≡ Some it)
+    here : (place : ℕ) (found : Option SessionKind) → slice_get kinds place ≡ found → ok_or found form.Kind ≡ Ok it → (i : ℕ) × (slice_get kinds i ≡ Some it)
     here place (Some other) at is =
         let same : other ≡ it = cc is in
         (place, at ∙ ap (λ (k : SessionKind). (let one : Option SessionKind = Some k in one)) same)

@@ -25,7 +25,8 @@ use Rattle.pb_facts.specs.Facts.{is_repeat}
 use Rattle.pb_kinds.specs.declared.rows.Effect.TheVariants.{Books}
 use Rattle.pb_kinds.specs.Costs.{named_costs}
 use Rattle.pb_periods.specs.declared.period.Period.{Period}
-use Rattle.pb_book.specs.Answer.{after, answer_if, is_refused, report_or_refused}
+use Rattle.pb_book.specs.Answer.{after, answer_if, is_refused, if_known}
+use Rattle.pb_book.specs.declared.answer.Accepted.TheVariants as answered
 use Rattle.pb_periods.specs.Apart.{is_named}
 use Rattle.pb_book.specs.Rows.{version_at}
 use Rattle.pb_book.specs.Refusals.{is_of_other_kind, names_other}
@@ -225,6 +226,6 @@ readings_taken law Holds number sides n place (suc left) streams records few mad
 pub report_taken : Asks → (declared : List Declared) (kept : List KeptFact) → Rest Anything declared kept (the_period ∷ []) (made_report_row ∷ [])
 report_taken law declared kept rows at is = (
   ap (λ r. is_refused (answer_if rows (named_costs made_report_row) r)) (report_asks law (version_at rows))
-      ∙ ap (λ (p : List Period). is_refused (report_or_refused (position (is_named made_period) p))) is.periods_is,
+      ∙ ap (λ (p : List Period). is_refused (if_known answered.Report (position (is_named made_period) p))) is.periods_is,
   tt,
 )

@@ -19,7 +19,7 @@ use Rattle.pb_kinds.specs.Costs.{named_costs}
 use Rattle.pb_kinds.specs.Requests.{request_in}
 use Rattle.pb_periods.specs.declared.period.Period.{Period}
 use Rattle.pb_book.specs.Assays.{assay_by, assays_of}
-use Rattle.pb_book.specs.Answer.{Stores, after, after_answer, answer_if, answer_of, is_refused, stored_or_refused}
+use Rattle.pb_book.specs.Answer.{Stores, after, after_answer, answer_if, answer_of, is_refused, unless_refused}
 use Rattle.pb_book.specs.Refusals.{is_book_full, is_closed, is_duplicate, is_mismatch, is_out_of_order, is_out_of_range, is_sealed, is_unknown, refusal_behind, refusal_of}
 use Rattle.pb_book.specs.declared.rows.StoredRow.{StoredRow}
 use Rattle.pb_book.specs.Rows.{declaration_in, declared_of, facts_after, facts_of, periods_after, periods_of, version_at}
@@ -90,7 +90,7 @@ store : (rows : List StoredRow) (at : ℕ) (fields : List (List ℕ)) (effect : 
     → assays_of (record { at = at; effect = effect } ∷ []) ≡ [] → version_of more ≡ One → IsTaken rows at fields (declared ++ more) (facts_after kept effect) (periods_after periods effect)
 store rows at fields effect declared more kept periods is asks none declared_is bare first =
     let answer : answer_of rows fields ≡ Stores effect =
-    ap (answer_if rows (named_costs fields)) asks ∙ ap (stored_or_refused effect) (none_behind rows declared kept periods effect is none) in
+    ap (answer_if rows (named_costs fields)) asks ∙ ap (unless_refused (Stores effect)) (none_behind rows declared kept periods effect is none) in
     let joined : after rows at fields ≡ rows ++ record { at = at; effect = effect } ∷ [] = ap (after_answer rows at) answer in
     record {
       fine = ap is_refused answer;

@@ -5,7 +5,7 @@ use Rattle.std.specs.Option.{option_and}
 use Rattle.std.proofs.Common.{◌≡◌, ◌∙◌, ℕ, ◌<◌, List, [], length, Bool, true, false, Option, None, Some, refl, sym, ap, ap₂, subst, arith, inl, inr}
 use Rattle.std.proofs.lemmas.Bool.{and_from, cases_Bool, or_from}
 use Rattle.std.specs.Cmp.Lexicographic.{bytes_decides}
-use Rattle.pb_limits.specs.Limits.{most_value, most_wide}
+use Rattle.pb_limits.specs.Limits.{most_value, most_variance, most_wide}
 use Rattle.pb_rows.specs.Name.{same_name}
 use Rattle.pb_rows.specs.Texts.{HaveOneNumberText}
 use Rattle.pb_rows.specs.declared.name.Names.{Names}
@@ -23,8 +23,8 @@ use Rattle.pb_report.specs.Block.{high_end, low_end, result_row, written_least}
 use Rattle.pb_report.specs.Certificate.{parts_text, side_text}
 use Rattle.pb_report.specs.Names.{name_at}
 use Rattle.pb_report.specs.Row.{fields_of, value_or_none}
-use Rattle.pb_form.specs.Holds.{Holds}
-use Rattle.pb_form.specs.OutputRows.{output_columns, value_range, variance_range, wide_range}
+use Rattle.pb_form.specs.Holds.{Holds, either_way, from_one}
+use Rattle.pb_form.specs.OutputRows.{output_columns, wide_range}
 use Rattle.pb_form.specs.Texts.{value_text}
 use Rattle.pb_form.specs.Value.{Value, Number}
 use Rattle.pb_form.specs.Values.{number_in}
@@ -70,11 +70,11 @@ whole_bounds : HaveOneNumberText → (one other : Holds) (bounds : Option Bounds
 whole_bounds numbers one other None = refl
 whole_bounds numbers one other (Some bounds) = rw (not_blank numbers bounds.lo, not_blank numbers bounds.hi) refl
 
-value_fits : (meas : Option Meas) → IfSome meas IsMeasurement → FitsIn value_range true (value_of meas)
+value_fits : (meas : Option Meas) → IfSome meas IsMeasurement → FitsIn (either_way most_value) true (value_of meas)
 value_fits None h = refl
 value_fits (Some meas) h = abs_between most_value meas.value h.value
 
-variance_fits : (meas : Option Meas) → IfSome meas IsMeasurement → FitsIn variance_range true (variance_of meas)
+variance_fits : (meas : Option Meas) → IfSome meas IsMeasurement → FitsIn (from_one most_variance) true (variance_of meas)
 variance_fits None h = refl
 variance_fits (Some meas) h = (h.least, h.greatest)
 
@@ -276,7 +276,7 @@ stream_fine written draft names graph i stream result known joins limits within 
       told = told_stream draft row at.awaits at.with_least refl;
       read = row_back written.texts (result_row names i stream result) (stream_fits written names graph i stream result known joins limits within lt);
       beside = stream_beside draft row (record {
-        whole = or_from _ _ (whole_meas written.numbers value_range variance_range stream.meas)
+        whole = or_from _ _ (whole_meas written.numbers (either_way most_value) (from_one most_variance) stream.meas)
             (or_from _ _ (whole_bounds written.numbers wide_range wide_range result.bounds)
             (or_from _ _ (whole_bounds written.numbers wide_range wide_range (written_least result)) refl));
         known = of_nodes (λ nodes. has_unknown_node nodes OutputKind.Stream row ≡ false) ends;

@@ -27,7 +27,8 @@ use Rattle.pb_book.specs.Accepted.{AreAccepted, IsAcceptable}
 use Rattle.pb_kinds.specs.declared.costs.NamedCost.{NamedCost}
 use Rattle.pb_kinds.specs.Costs.{named_costs}
 use Rattle.pb_book.specs.Costs.{refusal_of_costs}
-use Rattle.pb_book.specs.Answer.{Answer, Says, Stores, advise_or_refused, after_answer, answer_if, answer_of, component_or_refused, history_or_refused, is_refused, report_or_refused, stored_or_refused, window_or_refused, window_unless}
+use Rattle.pb_book.specs.Answer.{Answer, Says, Stores, after_answer, answer_if, answer_of, component_or_refused, is_refused, window_or_refused, if_known, unless_refused}
+use Rattle.pb_book.specs.declared.answer.Accepted.TheVariants as answered
 use Rattle.pb_periods.specs.Apart.{is_named}
 use Rattle.pb_book.specs.Assays.{assays_of}
 use Rattle.pb_facts.specs.Assays.{is_assay_of, is_assay_over}
@@ -70,7 +71,7 @@ seam done more stored accepted =
 
 stored_answer : (rows : List StoredRow) (fields : List (List ℕ)) (effect : Effect) → WritesRow fields effect → IsAcceptable rows effect → answer_of rows fields ≡ Stores effect
 stored_answer rows fields effect writes one =
-    ap (λ (r : Result Request FormFault). answer_if rows (named_costs fields) r) (writes.asks (version_at rows) one.may) ∙ ap (λ (o : Option Refused). stored_or_refused effect o) one.no_cause
+    ap (λ (r : Result Request FormFault). answer_if rows (named_costs fields) r) (writes.asks (version_at rows) one.may) ∙ ap (λ (o : Option Refused). unless_refused (Stores effect) o) one.no_cause
 
 -- none of these records is refused, none adds a text, and so they end
 record StoreAll (state : SessionState) (at : ℕ) (records : List (List (List ℕ))) (end : SessionState) : Type 0 where
@@ -141,7 +142,7 @@ same_place : (rows plain : List StoredRow) (name : List ℕ) → periods_of plai
 same_place rows plain name same = ap (position (is_named name)) same ∙ position_map (is_named name) opened (periods_of rows)
 
 -- a row that is stored is never answered by what the book says
-not_said : (effect : Effect) (cause : Option Refused) (accepted : Accepted) → stored_or_refused effect cause ≡ Says accepted → ⊥
+not_said : (effect : Effect) (cause : Option Refused) (accepted : Accepted) → unless_refused (Stores effect) cause ≡ Says accepted → ⊥
 not_said effect (Some cause) accepted is = cc is
 not_said effect None accepted is = cc is
 
@@ -153,7 +154,7 @@ IsOfOne accepted = Unit {0}
 not_window : (rows : List StoredRow) (first last : Option ℕ) (accepted : Accepted) → IsOfOne accepted → window_or_refused rows first last ≡ Says accepted → ⊥
 not_window rows (Some first) (Some last) accepted one is = by (refusal_of_window rows first last) is
   where
-    by : (cause : Option Refused) → window_unless first last cause ≡ Says accepted → ⊥
+    by : (cause : Option Refused) → unless_refused (Says (answered.Window first last)) cause ≡ Says accepted → ⊥
     by (Some cause) same = cc same
     by None same = let said : Window first last ≡ accepted = cc same in subst IsOfOne (sym said) one
 not_window rows (Some first) None accepted one is = cc is
@@ -165,12 +166,12 @@ same_said : (rows plain : List StoredRow) (accepted : Accepted) → IsOfOne acce
 same_said rows plain accepted one costs (Ok asked.Blank) are is = is
 same_said rows plain accepted one costs (Ok (asked.Store effect)) are is = absurd (not_said effect (refusal_of rows effect) accepted is)
 same_said rows plain accepted one costs (Ok asked.Design) are is = is
-same_said rows plain accepted one costs (Ok (asked.Report name)) are is = ap report_or_refused (same_place rows plain name are.periods) ∙ is
-same_said rows plain accepted one costs (Ok (asked.History name)) are is = ap history_or_refused (same_place rows plain name are.periods) ∙ is
+same_said rows plain accepted one costs (Ok (asked.Report name)) are is = ap (if_known answered.Report) (same_place rows plain name are.periods) ∙ is
+same_said rows plain accepted one costs (Ok (asked.History name)) are is = ap (if_known answered.History) (same_place rows plain name are.periods) ∙ is
 same_said rows plain accepted one costs (Ok (asked.Component component name)) are is =
     ap₂ (component_or_refused component) (ap (list_any (is_assay_over component name)) are.assays) (same_place rows plain name are.periods) ∙ is
 same_said rows plain accepted one costs (Ok (asked.Window first last)) are is = absurd (not_window rows (period_place rows first) (period_place rows last) accepted one is)
-same_said rows plain accepted one costs (Ok asked.Advise) are is = ap (λ (ds : List Declared). advise_or_refused (refusal_of_costs ds costs)) are.declared ∙ is
+same_said rows plain accepted one costs (Ok asked.Advise) are is = ap (λ (ds : List Declared). unless_refused (Says answered.Advise) (refusal_of_costs ds costs)) are.declared ∙ is
 same_said rows plain accepted one costs (Err fault) are is = is
 
 -- the version, if there is a period

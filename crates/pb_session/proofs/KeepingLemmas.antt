@@ -30,7 +30,8 @@ use Rattle.pb_kinds.specs.declared.costs.NamedCost.{NamedCost}
 use Rattle.pb_kinds.specs.Costs.{named_costs}
 use Rattle.pb_book.specs.Assays.{has_assay}
 use Rattle.pb_book.specs.Costs.{refusal_of_costs}
-use Rattle.pb_book.specs.Answer.{Answer, Refuses, Says, Stores, advise_or_refused, after_answer, answer_if, answer_of, answer_to, component_or_refused, history_or_refused, report_or_refused, said_of, stored_or_refused, window_or_refused, window_unless}
+use Rattle.pb_book.specs.Answer.{Answer, Refuses, Says, Stores, after_answer, answer_if, answer_of, answer_to, component_or_refused, said_of, window_or_refused, if_known, unless_refused}
+use Rattle.pb_book.specs.declared.answer.Accepted.TheVariants as answered
 use Rattle.pb_periods.specs.Apart.{is_named}
 use Rattle.pb_book.specs.Windows.{refusal_of_window}
 use Rattle.pb_book.specs.Refusals.{refusal_of}
@@ -277,15 +278,15 @@ reported_still state new at (Says one) accepted before is new_is =
     ap (reported_behind (state_with state new) before) (same_accepted accepted one is) ∙ ap (λ (rows : List StoredRow). reported_behind (state_with state rows) before one) new_is
 
 -- no answer says that a row was stored, except the one that stores it
-said_stored : (effect : Effect) (cause : Option Refused) → IsSaid (stored_or_refused effect cause)
+said_stored : (effect : Effect) (cause : Option Refused) → IsSaid (unless_refused (Stores effect) cause)
 said_stored effect (Some cause) = tt
 said_stored effect None = tt
 
-said_report : (found : Option ℕ) → IsSaid (report_or_refused found)
+said_report : (found : Option ℕ) → IsSaid (if_known answered.Report found)
 said_report (Some i) = tt
 said_report None = tt
 
-said_history : (found : Option ℕ) → IsSaid (history_or_refused found)
+said_history : (found : Option ℕ) → IsSaid (if_known answered.History found)
 said_history (Some i) = tt
 said_history None = tt
 
@@ -294,7 +295,7 @@ said_component component true (Some i) = tt
 said_component component true None = tt
 said_component component false found = tt
 
-said_window_unless : (first last : ℕ) (cause : Option Refused) → IsSaid (window_unless first last cause)
+said_window_unless : (first last : ℕ) (cause : Option Refused) → IsSaid (unless_refused (Says (answered.Window first last)) cause)
 said_window_unless first last (Some cause) = tt
 said_window_unless first last None = tt
 
@@ -303,7 +304,7 @@ said_window rows (Some first) (Some last) = said_window_unless first last (refus
 said_window rows (Some first) None = tt
 said_window rows None last = tt
 
-said_advise : (cause : Option Refused) → IsSaid (advise_or_refused cause)
+said_advise : (cause : Option Refused) → IsSaid (unless_refused (Says answered.Advise) cause)
 said_advise (Some cause) = tt
 said_advise None = tt
 

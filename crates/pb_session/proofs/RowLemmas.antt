@@ -21,7 +21,8 @@ use Rattle.pb_book.specs.Assays.{has_assay}
 use Rattle.pb_book.specs.Costs.{refusal_of_costs}
 use Rattle.pb_book.specs.Refusals.{refusal_of}
 use Rattle.pb_book.specs.Windows.{refusal_of_ends, window_refusal}
-use Rattle.pb_book.specs.Answer.{Answer, Refuses, Says, Stores, advise_or_refused, after_answer, answer_if, answer_of, answer_to, component_or_refused, history_or_refused, is_refused, report_or_refused, said_of, stored_or_refused, window_or_refused, window_unless}
+use Rattle.pb_book.specs.Answer.{Answer, Refuses, Says, Stores, after_answer, answer_if, answer_of, answer_to, component_or_refused, is_refused, said_of, window_or_refused, if_known, unless_refused}
+use Rattle.pb_book.specs.declared.answer.Accepted.TheVariants as answered
 use Rattle.pb_session.specs.Session.{AddsAccepted, AddsBy, SessionState}
 use Rattle.pb_session.specs.Accepted.{IsOfPeriods}
 
@@ -71,11 +72,11 @@ found_within : (name : List ℕ) (periods : List Period) (found : Option ℕ) �
 found_within name periods (Some i) is = (position-Some (is_named name) periods i some_period is).0
 found_within name periods None is = tt
 
-reports_of : (rows : List StoredRow) (found : Option ℕ) → IfSome found (λ i. i < length (periods_of rows)) → AnswersOf rows (report_or_refused found)
+reports_of : (rows : List StoredRow) (found : Option ℕ) → IfSome found (λ i. i < length (periods_of rows)) → AnswersOf rows (if_known answered.Report found)
 reports_of rows (Some i) lt = lt
 reports_of rows None lt = tt
 
-histories_of : (rows : List StoredRow) (found : Option ℕ) → IfSome found (λ i. i < length (periods_of rows)) → AnswersOf rows (history_or_refused found)
+histories_of : (rows : List StoredRow) (found : Option ℕ) → IfSome found (λ i. i < length (periods_of rows)) → AnswersOf rows (if_known answered.History found)
 histories_of rows (Some i) lt = lt
 histories_of rows None lt = tt
 
@@ -87,12 +88,12 @@ components_of rows component false found lt = tt
 
 -- periods at two places, with no cause to refuse a window between them
 asked_of : (rows : List StoredRow) (first last : ℕ) (one other : Option Period) → slice_get (periods_of rows) first ≡ one → slice_get (periods_of rows) last ≡ other
-    → AnswersOf rows (window_unless first last (refusal_of_ends rows one other))
+    → AnswersOf rows (unless_refused (Says (answered.Window first last)) (refusal_of_ends rows one other))
 asked_of rows first last None other first_is last_is = tt
 asked_of rows first last (Some one) None first_is last_is = tt
 asked_of rows first last (Some one) (Some other) first_is last_is = by (window_refusal rows one other) refl
   where
-    by : (cause : Option Refused) → window_refusal rows one other ≡ cause → AnswersOf rows (window_unless first last cause)
+    by : (cause : Option Refused) → window_refusal rows one other ≡ cause → AnswersOf rows (unless_refused (Says (answered.Window first last)) cause)
     by (Some cause) is = tt
     by None none = record { one = one; first_is = first_is; other = other; last_is = last_is; no_cause = none }
 
@@ -101,11 +102,11 @@ windows_of rows (Some first) (Some last) = asked_of rows first last (slice_get (
 windows_of rows (Some first) None = tt
 windows_of rows None last = tt
 
-stores_of : (rows : List StoredRow) (effect : Effect) (cause : Option Refused) → AnswersOf rows (stored_or_refused effect cause)
+stores_of : (rows : List StoredRow) (effect : Effect) (cause : Option Refused) → AnswersOf rows (unless_refused (Stores effect) cause)
 stores_of rows effect (Some cause) = tt
 stores_of rows effect None = tt
 
-advises_of : (rows : List StoredRow) (cause : Option Refused) → AnswersOf rows (advise_or_refused cause)
+advises_of : (rows : List StoredRow) (cause : Option Refused) → AnswersOf rows (unless_refused (Says answered.Advise) cause)
 advises_of rows (Some cause) = tt
 advises_of rows None = tt
 

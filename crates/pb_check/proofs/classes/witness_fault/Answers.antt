@@ -1,19 +1,20 @@
 use Rattle.std.proofs.Common.{arith}
 use Rattle.std.proofs.lemmas.Option.{slice_get_within}
-use Rattle.pb_check.specs.Asked.{IsShownAt}
+use Rattle.pb_graph.specs.Certificates.{IsCertified}
 use Rattle.pb_check.proofs.DecideLemmas.{one_more, fails_by}
 use Rattle.pb_check.proofs.PlaceLemmas.{stream_fault}
 use Rattle.pb_check.proofs.classes.witness_fault.Goals as goal
+use Rattle.pb_check.specs.Asked.{AtStream}
 
 pub returns-then-not-is_shown_at : goal.returns-then-not-is_shown_at
 returns-then-not-is_shown_at c =
     let stage = c.args.stage.now in
     let j = c.loop-j.j in
-    stream_fault stage (IsShownAt stage) j c.at_stream.result (omega (arith, c.loop-j-test.true, c.len-j-end.ensures.value)) c.loop-j.invariant
-    (fails_by (IsShownAt stage j) c.is_shown_at.result c.is_shown_at.ensures c.if-not-is_shown_at.true) c.at_stream.ensures
+    stream_fault stage (AtStream stage (λ j r. IsCertified stage.graph j r.classified)) j c.at_stream.result (omega (arith, c.loop-j-test.true, c.len-j-end.ensures.value)) c.loop-j.invariant
+    (fails_by (AtStream stage (λ j r. IsCertified stage.graph j r.classified) j) c.is_shown_at.result c.is_shown_at.ensures c.if-not-is_shown_at.true) c.at_stream.ensures
 
 pub loop-j-preserved : goal.loop-j-preserved
-loop-j-preserved c = one_more (IsShownAt c.args.stage.now) c.loop-j.j c.loop-j.invariant (c.is_shown_at.ensures.0 c.if-not-is_shown_at.false)
+loop-j-preserved c = one_more (AtStream c.args.stage.now (λ j r. IsCertified c.args.stage.now.graph j r.classified)) c.loop-j.j c.loop-j.invariant (c.is_shown_at.ensures.0 c.if-not-is_shown_at.false)
 
 pub returns : goal.returns
 returns c =

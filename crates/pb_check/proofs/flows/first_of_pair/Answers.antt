@@ -1,8 +1,9 @@
 use Rattle.std.proofs.Common.{Option, Some, None, refl, subst, inl, inr, arith}
-use Rattle.std.specs.Prelude.{MatchOption}
+use Rattle.std.specs.Prelude.{MatchOption, ◌≡◌}
 use Rattle.std.proofs.lemmas.Bool.{cases_lt}
+use Rattle.pb_stage.specs.Printed.{EachStream, HasLeastBounds}
+use Rattle.pb_stage.specs.Certified.{found_least}
 use Rattle.pb_check.specs.declared.faults.Fault.{Fault}
-use Rattle.pb_check.specs.Asked.{HaveLeastBounds}
 use Rattle.pb_check.specs.Faults.{IsLeastFault}
 use Rattle.pb_check.specs.Verdict.{test_code}
 use Rattle.pb_check.specs.Among.{IsAmong}
@@ -58,7 +59,7 @@ returns-in-Some-3 c =
     let two : IsAmong stage gap sweeps 11 12 None = subst (IsAmong stage gap sweeps 11 12) c.in_default-2.is c.in_ok-first-2.ensures in
     let six : IsAmong stage gap sweeps 7 12 None = joined stage gap sweeps 7 10 12 None (omega arith) (omega arith) four two in
     failed stage gap sweeps 7 12 13 Least c.in-Some-3.fault refl (omega arith) (omega arith) six
-    (some_there _ c.in-Some-3.fault (HaveLeastBounds stage) (IsLeastFault stage) c.in-Some-3.is c.in_ok-fault.ensures)
+    (some_there _ c.in-Some-3.fault (HasLeastBounds stage → EachStream stage (λ j r. r.least ≡ found_least stage j r)) (IsLeastFault stage) c.in-Some-3.is c.in_ok-fault.ensures)
 
 -- no test fails
 pub returns-in-None : goal.returns-in-None
@@ -69,4 +70,4 @@ returns-in-None c =
     let four : IsAmong stage gap sweeps 7 10 None = subst (IsAmong stage gap sweeps 7 10) c.in_default.is c.in_ok-first.ensures in
     let two : IsAmong stage gap sweeps 11 12 None = subst (IsAmong stage gap sweeps 11 12) c.in_default-2.is c.in_ok-first-2.ensures in
     let six : IsAmong stage gap sweeps 7 12 None = joined stage gap sweeps 7 10 12 None (omega arith) (omega arith) four two in
-    passed stage gap sweeps 7 12 Least refl six (subst (λ (o : Option Fault). MatchOption o (HaveLeastBounds stage) (IsLeastFault stage)) c.in-None.is c.in_ok-fault.ensures)
+    passed stage gap sweeps 7 12 Least refl six (subst (λ (o : Option Fault). MatchOption o (HasLeastBounds stage → EachStream stage (λ j r. r.least ≡ found_least stage j r)) (IsLeastFault stage)) c.in-None.is c.in_ok-fault.ensures)

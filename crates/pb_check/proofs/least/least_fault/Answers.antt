@@ -1,10 +1,11 @@
 use Rattle.std.proofs.Common.{◌≡◌, ◌∙◌, is_some, sym, ap, arith}
-use Rattle.pb_check.specs.Asked.{HasLeastBoundsAt}
+use Rattle.pb_stage.specs.Certified.{found_least}
 use Rattle.pb_check.specs.Faults.{DifferAt}
 use Rattle.pb_check.proofs.FirstLemmas.{place_more}
 use Rattle.pb_check.proofs.RowLemmas.{none_there, some_there}
 use Rattle.pb_check.proofs.StateLemmas.{all_least, have_by, least_fail, least_here, none_by, result_least_bounded, result_signs}
 use Rattle.pb_check.proofs.least.least_fault.Goals as goal
+use Rattle.pb_check.specs.Asked.{AtStream}
 
 -- no stream has least bounds
 pub returns-then-not-have_least : goal.returns-then-not-have_least
@@ -37,7 +38,7 @@ loop-j-preserved c =
     let stage = c.args.stage.now in
     let r = c.at-printed.result.now in
     let same = none_there c.bounds_difference.result (r.least ≡ c.in_ok-found.found) (DifferAt c.loop-j.j r.least c.in_ok-found.found) c.in_default.not-Some c.bounds_difference.ensures in
-    place_more (HasLeastBoundsAt stage) c.loop-j.j c.loop-j.invariant (least_here stage c.loop-j.j r c.in_ok-found.found c.at-printed.ensures c.in_ok-found.ensures same)
+    place_more (AtStream stage (λ j r. r.least ≡ found_least stage j r)) c.loop-j.j c.loop-j.invariant (least_here stage c.loop-j.j r c.in_ok-found.found c.at-printed.ensures c.in_ok-found.ensures same)
 
 pub returns : goal.returns
 returns c = all_least c.args.stage.now c.loop-j.j (omega (arith, c.loop-j-test.false, c.len-j-end.ensures.value, c.requires.formed.each_stream)) c.loop-j.invariant

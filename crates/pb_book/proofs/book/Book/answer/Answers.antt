@@ -6,18 +6,19 @@ use Rattle.pb_book.specs.declared.answer.NotAccepted.{NotAccepted}
 use Rattle.pb_book.specs.declared.answer.NotAccepted.TheVariants.{NoMemory}
 use Rattle.pb_book.specs.declared.answer.Refused.{Refused}
 use Rattle.pb_book.specs.declared.rows.StoredRow.{StoredRow}
-use Rattle.pb_book.specs.Answer.{advise_or_refused, after_answer, said_of}
+use Rattle.pb_book.specs.Answer.{after_answer, said_of, Says, unless_refused}
+use Rattle.pb_book.specs.declared.answer.Accepted.TheVariants as answered
 use Rattle.pb_kinds.specs.Costs.{named_costs}
 use Rattle.pb_book.specs.Costs.{refusal_of_costs}
 use Rattle.pb_book.specs.Rows.{declared_of}
 use Rattle.pb_book.proofs.book.Book.answer.Goals as goal
 
 -- advice stores nothing
-rows_stay : (rows : List StoredRow) (at : ℕ) (cause : Option Refused) → rows ≡ after_answer rows at (advise_or_refused cause)
+rows_stay : (rows : List StoredRow) (at : ℕ) (cause : Option Refused) → rows ≡ after_answer rows at (unless_refused (Says answered.Advise) cause)
 rows_stay rows at (Some cause) = refl
 rows_stay rows at None = refl
 
-never_stored : (cause : Option Refused) (result : Result Accepted NotAccepted) → result ≡ said_of (advise_or_refused cause) → result ≡ Ok Stored → ⊥
+never_stored : (cause : Option Refused) (result : Result Accepted NotAccepted) → result ≡ said_of (unless_refused (Says answered.Advise) cause) → result ≡ Ok Stored → ⊥
 never_stored (Some cause) result is stored = cc (is, stored)
 never_stored None result is stored = cc (is, stored)
 
