@@ -53,7 +53,8 @@ nosession or nooutput (files that can't be read or written). `verdict` is that o
 which needs --tests or --eliminate N among WORDS; `suspects` are given only if it rejects and no
 row is refused, or if a stream was taken out. `look` says why somebody has to look: a row is
 refused, there is no report, it hasn't converged, the global test rejects or can't be made, or a
-stream carries more of a component than there is of it. Standard error says so too. The status is 1 if somebody has to look at any plant, and 0 otherwise.
+stream carries more of a component than there is of it. Standard error says so too. The status is 1
+if somebody has to look at any plant, and 0 otherwise.
 
 Words after a single -- are given to plantbal; the default is `run`:
 
