@@ -42,29 +42,29 @@ OTHERWISE = [
         "most_level = 100001",
         "MM is from 0",
     ),
-    (OUTPUT, '(codes "dof") dof_range', '(codes "free") dof_range', "`solved` rows have"),
-    (SESSION, '(codes "row") (codes "dip")', '(codes "row") (codes "dips")', "no dips,ID"),
+    (OUTPUT, '"dof" (from_zero', '"free" (from_zero', "`solved` rows have"),
+    (SESSION, 'row "dip"', 'row "dips"', "no dips,ID"),
     (
         SESSION,
-        '(codes "unit") ∷ column (codes "name") Name ∷ []',
-        '(codes "unit") ∷ column (codes "name") Name ∷ column (codes "to") Name ∷ []',
+        'row "unit" (column "name" Name ∷ [])',
+        'row "unit" (column "name" Name ∷ column "to" Name ∷ [])',
         "no unit,NAME,TO",
     ),
     (SESSION, "kind.StreamBatch", "kind.RiverBatch", "RiverBatch isn't named"),
     (SESSION, "session_columns kind.StreamBatch =", "session_columns kind.Strap =", "no equation"),
-    (SESSION, 'column (codes "last") Date', 'column (codes "last") Time', "what is Time"),
-    (SESSION, 'column (codes "last") Date', 'column (codes "last") λ', "what is this"),
+    (SESSION, 'column "last" Date', 'column "last" Time', "what is Time"),
+    (SESSION, 'column "last" Date', 'column "last" λ', "what is this"),
     ("crates/pb_form/specs/Words.antt", 'codes "sealed"', 'codes "shut"', "10 shut"),
     (
         OUTPUT,
-        '(codes "end") ∷ column (codes "period") Name ∷ column (codes "round") round_range ∷ []',
-        '(codes "end") ∷ column (codes "period") Name ∷ column (codes "price") round_range ∷ []',
+        'row "end" (column "period" Name ∷ column "round" round_range ∷ [])',
+        'row "end" (column "period" Name ∷ column "price" round_range ∷ [])',
         "`end` rows have",
     ),
     (
         OUTPUT,
-        '∷ optional (codes "hi") wide_range ∷ column (codes "shape")',
-        '∷ optional (codes "hi") flow_range ∷ column (codes "shape")',
+        "kind.StreamBefore = bounded_columns ++",
+        'kind.StreamBefore = bounded_columns ++ column "low" wide_range ∷',
         "StreamBefore isn't a stream row",
     ),
     (
@@ -102,7 +102,7 @@ def row(found: list[dict[str, Any]], kind: str, variant: str = "") -> dict[str, 
 
 def test_columns_that_repeat() -> None:
     whole = "session_schema kind = record"
-    tail = 'tail = column (codes "stream") Name ∷ column (codes "cost") level_range ∷ []'
+    tail = 'tail = column "stream" Name ∷ column "cost" (from_zero most_level) ∷ []'
     close = f"session_schema kind.Close = record {{ columns = session_columns kind.Close; {tail} }}"
     found = row(sessions((whole, f"{close}\n{whole}")), "close")
     assert guide.pattern_of(found) == "close,PERIOD[,STREAM,COST]..."
@@ -114,7 +114,7 @@ def test_columns_that_repeat() -> None:
 
 
 def test_columns_that_may_be_missing_at_the_end() -> None:
-    since = 'session_columns kind.Tank ++ column (codes "since") Date ∷ []'
+    since = 'session_columns kind.Tank ++ column "since" Date ∷ []'
     strap = "session_columns kind.Strap ="
     found = sessions(
         (strap, f"session_columns kind.TankSince = {since}\n{strap}"),
@@ -127,8 +127,8 @@ def test_columns_that_may_be_missing_at_the_end() -> None:
 def test_columns_that_may_be_empty() -> None:
     found = sessions(
         (
-            '(codes "close") ∷ column (codes "period") Name',
-            '(codes "close") ∷ record { key = codes "period"; holds = Name; optional = true }',
+            'row "close" (column "period" Name',
+            'row "close" (record { key = codes "period"; holds = Name; optional = true }',
         ),
     )
     assert row(found, "close")["columns"][0]["optional"] is True
