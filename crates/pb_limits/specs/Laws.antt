@@ -1,7 +1,7 @@
 -- Statement. Each constant of the code equals the number in its definition.
 use Rattle.std.specs.Prelude.{◌≡◌, pos}
-use Rattle.pb_limits.specs.Limits.{most_units_and_tanks, most_nodes, most_streams, most_streams_of_version_1, most_made_streams, most_boundaries, most_points, most_periods, most_periods_of_window, most_facts, most_days_of_period, most_days_of_transfer, most_bytes, most_level, most_volume, most_density, most_grams, most_row_variance, most_grade, most_grade_variance, most_critical, most_freedom, most_value, most_variance, most_gap, most_sweeps, most_rounds}
-use Rattle.pb_limits.specs.declared.TheConstants.{MOST_UNITS_AND_TANKS, MOST_NODES, MOST_STREAMS, MOST_STREAMS_OF_VERSION_1, MOST_MADE_STREAMS, MOST_BOUNDARIES, MOST_POINTS, MOST_PERIODS, MOST_PERIODS_OF_WINDOW, MOST_FACTS, MOST_DAYS_OF_PERIOD, MOST_DAYS_OF_TRANSFER, MOST_BYTES, MOST_LEVEL, MOST_VOLUME, MOST_DENSITY, MOST_GRAMS, MOST_ROW_VARIANCE, MOST_GRADE, MOST_GRADE_VARIANCE, MOST_CRITICAL, MOST_FREEDOM, MOST_VALUE, MOST_VARIANCE, MOST_GAP, MOST_SWEEPS, MOST_ROUNDS}
+use Rattle.pb_limits.specs.Limits.{most_units_and_tanks, most_nodes, most_streams, most_streams_of_version_1, most_made_streams, most_boundaries, most_points, most_periods, most_periods_of_window, most_facts, most_days_of_period, most_days_of_transfer, most_bytes, most_level, most_volume, most_density, most_grams, most_row_variance, most_grade, most_grade_variance, most_critical, most_freedom, most_value, most_variance, most_gap, most_sweeps, most_rounds, default_gap, default_sweeps, default_number, default_streams}
+use Rattle.pb_limits.specs.declared.TheConstants.{MOST_UNITS_AND_TANKS, MOST_NODES, MOST_STREAMS, MOST_STREAMS_OF_VERSION_1, MOST_MADE_STREAMS, MOST_BOUNDARIES, MOST_POINTS, MOST_PERIODS, MOST_PERIODS_OF_WINDOW, MOST_FACTS, MOST_DAYS_OF_PERIOD, MOST_DAYS_OF_TRANSFER, MOST_BYTES, MOST_LEVEL, MOST_VOLUME, MOST_DENSITY, MOST_GRAMS, MOST_ROW_VARIANCE, MOST_GRADE, MOST_GRADE_VARIANCE, MOST_CRITICAL, MOST_FREEDOM, MOST_VALUE, MOST_VARIANCE, MOST_GAP, MOST_SWEEPS, MOST_ROUNDS, DEFAULT_GAP, DEFAULT_SWEEPS, DEFAULT_NUMBER, DEFAULT_STREAMS}
 
 -- how many there may be of each thing
 pub record AreCounts : Type 0 where
@@ -38,3 +38,10 @@ pub record AreGraphRanges : Type 0 where
   pub gap : MOST_GAP ≡ most_gap
   pub sweeps : MOST_SWEEPS ≡ most_sweeps
   pub rounds : MOST_ROUNDS ≡ most_rounds
+
+-- what counts if an option isn't given
+pub record AreDefaults : Type 0 where
+  pub gap : DEFAULT_GAP ≡ default_gap
+  pub sweeps : DEFAULT_SWEEPS ≡ default_sweeps
+  pub number : DEFAULT_NUMBER ≡ default_number
+  pub streams : DEFAULT_STREAMS ≡ default_streams

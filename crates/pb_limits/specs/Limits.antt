@@ -109,6 +109,22 @@ most_sweeps = 100000
 abbrev pub most_rounds : ℕ
 most_rounds = 20
 
+-- the gap of a study if none is asked for, in thousandths of a standard deviation
+abbrev pub default_gap : ℕ
+default_gap = 10
+
+-- the sweeps that are allowed to a study if no number is given
+abbrev pub default_sweeps : ℕ
+default_sweeps = 5000
+
+-- the number that a session is made from if none is given
+abbrev pub default_number : ℕ
+default_number = 1
+
+-- the streams of a made session if no number is given
+abbrev pub default_streams : ℕ
+default_streams = 300
+
 -- the greatest price of a node, in units of 2^-56, either way
 abbrev pub most_price : ℕ
 most_price = 2 ^ 120

@@ -2,7 +2,7 @@
 //! and a constant of the code that equals it.
 #![tactic(auto)]
 
-ghost use Rattle.pb_limits.specs.Laws.{AreCounts, AreGraphRanges, AreRanges};
+ghost use Rattle.pb_limits.specs.Laws.{AreCounts, AreDefaults, AreGraphRanges, AreRanges};
 
 /// The most units and tanks of a plant.
 pub const MOST_UNITS_AND_TANKS: usize = 1_000;
@@ -85,9 +85,22 @@ pub const MOST_SWEEPS: u32 = 100_000;
 /// The most rounds of elimination that may be asked of a study.
 pub const MOST_ROUNDS: u32 = 20;
 
+/// The gap of a study if none is asked for, in thousandths of a standard deviation.
+pub const DEFAULT_GAP: u32 = 10;
+
+/// The sweeps that are allowed to a study if no number is given.
+pub const DEFAULT_SWEEPS: u32 = 5_000;
+
+/// The number that a session is made from if none is given.
+pub const DEFAULT_NUMBER: u32 = 1;
+
+/// The streams of a made session if no number is given.
+pub const DEFAULT_STREAMS: u32 = 300;
+
 /// Each constant equals the number in its definition.
 pub fn limits_law()
     ensures counts { AreCounts }
     ensures ranges { AreRanges }
     ensures graph_ranges { AreGraphRanges }
+    ensures defaults { AreDefaults }
 {}

@@ -6,7 +6,7 @@ use Rattle.pb_rows.specs.Number.{number, within}
 use Rattle.pb_study.specs.declared.results.Options.{Options}
 use Rattle.pb_report.specs.declared.form.Form.{Form}
 use Rattle.pb_words.specs.Given.{Given}
-use Rattle.pb_limits.specs.Limits.{most_gap, most_made_streams, most_rounds, most_sweeps}
+use Rattle.pb_limits.specs.Limits.{default_gap, default_number, default_streams, default_sweeps, most_gap, most_made_streams, most_rounds, most_sweeps}
 use Rattle.pb_study.specs.Options.{AreOptions}
 use Rattle.pb_make.specs.Plant.{least_streams}
 use Rattle.pb_words.specs.Command.{Asks, AsksCheck, AsksMake, AsksRun, IsCommandInRange, IsCommandOf, IsFormOf, greatest_number, natural, number_or}
@@ -156,8 +156,8 @@ rounds_range (Some text) n flag tests e t = ((natural_range 1 most_rounds (numbe
 
 run_range : (given : Given) (options : Options) (form : Form) → AsksRun given options form → AreOptions options
 run_range given options form a =
-    let gap = number_range 1 most_gap 10 given.gap options.gap (omega arith) (omega arith) a.gap in
-    let sweeps = number_range 0 most_sweeps 5000 given.sweeps options.sweeps (omega arith) (omega arith) a.sweeps in
+    let gap = number_range 1 most_gap default_gap given.gap options.gap (omega arith) (omega arith) a.gap in
+    let sweeps = number_range 0 most_sweeps default_sweeps given.sweeps options.sweeps (omega arith) (omega arith) a.sweeps in
     let rounds = rounds_range given.eliminate options.eliminate given.tests options.tests a.eliminate a.tests in
     record { some_gap = gap.0; greatest_gap = gap.1; greatest_sweeps = sweeps.1; greatest_rounds = rounds.0; rounds_by_tests = rounds.1 }
 
@@ -165,10 +165,10 @@ pub in_range : (given : Given) (command : Command) → Asks given command → Is
 in_range given (Run options form) a = run_range given options form a
 in_range given Check a = tt
 in_range given (Make from count summed gap sweeps) a = record {
-  number = (number_range 0 greatest_number 1 given.number from (omega arith) (omega arith) a.number).1;
-  least = (number_range least_streams most_made_streams 300 given.streams count (omega arith) (omega arith) a.streams).0;
-  most = (number_range least_streams most_made_streams 300 given.streams count (omega arith) (omega arith) a.streams).1;
-  some_gap = (number_range 1 most_gap 10 given.gap gap (omega arith) (omega arith) a.gap).0;
-  greatest_gap = (number_range 1 most_gap 10 given.gap gap (omega arith) (omega arith) a.gap).1;
-  greatest_sweeps = (number_range 0 most_sweeps 5000 given.sweeps sweeps (omega arith) (omega arith) a.sweeps).1;
+  number = (number_range 0 greatest_number default_number given.number from (omega arith) (omega arith) a.number).1;
+  least = (number_range least_streams most_made_streams default_streams given.streams count (omega arith) (omega arith) a.streams).0;
+  most = (number_range least_streams most_made_streams default_streams given.streams count (omega arith) (omega arith) a.streams).1;
+  some_gap = (number_range 1 most_gap default_gap given.gap gap (omega arith) (omega arith) a.gap).0;
+  greatest_gap = (number_range 1 most_gap default_gap given.gap gap (omega arith) (omega arith) a.gap).1;
+  greatest_sweeps = (number_range 0 most_sweeps default_sweeps given.sweeps sweeps (omega arith) (omega arith) a.sweeps).1;
 }

@@ -1,7 +1,7 @@
 -- Statement. The commands, and the words that give each.
 use Rattle.std.specs.Prelude.{◌≡◌, ◌≤◌, ◌⊎◌, ℕ, ℤ, pos, negsuc, Bool, false, ◌||◌, List, Option, Some, None, is_some, codes, ⊤}
 use Rattle.pb_rows.specs.Number.{number, within}
-use Rattle.pb_limits.specs.Limits.{most_gap, most_made_streams, most_rounds, most_sweeps}
+use Rattle.pb_limits.specs.Limits.{default_gap, default_number, default_streams, default_sweeps, most_gap, most_made_streams, most_rounds, most_sweeps}
 use Rattle.pb_study.specs.declared.results.Options.{Options}
 use Rattle.pb_study.specs.Options.{AreOptions}
 use Rattle.pb_report.specs.declared.form.Form.{Form}
@@ -35,8 +35,8 @@ IsFormOf (Some text) form = ((text ≡ codes "csv") × (form ≡ Csv)) ⊎ ((tex
 -- What was given asks for a run with these options in this form. Rounds of elimination also ask for tests.
 pub record AsksRun (given : Given) (options : Options) (asked : Form) : Type 0 where
   pub mode : given.mode ≡ Some (codes "run")
-  pub gap : number_or 1 most_gap 10 given.gap ≡ Some options.gap
-  pub sweeps : number_or 0 most_sweeps 5000 given.sweeps ≡ Some options.sweeps
+  pub gap : number_or 1 most_gap default_gap given.gap ≡ Some options.gap
+  pub sweeps : number_or 0 most_sweeps default_sweeps given.sweeps ≡ Some options.sweeps
   pub eliminate : number_or 1 most_rounds 0 given.eliminate ≡ Some options.eliminate
   pub tests : options.tests ≡ (given.tests || is_some given.eliminate)
   pub form : IsFormOf given.format asked
@@ -60,11 +60,11 @@ pub record AsksCheck (given : Given) : Type 0 where
 -- sweeps.
 pub record AsksMake (given : Given) (from count : ℕ) (summed : Bool) (within_gap within_sweeps : ℕ) : Type 0 where
   pub mode : given.mode ≡ Some (codes "make")
-  pub number : number_or 0 greatest_number 1 given.number ≡ Some from
-  pub streams : number_or least_streams most_made_streams 300 given.streams ≡ Some count
+  pub number : number_or 0 greatest_number default_number given.number ≡ Some from
+  pub streams : number_or least_streams most_made_streams default_streams given.streams ≡ Some count
   pub summary : summed ≡ given.summary
-  pub gap : number_or 1 most_gap 10 given.gap ≡ Some within_gap
-  pub sweeps : number_or 0 most_sweeps 5000 given.sweeps ≡ Some within_sweeps
+  pub gap : number_or 1 most_gap default_gap given.gap ≡ Some within_gap
+  pub sweeps : number_or 0 most_sweeps default_sweeps given.sweeps ≡ Some within_sweeps
   pub no_eliminate : given.eliminate ≡ None
   pub no_format : given.format ≡ None
   pub no_tests : given.tests ≡ false

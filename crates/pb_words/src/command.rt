@@ -11,7 +11,10 @@ ghost use Rattle.pb_words.specs.declared.command.WordsRefused.TheVariants.{Usage
 use crate::line::taken_apart;
 use crate::words::Words;
 use clap::ArgMatches;
-use pb_limits::{MOST_GAP, MOST_MADE_STREAMS, MOST_ROUNDS, MOST_SWEEPS};
+use pb_limits::{
+    DEFAULT_GAP, DEFAULT_NUMBER, DEFAULT_STREAMS, DEFAULT_SWEEPS, MOST_GAP, MOST_MADE_STREAMS,
+    MOST_ROUNDS, MOST_SWEEPS,
+};
 use pb_report::Form;
 use pb_rows::read_whole;
 use pb_study::Options;
@@ -122,8 +125,8 @@ fn run_asked(matches: &ArgMatches) -> Option<Command>
     }
     let eliminate = number_or(matches, "eliminate", 1, MOST_ROUNDS, 0)?;
     let options = Options {
-        gap: number_or(matches, "gap", 1, MOST_GAP, 10)?,
-        sweeps: number_or(matches, "sweeps", 0, MOST_SWEEPS, 5_000)?,
+        gap: number_or(matches, "gap", 1, MOST_GAP, DEFAULT_GAP)?,
+        sweeps: number_or(matches, "sweeps", 0, MOST_SWEEPS, DEFAULT_SWEEPS)?,
         tests: are_tests_asked(matches),
         eliminate,
     };
@@ -164,11 +167,11 @@ fn make_asked(matches: &ArgMatches) -> Option<Command>
         return None;
     }
     Some(Command::Make {
-        number: number_or(matches, "number", 0, u32::MAX, 1)?,
-        streams: number_or(matches, "streams", LEAST_STREAMS, MOST_MADE_STREAMS, 300)?,
+        number: number_or(matches, "number", 0, u32::MAX, DEFAULT_NUMBER)?,
+        streams: number_or(matches, "streams", LEAST_STREAMS, MOST_MADE_STREAMS, DEFAULT_STREAMS)?,
         summary: is_set(matches, "summary"),
-        gap: number_or(matches, "gap", 1, MOST_GAP, 10)?,
-        sweeps: number_or(matches, "sweeps", 0, MOST_SWEEPS, 5_000)?,
+        gap: number_or(matches, "gap", 1, MOST_GAP, DEFAULT_GAP)?,
+        sweeps: number_or(matches, "sweeps", 0, MOST_SWEEPS, DEFAULT_SWEEPS)?,
     })
 }
 
