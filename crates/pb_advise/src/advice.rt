@@ -10,7 +10,7 @@ ghost use Rattle.pb_advise.specs.Order.{AreJoined, AreMetersBefore, IsCycleIfCho
 use crate::choice::advised_choice;
 use crate::metered::metered_copy;
 use pb_forest::Forest;
-use pb_graph::{Graph, List, Step};
+use pb_graph::{Graph, List, Step, forward_then};
 use std::alloc::{AllocError, Global};
 
 /// A stream to meter, what its meter costs, and a cycle that shows why: one of the streams on it needs a meter, and no other
@@ -27,20 +27,6 @@ pub struct Meter {
 pub struct Advice {
     pub meter: List<Meter>,
     pub total: i128,
-}
-
-// A stream forward, and then these steps.
-fn forward_then(alloc: Global, stream: u32, back: &[Step]) -> Result<List<Step>, AllocError>
-    ensures { IfOk result (λ steps.
-        steps ≡ record { stream = stream; forward = true } ∷ back.now) }
-{
-    let mut steps = Vec::new(alloc);
-    steps.push(Step {
-        stream,
-        forward: true,
-    })?;
-    steps.extend_from_slice(back)?;
-    Ok(List::from_vec(steps))
 }
 
 // The cycle that a chosen stream makes with streams that stay unmeasured; None if the stream isn't chosen. The forest is that of the graph

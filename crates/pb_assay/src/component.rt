@@ -38,8 +38,8 @@ fn meas_of(
     grade: Option<Grade>,
 ) -> Result<Option<Meas>, ComponentFault>
     requires { IfSome grade IsGrade }
-    ensures value { IfOk result (λ meas. meas
-        ≡ option_map (carried printed.now.flow) (counted_grade printed.now.classified.class grade)) }
+    ensures value { IfOk result (λ meas. meas ≡ option_map (carried printed.now.flow)
+        (counted_grade printed.now.classified.class grade)) }
     ensures limits { IfOk result (λ meas. IfSome meas IsMeasurement) }
     ensures within { IfOk result (λ _. is_component_over printed.now grade ≡ false) }
     ensures place { IfErr result (λ fault. fault ≡ Over j) }

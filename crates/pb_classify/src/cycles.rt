@@ -7,22 +7,8 @@ ghost use Rattle.pb_classify.specs.Certificate.{IsCycleOf};
 ghost use Rattle.pb_classify.specs.Chords.{IsJoined, AreFirstBefore, after_cycle};
 
 use pb_forest::Forest;
-use pb_graph::{Graph, List, Step};
+use pb_graph::{Graph, List, Step, forward_then};
 use std::alloc::{AllocError, Global};
-
-// A stream forward, and then these steps.
-fn forward_then(alloc: Global, stream: u32, back: &[Step]) -> Result<List<Step>, AllocError>
-    ensures { IfOk result (λ steps.
-        steps ≡ record { stream = stream; forward = true } ∷ back.now) }
-{
-    let mut steps = Vec::new(alloc);
-    steps.push(Step {
-        stream,
-        forward: true,
-    })?;
-    steps.extend_from_slice(back)?;
-    Ok(List::from_vec(steps))
-}
 
 /// The cycle of stream j, which is outside the forest.
 pub fn cycle_of(

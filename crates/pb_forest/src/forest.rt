@@ -42,7 +42,8 @@ impl<'a> Model for Forest<'a> {
 
     ghost view = { λ a. record { graph = a.graph.now; held = a.held.items } };
 
-    ghost invariant = { λ a. IsKept a.graph.now a.held.items a.trees a.chords.items a.branches.items };
+    ghost invariant = { λ a.
+        IsKept a.graph.now a.held.items a.trees a.chords.items a.branches.items };
 }
 
 impl<'a> Forest<'a> {

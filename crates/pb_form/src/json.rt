@@ -27,7 +27,8 @@ pub fn write_json(schema: &Schema, row: &Row, out: &mut Vec<u8>) -> Result<(), A
 fn line_of(alloc: Global, columns: &[Column], row: &Row) -> Result<String, AllocError>
     requires each { length row.now ≡ length columns.now }
     requires texts { All IsUtf8 row.now }
-    ensures { IfOk result (λ line. string_bytes line ≡ record_line (map column_seen columns.now) row.now) }
+    ensures { IfOk result (λ line. string_bytes line
+        ≡ record_line (map column_seen columns.now) row.now) }
 {
     let mut line = text_of(alloc, columns, row)?;
     line.push_str("\n")?;
@@ -39,8 +40,8 @@ fn line_of(alloc: Global, columns: &[Column], row: &Row) -> Result<String, Alloc
 fn text_of(alloc: Global, columns: &[Column], row: &Row) -> Result<String, AllocError>
     requires each { length row.now ≡ length columns.now }
     requires texts { All IsUtf8 row.now }
-    ensures { IfOk result
-        (λ text. string_bytes text ≡ compact_text (record_object (map column_seen columns.now) row.now)) }
+    ensures { IfOk result (λ text. string_bytes text
+        ≡ compact_text (record_object (map column_seen columns.now) row.now)) }
 {
     object_of(alloc, columns, row)?.to_string(alloc)
 }
@@ -49,7 +50,8 @@ fn text_of(alloc: Global, columns: &[Column], row: &Row) -> Result<String, Alloc
 fn object_of(alloc: Global, columns: &[Column], row: &Row) -> Result<Value, AllocError>
     requires each { length row.now ≡ length columns.now }
     requires texts { All IsUtf8 row.now }
-    ensures { IfOk result (λ value. view value ≡ record_object (map column_seen columns.now) row.now) }
+    ensures { IfOk result (λ value. view value
+        ≡ record_object (map column_seen columns.now) row.now) }
 {
     let mut members = Map::new(alloc);
     for (i, column) in columns.iter().enumerate() {

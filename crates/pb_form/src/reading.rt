@@ -78,8 +78,9 @@ fn columns_fault(columns: &[Column], fields: &Fields) -> Option<FormFault>
 // The first fault of the fields from a place on, by the columns of a tail, repeated.
 fn tail_fault(tail: &[Column], fields: &Fields, start: usize) -> Option<FormFault>
     requires { start ≤ length fields.now }
-    ensures { result ≡ fault_in (fields_read
-        (repeated (map column_seen tail.now) [] (length fields.now - start)) (drop start fields.now)) }
+    ensures { result ≡ fault_in
+        (fields_read (repeated (map column_seen tail.now) [] (length fields.now - start))
+        (drop start fields.now)) }
 {
     if tail.is_empty() {
         return None;

@@ -35,4 +35,4 @@ pub use parts::Parts;
 pub use pb_limits::{MOST_NODES, MOST_STREAMS};
 pub use prices::{MOST_ADJUSTMENT, MOST_PRICE, price_limits_law};
 pub use records::{Class, Classified, Meas, Member, Step, Stream, Witness};
-pub use search::{path, reach};
+pub use search::{forward_then, path, reach};

@@ -1,6 +1,6 @@
 // The breadth-first search: what a node reaches, and a path from it.
 
-ghost use Rattle.std.specs.Prelude.{◌≡◌, ◌<◌, ◌≤◌, false, All, length, get_or, replicate, IfOk, IsTrue, ◌↔◌, MatchOption, map, not, ◌==◌};
+ghost use Rattle.std.specs.Prelude.{◌≡◌, ◌<◌, ◌≤◌, ◌∷◌, true, false, All, length, get_or, replicate, IfOk, IsTrue, ◌↔◌, MatchOption, map, not, ◌==◌};
 ghost use Rattle.pb_limits.specs.Limits.{most_nodes};
 ghost use Rattle.pb_graph.specs.ProcessGraph.{IsStream, some_stream};
 ghost use Rattle.pb_graph.specs.Walk.{Reaches, IsReach};
@@ -283,4 +283,18 @@ pub fn path(
         return Ok(None);
     }
     Ok(Some(tree.climb(alloc, graph.streams(), marks, from)?))
+}
+
+/// A stream forward, and then these steps: the cycle that the stream makes with a path back from its end.
+pub fn forward_then(alloc: Global, stream: u32, back: &[Step]) -> Result<List<Step>, AllocError>
+    ensures { IfOk result (λ steps.
+        steps ≡ record { stream = stream; forward = true } ∷ back.now) }
+{
+    let mut steps = Vec::new(alloc);
+    steps.push(Step {
+        stream,
+        forward: true,
+    })?;
+    steps.extend_from_slice(back)?;
+    Ok(List::from_vec(steps))
 }

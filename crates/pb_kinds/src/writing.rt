@@ -511,8 +511,8 @@ fn amend_level<'a>(
     requires level { IsLevel mm }
     requires density { IsDensity density }
     requires variance { IsVariance variance }
-    ensures { IfOk result
-        (WritesEffect (Edits id.now (edits.Change (changes.Level mm density variance)) reason.now)) }
+    ensures { IfOk result (WritesEffect
+        (Edits id.now (edits.Change (changes.Level mm density variance)) reason.now)) }
 {
     session_record(
         alloc,

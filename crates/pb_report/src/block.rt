@@ -86,7 +86,8 @@ fn end_values<'a>(period: &'a Name, round: usize) -> [Value<'a>; 3]
 fn write_nodes(names: &NameList, prices: &List<i128>, output: &mut Output) -> Result<(), AllocError>
     requires { length prices.now ≡ length names.now }
     ensures { OnOk result (AddsRows output.old output.new
-        (rows_with (λ (n : ℕ) (name : List ℕ) (price : ℤ). node_row name price) 0 names.now prices.now)) }
+        (rows_with (λ (n : ℕ) (name : List ℕ) (price : ℤ). node_row name price)
+        0 names.now prices.now)) }
 {
     for (node, name) in names.as_slice().iter().enumerate() {
         output.push(OutputKind::Node, &node_values(name, prices.at(node)))?;

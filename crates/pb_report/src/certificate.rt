@@ -33,8 +33,8 @@ impl Certificate {
     ) -> Result<Certificate, AllocError>
         requires named { IsNamed names.now graph.now }
         requires within { IsWitnessWithin graph.now witness.now }
-        ensures { IfOk result
-            (λ certificate. given_certificate certificate ≡ certificate_values names.now witness.now) }
+        ensures { IfOk result (λ certificate. given_certificate certificate
+            ≡ certificate_values names.now witness.now) }
     {
         Ok(Certificate {
             shape: witness_shape(witness),

@@ -301,7 +301,8 @@ impl Session {
     fn write_history(&self, i: u32, out: &mut Vec<u8>) -> Result<(), AllocError>
         requires { i < length (periods_of self.now.state.rows) }
         ensures ok { OnOk result (AppendsText
-            (IsHistoryText self.now.state (slice_get (periods_of self.now.state.rows) i)) out.old out.new) }
+            (IsHistoryText self.now.state (slice_get (periods_of self.now.state.rows) i))
+            out.old out.new) }
         ensures err { OnErr result (KeepsText out.old out.new) }
     {
         let period = self.book.period(i);

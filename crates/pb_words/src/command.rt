@@ -168,7 +168,13 @@ fn make_asked(matches: &ArgMatches) -> Option<Command>
     }
     Some(Command::Make {
         number: number_or(matches, "number", 0, u32::MAX, DEFAULT_NUMBER)?,
-        streams: number_or(matches, "streams", LEAST_STREAMS, MOST_MADE_STREAMS, DEFAULT_STREAMS)?,
+        streams: number_or(
+            matches,
+            "streams",
+            LEAST_STREAMS,
+            MOST_MADE_STREAMS,
+            DEFAULT_STREAMS,
+        )?,
         summary: is_set(matches, "summary"),
         gap: number_or(matches, "gap", 1, MOST_GAP, DEFAULT_GAP)?,
         sweeps: number_or(matches, "sweeps", 0, MOST_SWEEPS, DEFAULT_SWEEPS)?,
