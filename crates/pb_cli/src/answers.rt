@@ -96,7 +96,7 @@ pub fn answer<W: Sink>(
     }
 }
 
-// Takes the records in order, one at a time, and writes what each adds before it takes the next. Returns true iff some record was
+// Takes the records in order, in a session that has stored nothing, and writes what each adds. Returns true iff some record was
 // refused.
 fn answer_records<W: Sink>(
     alloc: Global,
@@ -128,11 +128,44 @@ fn answer_records<W: Sink>(
     ensures faults_stay { (W.seen sink.old).faults ≤ (W.seen sink.new).faults }
 {
     let mut session = Session::new(alloc, options, form);
-    let mut some_refused = false;
     let mut fields = Row::new(alloc);
-    'turns: while records.fill(&mut fields)? {
+    answer_in(alloc, &mut session, &mut fields, records, sink)
+}
+
+// Takes the records in order, one at a time into the same row, and writes what each adds before it takes the next. Returns true iff
+// some record was refused.
+fn answer_in<W: Sink>(
+    alloc: Global,
+    session: &mut Session,
+    fields: &mut Row,
+    records: &mut Records,
+    sink: &mut W,
+) -> Result<bool, Stopped>
+    requires none_taken { records.now.taken ≡ 0 }
+    requires few { length records.now.left < 2 ^ 32 }
+    ensures refused { IfOk result (λ refused.
+        refused ≡ refuses_some session.old.state 1 records.old.left) }
+    ensures whole { OnOk result (PutsSuch
+        (IsSessionText session.old.state 1 records.old.left)
+        (W.seen sink.old) (W.seen sink.new)) }
+    ensures cut { IfErr result (λ e. e ≡ Stopped.SinkFault → PutsSuch
+        (AreTextsCutShort session.old.state records.old.left)
+        (W.seen sink.old) (W.seen sink.new)) }
+    ensures some { IfErr result (λ e. e ≡ Stopped.OutOfMemory → PutsSuch
+        (AreTextsOfSome session.old.state records.old.left)
+        (W.seen sink.old) (W.seen sink.new)) }
+    ensures cause { IfErr result (λ e. e ≡ Stopped.SinkFault →
+        Rose (W.seen sink.old).faults (W.seen sink.new).faults) }
+    ensures no_fault { OnOk result ((W.seen sink.new).faults ≡ (W.seen sink.old).faults) }
+    ensures memory_no_fault { IfErr result (λ e. e ≡ Stopped.OutOfMemory →
+        (W.seen sink.new).faults ≡ (W.seen sink.old).faults) }
+    ensures idle { (W.seen sink.new).idle ≡ (W.seen sink.old).idle }
+    ensures faults_stay { (W.seen sink.old).faults ≤ (W.seen sink.new).faults }
+{
+    let mut some_refused = false;
+    'turns: while records.fill(fields)? {
         let at = records.taken() as u32;
-        some_refused |= answer_record(alloc, &mut session, at, &fields, sink)?;
+        some_refused |= answer_record(alloc, session, at, fields, sink)?;
     }
     Ok(some_refused)
 }

@@ -1,13 +1,12 @@
 use Rattle.std.proofs.Common.{ℕ, ◌≡◌, List, drop, length}
 use Rattle.pb_io.specs.Sink.{PutsSuch}
-use Rattle.pb_session.specs.Session.{new_session}
 use Rattle.pb_cli.proofs.TextLemmas.{Answered}
-use Rattle.pb_cli.proofs.answers.answer_records.Given as goal
+use Rattle.pb_cli.proofs.answers.answer_in.Given as goal
 
 -- the records so far are answered, and the text of each is put
 abbrev pub invariant-turns : goal.invariant-turns
 invariant-turns g l = record {
-  so_far : PutsSuch (Answered (new_session l.fn.options l.fn.form) l.fn.records.left l.records.taken l.session.state l.some_refused) (g.W.Sink.seen l.fn.sink) (g.W.Sink.seen l.sink);
+  so_far : PutsSuch (Answered l.fn.session.state l.fn.records.left l.records.taken l.session.state l.some_refused) (g.W.Sink.seen l.fn.sink) (g.W.Sink.seen l.sink);
   left : drop l.records.taken l.fn.records.left ≡ l.records.left;
   faults : (g.W.Sink.seen l.sink).faults ≡ (g.W.Sink.seen l.fn.sink).faults;
   idle : (g.W.Sink.seen l.sink).idle ≡ (g.W.Sink.seen l.fn.sink).idle;
