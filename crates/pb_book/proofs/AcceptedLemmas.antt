@@ -1,35 +1,29 @@
 -- Rows that were accepted, and one more.
 use Rattle.std.specs.Prelude.{filter_map, All, take, is_none, not, option_and_then, is_some}
 use Rattle.std.specs.List.{list_any}
-use Rattle.std.proofs.Common.{◌≡◌, ◌≢◌, ◌⊎◌, ◌∙◌, ℕ, ◌<◌, Bool, true, false, List, [], ◌∷◌, ◌++◌, length, slice_get, Option, Some, None, Result, Ok, Err, refl, sym, ap, subst, arith, inl, inr, length-append, append_assoc}
+use Rattle.std.proofs.Common.{◌≡◌, ◌≢◌, ◌⊎◌, ◌∙◌, ℕ, ◌<◌, true, List, [], ◌∷◌, ◌++◌, length, slice_get, Some, Result, Ok, Err, refl, sym, ap, subst, arith, inl, inr, length-append, append_assoc}
 use Rattle.std.proofs.lemmas.Bool.{cases_lt}
 use Rattle.std.proofs.lemmas.List.{append-nil, take-append-le}
 use Rattle.std.proofs.lemmas.Option.{get_or_from_slice_get, slice_get-get_or, slice_get_within}
 use Rattle.std.proofs.Math.ListN.{get_or-append}
 use Rattle.std.proofs.Math.Seq.{get_or-append_seam, take-append_seam}
-use Rattle.pb_book.specs.declared.answer.Refused.{Refused}
-use Rattle.pb_kinds.specs.declared.rows.Effect.{Effect}
 use Rattle.pb_form.specs.declared.fault.FormFault.{FormFault}
 use Rattle.pb_kinds.specs.declared.rows.Request.{Request}
 use Rattle.pb_kinds.specs.declared.rows.Request.TheVariants as asked
 use Rattle.pb_book.specs.Accepted.{AreAccepted, IsAcceptable}
-use Rattle.pb_book.specs.Answer.{Answer, after, after_answer, answer_if, answer_to, component_or_refused, Says, Stores, if_known, unless_refused}
-use Rattle.pb_book.specs.declared.answer.Accepted.TheVariants as answered
-use Rattle.pb_book.specs.Assays.{has_assay}
+use Rattle.pb_book.specs.Answer.{Answer, after, after_answer, answer_if, answer_to, Stores}
 use Rattle.pb_kinds.specs.Costs.{named_costs}
 use Rattle.pb_kinds.specs.Laws.{StoredLaw}
-use Rattle.pb_book.specs.Costs.{refusal_of_costs}
-use Rattle.pb_kinds.specs.Ranges.{IsEffectInRange, IsRequestInRange}
-use Rattle.pb_book.specs.Refusals.{refusal_of}
+use Rattle.pb_kinds.specs.Ranges.{IsRequestInRange}
 use Rattle.pb_kinds.specs.Requests.{request_in}
-use Rattle.pb_kinds.specs.Versions.{may_ask, may_do}
+use Rattle.pb_kinds.specs.Versions.{may_ask}
 use Rattle.pb_kinds.specs.declared.costs.NamedCost.{NamedCost}
 use Rattle.pb_book.specs.declared.answer.Accepted.{Accepted}
 use Rattle.pb_book.specs.declared.answer.NotAccepted.{NotAccepted}
 use Rattle.pb_book.specs.declared.answer.NotAccepted.TheVariants.{NoMemory}
 use Rattle.pb_book.specs.declared.rows.StoredRow.{StoredRow}
-use Rattle.pb_book.specs.Rows.{declared_of, period_place, version_at}
-use Rattle.pb_book.proofs.WindowAnswerLemmas.{by_window}
+use Rattle.pb_book.specs.Rows.{version_at}
+use Rattle.pb_book.proofs.AnswerLemmas.{AnswersTo, answers_to}
 
 the_same : {X : Type 0} (a b : X) → Some a ≡ Some b → a ≡ b
 the_same a b is = ap (λ o. Rattle.std.specs.Prelude.unwrap_or o a) is
@@ -54,40 +48,15 @@ accepted_more rows stored right fine i row is = elim (cases_lt i (length rows)) 
 ]
 
 -- the rows after a request
-stored_then : (rows : List StoredRow) (at : ℕ) (effect : Effect) → AreAccepted rows → IsEffectInRange effect → may_do (version_at rows) effect ≡ true → (cause : Option Refused)
-    → refusal_of rows effect ≡ cause → AreAccepted (after_answer rows at (unless_refused (Stores effect) cause))
-stored_then rows at effect right range may (Some cause) is = right
-stored_then rows at effect right range may None is =
-    accepted_more rows (record { at = at; effect = effect }) right (record { no_cause = is; in_range = range; may = may })
-
-reported : (rows : List StoredRow) (at : ℕ) → AreAccepted rows → (place : Option ℕ) → AreAccepted (after_answer rows at (if_known answered.Report place))
-reported rows at right (Some place) = right
-reported rows at right None = right
-
-told : (rows : List StoredRow) (at : ℕ) → AreAccepted rows → (place : Option ℕ) → AreAccepted (after_answer rows at (if_known answered.History place))
-told rows at right (Some place) = right
-told rows at right None = right
-
-advised : (rows : List StoredRow) (at : ℕ) → AreAccepted rows → (cause : Option Refused) → AreAccepted (after_answer rows at (unless_refused (Says answered.Advise) cause))
-advised rows at right (Some cause) = right
-advised rows at right None = right
-
-balanced : (rows : List StoredRow) (at : ℕ) → AreAccepted rows → (component : List ℕ) (assayed : Bool) (place : Option ℕ) → AreAccepted (after_answer rows at (component_or_refused component assayed place))
-balanced rows at right component true (Some place) = right
-balanced rows at right component true None = right
-balanced rows at right component false place = right
-
 accepted_to : (rows : List StoredRow) (at : ℕ) (costs : List NamedCost) (request : Request) → AreAccepted rows → IsRequestInRange request → may_ask (version_at rows) request ≡ true
     → AreAccepted (after_answer rows at (answer_to rows costs request))
-accepted_to rows at costs asked.Blank right range may = right
-accepted_to rows at costs (asked.Store effect) right range may = stored_then rows at effect right range may (refusal_of rows effect) refl
-accepted_to rows at costs asked.Design right range may = right
-accepted_to rows at costs (asked.Report name) right range may = reported rows at right (period_place rows name)
-accepted_to rows at costs (asked.History name) right range may = told rows at right (period_place rows name)
-accepted_to rows at costs asked.Advise right range may = advised rows at right (refusal_of_costs (declared_of rows) costs)
-accepted_to rows at costs (asked.Window first last) right range may =
-    by_window (λ (answer : Answer). AreAccepted (after_answer rows at answer)) (λ cause. right) (λ i k. right) rows (period_place rows first) (period_place rows last)
-accepted_to rows at costs (asked.Component component period) right range may = balanced rows at right component (has_assay rows component period) (period_place rows period)
+accepted_to rows at costs request right range may = by (answer_to rows costs request) (answers_to rows costs request)
+  where
+    by : (answer : Answer) → AnswersTo rows request answer → AreAccepted (after_answer rows at answer)
+    by (Stores effect) (is, none) =
+        accepted_more rows (record { at = at; effect = effect }) right
+        (record { no_cause = none; in_range = subst IsRequestInRange is range; may = subst (λ (r : Request). may_ask (version_at rows) r ≡ true) is may })
+    by answer is = right
 
 -- the rows after a record
 pub accepted_after : StoredLaw → (rows : List StoredRow) (at : ℕ) (fields : List (List ℕ)) → AreAccepted rows → AreAccepted (after rows at fields)

@@ -1,7 +1,7 @@
 -- The costs that an `advise` row names.
 use Rattle.std.specs.Prelude.{◌||◌, All, IfSome, unwrap_or, if◌then◌else◌}
 use Rattle.std.specs.List.{fold, list_any}
-use Rattle.std.proofs.Common.{◌≡◌, ◌∙◌, ◌+◌, ◌≤◌, ℕ, ℤ, pos, zero, suc, Bool, true, false, List, [], ◌∷◌, ◌++◌, map, drop, length, slice_get, add-one, append_assoc, append-nil, Option, Some, None, Result, Ok, Err, refl, sym, ap, arith}
+use Rattle.std.proofs.Common.{◌≡◌, ◌∙◌, ◌+◌, ◌≤◌, ℕ, ℤ, pos, zero, suc, Bool, true, false, List, [], ◌∷◌, ◌++◌, map, drop, length, slice_get, add-one, append_assoc, append-nil, Option, Some, None, Result, Ok, Err, refl, sym, ap, subst, arith}
 use Rattle.std.proofs.lemmas.Int.{ints}
 use Rattle.std.proofs.lemmas.List.{drop_all}
 use Rattle.std.proofs.lemmas.List.Folds.{list_any-append}
@@ -13,55 +13,26 @@ use Rattle.pb_site.specs.declared.declared.ArcKind.{ArcKind}
 use Rattle.pb_site.specs.declared.declared.ArcKind.TheVariants.{Metered, Batch, Plain, Tank}
 use Rattle.pb_site.specs.Site.{arcs_of}
 use Rattle.pb_kinds.specs.declared.costs.NamedCost.{NamedCost}
-use Rattle.pb_kinds.specs.declared.rows.Effect.{Effect}
 use Rattle.pb_kinds.specs.declared.rows.Request.{Request}
 use Rattle.pb_kinds.specs.declared.rows.Request.TheVariants as asked
 use Rattle.pb_kinds.specs.Costs.{IsMeterCost, named_costs}
 use Rattle.pb_kinds.specs.Laws.{NamedCostsLaw}
 use Rattle.pb_kinds.specs.Requests.{request_in}
 use Rattle.pb_book.specs.declared.answer.Accepted.TheVariants.{Advise}
-use Rattle.pb_book.specs.declared.answer.Refused.{Refused}
 use Rattle.pb_book.specs.declared.rows.StoredRow.{StoredRow}
-use Rattle.pb_book.specs.Answer.{Answer, Says, answer_if, component_or_refused, Stores, if_known, unless_refused}
-use Rattle.pb_book.specs.declared.answer.Accepted.TheVariants as answered
-use Rattle.pb_book.specs.Assays.{has_assay}
+use Rattle.pb_book.specs.Answer.{Says, answer_if}
 use Rattle.pb_book.specs.Costs.{cost_after, cost_named, cost_of_arc, cost_of_kind, is_cost_of, names_twice}
 use Rattle.pb_book.specs.Laws.{MeterCostsLaw}
-use Rattle.pb_book.specs.Refusals.{refusal_of}
-use Rattle.pb_book.specs.Rows.{declared_of, period_place, version_at}
-use Rattle.pb_book.proofs.WindowAnswerLemmas.{by_window}
+use Rattle.pb_book.specs.Rows.{declared_of, version_at}
+use Rattle.pb_book.proofs.AnswerLemmas.{AnswersTo, answers_to}
 
 -- ---- a record that is accepted as one that asks for advice asks for it
-
-no_store : (effect : Effect) (cause : Option Refused) → unless_refused (Stores effect) cause ≡ Says Advise → ⊥
-no_store effect (Some cause) is = cc is
-no_store effect None is = cc is
-
-no_report : (place : Option ℕ) → if_known answered.Report place ≡ Says Advise → ⊥
-no_report (Some place) is = cc is
-no_report None is = cc is
-
-no_history : (place : Option ℕ) → if_known answered.History place ≡ Says Advise → ⊥
-no_history (Some place) is = cc is
-no_history None is = cc is
-
-no_balance : (component : List ℕ) (assayed : Bool) (place : Option ℕ) → component_or_refused component assayed place ≡ Says Advise → ⊥
-no_balance component true (Some place) is = cc is
-no_balance component true None is = cc is
-no_balance component false place is = cc is
 
 pub asks_advice : (rows : List StoredRow) (costs : List NamedCost) (request : Result Request FormFault) → answer_if rows costs request ≡ Says Advise
     → request ≡ (let asks : Result Request FormFault = Ok asked.Advise in asks)
 asks_advice rows costs (Err fault) is = cc is
-asks_advice rows costs (Ok asked.Blank) is = cc is
-asks_advice rows costs (Ok (asked.Store effect)) is = absurd (no_store effect (refusal_of rows effect) is)
-asks_advice rows costs (Ok asked.Design) is = cc is
-asks_advice rows costs (Ok (asked.Report name)) is = absurd (no_report (period_place rows name) is)
-asks_advice rows costs (Ok (asked.History name)) is = absurd (no_history (period_place rows name) is)
-asks_advice rows costs (Ok asked.Advise) is = refl
-asks_advice rows costs (Ok (asked.Window first last)) is =
-    absurd (by_window (λ (answer : Answer). answer ≡ Says Advise → ⊥) (λ cause says. cc says) (λ i k says. cc says) rows (period_place rows first) (period_place rows last) is)
-asks_advice rows costs (Ok (asked.Component component period)) is = absurd (no_balance component (has_assay rows component period) (period_place rows period) is)
+asks_advice rows costs (Ok request) is =
+    ap (λ (r : Request). let asks : Result Request FormFault = Ok r in asks) (subst (AnswersTo rows request) is (answers_to rows costs request))
 
 -- ---- what meters cost
 

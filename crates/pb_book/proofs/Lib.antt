@@ -1,4 +1,5 @@
 mod AcceptedLemmas
+mod AnswerLemmas
 mod ChangeLemmas
 mod ConsistentLemmas
 mod EditLemmas
@@ -12,6 +13,5 @@ mod PlainLemmas
 mod RecordLemmas
 mod TakenOutLemmas
 mod VersionOneLemmas
-mod WindowAnswerLemmas
 mod WindowPlantLemmas
 pub mod BookLaws

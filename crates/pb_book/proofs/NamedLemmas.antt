@@ -3,7 +3,7 @@ use Rattle.std.specs.Prelude.{◌&&◌, if◌then◌else◌, filter_map, find, A
 use Rattle.std.specs.Cmp.Lexicographic.{bytes_decides}
 use Rattle.std.specs.List.{cons_option, fold, list_all, list_any}
 use Rattle.std.specs.Option.{option_map}
-use Rattle.std.proofs.Common.{◌≡◌, ℕ, List, [], ◌∷◌, map, suc, slice_get, Bool, true, false, Option, Some, None, Result, Ok, Err, refl, subst, inl, inr}
+use Rattle.std.proofs.Common.{◌≡◌, ℕ, List, [], ◌∷◌, map, suc, slice_get, Bool, true, false, Option, Some, None, Result, Ok, Err, refl, ap, subst, inl, inr}
 use Rattle.std.proofs.lemmas.Bool.{and_parts, cases_Bool}
 use Rattle.std.proofs.lemmas.List.Elements.{All-cons, All-head, All-map, All-nil, All-push, All-tail, All-weaker}
 use Rattle.pb_facts.specs.Grade.{IsGrade}
@@ -25,20 +25,16 @@ use Rattle.pb_kinds.specs.Laws.{StoredLaw}
 use Rattle.pb_kinds.specs.Ranges.{IsEffectInRange}
 use Rattle.pb_kinds.specs.Requests.{request_in}
 use Rattle.pb_book.specs.declared.answer.Accepted.TheVariants.{Component}
-use Rattle.pb_book.specs.declared.answer.Refused.{Refused}
 use Rattle.pb_periods.specs.declared.period.Period.{Period}
 use Rattle.pb_book.specs.declared.rows.StoredRow.{StoredRow}
-use Rattle.pb_book.specs.Answer.{Answer, Says, after, after_answer, answer_if, answer_of, component_or_refused, Stores, if_known, unless_refused}
-use Rattle.pb_book.specs.declared.answer.Accepted.TheVariants as answered
+use Rattle.pb_book.specs.Answer.{Answer, Says, after, after_answer, answer_if, answer_of, answer_to, Stores}
 use Rattle.pb_periods.specs.Apart.{is_named}
-use Rattle.pb_book.specs.Assays.{assay_by, assays_of, has_assay}
+use Rattle.pb_book.specs.Assays.{assay_by, assays_of}
 use Rattle.pb_facts.specs.Assays.{is_assay_of, is_assay_over}
-use Rattle.pb_book.specs.Costs.{refusal_of_costs}
 use Rattle.pb_book.specs.Named.{AreNamed, GradesLaw, HaveWellFormedNames, NamedLaw, RangesLaw}
-use Rattle.pb_book.specs.Refusals.{refusal_of}
 use Rattle.pb_periods.specs.Closing.{closed, closed_if_named}
-use Rattle.pb_book.specs.Rows.{open_period, declaration_in, declared_of, period_place, periods_after, version_at}
-use Rattle.pb_book.proofs.WindowAnswerLemmas.{by_window}
+use Rattle.pb_book.specs.Rows.{open_period, declaration_in, declared_of, periods_after, version_at}
+use Rattle.pb_book.proofs.AnswerLemmas.{AnswersTo, answers_to}
 
 -- ---- one more record
 
@@ -48,39 +44,17 @@ IsNamedRow stored = list_all is_name (effect_names stored.effect) ≡ true
 after_named : StoredLaw → (rows : List StoredRow) (at : ℕ) (fields : List (List ℕ)) → HaveWellFormedNames rows → HaveWellFormedNames (after rows at fields)
 after_named law rows at fields named = by (request_in (version_at rows) fields) (λ effect is. law.named (version_at rows) fields effect is)
   where
-    stored_then : (effect : Effect) → list_all is_name (effect_names effect) ≡ true → (cause : Option Refused) → HaveWellFormedNames (after_answer rows at (unless_refused (Stores effect) cause))
-    stored_then effect is (Some cause) = named
-    stored_then effect is None = All-push IsNamedRow rows (record { at = at; effect = effect }) named is
-
-    reported : (place : Option ℕ) → HaveWellFormedNames (after_answer rows at (if_known answered.Report place))
-    reported (Some place) = named
-    reported None = named
-
-    told : (place : Option ℕ) → HaveWellFormedNames (after_answer rows at (if_known answered.History place))
-    told (Some place) = named
-    told None = named
-
-    advised : (cause : Option Refused) → HaveWellFormedNames (after_answer rows at (unless_refused (Says answered.Advise) cause))
-    advised (Some cause) = named
-    advised None = named
-
-    balanced : (component : List ℕ) (assayed : Bool) (place : Option ℕ) → HaveWellFormedNames (after_answer rows at (component_or_refused component assayed place))
-    balanced component true (Some place) = named
-    balanced component true None = named
-    balanced component false place = named
+    after_answered : (request : Request) → ((effect : Effect) → request ≡ asked.Store effect → list_all is_name (effect_names effect) ≡ true)
+        → (answer : Answer) → AnswersTo rows request answer → HaveWellFormedNames (after_answer rows at answer)
+    after_answered request names (Stores effect) (is, none) = All-push IsNamedRow rows (record { at = at; effect = effect }) named (names effect is)
+    after_answered request names answer is = named
 
     by : (request : Result Request FormFault) → ((effect : Effect) → request ≡ Ok (asked.Store effect) → list_all is_name (effect_names effect) ≡ true)
         → HaveWellFormedNames (after_answer rows at (answer_if rows (named_costs fields) request))
     by (Err fault) is = named
-    by (Ok asked.Blank) is = named
-    by (Ok (asked.Store effect)) is = stored_then effect (is effect refl) (refusal_of rows effect)
-    by (Ok asked.Design) is = named
-    by (Ok (asked.Report name)) is = reported (period_place rows name)
-    by (Ok (asked.History name)) is = told (period_place rows name)
-    by (Ok asked.Advise) is = advised (refusal_of_costs (declared_of rows) (named_costs fields))
-    by (Ok (asked.Window first last)) is =
-        by_window (λ (answer : Answer). HaveWellFormedNames (after_answer rows at answer)) (λ cause. named) (λ i k. named) rows (period_place rows first) (period_place rows last)
-    by (Ok (asked.Component component period)) is = balanced component (has_assay rows component period) (period_place rows period)
+    by (Ok request) is =
+        after_answered request (λ effect same. is effect (ap (λ (r : Request). let asks : Result Request FormFault = Ok r in asks) same)) (answer_to rows (named_costs fields) request)
+        (answers_to rows (named_costs fields) request)
 
 -- ---- what follows
 
@@ -216,46 +190,15 @@ assayed_named component period (assay ∷ assays) all some = elim (cases_Bool (i
 ]
 
 -- so does a component whose balance is answered
-no_store : (effect : Effect) (cause : Option Refused) (component : List ℕ) (period : ℕ) → unless_refused (Stores effect) cause ≡ Says (Component component period) → ⊥
-no_store effect (Some cause) component period is = cc is
-no_store effect None component period is = cc is
-
-no_report : (place : Option ℕ) (component : List ℕ) (period : ℕ) → if_known answered.Report place ≡ Says (Component component period) → ⊥
-no_report (Some place) component period is = cc is
-no_report None component period is = cc is
-
-no_history : (place : Option ℕ) (component : List ℕ) (period : ℕ) → if_known answered.History place ≡ Says (Component component period) → ⊥
-no_history (Some place) component period is = cc is
-no_history None component period is = cc is
-
-no_advice : (cause : Option Refused) (component : List ℕ) (period : ℕ) → unless_refused (Says answered.Advise) cause ≡ Says (Component component period) → ⊥
-no_advice (Some cause) component period is = cc is
-no_advice None component period is = cc is
-
-balance_named : (asked : List ℕ) (assayed : Bool) (place : Option ℕ) (component : List ℕ) (period : ℕ) → (assayed ≡ true → is_name asked ≡ true)
-    → component_or_refused asked assayed place ≡ Says (Component component period) → is_name component ≡ true
-balance_named asked true (Some place) component period named is = let same : asked ≡ component = cc is in subst (λ (name : List ℕ). is_name name ≡ true) same (named refl)
-balance_named asked true None component period named is = cc is
-balance_named asked false place component period named is = cc is
-
 component_named : (rows : List StoredRow) (fields : List (List ℕ)) (component : List ℕ) (period : ℕ) → HaveWellFormedNames rows → answer_of rows fields ≡ Says (Component component period)
     → is_name component ≡ true
 component_named rows fields component period named is = by (request_in (version_at rows) fields) is
   where
     by : (request : Result Request FormFault) → answer_if rows (named_costs fields) request ≡ Says (Component component period) → is_name component ≡ true
     by (Err fault) is = cc is
-    by (Ok asked.Blank) is = cc is
-    by (Ok (asked.Store effect)) is = absurd (no_store effect (refusal_of rows effect) component period is)
-    by (Ok asked.Design) is = cc is
-    by (Ok (asked.Report name)) is = absurd (no_report (period_place rows name) component period is)
-    by (Ok (asked.History name)) is = absurd (no_history (period_place rows name) component period is)
-    by (Ok asked.Advise) is = absurd (no_advice (refusal_of_costs (declared_of rows) (named_costs fields)) component period is)
-    by (Ok (asked.Window first last)) is =
-        absurd (by_window (λ (answer : Answer). answer ≡ Says (Component component period) → ⊥) (λ cause says. cc says) (λ i k says. cc says) rows (period_place rows first)
-        (period_place rows last) is)
-    by (Ok (asked.Component name over)) is =
-        balance_named name (has_assay rows name over) (period_place rows over) component period
-        (assayed_named name over (assays_of rows) (assays_named rows named)) is
+    by (Ok request) is =
+        let (name, some) = subst (AnswersTo rows request) is (answers_to rows (named_costs fields) request) in
+        assayed_named component name (assays_of rows) (assays_named rows named) some
 
 pub named_law : StoredLaw → NamedLaw
 named_law law = record { begin = All-nil IsNamedRow; go_on = after_named law; named = all_named; component = component_named }

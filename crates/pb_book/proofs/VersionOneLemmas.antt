@@ -1,6 +1,6 @@
 -- A record of a session of version 1 gets the answer of version 1.
-use Rattle.std.specs.Prelude.{Option, Some, None, Result, Ok, Err, if◌then◌else◌}
-use Rattle.std.proofs.Common.{◌≡◌, ◌∙◌, ℕ, Bool, true, false, List, [], ◌∷◌, refl, ap}
+use Rattle.std.specs.Prelude.{Some, Result, Ok, if◌then◌else◌}
+use Rattle.std.proofs.Common.{◌≡◌, ◌∙◌, Bool, true, false, List, [], ◌∷◌, refl, ap}
 use Rattle.pb_rows.specs.Records.{without_trailing_empty}
 use Rattle.pb_form.specs.SessionRows.{kinds_of_version_1, session_schema}
 use Rattle.pb_form.specs.Telling.{is_of}
@@ -25,16 +25,9 @@ use Rattle.pb_book.specs.VersionOne.{VersionOneLaw, first_answer_if, says_versio
 -- the answer to what was asked
 same_answer : (rows : List StoredRow) (costs : List NamedCost) (request : Result Request FormFault) → version_of (declared_of rows) ≡ One
     → answer_if rows costs request ≡ first_answer_if rows costs request
-same_answer rows costs (Err fault) one = refl
-same_answer rows costs (Ok asked.Blank) one = refl
 same_answer rows costs (Ok (asked.Store effect)) one =
     ap (λ (version : Version). unless_refused (Stores effect) (refusal_behind version (declared_of rows) (facts_of rows) (periods_of rows) (assays_of rows) effect)) one
-same_answer rows costs (Ok asked.Design) one = refl
-same_answer rows costs (Ok (asked.Report name)) one = refl
-same_answer rows costs (Ok (asked.History name)) one = refl
-same_answer rows costs (Ok asked.Advise) one = refl
-same_answer rows costs (Ok (asked.Window first last)) one = refl
-same_answer rows costs (Ok (asked.Component component period)) one = refl
+same_answer rows costs request one = refl
 
 pub version_one : VersionOneLaw
 unfolding request_in

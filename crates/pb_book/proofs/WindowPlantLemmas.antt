@@ -1,7 +1,7 @@
 -- The plant and the periods of a window of accepted rows.
 use Rattle.std.specs.Prelude.{Contains, filter_map, map, slice_get, All}
 use Rattle.std.specs.Option.{option_map}
-use Rattle.std.proofs.Common.{◌≡◌, ◌∙◌, ◌+◌, ◌-◌, ◌<◌, ◌≤◌, ℕ, zero, suc, pos, true, false, List, [], ◌∷◌, ◌++◌, length, take, get_or, Option, Some, None, Ok, refl, sym, ap, subst, arith, inl, inr}
+use Rattle.std.proofs.Common.{◌≡◌, ◌∙◌, ◌+◌, ◌<◌, ◌≤◌, ℕ, zero, suc, pos, true, false, List, [], ◌∷◌, ◌++◌, length, take, get_or, Option, Some, None, Ok, refl, sym, ap, subst, arith, inl, inr}
 use Rattle.std.proofs.lemmas.Bool.{cases_Bool}
 use Rattle.std.proofs.lemmas.List.{length-map, take_all}
 use Rattle.std.proofs.lemmas.List.Elements.{All-map}
@@ -26,7 +26,7 @@ use Rattle.pb_book.specs.Accepted.{AreAccepted, IsAcceptable}
 use Rattle.pb_book.specs.Assays.{assays_of}
 use Rattle.pb_book.specs.Kept.{AreOf}
 use Rattle.pb_book.specs.Rows.{declared_of, facts_of, periods_of}
-use Rattle.pb_book.specs.Windows.{ArePlacesBetween, BookWindowsLaw, HavePlaceNames, IsBookWindow, IsWindowAsked, IsWindowBetween, cause_between, plant_of, window_between}
+use Rattle.pb_book.specs.Windows.{ArePlacesBetween, BookWindowsLaw, HavePlaceNames, IsWindowAsked, IsWindowBetween, cause_between, plant_of, window_between}
 use Rattle.pb_periods.specs.Windows.{fault_between, has_gap, names_of_periods, periods_between, span_of_period, window_arc, window_over, window_plant}
 use Rattle.pb_periods.specs.declared.windows.BetweenFault.{BetweenFault}
 use Rattle.pb_periods.proofs.WindowPlantLemmas.{IsFineWindow, as_many, between_all, choice, fine_window, periods_at, plant_is, within_of}

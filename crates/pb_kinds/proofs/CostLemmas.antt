@@ -35,39 +35,8 @@ use Rattle.pb_kinds.proofs.ThereLemmas.{name_is, number_is, column_of}
 -- ---- a record that asks for advice
 
 is_advise : (it : SessionKind) (values : List Value) → request_of it values ≡ Advise → it ≡ kind.Advise
-is_advise kind.Version values is = cc is
-is_advise kind.Boundary values is = cc is
-is_advise kind.TankInService values is = cc is
-is_advise kind.MeteredInService values is = cc is
-is_advise kind.BatchInService values is = cc is
-is_advise kind.PlainInService values is = cc is
-is_advise kind.Unit values is = cc is
-is_advise kind.Tank values is = cc is
-is_advise kind.Strap values is = cc is
-is_advise kind.StreamMetered values is = cc is
-is_advise kind.StreamBatch values is = cc is
-is_advise kind.StreamPlain values is = cc is
-is_advise kind.Period values is = cc is
-is_advise kind.CriticalGlobal values is = cc is
-is_advise kind.CriticalNodal values is = cc is
-is_advise kind.CriticalMeasure values is = cc is
-is_advise kind.Reading values is = cc is
-is_advise kind.Transfer values is = cc is
-is_advise kind.Dip values is = cc is
-is_advise kind.LateReading values is = cc is
-is_advise kind.LateTransfer values is = cc is
-is_advise kind.LateDip values is = cc is
-is_advise kind.AmendAmount values is = cc is
-is_advise kind.AmendLevel values is = cc is
-is_advise kind.Strike values is = cc is
-is_advise kind.Close values is = cc is
-is_advise kind.Assay values is = cc is
-is_advise kind.Design values is = cc is
-is_advise kind.Report values is = cc is
-is_advise kind.History values is = cc is
 is_advise kind.Advise values is = refl
-is_advise kind.Window values is = cc is
-is_advise kind.Component values is = cc is
+is_advise it values is = cc is
 
 -- the fields of a tail say something if the fields of the row do
 tail_says : (schema : Schema) (values : List Value) (fields : List (List ℕ)) → row_read schema fields ≡ Ok values → (others : List Value) × (tail_read schema fields ≡ Ok others)

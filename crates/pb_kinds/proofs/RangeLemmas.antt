@@ -92,8 +92,6 @@ dip_in_range values at fit = (
 -- ---- what a row of a kind asks for
 
 pub asked_in_range : (it : SessionKind) (values : List Value) → FitEach (session_columns it) values → IsRequestInRange (request_of it values)
-asked_in_range kind.Version values fit = tt
-asked_in_range kind.Boundary values fit = tt
 asked_in_range kind.TankInService values fit = (
   between (session_columns kind.TankInService) values 0 2 2 _ _ _ fit refl refl,
   service (session_columns kind.TankInService) values 3 _ _ fit refl refl,
@@ -110,7 +108,6 @@ asked_in_range kind.PlainInService values fit = (
   zero_is (number_there values 5) (between (session_columns kind.PlainInService) values 0 5 5 _ _ _ fit refl refl),
   service (session_columns kind.PlainInService) values 6 _ _ fit refl refl,
 )
-asked_in_range kind.Unit values fit = tt
 asked_in_range kind.Tank values fit = (between (session_columns kind.Tank) values 0 2 2 _ _ _ fit refl refl, tt)
 asked_in_range kind.Strap values fit = (
   between (session_columns kind.Strap) values 0 2 2 _ _ _ fit refl refl,
@@ -144,18 +141,11 @@ asked_in_range kind.AmendLevel values fit = (
   between (session_columns kind.AmendLevel) values 0 3 3 _ _ _ fit refl refl,
   between (session_columns kind.AmendLevel) values 0 4 4 _ _ _ fit refl refl,
 )
-asked_in_range kind.Strike values fit = tt
-asked_in_range kind.Close values fit = tt
 asked_in_range kind.Assay values fit =
     let ppm = between (session_columns kind.Assay) values 0 4 4 _ _ _ fit refl refl in
     let variance = between (session_columns kind.Assay) values 0 5 5 _ _ _ fit refl refl in
     record { least = ppm.0; most = ppm.1; exact = variance.0; widest = variance.1 }
-asked_in_range kind.Design values fit = tt
-asked_in_range kind.Report values fit = tt
-asked_in_range kind.History values fit = tt
-asked_in_range kind.Advise values fit = tt
-asked_in_range kind.Window values fit = tt
-asked_in_range kind.Component values fit = tt
+asked_in_range it values fit = tt
 
 -- ---- names
 
@@ -189,7 +179,6 @@ names_from columns values at id of fit a b =
     two_names (name_there values at) (name_there values (at + 1)) (named columns values at 0 at id fit (omega arith) a) (named columns values at 1 (at + 1) of fit refl b)
 
 pub asked_named : (it : SessionKind) (values : List Value) → FitEach (session_columns it) values → list_all is_name (stored_names (request_of it values)) ≡ true
-asked_named kind.Version values fit = refl
 asked_named kind.Boundary values fit = name_one (session_columns kind.Boundary) values _ fit refl
 asked_named kind.TankInService values fit = name_one (session_columns kind.TankInService) values _ fit refl
 asked_named kind.MeteredInService values fit = three_from_one (session_columns kind.MeteredInService) values _ _ _ fit refl refl refl
@@ -202,9 +191,6 @@ asked_named kind.StreamMetered values fit = three_from_one (session_columns kind
 asked_named kind.StreamBatch values fit = three_from_one (session_columns kind.StreamBatch) values _ _ _ fit refl refl refl
 asked_named kind.StreamPlain values fit = three_from_one (session_columns kind.StreamPlain) values _ _ _ fit refl refl refl
 asked_named kind.Period values fit = name_one (session_columns kind.Period) values _ fit refl
-asked_named kind.CriticalGlobal values fit = refl
-asked_named kind.CriticalNodal values fit = refl
-asked_named kind.CriticalMeasure values fit = refl
 asked_named kind.Reading values fit = names_from reading_columns values 1 _ _ (fit_after 1 (session_columns kind.Reading) values fit) refl refl
 asked_named kind.Transfer values fit = names_from transfer_columns values 1 _ _ (fit_after 1 (session_columns kind.Transfer) values fit) refl refl
 asked_named kind.Dip values fit = names_from dip_columns values 1 _ _ (fit_after 1 (session_columns kind.Dip) values fit) refl refl
@@ -216,9 +202,4 @@ asked_named kind.AmendLevel values fit = name_one (session_columns kind.AmendLev
 asked_named kind.Strike values fit = name_one (session_columns kind.Strike) values _ fit refl
 asked_named kind.Close values fit = name_one (session_columns kind.Close) values _ fit refl
 asked_named kind.Assay values fit = three_from_one (session_columns kind.Assay) values _ _ _ fit refl refl refl
-asked_named kind.Design values fit = refl
-asked_named kind.Report values fit = refl
-asked_named kind.History values fit = refl
-asked_named kind.Advise values fit = refl
-asked_named kind.Window values fit = refl
-asked_named kind.Component values fit = refl
+asked_named it values fit = refl

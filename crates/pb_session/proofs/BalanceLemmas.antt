@@ -1,6 +1,6 @@
 -- The component graph of a period: how many nodes and streams it has, and the last stage of a study.
 use Rattle.std.specs.Prelude.{◌+◌, IfErr, IfOk, IfSome, position}
-use Rattle.std.proofs.Common.{◌≡◌, ◌≢◌, ◌∙◌, ◌<◌, ℕ, zero, suc, Bool, List, [], ◌∷◌, length, map, All, Option, Some, None, Result, Ok, Err, slice_get, get_or, refl, sym, ap, subst, arith}
+use Rattle.std.proofs.Common.{◌≡◌, ◌≢◌, ◌∙◌, ◌<◌, ℕ, zero, suc, Bool, List, [], ◌∷◌, length, map, All, Option, Some, None, Result, Ok, Err, slice_get, refl, sym, ap, subst, arith}
 use Rattle.std.proofs.lemmas.List.{length-map}
 use Rattle.std.proofs.lemmas.Option.{get_or_from_slice_get, slice_get_within}
 use Rattle.pb_rows.specs.declared.name.Names.{Names}
@@ -10,7 +10,6 @@ use Rattle.pb_study.specs.declared.results.StreamResult.{StreamResult}
 use Rattle.pb_study.specs.declared.results.Study.{Study}
 use Rattle.pb_graph.specs.ProcessGraph.{ProcessGraph, IsProcessGraph}
 use Rattle.pb_study.specs.WellFormed.{HasShapeOf, IsWellFormed, IsWellFormedStudy}
-use Rattle.pb_assay.specs.declared.component.ComponentFault.{ComponentFault}
 use Rattle.pb_facts.specs.declared.grade.Grade.{Grade}
 use Rattle.pb_assay.specs.Component.{component_of, component_overs, component_streams, component_unless_over}
 use Rattle.pb_elim.specs.Study.{IsStudyOf}

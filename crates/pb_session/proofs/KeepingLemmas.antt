@@ -17,7 +17,7 @@ use Rattle.pb_stage.specs.Printed.{printed_classes}
 use Rattle.pb_elim.specs.Study.{IsStudyOf}
 use Rattle.pb_facts.specs.Facts.{NoRepeats}
 use Rattle.pb_book.specs.declared.answer.Accepted.{Accepted}
-use Rattle.pb_book.specs.declared.answer.Accepted.TheVariants.{Blank, Design, Report, History, Advise, Component, Window}
+use Rattle.pb_book.specs.declared.answer.Accepted.TheVariants.{Report, History, Advise, Component, Window}
 use Rattle.pb_book.specs.declared.answer.NotAccepted.{NotAccepted}
 use Rattle.pb_book.specs.declared.answer.Refused.{Refused}
 use Rattle.pb_form.specs.declared.fault.FormFault.{FormFault}
@@ -199,14 +199,8 @@ IsSaid (Says Accepted.Stored) = ⊥
 IsSaid answer = Unit {0}
 
 left_same : (accepted : Accepted) (rows : List StoredRow) (kept : List KeptStudy) → IsSaid (Says accepted) → left_by accepted rows kept ≡ kept
-left_same Blank rows kept said = refl
 left_same Accepted.Stored rows kept said = absurd said
-left_same Design rows kept said = refl
-left_same (Report i) rows kept said = refl
-left_same (History i) rows kept said = refl
-left_same (Component component i) rows kept said = refl
-left_same (Window first last) rows kept said = refl
-left_same Advise rows kept said = refl
+left_same accepted rows kept said = refl
 
 -- what the book says about a record that it accepts
 abbrev pub said_ok : Accepted → Result Accepted NotAccepted
@@ -214,14 +208,8 @@ said_ok accepted = Ok accepted
 
 -- and so does a record that isn't stored
 pub left_other : (accepted : Accepted) (rows : List StoredRow) (kept : List KeptStudy) → accepted ≢ Accepted.Stored → left_by accepted rows kept ≡ kept
-left_other Blank rows kept other = refl
 left_other Accepted.Stored rows kept other = absurd (other refl)
-left_other Design rows kept other = refl
-left_other (Report i) rows kept other = refl
-left_other (History i) rows kept other = refl
-left_other (Component component i) rows kept other = refl
-left_other (Window first last) rows kept other = refl
-left_other Advise rows kept other = refl
+left_other accepted rows kept other = refl
 
 same_accepted : (a b : Accepted) → said_ok a ≡ said_ok b → a ≡ b
 same_accepted a b is = cc is
@@ -244,13 +232,7 @@ left_kept law state new at (Says one) accepted kept is said new_is are all =
 
 pub left_few : (accepted : Accepted) (rows : List StoredRow) (kept : List KeptStudy) → length kept ≤ most_kept → length (left_by accepted rows kept) ≤ most_kept
 left_few Accepted.Stored rows kept few = few_filter _ kept most_kept few
-left_few Blank rows kept few = few
-left_few Design rows kept few = few
-left_few (Report i) rows kept few = few
-left_few (History i) rows kept few = few
-left_few (Component component i) rows kept few = few
-left_few (Window first last) rows kept few = few
-left_few Advise rows kept few = few
+left_few accepted rows kept few = few
 
 -- the periods that are kept after an accepted record are those that are kept after the record
 pub keeps_by : (state : SessionState) (new : List StoredRow) (at : ℕ) (answer : Answer) (accepted : Accepted) (kept : List KeptStudy) (after : List ℕ) → said_ok accepted ≡ said_of answer
@@ -282,13 +264,9 @@ said_stored : (effect : Effect) (cause : Option Refused) → IsSaid (unless_refu
 said_stored effect (Some cause) = tt
 said_stored effect None = tt
 
-said_report : (found : Option ℕ) → IsSaid (if_known answered.Report found)
-said_report (Some i) = tt
-said_report None = tt
-
-said_history : (found : Option ℕ) → IsSaid (if_known answered.History found)
-said_history (Some i) = tt
-said_history None = tt
+said_of_period : (says : ℕ → Accepted) → ((i : ℕ) → IsSaid (Says (says i))) → (found : Option ℕ) → IsSaid (if_known says found)
+said_of_period says each (Some i) = each i
+said_of_period says each None = tt
 
 said_component : (component : List ℕ) (assayed : Bool) (found : Option ℕ) → IsSaid (component_or_refused component assayed found)
 said_component component true (Some i) = tt
@@ -309,14 +287,13 @@ said_advise (Some cause) = tt
 said_advise None = tt
 
 said_to : (rows : List StoredRow) (costs : List NamedCost) (request : Request) → IsSaid (answer_to rows costs request)
-said_to rows costs asked.Blank = tt
 said_to rows costs (asked.Store effect) = said_stored effect (refusal_of rows effect)
-said_to rows costs asked.Design = tt
-said_to rows costs (asked.Report name) = said_report (period_place rows name)
-said_to rows costs (asked.History name) = said_history (period_place rows name)
+said_to rows costs (asked.Report name) = said_of_period answered.Report (λ i. tt) (period_place rows name)
+said_to rows costs (asked.History name) = said_of_period answered.History (λ i. tt) (period_place rows name)
 said_to rows costs (asked.Component component name) = said_component component (has_assay rows component name) (period_place rows name)
 said_to rows costs (asked.Window first last) = said_window rows (period_place rows first) (period_place rows last)
 said_to rows costs asked.Advise = said_advise (refusal_of_costs (declared_of rows) costs)
+said_to rows costs request = tt
 
 said_if : (rows : List StoredRow) (costs : List NamedCost) (request : Result Request FormFault) → IsSaid (answer_if rows costs request)
 said_if rows costs (Ok request) = said_to rows costs request
@@ -518,20 +495,8 @@ untouched_stage state rows (k ∷ kept) None (here, all) = elim (cases_Bool (tou
 pub left_stage : (state : SessionState) (accepted : Accepted) (rows : List StoredRow) (kept : List KeptStudy) (last : Option Stage) → AllByRecursion (IsKeptStudy state) kept
     → last_stage (left_by accepted rows kept) (saved_by accepted rows kept last) ≡ last_stage kept last
 left_stage state Accepted.Stored rows kept last all = untouched_stage state rows kept last all
-left_stage state Blank rows kept last all = refl
-left_stage state Design rows kept last all = refl
-left_stage state (Report i) rows kept last all = refl
-left_stage state (History i) rows kept last all = refl
-left_stage state (Component component i) rows kept last all = refl
-left_stage state (Window first final) rows kept last all = refl
-left_stage state Advise rows kept last all = refl
+left_stage state accepted rows kept last all = refl
 
 pub saved_other : (accepted : Accepted) (rows : List StoredRow) (kept : List KeptStudy) (last : Option Stage) → accepted ≢ Accepted.Stored → saved_by accepted rows kept last ≡ last
-saved_other Blank rows kept last other = refl
 saved_other Accepted.Stored rows kept last other = absurd (other refl)
-saved_other Design rows kept last other = refl
-saved_other (Report i) rows kept last other = refl
-saved_other (History i) rows kept last other = refl
-saved_other (Component component i) rows kept last other = refl
-saved_other (Window first final) rows kept last other = refl
-saved_other Advise rows kept last other = refl
+saved_other accepted rows kept last other = refl

@@ -8,7 +8,7 @@ use Rattle.pb_graph.specs.ProcessGraph.{ProcessGraph, IsProcessGraph}
 use Rattle.pb_elim.specs.Laws.{OneStudyLaw, SomeStudyLaw}
 use Rattle.pb_study.specs.Options.{AreOptions}
 use Rattle.pb_book.specs.declared.answer.Accepted.{Accepted}
-use Rattle.pb_book.specs.declared.answer.Accepted.TheVariants.{Blank, Design, Report, History, Advise, Component, Window}
+use Rattle.pb_book.specs.declared.answer.Accepted.TheVariants.{Report}
 use Rattle.pb_periods.specs.declared.period.Period.{Period}
 use Rattle.pb_book.specs.Answer.{Answer, Refuses, Says, Stores, answer_of}
 use Rattle.pb_book.specs.Laws.{AcceptedLaw}
@@ -49,13 +49,7 @@ one_report_of law state i kept (Some period) one other at graphs a b =
 one_accepted : OneStudyLaw → (state : SessionState) (kept : List ℕ) (accepted : Accepted) (one other : List ℕ) → HaveGraphs state.rows
     → KeepsAccepted state kept accepted one → KeepsAccepted state kept accepted other → one ≡ other
 one_accepted law state kept (Report i) one other graphs a b = one_report_of law state i kept (slice_get (periods_of state.rows) i) one other refl graphs a b
-one_accepted law state kept Blank one other graphs a b = a ∙ sym b
-one_accepted law state kept Accepted.Stored one other graphs a b = a ∙ sym b
-one_accepted law state kept Design one other graphs a b = a ∙ sym b
-one_accepted law state kept (History i) one other graphs a b = a ∙ sym b
-one_accepted law state kept (Component component i) one other graphs a b = a ∙ sym b
-one_accepted law state kept (Window first last) one other graphs a b = a ∙ sym b
-one_accepted law state kept Advise one other graphs a b = a ∙ sym b
+one_accepted law state kept accepted one other graphs a b = a ∙ sym b
 
 one_by : OneStudyLaw → (state : SessionState) (kept : List ℕ) (at : ℕ) (answer : Answer) (one other : List ℕ) → HaveGraphs state.rows
     → KeepsBy state kept at answer one → KeepsBy state kept at answer other → one ≡ other
@@ -86,13 +80,7 @@ some_accepted law state kept (Report i) asked graphs there = by (slice_get (peri
     by : (found : Option Period) → slice_get (periods_of state.rows) i ≡ found → (new : List ℕ) × KeepsReportOf state i kept found new
     by None none = cc (sym none ∙ slice_get-get_or (periods_of state.rows) i some_period there)
     by (Some period) at = some_report law state i kept (assembly_of state.rows (days_of period)) asked (within state.rows i period graphs at)
-some_accepted law state kept Blank asked graphs there = (kept, refl)
-some_accepted law state kept Accepted.Stored asked graphs there = (kept, refl)
-some_accepted law state kept Design asked graphs there = (kept, refl)
-some_accepted law state kept (History i) asked graphs there = (kept, refl)
-some_accepted law state kept (Component component i) asked graphs there = (kept, refl)
-some_accepted law state kept (Window first last) asked graphs there = (kept, refl)
-some_accepted law state kept Advise asked graphs there = (kept, refl)
+some_accepted law state kept accepted asked graphs there = (kept, refl)
 
 some_by : SomeStudyLaw → (state : SessionState) (kept : List ℕ) (at : ℕ) (answer : Answer) → AreOptions state.options → HaveGraphs state.rows → AnswersOf state.rows answer
     → (new : List ℕ) × KeepsBy state kept at answer new
@@ -125,13 +113,7 @@ few_report_of state i kept new (Some period) few keeps = few_report state i kept
 
 few_accepted : (state : SessionState) (kept : List ℕ) (accepted : Accepted) (new : List ℕ) → length kept ≤ most_kept → KeepsAccepted state kept accepted new → length new ≤ most_kept
 few_accepted state kept (Report i) new few keeps = few_report_of state i kept new (slice_get (periods_of state.rows) i) few keeps
-few_accepted state kept Blank new few keeps = subst (λ (ks : List ℕ). length ks ≤ most_kept) (sym keeps) few
-few_accepted state kept Accepted.Stored new few keeps = subst (λ (ks : List ℕ). length ks ≤ most_kept) (sym keeps) few
-few_accepted state kept Design new few keeps = subst (λ (ks : List ℕ). length ks ≤ most_kept) (sym keeps) few
-few_accepted state kept (History i) new few keeps = subst (λ (ks : List ℕ). length ks ≤ most_kept) (sym keeps) few
-few_accepted state kept (Component component i) new few keeps = subst (λ (ks : List ℕ). length ks ≤ most_kept) (sym keeps) few
-few_accepted state kept (Window first last) new few keeps = subst (λ (ks : List ℕ). length ks ≤ most_kept) (sym keeps) few
-few_accepted state kept Advise new few keeps = subst (λ (ks : List ℕ). length ks ≤ most_kept) (sym keeps) few
+few_accepted state kept accepted new few keeps = subst (λ (ks : List ℕ). length ks ≤ most_kept) (sym keeps) few
 
 few_by : (state : SessionState) (kept : List ℕ) (at : ℕ) (answer : Answer) (new : List ℕ) → length kept ≤ most_kept → KeepsBy state kept at answer new → length new ≤ most_kept
 few_by state kept at (Refuses cause) new few keeps = subst (λ (ks : List ℕ). length ks ≤ most_kept) (sym keeps) few

@@ -72,13 +72,15 @@ found_within : (name : List ℕ) (periods : List Period) (found : Option ℕ) �
 found_within name periods (Some i) is = (position-Some (is_named name) periods i some_period is).0
 found_within name periods None is = tt
 
-reports_of : (rows : List StoredRow) (found : Option ℕ) → IfSome found (λ i. i < length (periods_of rows)) → AnswersOf rows (if_known answered.Report found)
-reports_of rows (Some i) lt = lt
-reports_of rows None lt = tt
+periods_there : (rows : List StoredRow) (says : ℕ → Accepted) → ((i : ℕ) → i < length (periods_of rows) → IsOfPeriods rows (says i)) → (found : Option ℕ)
+    → IfSome found (λ i. i < length (periods_of rows)) → AnswersOf rows (if_known says found)
+periods_there rows says each (Some i) lt = each i lt
+periods_there rows says each None lt = tt
 
-histories_of : (rows : List StoredRow) (found : Option ℕ) → IfSome found (λ i. i < length (periods_of rows)) → AnswersOf rows (if_known answered.History found)
-histories_of rows (Some i) lt = lt
-histories_of rows None lt = tt
+-- an answer about a period that is found is about one that exists
+of_period : (rows : List StoredRow) (says : ℕ → Accepted) → ((i : ℕ) → i < length (periods_of rows) → IsOfPeriods rows (says i)) → (name : List ℕ)
+    → AnswersOf rows (if_known says (period_place rows name))
+of_period rows says each name = periods_there rows says each (period_place rows name) (found_within name (periods_of rows) (period_place rows name) refl)
 
 components_of : (rows : List StoredRow) (component : List ℕ) (assayed : Bool) (found : Option ℕ) → IfSome found (λ i. i < length (periods_of rows))
     → AnswersOf rows (component_or_refused component assayed found)
@@ -111,15 +113,14 @@ advises_of rows (Some cause) = tt
 advises_of rows None = tt
 
 answers_to : (rows : List StoredRow) (costs : List NamedCost) (request : Request) → AnswersOf rows (answer_to rows costs request)
-answers_to rows costs asked.Blank = tt
 answers_to rows costs (asked.Store effect) = stores_of rows effect (refusal_of rows effect)
-answers_to rows costs asked.Design = tt
-answers_to rows costs (asked.Report name) = reports_of rows (period_place rows name) (found_within name (periods_of rows) (period_place rows name) refl)
-answers_to rows costs (asked.History name) = histories_of rows (period_place rows name) (found_within name (periods_of rows) (period_place rows name) refl)
+answers_to rows costs (asked.Report name) = of_period rows answered.Report (λ i lt. lt) name
+answers_to rows costs (asked.History name) = of_period rows answered.History (λ i lt. lt) name
 answers_to rows costs (asked.Component component name) =
     components_of rows component (has_assay rows component name) (period_place rows name) (found_within name (periods_of rows) (period_place rows name) refl)
 answers_to rows costs (asked.Window first last) = windows_of rows (period_place rows first) (period_place rows last)
 answers_to rows costs asked.Advise = advises_of rows (refusal_of_costs (declared_of rows) costs)
+answers_to rows costs request = tt
 
 answers_if : (rows : List StoredRow) (costs : List NamedCost) (request : Result Request FormFault) → AnswersOf rows (answer_if rows costs request)
 answers_if rows costs (Err fault) = tt

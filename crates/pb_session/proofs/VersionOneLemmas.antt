@@ -190,16 +190,10 @@ balances_one state component (Some period) text one =
 
 adds_one : (state : SessionState) (at : ℕ) (costs : List NamedCost) (answer : Answer) (text : List ℕ) → version_of (declared_of state.rows) ≡ One
     → AddsBy state at costs answer text ↔ FirstAddsBy state at costs answer text
-adds_one state at costs (Refuses cause) text one = (λ is. is, λ is. is)
-adds_one state at costs (Stores row) text one = (λ is. is, λ is. is)
-adds_one state at costs (Says answered.Blank) text one = (λ is. is, λ is. is)
-adds_one state at costs (Says answered.Stored) text one = (λ is. is, λ is. is)
-adds_one state at costs (Says answered.Design) text one = (λ is. is, λ is. is)
 adds_one state at costs (Says (answered.Report i)) text one = reports_one state (slice_get (periods_of state.rows) i) text one
 adds_one state at costs (Says (answered.History i)) text one = tells_one state (slice_get (periods_of state.rows) i) text one
 adds_one state at costs (Says (answered.Component component i)) text one = balances_one state component (slice_get (periods_of state.rows) i) text one
-adds_one state at costs (Says (answered.Window first last)) text one = (λ is. is, λ is. is)
-adds_one state at costs (Says answered.Advise) text one = (λ is. is, λ is. is)
+adds_one state at costs answer text one = (λ is. is, λ is. is)
 
 pub first_text : VersionOneLaw → FirstTextLaw
 first_text law state at fields text one unsaid =

@@ -1,8 +1,5 @@
-use Rattle.std.specs.Prelude.{slice_get}
-use Rattle.std.proofs.Common.{◌≡◌, ◌∙◌, List, ap}
-use Rattle.pb_periods.specs.declared.period.Period.{Period}
+use Rattle.std.proofs.Common.{◌≡◌, ◌∙◌, ap}
 use Rattle.pb_book.specs.Rows.{periods_of}
-use Rattle.pb_book.specs.Windows.{ArePlacesBetween}
 use Rattle.pb_periods.specs.Windows.{periods_between}
 use Rattle.pb_book.proofs.WindowPlantLemmas.{contains_at, ends_kept, few_between, no_gap_kept}
 use Rattle.pb_periods.proofs.WindowPlantLemmas.{within_of}

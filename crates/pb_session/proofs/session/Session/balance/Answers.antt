@@ -1,4 +1,4 @@
-use Rattle.std.proofs.Common.{◌≡◌, ◌∙◌, List, Option, Ok, Err, length, slice_get, sym, ap, subst}
+use Rattle.std.proofs.Common.{◌∙◌, List, Option, length, slice_get, sym, ap, subst}
 use Rattle.pb_facts.specs.declared.grade.Grade.{Grade}
 use Rattle.pb_book.specs.Rows.{periods_of}
 use Rattle.pb_session.specs.Kept.{Held}

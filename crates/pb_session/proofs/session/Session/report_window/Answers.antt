@@ -1,6 +1,4 @@
-use Rattle.std.proofs.Common.{◌≡◌, ◌∙◌, ◌<◌, ◌++◌, List, ℕ, length, slice_get, Some, All, Result, Ok, Err, OnErr, OnOk, sym, ap, ap₂, subst, arith, rules, take}
-use Rattle.std.proofs.lemmas.List.{take-append-le}
-use Rattle.std.proofs.lemmas.Option.{slice_get_within}
+use Rattle.std.proofs.Common.{◌≡◌, ◌∙◌, ◌<◌, ◌++◌, List, ℕ, length, slice_get, Some, All, sym, ap, subst}
 use Rattle.pb_window.specs.Places.{HaveNames, window_places}
 use Rattle.pb_site.specs.Site.{names_of}
 use Rattle.pb_book.specs.declared.rows.StoredRow.{StoredRow}
@@ -11,7 +9,6 @@ use Rattle.pb_report.specs.declared.form.Form.{Form}
 use Rattle.pb_report.specs.Form.{text_in}
 use Rattle.pb_report.specs.Window.{window_rows}
 use Rattle.pb_session.specs.Kept.{Held}
-use Rattle.pb_session.specs.Windowed.{IsWindowAt}
 use Rattle.pb_session.proofs.WindowedLemmas.{head_is, head_ok}
 use Rattle.pb_session.proofs.session.Session.report_window.Goals as goal
 

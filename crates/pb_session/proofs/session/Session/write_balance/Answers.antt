@@ -16,7 +16,7 @@ use Rattle.pb_report.specs.Names.{name_at}
 use Rattle.pb_report.specs.Over.{over_row}
 use Rattle.pb_session.specs.Keeping.{HasCountsOf, IsBalanceAt}
 use Rattle.pb_session.specs.Kept.{Held}
-use Rattle.pb_session.specs.Session.{AreNamesOf, Balances, BalancesBy, IsReportAfter, SessionState}
+use Rattle.pb_session.specs.Session.{AreNamesOf, Balances, IsReportAfter, SessionState}
 use Rattle.pb_session.proofs.AppendingLemmas.{appends_so, appends_such}
 use Rattle.pb_session.proofs.BalanceLemmas.{balances_at, names_as}
 use Rattle.pb_session.proofs.NamedLemmas.{graph_names_are, stream_named}

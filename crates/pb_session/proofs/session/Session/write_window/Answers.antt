@@ -1,19 +1,13 @@
-use Rattle.std.proofs.Common.{◌≡◌, ◌≢◌, ◌∙◌, ◌<◌, ◌≤◌, ◌∷◌, [], ℕ, List, length, Some, IfErr, Result, Ok, Err, All, slice_get, sym, ap, ap₂, subst, arith}
+use Rattle.std.proofs.Common.{◌≡◌, ◌≢◌, ◌∙◌, ◌<◌, ◌∷◌, [], ℕ, List, length, Some, IfErr, Result, Ok, Err, slice_get, sym, ap, ap₂, subst, arith}
 use Rattle.std.proofs.lemmas.List.{length-map}
-use Rattle.std.proofs.lemmas.Option.{slice_get_within}
 use Rattle.pb_rows.specs.declared.name.Names.{Names}
 use Rattle.pb_graph.specs.ProcessGraph.{ProcessGraph}
 use Rattle.pb_window.specs.declared.window.Window.{Window}
-use Rattle.pb_window.specs.Codes.{AreWindowNames, stream_code, window_names}
-use Rattle.pb_window.specs.Places.{HasStreamNames}
-use Rattle.pb_site.specs.Site.{names_of}
+use Rattle.pb_window.specs.Codes.{stream_code, window_names}
 use Rattle.pb_periods.specs.declared.period.Period.{Period}
 use Rattle.pb_book.specs.declared.rows.StoredRow.{StoredRow}
-use Rattle.pb_book.specs.Rows.{declared_of, periods_of}
-use Rattle.pb_limits.specs.Limits.{most_periods_of_window}
-use Rattle.pb_window.specs.Window.{IsWindow}
-use Rattle.pb_book.specs.Windows.{ArePlacesBetween, HavePlaceNames, IsWindowAsked, IsWindowBetween, window_between}
-use Rattle.pb_periods.specs.Windows.{names_of_periods, periods_between}
+use Rattle.pb_book.specs.Rows.{periods_of}
+use Rattle.pb_book.specs.Windows.{ArePlacesBetween, IsWindowAsked, IsWindowBetween, window_between}
 use Rattle.pb_period.specs.declared.graph.Assembly.{Assembly}
 use Rattle.pb_period.specs.declared.graph.Assembly.TheVariants.{Over, NoMemory}
 use Rattle.pb_period.specs.WindowGraph.{IsStreamOfWindow, periods_at, window_assembly}
@@ -22,7 +16,7 @@ use Rattle.pb_report.specs.Form.{text_in}
 use Rattle.pb_report.specs.Names.{name_at}
 use Rattle.pb_report.specs.Over.{over_row}
 use Rattle.pb_session.specs.Kept.{Held}
-use Rattle.pb_session.specs.Session.{AreNamesOf, IsTextOf, Windows, WindowsBy, assembly_between}
+use Rattle.pb_session.specs.Session.{Windows, assembly_between}
 use Rattle.pb_session.specs.Windowed.{IsWindowAt}
 use Rattle.pb_session.proofs.AppendingLemmas.{appends_such}
 use Rattle.pb_session.proofs.WindowedLemmas.{between_is, same_found, window_at, window_names_are, windows_at, windows_ok}
