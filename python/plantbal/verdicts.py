@@ -18,7 +18,10 @@ from plantbal.schema import Column, Row, schema
 from plantbal.session import whole_number
 
 _NAME = re.compile(rf"[A-Za-z0-9_.-]{{1,{schema().limits['most_name']}}}")
-_PASSED_OVER = "refused, over, design, class, history, edit, taken or stop"
+_PASSED_OVER = (
+    "refused, over, design, class, history, edit, taken, stop, advise, meter, window, place "
+    "or component"
+)
 
 
 def _blocks(text: Text) -> list[ReportBlock]:

@@ -9,10 +9,11 @@ from conftest import Desk, example
 from hypothesis import HealthCheck, given, settings
 from hypothesis import strategies as st
 
+from plantbal.checker import PASSED_OVER
 from plantbal.explain import Told
 from plantbal.program import call
 from plantbal.schema import schema
-from plantbal.verdicts import explain_check
+from plantbal.verdicts import _PASSED_OVER, explain_check
 
 GOOD = """refused,9,4,number
 report,p,0,3,5,10,5000
@@ -188,6 +189,12 @@ def explained(program: Path, old: str, new: str) -> tuple[Told, str]:
     told = explain_check("r.csv", data, None, program).rows
     assert len(told) == 1
     return told[0], call(["check"], data, program=program)[1].decode()
+
+
+def test_names_every_row_that_is_passed_over() -> None:
+    """The sentence about a row at a wrong place names all rows that may be between blocks."""
+    names = _PASSED_OVER.replace(" or ", ", ").split(", ")
+    assert sorted(names) == sorted(PASSED_OVER)
 
 
 def test_good(program: Path) -> None:
