@@ -57,6 +57,7 @@ WRITTEN_AFTER = {
     ("pb_form::session_record", "Ok"): r"unit,u1$",
     ("pb_form::write", "Ok"): REPORT,
     ("pb_form::write_json", "Ok"): REPORT,
+    ("pb_graph::forward_then", "Ok"): r"meter,",
     ("pb_make::make", "Ok"): r"unit,u1$",
     ("pb_period::assemble", "Ok"): REPORT,
     ("pb_period::assemble", "Over"): r"over,d1,A$",
