@@ -19,10 +19,10 @@ from plantbal.bundle import (
     VERSION,
     DIGESTS,
     Manifest,
-    digest,
     digests_text,
     packed,
 )
+from plantbal.changed import digest, digests_of_parts
 from plantbal.faults import Fault, Place, ProgramFault, read_bytes
 from plantbal.files import write_bytes
 from plantbal.held import Ledger
@@ -102,6 +102,7 @@ def manifest_of(
         reports=[f"{block.subject}, round {block.round}" for block in output.blocks_in_order],
         refused=sum(row["row"] == "refused" for row in output.rows),
         files={name: digest(data) for name, data in sorted(files.items())},
+        parts={name: digests_of_parts(files[name]) for name in (OUTPUT, SESSION)},
     )
 
 

@@ -19,10 +19,10 @@ from plantbal.bundle import (
     SESSION,
     SUMMARY,
     Manifest,
-    digest,
     digests_text,
     unpacked,
 )
+from plantbal.changed import digest, where
 from plantbal.faults import Fault, InputFault, Place, ProgramFault, ToolMissing, read_bytes
 from plantbal.held import Ledger, Pair, answers_of, pairs_of, refused_differ
 from plantbal.options import add_program
@@ -142,17 +142,22 @@ def given_of_bundle(audit: Audit, path: str) -> Given:
     if found.note:
         audit.add("note", f"{path}: {found.note}")
     changed = set(_digest_faults(audit, path, files))
+    there = _manifest_changed(files)
+    if there:
+        changed.add(MANIFEST)
     manifest = _manifest(audit, path, files)
     if manifest is None:
-        _manifest_digest(audit, path, files, True)
+        _manifest_digest(audit, path, files, True, there)
         report = parse_report(files[OUTPUT].decode("utf-8", "replace"), f"{path}!{OUTPUT}")
         return _given(path, files, words_shown(report))
+    if manifest.is_sealed and not found.is_sealed:
+        audit.add("wrong", f"{path}: the zip has no digest of its own; archive doesn't write it so")
     other = _made_again(audit, path, files, manifest, changed)
-    same = _manifest_digest(audit, path, files, bool(other)) and not other
+    same = _manifest_digest(audit, path, files, bool(other), there) and not other
     if same and not changed and files[DIGESTS] != digests_text(files):
-        there = differs_at(files[DIGESTS], digests_text(files))
-        what = f"{there.one} stands there, and {there.other} follows from the other files"
-        audit.add("wrong", f"{path}!{DIGESTS}: {there.place}: {what}")
+        at = differs_at(files[DIGESTS], digests_text(files))
+        what = f"{at.one} stands there, and {at.other} follows from the other files"
+        audit.add("wrong", f"{path}!{DIGESTS}: {at.place}: {what}")
     elif same and not changed:
         what = f"the digests of its {len(NAMES) - 1} files hold"
         rest = "manifest and summary are those of the session and the output"
@@ -194,6 +199,7 @@ def _digest_faults(audit: Audit, path: str, files: Mapping[str, bytes]) -> Itera
             audit.add("wrong", f"{path}!{DIGESTS}: {what}")
             yield DIGESTS
     inner = files[MANIFEST].decode("utf-8", "replace")
+    parts = _parts(files)
     for name in (SESSION, OUTPUT, SUMMARY):
         found, (number, said) = digest(files[name]), stated.get(name, (0, ""))
         if said == found:
@@ -204,20 +210,46 @@ def _digest_faults(audit: Audit, path: str, files: Mapping[str, bytes]) -> Itera
             audit.add("wrong", f"{path}!{DIGESTS}: {what} {rest}: a digest was changed")
             yield DIGESTS
         else:
-            what = f"its SHA-256 is {found}, and line {number} of {DIGESTS} says {said}"
-            audit.add("wrong", f"{path}!{name}: {what}: the file was changed")
+            # What the summary has to be is known: it is made again.
+            there = "" if name == SUMMARY else where(files[name], said, parts.get(name, ()))
+            _say_changed(audit, f"{path}!{name}", there, found, f"line {number} of {DIGESTS}", said)
             yield name
 
 
-def _manifest_digest(audit: Audit, path: str, files: Mapping[str, bytes], differs: bool) -> bool:
-    """Say whether the manifest's digest is another one, and return whether it isn't."""
+def _parts(files: Mapping[str, bytes]) -> dict[str, list[str]]:
+    """Return the digests that the manifest has of the parts of files, if it can be read."""
+    try:
+        return Manifest.read(files[MANIFEST]).parts
+    except Fault:
+        return {}
+
+
+def _say_changed(audit: Audit, name: str, there: str, found: str, line: str, said: str) -> None:
+    """Say of a file that it was changed, and where, as far as that is known."""
+    what = f"its SHA-256 is {found}, and {line} says {said}: the file was changed"
+    audit.add("wrong", f"{name}: {there}; {what}" if there else f"{name}: {what}")
+
+
+def _manifest_changed(files: Mapping[str, bytes]) -> str:
+    """Return in words where the manifest was changed, if one digit of it was."""
+    _, said = _digests(files).get(MANIFEST, (0, ""))
+    return "" if said == digest(files[MANIFEST]) else where(files[MANIFEST], said)
+
+
+def _manifest_digest(
+    audit: Audit, path: str, files: Mapping[str, bytes], differs: bool, there: str
+) -> bool:
+    """Say whether the manifest's digest is another one, and return whether it isn't.
+
+    Then the manifest was changed, if something differs or the place is known, or else the digest.
+    """
     number, said = _digests(files).get(MANIFEST, (0, ""))
     found = digest(files[MANIFEST])
     if said == found:
         return True
-    if differs:
-        what = f"its SHA-256 is {found}, and line {number} of {DIGESTS} says {said}"
-        audit.add("wrong", f"{path}!{MANIFEST}: {what}: the file was changed")
+    if differs or there:
+        line = f"line {number} of {DIGESTS}"
+        _say_changed(audit, f"{path}!{MANIFEST}", there, found, line, said)
     else:
         what = f"line {number}: this isn't" if number else "there is no line with"
         rest = f"the digest of {MANIFEST}, which agrees with all other files"
@@ -246,7 +278,7 @@ def _made_again(
 ) -> list[str]:
     """Make manifest and summary again from session and output, and return those that differ.
 
-    If they differ because the session or the output was changed, this was said already.
+    If they differ because another file was changed, this was said already.
     """
     try:
         again = bundle_files(files[SESSION], files[OUTPUT], manifest)
@@ -258,8 +290,9 @@ def _made_again(
         audit.add("wrong", f"{path}!{OUTPUT}: {str(fault).removeprefix(OUTPUT + ': ')}")
         return [OUTPUT]
     differ = [name for name in (SUMMARY, MANIFEST) if files[name] != again[name]]
+    causes = {SESSION, OUTPUT, MANIFEST} & set(changed)
     for name in differ:
-        if name in changed or not {SESSION, OUTPUT} & set(changed):
+        if name not in causes and (name in changed or not causes):
             found = differs_at(files[name], again[name])
             what = f"{found.one} stands there, and {found.other} follows from the other files"
             audit.add("wrong", f"{path}!{name}: {found.place}: {what}")

@@ -2,25 +2,28 @@
 
 from __future__ import annotations
 
-import hashlib
 import json
 import struct
 import zipfile
 import zlib
 from collections.abc import Iterator, Mapping
-from dataclasses import asdict, dataclass
+from dataclasses import asdict, dataclass, field
 from io import BytesIO
 from pathlib import Path
 from typing import Any
 
+from plantbal.changed import digest
 from plantbal.faults import InputFault, Place, read_bytes
 
 SESSION, OUTPUT, SUMMARY = "session.csv", "output.csv", "summary.txt"
 MANIFEST, DIGESTS = "manifest.json", "SHA256SUMS"
 NAMES = (SESSION, OUTPUT, SUMMARY, MANIFEST, DIGESTS)
-VERSION = 2
+VERSION = 3
 # What a manifest has of the program, by the version of its form.
-_PROGRAM = {1: ("sha256", "version", "commit"), 2: ("sha256", "version", "commit", "from")}
+_BUILD = ("sha256", "version", "commit")
+_PROGRAM = {1: _BUILD, 2: (*_BUILD, "from"), 3: (*_BUILD, "from")}
+_SEALED = 3  # from this version on a manifest has the digests of parts, and a zip one of its own
+_SEAL = "SHA-256 of the bytes before this comment: "
 _MOST_BYTES = 1 << 30
 _WHEN = (1980, 1, 1, 0, 0, 0)
 _BROKEN = (
@@ -46,11 +49,6 @@ _FIXED = (
     "internal_attr",
     "external_attr",
 )
-
-
-def digest(data: bytes) -> str:
-    """Return the SHA-256 of bytes, as hexadecimal digits."""
-    return hashlib.sha256(data).hexdigest()
 
 
 @dataclass(frozen=True)
@@ -80,6 +78,8 @@ class Manifest:
         How many rows are refused.
     files : dict
         The SHA-256 of each file.
+    parts : dict
+        The SHA-256 of each hundred lines of the session and of the output; not before version 3.
     """
 
     archive: int
@@ -94,10 +94,19 @@ class Manifest:
     reports: list[str]
     refused: int
     files: dict[str, str]
+    parts: dict[str, list[str]] = field(default_factory=dict)
+
+    @property
+    def is_sealed(self) -> bool:
+        """Whether it has the digests of parts, and its zip one of its own."""
+        return self.archive >= _SEALED
 
     def to_json(self) -> bytes:
         """Return it as JSON, an item a line."""
-        return (json.dumps(asdict(self), indent=2) + "\n").encode("utf-8")
+        items = asdict(self)
+        if not self.is_sealed:
+            del items["parts"]
+        return (json.dumps(items, indent=2) + "\n").encode("utf-8")
 
     @classmethod
     def read(cls, data: bytes) -> Manifest:
@@ -120,13 +129,13 @@ class Manifest:
             "reports": list,
         }
         place = Place(file=MANIFEST)
+        if isinstance(found, dict) and "parts" in found:  # before version 3 it has none
+            wanted["parts"] = dict
         if not isinstance(found, dict) or set(found) != set(wanted):
             said = ", ".join(wanted)
             raise InputFault("its items aren't those of a manifest", place=place, remedy=said)
         for name, type_ in wanted.items():
-            inner: Any = found[name]
-            texts = inner.values() if isinstance(inner, dict) else inner if type_ is list else []
-            if not isinstance(inner, type_) or not all(isinstance(text, str) for text in texts):
+            if not isinstance(found[name], type_) or not _has_texts(found[name], name == "parts"):
                 raise InputFault(f"its item {name!r} isn't of its form", place=place)
         names = _PROGRAM.get(found["archive"])
         if names is None:
@@ -138,7 +147,18 @@ class Manifest:
             raise InputFault("its item 'program' isn't of its form", place=place, remedy=remedy)
         # In the order in which they are written, so that another order is a difference.
         found["program"] = {name: found["program"][name] for name in names}
+        if ("parts" in found) != (found["archive"] >= _SEALED):
+            said = ", ".join(wanted)
+            raise InputFault("its items aren't those of its version", place=place, remedy=said)
         return cls(**found)
+
+
+def _has_texts(item: Any, lists: bool) -> bool:
+    """Return whether an item of a manifest has texts in it, or lists of texts."""
+    inner = item.values() if isinstance(item, dict) else item if isinstance(item, list) else []
+    if lists:
+        return all(isinstance(each, list) and _has_texts(each, False) for each in inner)
+    return all(isinstance(each, str) for each in inner)
 
 
 def digests_text(files: Mapping[str, bytes]) -> bytes:
@@ -156,13 +176,29 @@ def _entry(name: str) -> zipfile.ZipInfo:
     return entry
 
 
-def packed(files: Mapping[str, bytes]) -> bytes:
-    """Return files as the bytes of a zip; the same files give the same bytes."""
+def packed(files: Mapping[str, bytes], *, sealed: bool = True) -> bytes:
+    """Return files as the bytes of a zip; the same files give the same bytes.
+
+    A sealed zip ends with a comment that has the digest of all bytes before it, which may be packed
+    in more than one way.
+    """
     out = BytesIO()
     with zipfile.ZipFile(out, "w") as bundle:
         for name in NAMES:
             bundle.writestr(_entry(name), files[name], compresslevel=9)
-    return out.getvalue()
+        bundle.comment = _seal(b"") if sealed else b""
+    data = out.getvalue()
+    return _sealed(data[: -len(bundle.comment)]) if sealed else data
+
+
+def _seal(data: bytes) -> bytes:
+    """Return the comment of a zip, by the bytes before it."""
+    return (_SEAL + digest(data)).encode("ascii")
+
+
+def _sealed(data: bytes) -> bytes:
+    """Return the bytes of a zip up to its comment, and the comment."""
+    return data + _seal(data)
 
 
 def _entry_faults(entry: zipfile.ZipInfo) -> Iterator[str]:
@@ -176,11 +212,24 @@ def _entry_faults(entry: zipfile.ZipInfo) -> Iterator[str]:
 
 @dataclass(frozen=True)
 class Unpacked:
-    """The files of a bundle, what is wrong with the zip itself, and what may be looked at in it."""
+    """The files of a bundle, what is wrong with the zip itself, and what may be looked at in it.
+
+    Attributes
+    ----------
+    files : dict
+        The files.
+    wrong : list of str
+        What is wrong with the zip.
+    note : str
+        What may be looked at in a zip without a digest of its own.
+    is_sealed : bool
+        Whether it has one.
+    """
 
     files: dict[str, bytes]
     wrong: list[str]
     note: str = ""
+    is_sealed: bool = False
 
 
 def unpacked(path: str | Path) -> Unpacked:
@@ -202,7 +251,8 @@ def unpacked(path: str | Path) -> Unpacked:
                     place=Place(file=source),
                     remedy=f"a bundle has {', '.join(NAMES)}, in this order",
                 )
-            wrong = ["the zip has a comment"] if bundle.comment else []
+            comment = bundle.comment
+            wrong = _comment_faults(comment, data)
             files = {}
             for entry in entries:
                 wrong += [f"{entry.filename}: its entry's {what}" for what in _entry_faults(entry)]
@@ -213,9 +263,19 @@ def unpacked(path: str | Path) -> Unpacked:
             place=Place(file=source),
             remedy="it was cut or changed: ask for it again",
         ) from error
-    same = packed(files) == data
-    note = "" if same else "the zip's own bytes aren't those that are packed here; its files count"
+    if comment or packed(files, sealed=False) == data:
+        return Unpacked(files, wrong, is_sealed=bool(comment))
+    note = "the zip's own bytes aren't those that are packed here; its files count"
     return Unpacked(files, wrong, note)
+
+
+def _comment_faults(comment: bytes, data: bytes) -> list[str]:
+    """Return what is wrong with a zip by its comment, if it has one."""
+    if not comment or data.endswith(comment) and comment == _seal(data[: -len(comment)]):
+        return []
+    if not comment.startswith(_SEAL.encode("ascii")):
+        return ["the zip has another comment than the digest of its bytes"]
+    return ["the zip's bytes aren't those of the digest in its comment: one of them was changed"]
 
 
 def _read(bundle: zipfile.ZipFile, entry: zipfile.ZipInfo, source: str) -> bytes:

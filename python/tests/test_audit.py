@@ -23,11 +23,12 @@ from plantbal.bundle import (
     SESSION,
     SUMMARY,
     Manifest,
-    digest,
     digests_text,
     packed,
+    unpacked,
 )
-from plantbal.faults import Fault
+from plantbal.changed import digest, digests_of_parts, where
+from plantbal.faults import Fault, InputFault
 from plantbal.held import Ledger, Pair, answers_of, refused_differ
 from plantbal.program import call
 from plantbal.runwords import words_read
@@ -57,16 +58,26 @@ def fixture_month(program: Path, tmp_path_factory: pytest.TempPathFactory) -> Pa
     return folder / "month.zip"
 
 
+# Sessions with a balance of copper, a window, amendments and a history, and an elimination.
+BUNDLES = {
+    "month": [],
+    "flotation_copper": [],
+    "missed_dip": [],
+    "month_end": [],
+    "heat_exchanger_suspect": ["--eliminate", "5"],
+}
+
+
 @pytest.fixture(name="bundles", scope="module")
-def fixture_bundles(month: Path) -> list[Path]:
-    """Bundles of reports alone, of reports with balances of copper, and of reports with windows."""
+def fixture_bundles(month: Path) -> dict[str, Path]:
+    """Bundles whose sessions and outputs have rows of all kinds."""
     from plantbal import desk
 
-    found = [month]
-    for name in ("flotation_copper", "missed_dip"):
-        found.append(month.with_name(f"{name}.zip"))
-        words = ["archive", str(example(f"{name}.csv")), "--out", str(found[-1]), *TIME]
-        assert desk.call(desk.desk_parser(), words) == 0
+    found = {name: month.with_name(f"{name}.zip") for name in BUNDLES}
+    for name, more in BUNDLES.items():
+        if name != "month":
+            words = ["archive", str(example(f"{name}.csv")), "--out", str(found[name])]
+            assert desk.call(desk.desk_parser(), [*words, *more, *TIME]) in (0, 1)
     return found
 
 
@@ -199,7 +210,8 @@ def test_a_bundle_and_the_books(say: Desk, month: Path, tmp_path: Path) -> None:
 
 # Which file is changed, what stands there, what is put in its place, and what is said.
 CHANGES = [
-    (SESSION, b"12408500000", b"12408500001", "session.csv: its SHA-256 is"),
+    (SESSION, b"12408500000", b"12408500001", "1 stands there, and 0 was archived; its SHA-256 is"),
+    (SESSION, b"FILTERED", b"FILTERAD", "session.csv: lines 1 to 100: the first change is in these"),
     (SESSION, b"12408500000", b"12408500001", "the value of ORE is"),
     (SESSION, b"critical,nodal,5002", b"critical,nodal,5003", "critical value of the nodal test"),
     (SESSION, b"critical,global,2,5991", b"critical,global,2,5992", "critical value of the global"),
@@ -214,9 +226,10 @@ CHANGES = [
     (SUMMARY, b"2 rows refused", b"1 rows refused", "summary.txt: line 12, character 1: '1 rows"),
     (SUMMARY, b"T06:00:00Z", b"T07:00:00Z", "summary.txt: line 2"),
     (MANIFEST, b'"refused": 2', b'"refused": 1', "manifest.json: line 21"),
-    (MANIFEST, b"T06:00:00Z", b"T07:00:00Z", "manifest.json: its SHA-256"),
-    (MANIFEST, b'"archive": 2', b'"archive": 3', "it says that it is of version 3"),
-    (MANIFEST, b'"archive": 2', b'"archive": 1', "its item 'program' isn't of its form"),
+    (MANIFEST, b"T06:00:00Z", b"T07:00:00Z", "manifest.json: line 7, character 25: 7 stands there"),
+    (MANIFEST, b'"archive": 3', b'"archive": 4', "it says that it is of version 4"),
+    (MANIFEST, b'"archive": 3', b'"archive": 1', "its item 'program' isn't of its form"),
+    (MANIFEST, b'"archive": 3', b'"archive": 2', "its items aren't those of its version"),
     (MANIFEST, b"--gap 10", b"--gap 11", "writes 'report,2024-04,0,"),
     (MANIFEST, b"run --gap", b"rum --gap", "aren't those of a run"),
     (MANIFEST, b'"period": "2024-06"', b'"period": "2024-07"', "the session has no period 2024-07"),
@@ -261,57 +274,156 @@ def test_digests_made_anew(say: Desk, month: Path, tmp_path: Path) -> None:
     assert "that of the session at 2 degrees of freedom is 5,991" in found.out
 
 
-@pytest.mark.parametrize("name", NAMES)
-def test_a_digit_at_many_places(say: Desk, month: Path, tmp_path: Path, name: str) -> None:
-    """Without the program, too, a digit is refused at each of many places."""
-    files = files_of(month)
-    places = [place for place, byte in enumerate(files[name]) if byte in b"0123456789"]
-    bundle = tmp_path / "changed.zip"
-    for place in places[:: max(1, len(places) // 25)]:
-        digit = b"1" if files[name][place : place + 1] == b"0" else b"0"
-        text = files[name][:place] + digit + files[name][place + 1 :]
-        bundle.write_bytes(packed({**files, name: text}))
-        said = say("audit", bundle, "--no-program")
-        assert said.status == 1
-        assert any(f"!{name}: " in line for line in sentences(said, "wrong")), (place, said.out)
+# ---- one digit, anywhere
 
 
-def place_of_digit(data: st.DataObject, text: bytes) -> tuple[int, int]:
+def with_digit(text: bytes, place: int, digit: int) -> bytes:
+    """A text with another digit at a place."""
+    assert text[place] in DIGITS and digit in DIGITS and text[place] != digit
+    return text[:place] + bytes([digit]) + text[place + 1 :]
+
+
+def told(text: bytes, place: int, digit: int) -> str:
+    """What is said of a place with another digit."""
+    line = text.count(b"\n", 0, place) + 1
+    character = place - text.rfind(b"\n", 0, place)
+    there = f"line {line}, character {character}: "
+    return f"{there}{chr(digit)} stands there, and {chr(text[place])} was archived"
+
+
+def assert_refused_there(said: Said, name: str, text: bytes, place: int, digit: int) -> None:
+    """Fails unless an audit refuses a digit of a file with its place."""
+    wanted = {
+        SUMMARY: told(text, place, digit).partition(": ")[0] + ": ",  # made again, and compared
+        DIGESTS: told(text, place, digit).partition(",")[0] + ": ",
+    }.get(name, told(text, place, digit))
+    assert said.status == 1 and not said.err
+    assert any(f"!{name}: {wanted}" in line for line in sentences(said, "wrong")), said.out
+
+
+DIGITS = b"0123456789"
+
+
+def kinds_of(text: bytes) -> list[int]:
+    """The place of a digit of each kind of row: of its last row, and there of another column each."""
+    found: dict[bytes, int] = {}
+    begin = 0
+    for line in text.splitlines(keepends=True):
+        places = [begin + at for at, byte in enumerate(line) if byte in DIGITS]
+        begin += len(line)
+        if places:
+            found[line.partition(b",")[0]] = places[len(found) * 7 % len(places)]
+    return sorted(found.values())
+
+
+@pytest.mark.parametrize("name", BUNDLES)
+@pytest.mark.parametrize("file", [SESSION, OUTPUT])
+def test_a_digit_of_each_kind_of_row(
+    say: Desk, bundles: dict[str, Path], tmp_path: Path, file: str, name: str
+) -> None:
+    files, bundle = files_of(bundles[name]), tmp_path / "changed.zip"
+    for place in kinds_of(files[file]):
+        digit = DIGITS[(files[file][place] - DIGITS[0] + 1 + place % 9) % 10]
+        text = with_digit(files[file], place, digit)
+        bundle.write_bytes(packed({**files, file: text}))
+        assert_refused_there(say("audit", bundle), file, files[file], place, digit)
+
+
+@pytest.mark.parametrize("name", [SUMMARY, MANIFEST, DIGESTS])
+def test_a_digit_of_each_line(
+    say: Desk, bundles: dict[str, Path], tmp_path: Path, name: str
+) -> None:
+    """Without the program, too."""
+    files, bundle = files_of(bundles["month_end"]), tmp_path / "changed.zip"
+    begin = 0
+    for line in files[name].splitlines(keepends=True):
+        places = [begin + at for at, byte in enumerate(line) if byte in DIGITS]
+        begin += len(line)
+        for place in places[len(places) // 2 :][:1]:
+            digit = DIGITS[(files[name][place] - DIGITS[0] + 1 + place % 9) % 10]
+            text = with_digit(files[name], place, digit)
+            bundle.write_bytes(packed({**files, name: text}))
+            said = say("audit", bundle, "--no-program")
+            assert_refused_there(said, name, files[name], place, digit)
+
+
+def drawn(data: st.DataObject, text: bytes) -> tuple[int, int]:
     """The place of a digit, and another digit."""
-    places = [place for place, byte in enumerate(text) if byte in b"0123456789"]
+    places = [place for place, byte in enumerate(text) if byte in DIGITS]
     place = data.draw(st.sampled_from(places))
-    return place, data.draw(st.sampled_from([b for b in b"0123456789" if b != text[place]]))
+    return place, data.draw(st.sampled_from([b for b in DIGITS if b != text[place]]))
 
 
 @QUICK
 @given(data=st.data())
 def test_a_digit_anywhere(
-    say: Desk, bundles: list[Path], tmp_path: Path, data: st.DataObject
+    say: Desk, bundles: dict[str, Path], tmp_path: Path, data: st.DataObject
 ) -> None:
-    files = files_of(data.draw(st.sampled_from(bundles)))
+    files = files_of(bundles[data.draw(st.sampled_from(list(BUNDLES)))])
     name = data.draw(st.sampled_from(NAMES))
-    place, digit = place_of_digit(data, files[name])
-    text = files[name][:place] + bytes([digit]) + files[name][place + 1 :]
+    place, digit = drawn(data, files[name])
     bundle = tmp_path / "changed.zip"
-    bundle.write_bytes(packed({**files, name: text}))
-    said = say("audit", bundle)
-    assert said.status == 1
-    assert any(f"!{name}: " in line for line in sentences(said, "wrong")), (name, place, said.out)
+    bundle.write_bytes(packed({**files, name: with_digit(files[name], place, digit)}))
+    assert_refused_there(say("audit", bundle), name, files[name], place, digit)
+
+
+@settings(QUICK, max_examples=200)
+@given(data=st.data())
+def test_the_place_of_a_digit(bundles: dict[str, Path], data: st.DataObject) -> None:
+    """By its own digest, or those of its parts, which a long file needs."""
+    files = files_of(bundles[data.draw(st.sampled_from(list(BUNDLES)))])
+    text = files[data.draw(st.sampled_from([SESSION, OUTPUT, MANIFEST]))]
+    place, digit = drawn(data, text)
+    parts = digests_of_parts(text)
+    made = with_digit(text, place, digit)
+    assert where(made, digest(text), parts) == told(text, place, digit)
+    if len(text) < 4000:
+        assert where(made, digest(text)) == told(text, place, digit)
+
+
+def test_the_place_of_other_changes() -> None:
+    """A line less, a line more and a file that is cut are told by a hundred lines."""
+    lines = [b"%d,a\n" % number for number in range(250)]
+    text, goal = b"".join(lines), digests_of_parts(b"".join(lines))
+    assert len(goal) == 3
+    for made, first in (
+        (lines[:120] + lines[121:], 101),
+        (lines[:30] + [b"b\n"] + lines[30:], 1),
+        (lines[:200], 201),
+        (lines + [b"0\n"], 201),
+        (lines + lines, 201),
+    ):
+        wanted = f"lines {first} to {first + 99}: the first change is in these lines"
+        assert where(b"".join(made), digest(text), goal) == wanted
+        assert where(b"".join(made), digest(text)) == ""
 
 
 @QUICK
 @given(data=st.data())
 def test_a_byte_of_the_zip(say: Desk, month: Path, tmp_path: Path, data: st.DataObject) -> None:
-    """A byte of the zip that is changed is refused, or noted and none of a file's."""
+    """A byte of the zip that is changed is refused, whether it is a file's or not."""
     zipped = month.read_bytes()
     place = data.draw(st.integers(0, len(zipped) - 1))
     byte = data.draw(st.integers(0, 255).filter(lambda byte: byte != zipped[place]))
     bundle = tmp_path / "changed.zip"
     bundle.write_bytes(zipped[:place] + bytes([byte]) + zipped[place + 1 :])
     said = say("audit", bundle)
-    if said.status == 0:
-        assert files_of(bundle) == files_of(month)
-        assert "the zip's own bytes" in said.out
+    assert said.status == 1 and (sentences(said, "wrong") or "changed.zip" in said.err)
+
+
+def test_each_byte_around_the_files(bundles: dict[str, Path], tmp_path: Path) -> None:
+    """Each bit of the zip's own bytes, and every seventh byte of the files in it."""
+    zipped, bundle = bundles["month_end"].read_bytes(), tmp_path / "changed.zip"
+    around = {place for place, byte in enumerate(zipped) if zipped[place : place + 2] == b"PK"}
+    near = {place + more for place in around for more in range(60)} | {*range(0, len(zipped), 7)}
+    for place in sorted(near & {*range(len(zipped))}):
+        for bit in range(8):
+            made = zipped[:place] + bytes([zipped[place] ^ 1 << bit]) + zipped[place + 1 :]
+            bundle.write_bytes(made)
+            try:
+                assert unpacked(bundle).wrong
+            except InputFault as fault:
+                assert str(bundle) in str(fault)
 
 
 @QUICK
@@ -319,9 +431,9 @@ def test_a_byte_of_the_zip(say: Desk, month: Path, tmp_path: Path, data: st.Data
 def test_a_digit_of_a_report(say: Desk, tmp_path: Path, program: Path, data: st.DataObject) -> None:
     """Of a report and its session without a bundle, a digit of the report is refused."""
     output = example("two_meters.out.csv").read_bytes()
-    place, digit = place_of_digit(data, output)
+    place, digit = drawn(data, output)
     report = tmp_path / "report.csv"
-    report.write_bytes(output[:place] + bytes([digit]) + output[place + 1 :])
+    report.write_bytes(with_digit(output, place, digit))
     said = say("audit", report, example("two_meters.csv"), "--words", "run")
     assert said.status == 1 and (sentences(said, "wrong") or said.err), said.out
 
@@ -505,18 +617,44 @@ def test_builds(tmp_path: Path) -> None:
     assert build_of(tmp_path / "VERSION").source.startswith("nowhere: ")
 
 
-def test_a_bundle_of_the_first_form(say: Desk, month: Path, tmp_path: Path) -> None:
-    """A bundle whose manifest doesn't say yet where the version is from holds as it is."""
+@pytest.mark.parametrize("version", [1, 2])
+def test_bundles_of_earlier_forms(say: Desk, month: Path, tmp_path: Path, version: int) -> None:
+    """Bundles from before versions had a source, and zips digests of their own, hold as they are."""
     files = files_of(month)
     now = Manifest.read(files[MANIFEST])
-    names = ("sha256", "version", "commit")
-    then = replace(now, archive=1, program={name: now.program[name] for name in names})
+    names = ("sha256", "version", "commit", "from")[: 2 + version]
+    then = replace(now, archive=version, program={name: now.program[name] for name in names})
     made = bundle_files(files[SESSION], files[OUTPUT], then)
-    assert b'"from"' not in made[MANIFEST] and b" from " not in made[SUMMARY].split(b"words")[0]
+    assert (b'"from"' in made[MANIFEST]) == (version == 2) and b'"parts"' not in made[MANIFEST]
+    assert (b" from " in made[SUMMARY].split(b"words")[0]) == (version == 2)
     bundle = tmp_path / "b.zip"
-    bundle.write_bytes(packed(made))
+    bundle.write_bytes(packed(made, sealed=False))
     said = say("audit", bundle)
     assert said.status == 0 and "everything holds" in said.out, said.out
+    with zipfile.ZipFile(bundle, "w", compresslevel=1) as zipped:
+        for name in NAMES:
+            zipped.writestr(entry_of(name), made[name])
+    said = say("audit", bundle)
+    assert said.status == 0 and "note: " in said.out and "the zip's own bytes" in said.out
+
+
+def entry_of(name: str) -> zipfile.ZipInfo:
+    """The entry of a file, as archive writes it."""
+    entry = zipfile.ZipInfo(name, (1980, 1, 1, 0, 0, 0))
+    entry.compress_type, entry.external_attr = zipfile.ZIP_DEFLATED, 0o100644 << 16
+    return entry
+
+
+def test_a_zip_that_was_packed_again(say: Desk, month: Path, tmp_path: Path) -> None:
+    """Without the digest of its own, or with another comment, it isn't as archive wrote it."""
+    bundle = tmp_path / "b.zip"
+    bundle.write_bytes(packed(files_of(month), sealed=False))
+    said = say("audit", bundle)
+    assert said.status == 1 and "the zip has no digest of its own" in said.out
+    with zipfile.ZipFile(bundle, "a") as zipped:
+        zipped.comment = b"looked at"
+    said = say("audit", bundle)
+    assert said.status == 1 and "another comment than the digest of its bytes" in said.out
 
 
 def test_other_words(say: Desk) -> None:
