@@ -350,7 +350,8 @@ def check_twice(audit: Audit, given: Given, program: str | None, with_program: b
             what = f"the checker in plain Python says {found.one}, and plantbal check {found.other}"
             audit.add("wrong", f"{given.report}: finding {found.line}: {what}: one of the two errs")
     if not rows and not any(answer.over for answer in answers_of(given.output)):
-        audit.add("wrong", f"{given.report}: there is no block to check: no report was asked for")
+        what = "a report has blocks from `report` to `end`" if given.output else "the file is empty"
+        audit.add("wrong", f"{given.report}: there is no block to check: {what}")
     if any(row[0] != "yes" for row in rows):
         for told in explain_check(given.report, given.output, said=said).rows:
             audit.add("wrong", _at(given, told.line, told.sentence))

@@ -184,6 +184,89 @@ def check_mistake(mistake: Mistake, row: Row) -> None:
     assert bool(row["look"]) == bool(wants), row
 
 
+# A program that ends badly for sessions of some names, and else is plantbal.
+ENDS = """#!/bin/sh
+case $(readlink "/proc/$$/fd/0") in
+*/garbage.csv) echo hello, world ;;
+*/cut.csv) "$REAL" "$@" | head -n 30 ;;
+*/nothing.csv) ;;
+*/killed.csv) kill -9 $$ ;;
+*/crashed.csv) kill -SEGV $$ ;;
+*/memory.csv) echo NoMemory >&2; exit 6 ;;
+*/usage.csv) echo Usage >&2; exit 2 ;;
+*/slow.csv) exec sleep 600 ;;
+*) exec "$REAL" "$@" ;;
+esac
+"""
+TEXT = BASE.decode()
+# Of each fault: the session, the state of its plant, and what is said of it.
+FAULTS: dict[str, tuple[bytes, str, str]] = {
+    "utf16": (b"\xff\xfe" + TEXT.encode("utf-16-le"), "none", "this is UTF-16"),
+    "semicolons": (TEXT.replace(",", ";").encode(), "none", "semicolons"),
+    "tabs": (TEXT.replace(",", "\t").encode(), "none", "tabs"),
+    "empty": (b"", "none", "it has no row"),
+    "asks nothing": (TEXT.replace("report,may1\n", "").encode(), "none", "there is no report; add a row"),
+    "workbook": (b"PK\3\4" + bytes(range(256)), "none", "workbook"),
+    "refused": (TEXT.replace("FUEL_GAS", "FUEL GAS").encode(), "converged", "'FUEL GAS'"),
+    "zeros": (
+        re.sub(r"(?m)^(reading,.*,\d+)(,\d+)$", r"\1.0\2", TEXT).encode(),
+        "converged",
+        "GRAMS is",
+    ),
+    "rejected": (
+        next(each for each in MISTAKES if each.name == "kilograms").session(),
+        "converged",
+        "the global test rejects; suspects are",
+    ),
+    "no critical value": (
+        re.sub(r"critical,global,4,.*\n", "", TEXT).encode(),
+        "converged",
+        "the global test can't be made",
+    ),
+    "over": (example("conformance/over.in").read_bytes(), "over", "is beyond the limits"),
+    "garbage": (BASE, "unreadable", "output.csv: line 1"),
+    "cut": (BASE, "unreadable", "its report is cut off"),
+    "nothing": (BASE, "unreadable", "none of the reports that its session asks for"),
+    "killed": (BASE, "ended", "signal 9 stopped it; often that means that memory ran out"),
+    "crashed": (BASE, "ended", "status 139; signal 11 stopped it"),
+    "memory": (BASE, "NoMemory", "it ran out of memory"),
+    "usage": (BASE, "Usage", "these words are no command"),
+    "slow": (BASE, "timeout", "stopped by the time limit"),
+    "latest": (BASE, "nosession", "is one of the nights' own"),
+}
+
+
+def test_forty_with_each_fault(
+    program: Path, tmp_path: Path, say: Desk, monkeypatch: pytest.MonkeyPatch
+) -> None:
+    """Each plant with a fault is told by the table, the database and the page, and no other one."""
+    stub = tmp_path / "plantbal"
+    stub.write_text(ENDS)
+    stub.chmod(0o755)
+    monkeypatch.setenv("REAL", str(program))
+    sessions = {f"{name}.csv": data for name, (data, _, _) in FAULTS.items()}
+    sessions |= {f"{number:02}.csv": BASE for number in range(40 - len(FAULTS))}
+    folder, out = folder_of(tmp_path / "sessions", sessions), tmp_path / "out"
+    words = ["fleet", "--program", stub, "--timeout", 10, "--out", out, "--date", NIGHT, folder]
+    found = say(*words, "--", "run", "--tests")
+    assert found.status == 1
+    rows = {row["site"]: row for row in rows_of(found.out)}
+    assert len(rows) == len(rows_of(found.out)) == 40
+    for name, (_, state, said) in FAULTS.items():
+        row = rows[name]
+        assert row["state"] == state and said in row["look"] + row["first_refusal"], row
+        assert any(line.startswith(f"plantbal-desk fleet: {name}") for line in found.err.splitlines())
+    assert {name for name, row in rows.items() if row["look"]} == set(FAULTS)
+    assert f"40 plants, of which {len(FAULTS)} need a person" in found.err.splitlines()[-1]
+    with closing(sqlite3.connect(out / "fleet.sqlite")) as base:
+        kept = base.execute("SELECT site, state, look FROM plants ORDER BY site").fetchall()
+    assert kept == [(name, row["state"], row["look"]) for name, row in sorted(rows.items())]
+    page = text_of(out / "index.html")
+    assert page.count('<tr class="look">') == len(FAULTS)
+    assert page.rindex('<tr class="look">') < page.index('<tr class="good">')
+    assert text_of(out / "nights" / NIGHT / "table.csv") == found.out
+
+
 def test_windows_and_balances(program: Path, tmp_path: Path, say: Desk) -> None:
     """Windows and balances of components have rows of their own, beside those of the periods."""
     shipped = ("flotation_copper.csv", "missed_dip.csv", "conformance/component.in")
