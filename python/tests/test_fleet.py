@@ -211,7 +211,7 @@ FAULTS: dict[str, tuple[bytes, str, str]] = {
     "zeros": (
         re.sub(r"(?m)^(reading,.*,\d+)(,\d+)$", r"\1.0\2", TEXT).encode(),
         "converged",
-        "GRAMS is",
+        "without the refused rows nothing checks its flows: don't book them",
     ),
     "rejected": (
         next(each for each in MISTAKES if each.name == "kilograms").session(),

@@ -187,25 +187,19 @@ def _of_block(told: Told, block: Block) -> tuple[Row, list[str]]:
     site = told.site
     if block.solved is None or not block.ended:
         return Row(site.name, block.subject, state="unreadable"), ["its report is cut off"]
-    solved, said, verdict = block.solved, list[str](), ""
-    suspects = list(block.taken)
-    critical = ""
-    if solved["state"] != "converged":
-        said.append("its report isn't converged; --sweeps among the words allows more sweeps")
-    if block.taken:
-        taken = ", ".join(map(block.shown, block.taken))
-        said.append(f"{taken} was taken out, so that the rest fits")
-    if block.whole:
-        verdict, critical = block.whole["verdict"], block.whole["critical"]
-        if verdict == "reject" and not told.refused:
-            suspects += [name for name in block.suspects() if name not in suspects]
-        if verdict in _VERDICTS:
-            said.append(_VERDICTS[verdict])
-        elif verdict == "nocritical" and told.has_critical:
-            said.append(
-                "the global test can't be made: there are critical values, and none for "
-                f"{solved['dof']} degrees of freedom; a meter is missing, or is one too many"
-            )
+    solved, suspects = block.solved, list(block.taken)
+    said = _of_solution(told, block, solved)
+    verdict = block.whole["verdict"] if block.whole else ""
+    critical = block.whole["critical"] if block.whole else ""
+    if verdict == "reject" and not told.refused:
+        suspects += [name for name in block.suspects() if name not in suspects]
+    if verdict in _VERDICTS:
+        said.append(_VERDICTS[verdict])
+    elif verdict == "nocritical" and told.has_critical:
+        said.append(
+            "the global test can't be made: there are critical values, and none for "
+            f"{solved['dof']} degrees of freedom; a meter is missing, or is one too many"
+        )
     row = Row(
         site.name,
         block.subject,
@@ -219,6 +213,19 @@ def _of_block(told: Told, block: Block) -> tuple[Row, list[str]]:
     if verdict == "reject" and suspects:
         said[-1] += f"; suspects are {', '.join(map(block.shown, suspects[:5]))}"
     return row, said
+
+
+def _of_solution(told: Told, block: Block, solved: Values) -> list[str]:
+    """Return why a person has to look at a solution, whatever its global test says."""
+    said = []
+    if solved["state"] != "converged":
+        said.append("its report isn't converged; --sweeps among the words allows more sweeps")
+    if told.refused and solved["dof"] == "0":
+        said.append("without the refused rows nothing checks its flows: don't book them")
+    if block.taken:
+        taken = ", ".join(map(block.shown, block.taken))
+        said.append(f"{taken} was taken out, so that the rest fits")
+    return said
 
 
 def _of_components(plant: Plant, rows: list[Values]) -> None:
