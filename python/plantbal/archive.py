@@ -40,8 +40,11 @@ SESSION is a file; `-` is standard input. The program is run, and the bundle is 
   output.csv     the program's output for it
   summary.txt    what you need to know, and the flows of the period in tonnes
   manifest.json  the period, its days, the time, the words, the program's digest, its version
-                 and where that is from, and the digest of each file
+                 and where that is from, and the digest of each file, and of each fifty lines of
+                 session and output
   SHA256SUMS     the digests of all these, for `sha256sum --check`
+
+The zip ends with a comment that has the digest of all bytes before it.
 
 The same session, words, program and time give the same bytes. The time is that of --time, or else
 that of the variable SOURCE_DATE_EPOCH, or else now. An existing bundle isn't overwritten.

@@ -39,7 +39,8 @@ BUNDLE is what `plantbal-desk archive` wrote; or REPORT is an output of the prog
 JSON lines, and SESSION its session. If you name a bundle and a session, that of the bundle must be
 the same, or its beginning. In this order:
 
-  the digests of the files are compared; manifest and summary are made again and compared
+  the digests of the zip and of its files are compared; manifest and summary are made again and
+  compared. If a digit of a file was changed, its place is known
   the program is run again with the same words, and its output is compared byte for byte
   the report is checked by `plantbal check`, and by the checker in plain Python
   the report is compared with the session: its plant, the value and the variance of each stream,

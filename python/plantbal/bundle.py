@@ -79,7 +79,7 @@ class Manifest:
     files : dict
         The SHA-256 of each file.
     parts : dict
-        The SHA-256 of each hundred lines of the session and of the output; not before version 3.
+        The SHA-256 of each fifty lines of the session and of the output; not before version 3.
     """
 
     archive: int

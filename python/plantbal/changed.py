@@ -6,7 +6,7 @@ import hashlib
 import re
 from collections.abc import Sequence
 
-LINES = 100  # of a part
+LINES = 50  # of a part
 # In a text of more bytes not each digit is tried: that takes a time that grows as their square.
 _MOST_BYTES = 1 << 15
 
@@ -23,7 +23,7 @@ def _parts(data: bytes) -> list[bytes]:
 
 
 def digests_of_parts(data: bytes) -> list[str]:
-    """Return the digest of each hundred lines of a file, by which a change is found."""
+    """Return the digest of each fifty lines of a file, by which a change is found."""
     return [digest(part) for part in _parts(data)]
 
 

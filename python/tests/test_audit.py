@@ -211,7 +211,7 @@ def test_a_bundle_and_the_books(say: Desk, month: Path, tmp_path: Path) -> None:
 # Which file is changed, what stands there, what is put in its place, and what is said.
 CHANGES = [
     (SESSION, b"12408500000", b"12408500001", "1 stands there, and 0 was archived; its SHA-256 is"),
-    (SESSION, b"FILTERED", b"FILTERAD", "session.csv: lines 1 to 100: the first change is in these"),
+    (SESSION, b"FILTERED", b"FILTERAD", "session.csv: lines 1 to 50: the first change is in these"),
     (SESSION, b"12408500000", b"12408500001", "the value of ORE is"),
     (SESSION, b"critical,nodal,5002", b"critical,nodal,5003", "critical value of the nodal test"),
     (SESSION, b"critical,global,2,5991", b"critical,global,2,5992", "critical value of the global"),
@@ -382,18 +382,18 @@ def test_the_place_of_a_digit(bundles: dict[str, Path], data: st.DataObject) -> 
 
 
 def test_the_place_of_other_changes() -> None:
-    """A line less, a line more and a file that is cut are told by a hundred lines."""
-    lines = [b"%d,a\n" % number for number in range(250)]
+    """A line less, a line more and a file that is cut are told by fifty lines."""
+    lines = [b"%d,a\n" % number for number in range(125)]
     text, goal = b"".join(lines), digests_of_parts(b"".join(lines))
     assert len(goal) == 3
     for made, first in (
-        (lines[:120] + lines[121:], 101),
+        (lines[:60] + lines[61:], 51),
         (lines[:30] + [b"b\n"] + lines[30:], 1),
-        (lines[:200], 201),
-        (lines + [b"0\n"], 201),
-        (lines + lines, 201),
+        (lines[:100], 101),
+        (lines + [b"0\n"], 101),
+        (lines + lines, 101),
     ):
-        wanted = f"lines {first} to {first + 99}: the first change is in these lines"
+        wanted = f"lines {first} to {first + 49}: the first change is in these lines"
         assert where(b"".join(made), digest(text), goal) == wanted
         assert where(b"".join(made), digest(text)) == ""
 
