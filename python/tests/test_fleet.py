@@ -247,7 +247,7 @@ def test_forty_with_each_fault(
     sessions = {f"{name}.csv": data for name, (data, _, _) in FAULTS.items()}
     sessions |= {f"{number:02}.csv": BASE for number in range(40 - len(FAULTS))}
     folder, out = folder_of(tmp_path / "sessions", sessions), tmp_path / "out"
-    words = ["fleet", "--program", stub, "--timeout", 10, "--out", out, "--date", NIGHT, folder]
+    words = ["fleet", "--program", stub, "--timeout", 6, "--out", out, "--date", NIGHT, folder]
     found = say(*words, "--", "run", "--tests")
     assert found.status == 1
     rows = {row["site"]: row for row in rows_of(found.out)}
