@@ -7,8 +7,9 @@ import re
 from collections.abc import Sequence
 
 LINES = 50  # of a part
-# In a text of more bytes not each digit is tried: that takes a time that grows as their square.
-_MOST_BYTES = 1 << 15
+# Bytes of which digests are made at most to find a digit, a few seconds: in a long text the last
+# digits aren't tried, since that takes a time that grows as the square of its length.
+_MOST_BYTES = 1 << 31
 
 
 def digest(data: bytes) -> str:
@@ -37,13 +38,13 @@ def digit_before(text: bytes, wanted: str) -> tuple[int, str] | None:
     wanted : str
         The digest that it had.
     """
-    if len(text) > _MOST_BYTES:
-        return None
-    before, done = hashlib.sha256(), 0
+    before, done, left = hashlib.sha256(), 0, _MOST_BYTES
     for found in re.finditer(rb"[0-9]", text):
         place = found.start()
         before.update(text[done:place])
-        rest, done = text[place + 1 :], place
+        rest, done, left = text[place + 1 :], place, left - 10 * (len(text) - place)
+        if left < 0:
+            break
         for digit in "0123456789":
             tried = before.copy()
             tried.update(digit.encode("ascii") + rest)

@@ -381,6 +381,14 @@ def test_the_place_of_a_digit(bundles: dict[str, Path], data: st.DataObject) -> 
         assert where(made, digest(text)) == told(text, place, digit)
 
 
+def test_the_place_of_a_digit_in_a_long_text(monkeypatch: pytest.MonkeyPatch) -> None:
+    """What a long manifest states is at its beginning, and is tried; the rest may not be."""
+    monkeypatch.setattr("plantbal.changed._MOST_BYTES", 1 << 20)
+    text = b"12" * 1000
+    for place, wanted in ((0, told(text, 0, 51)), (1500, "")):
+        assert where(with_digit(text, place, 51), digest(text)) == wanted
+
+
 def test_the_place_of_other_changes() -> None:
     """A line less, a line more and a file that is cut are told by fifty lines."""
     lines = [b"%d,a\n" % number for number in range(125)]
