@@ -107,6 +107,23 @@ def test_neighbourhood(tmp_path: Path) -> None:
     ]
 
 
+def test_names_in_a_drawing_can_be_read(tmp_path: Path) -> None:
+    """A drawing is scrolled rather than made too small, and to what is chosen."""
+    size = "(svg => svg.getBoundingClientRect().width / svg.viewBox.baseVal.width)"
+    svg, canvas = "document.querySelector('svg.plant')", "document.querySelector('.canvas')"
+    click = "document.querySelector('tr[data-stream=TRUCKS]').click()"
+    aside = f"{canvas}.scrollLeft"
+    seen = (
+        f"((box, frame) => box.left >= frame.left && box.right <= frame.right)("
+        f"document.getElementById('p0-stream-TRUCKS').getBoundingClientRect(), "
+        f"{canvas}.getBoundingClientRect())"
+    )
+    question = f"[{size}({svg}), {aside}, ({click}, {seen}), {aside} > 0]"
+    found = ask_all([Asked(page_of(*REFINERY), question, 390)], tmp_path)[0]
+    assert isinstance(found, list)
+    assert found[0] > 0.8 and found[1:] == [0, True, True]
+
+
 # ---- widths
 
 

@@ -302,7 +302,7 @@ def _statement(
         names = [each.name for each in wanted if each.code != LATE]
         have = "has" if len(names) == 1 else "have"
         what = f"{names_of(names, 2)} {have} no value" if names else "facts come after the report"
-        said = said.but(what, [f"{each.text}." for each in wanted])
+        said = said.but(what, [_sentence(each) for each in wanted])
     cant = [each for each in beyond if each.subject == period]
     if cant:
         names = [each.stream for each in cant]
@@ -310,6 +310,13 @@ def _statement(
         what = f"{flows} of {names_of(names, 2)} can't be"
         said = said.but(what, [f"{each.said}." for each in cant])
     return Statement(number, period, days, state, reports, changes, said)
+
+
+def _sentence(finding: Finding) -> str:
+    """Return what lint finds as a sentence; a name that it begins with stays as it is."""
+    text = finding.text
+    first = text[:1] if text.startswith(finding.name or " ") else text[:1].upper()
+    return f"{first}{text[1:]}."
 
 
 def _without_report(period: str, over: str) -> Verdict:

@@ -84,6 +84,21 @@ def way_of(line: Line, crossings: Mapping[str, str]) -> Any:
     return Markup(" → ").join(map(soft, ends))
 
 
+def ends_of(line: Line) -> Any:
+    """Return the ends of a line as attributes of its row, which the drawing is made of."""
+    from markupsafe import Markup
+
+    return Markup('data-from="{}" data-to="{}"').format(line.from_, line.to)
+
+
+def worded(text: str) -> Any:
+    """Return a text, none of its days broken, and what is typed as code in place of its marks."""
+    from markupsafe import Markup, escape
+
+    text = re.sub(r"\b\d{4}-\d\d-\d\d\b", r'<span class="day">\g<0></span>', str(escape(text)))
+    return Markup(re.sub("`([^`]+)`", r"<code>\1</code>", text))
+
+
 def day_spans(days: tuple[str, str] | None) -> Any:
     """Return the days of a period, none of them broken."""
     from markupsafe import Markup
@@ -217,6 +232,8 @@ def environment() -> Environment:
         end=end_of,
         sign=sign_of,
         soft=soft,
+        words=worded,
+        ends=ends_of,
         day_spans=day_spans,
         kind_sign=lambda name: KINDS[name].sign,
         f=lambda number: f"{number:.1f}",
@@ -278,11 +295,13 @@ def render(
             refused=account.refused,
             statements=account.statements,
             unfolded=account.unfolded,
+            last=account.periods[-1] if account.statements else None,
             drawings=drawings,
             designs=[(lines, draftsman.draw(lines)) for lines in designs],
             is_advised=account.is_advised,
             meters=account.meters,
             findings=account.findings,
+            to_look_at=account.to_look_at,
             is_empty=account.is_empty,
             ledger=account.ledger,
             kinds=KINDS,

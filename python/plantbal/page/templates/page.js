@@ -10,8 +10,7 @@ function streamsOf(section) {
   if (section.streams) return section.streams;
   section.streams = new Map();
   for (const row of section.querySelectorAll('tr[data-stream]')) {
-    const name = row.dataset.stream, way = row.querySelector('td.way');
-    const [from, to] = way ? way.textContent.split(' → ') : [name, 'env'];
+    const {stream: name, from = name, to = 'env'} = row.dataset, way = row.querySelector('td.way');
     const word = row.querySelector('td.class span:last-of-type');
     section.streams.set(name, {
       name, from, to, row, kind: word.className, mark: (row.className.match(/of-(suspect|taken|meter)/) || ['', ''])[1],
@@ -55,13 +54,22 @@ function choose(section, name, scroll) {
     }
     for (const node of certificate.side) at('-node-' + node)?.classList.add('side');
     (at('-stream-' + name) || at('-node-' + name))?.classList.add('chosen');
-    if (svg) { svg.classList.add('marked'); figure.classList.add('has-choice'); }
+    if (svg) { svg.classList.add('marked'); figure.classList.add('has-choice'); center(at('-stream-' + name) || at('-node-' + name)); }
     const why = certificate.cut ? ' What enters these units leaves them.' : ' What circulates along it is seen by no meter.';
     const note = section.querySelector('.certificate');
     if (note) { note.textContent = `${name}, ${stream.kind}: ${certificate.says}.${why}`; note.classList.remove('hint'); }
   }
   if (scroll) stream.row.scrollIntoView({block: 'center', behavior: 'smooth'});
 }
+function center(shape) {
+  const canvas = shape?.closest('.canvas');
+  if (!canvas) return;
+  const box = shape.getBoundingClientRect(), frame = canvas.getBoundingClientRect();
+  canvas.scrollLeft += (box.left + box.right - frame.left - frame.right) / 2;
+  canvas.scrollTop += (box.top + box.bottom - frame.top - frame.bottom) / 2;
+}
+for (const {dataset: {prefix, near}} of document.querySelectorAll('figure.drawing[data-near]'))
+  center(document.getElementById(`${prefix}-stream-${near}`) || document.getElementById(`${prefix}-node-${near}`));
 function isSection(element) { return element.closest('section.period, details.period, section.design'); }
 document.addEventListener('click', event => {
   const arrow = event.target.closest('[data-arrow]');
@@ -146,6 +154,8 @@ function drawNear(section, figure, name) {
   svg.replaceChildren();
   svg.setAttribute('viewBox', `0 0 ${(columns - 1) * width + 380} ${rows * height + 40}`);
   svg.style.maxWidth = `${1.2 * ((columns - 1) * width + 380)}px`;
+  svg.style.setProperty('--least-width', `${.85 * ((columns - 1) * width + 380)}px`);
+  svg.style.setProperty('--least-height', `${.85 * (rows * height + 40)}px`);
   const outer = new Map(), pairs = new Map(), labels = [];
   const many = arcs.length > 25;
   arcs.sort((one, other) => (other === chosen) - (one === chosen));
