@@ -18,8 +18,9 @@ from plantbal.page.account import account_of
 from plantbal.page.command import page
 from plantbal.page.head import program_text
 from plantbal.page.ledger import Ledger
-from plantbal.page.render import certificate, plus_minus, soft, worded
+from plantbal.page.render import certificate, soft, worded
 from plantbal.page.statement import Line, Worth
+from plantbal.page.verdict import plus_minus
 from plantbal.runs import run
 from plantbal.report import Values, parse_rows
 
@@ -252,6 +253,7 @@ def test_index_of_periods() -> None:
     assert made.count('<svg class="spark"') == 3
     assert 'aria-label="the greatest is TAILS, -4.10"' in made
     assert "FILTERED has no value in 2024-05: no reading on 2024-05-17" in said
+    assert "its flow is what the other streams leave over (± 953 t)." in said
     # of several periods the last is open
     assert re.findall(r'<details class="period" id="(p\d)"( open)?', made) == [
         ("p0", ""),

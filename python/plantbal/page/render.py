@@ -4,7 +4,7 @@ from __future__ import annotations
 
 import re
 from collections.abc import Iterable, Mapping, Sequence
-from math import log10, sqrt
+from math import sqrt
 from typing import TYPE_CHECKING, Any
 
 from plantbal.amounts import tonnes_text
@@ -14,8 +14,8 @@ from plantbal.page.drawing import KINDS, Draftsman
 from plantbal.page.head import Origin, days_text, head_of
 from plantbal.page.ledger import Ledger
 from plantbal.page.spark import spark
-from plantbal.page.statement import Account, Line, Prepared, Round, Statement, Worth
-from plantbal.page.verdict import thousandths
+from plantbal.page.statement import Account, Line, Prepared, Round, Statement
+from plantbal.page.verdict import plus_minus, thousandths
 
 if TYPE_CHECKING:
     from jinja2 import Environment
@@ -49,15 +49,6 @@ def decimal(number: float | None, places: int, plus: bool = False) -> str:
         return ""
     text = f"{number:{'+' if plus else ''},.{places}f}"
     return text[1:] if float(text.replace(",", "")) == 0 and text[0] in "+-" else text
-
-
-def plus_minus(worth: Worth | None) -> str:
-    """Return a standard deviation in tonnes, by three digits that say something."""
-    if worth is None:
-        return ""
-    size = worth.deviation / 1e6
-    places = 3 if size < 1e-9 else min(3, max(0, 2 - int(log10(size) // 1)))
-    return f"{size:,.{places}f}"
 
 
 def end_of(pair: tuple[int, int] | None, which: int) -> str:
