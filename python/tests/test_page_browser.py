@@ -99,11 +99,13 @@ def test_neighbourhood(tmp_path: Path) -> None:
     click = "document.querySelector('tr[data-stream=s50]').click()"
     arrows = "[...document.querySelectorAll('svg.plant g.edge')].map(g => g.dataset.arrow).sort()"
     said = "document.querySelector('.near').textContent"
-    found = ask(made, f"({click}, [{arrows}, {MARKED}, {said}])", tmp_path)
+    told = "[...document.querySelectorAll('g.told')].map(g => g.id + ' ' + g.textContent)"
+    found = ask(made, f"({click}, [{arrows}, {MARKED}, {said}, {told}])", tmp_path)
     assert found == [
         "b49 b50 b51 b52 s48 s49 s50 s51 s52".split(),
         ["p0-stream-s50 edge nonredundant part chosen"],
         "s50",
+        ["p0-label-s50 0.000 t○ s50"],
     ]
 
 
@@ -150,6 +152,8 @@ SAMPLES: dict[str, Callable[[], str]] = {
     "concentrator": lambda: page_of(*CONCENTRATOR),
     "edits": lambda: page_of("month_end.out.csv", "month_end.csv"),
     "refused": lambda: page_of("badly_typed.out.csv", "badly_typed.csv"),
+    "window": lambda: page_of("missed_dip.out.csv", "missed_dip.csv"),
+    "component": lambda: page_of("flotation_copper.out.csv", "flotation_copper.csv"),
     "wide": lambda: page(wide()),
 }
 

@@ -32,7 +32,7 @@ function certificateOf(section, name) {
 
 function clear(section) {
   for (const row of section.querySelectorAll('tr.chosen, tr.member')) row.classList.remove('chosen', 'member');
-  for (const shape of section.querySelectorAll('g.part, g.side, g.chosen')) shape.classList.remove('part', 'side', 'chosen');
+  for (const shape of section.querySelectorAll('g.part, g.side, g.told, g.chosen')) shape.classList.remove('part', 'side', 'told', 'chosen');
   for (const svg of section.querySelectorAll('svg.marked')) svg.classList.remove('marked');
   for (const figure of section.querySelectorAll('figure.has-choice')) figure.classList.remove('has-choice');
 }
@@ -49,11 +49,12 @@ function choose(section, name, scroll) {
     const at = id => svg && svg.querySelector(`[id="${CSS.escape(figure.dataset.prefix + id)}"]`);
     for (const part of certificate.parts) {
       (at('-stream-' + part) || at('-node-' + part))?.classList.add('part');
+      at('-label-' + part)?.classList.add('told');
       const row = streamsOf(section).get(part)?.row;
       if (row && row !== stream.row) row.classList.add('member');
     }
     for (const node of certificate.side) at('-node-' + node)?.classList.add('side');
-    (at('-stream-' + name) || at('-node-' + name))?.classList.add('chosen');
+    for (const shape of [at('-stream-' + name) || at('-node-' + name), at('-label-' + name)]) shape?.classList.add('chosen');
     if (svg) { svg.classList.add('marked'); figure.classList.add('has-choice'); center(at('-stream-' + name) || at('-node-' + name)); }
     const why = certificate.cut ? ' What enters these units leaves them.' : ' What circulates along it is seen by no meter.';
     const note = section.querySelector('.certificate');
@@ -156,7 +157,7 @@ function drawNear(section, figure, name) {
   svg.style.maxWidth = `${1.2 * ((columns - 1) * width + 380)}px`;
   svg.style.setProperty('--least-width', `${.85 * ((columns - 1) * width + 380)}px`);
   svg.style.setProperty('--least-height', `${.85 * (rows * height + 40)}px`);
-  const outer = new Map(), pairs = new Map(), labels = [];
+  const outer = new Map(), pairs = new Map(), labels = [], names = [];
   const many = arcs.length > 25;
   arcs.sort((one, other) => (other === chosen) - (one === chosen));
   const shapes = arcs.map(stream => {
@@ -190,7 +191,9 @@ function drawNear(section, figure, name) {
     if (where && (!many || near)) {
       const [x, y] = where;
       labels.push({x, y, half});
-      group.append(make('text', {class: 'figure', x, y: y + 9}, stream.figure && `${stream.figure} t`), make('text', {x, y: y - 2}, `${SIGNS[stream.kind] || ''} ${stream.name}`));
+      const label = make('g', {id: `${prefix}-label-${stream.name}`, class: `label ${kind}`, 'data-arrow': stream.name});
+      label.append(make('text', {class: 'figure', x, y: y + 9}, stream.figure && `${stream.figure} t`), make('text', {x, y: y - 2}, `${SIGNS[stream.kind] || ''} ${stream.name}`));
+      names.push(label);
     }
     return [size, group];
   });
@@ -202,6 +205,7 @@ function drawNear(section, figure, name) {
     group.append(make('rect', {x: x - 46, y: y - 13, width: 92, height: 26, rx: tank ? 12 : 3}), make('text', {x, y: y + 4}, node));
     svg.append(group);
   }
+  svg.append(...names);
   figure.dataset.near = name;
   figure.querySelectorAll('.near').forEach(each => { each.textContent = name; });
 }
