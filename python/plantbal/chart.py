@@ -28,7 +28,8 @@ A row for each meter:
   right   the sum of flow less meter since the first period, in tonnes: a drift moves away from 0
 
 Below: the statistic of the global test, and its critical value if the session has one and was run
-with --tests. Periods that the global test rejects are hatched everywhere, and have a cross below.
+with --tests. Periods that the global test rejects are hatched everywhere; below they have a cross
+and their names.
 
 Flows to book are from the last round of each period's last report; meters, adjustments and
 statistic are from its first round, before any meter was taken out. Periods are placed at their
@@ -54,6 +55,11 @@ HEADINGS = (
 WIDTH, METER, STATISTIC, LEGEND = 13.0, 1.55, 2.0, 0.45
 # With more periods than these circles are small.
 MANY = 40
+# An axis with more ticks than these has one for each month besides, of up to that many months.
+MANY_TICKS, MONTH, MOST_MONTHS = 12, 31.0, 150
+# How many names there is room for above the statistic, how long one may be, and of how many periods
+# they stand across.
+MOST_NAMES, LONGEST, FEW = 105, 12, 17
 
 
 class Chart:
@@ -94,6 +100,11 @@ class Chart:
         axes = self._panel(len(self.lines) + 1, slice(None))
         self._statistic(axes)
         self._ticks(axes, 18, labels=True)
+
+    @property
+    def _days(self) -> float:
+        """How long all periods are together."""
+        return float(self.trend.ends.max() - self.trend.starts.min())
 
     def _panel(self, row: int, column: int | slice) -> Any:
         """Return a panel with the rejected periods hatched."""
@@ -194,6 +205,27 @@ class Chart:
                 markeredgewidth=1.8,
                 gid=f"rejected-{trend.names[place]}",
             )
+        self._rejected_names(axes)
+
+    def _rejected_names(self, axes: Any) -> None:
+        """Write the names of rejected periods above a panel, each that doesn't touch another."""
+        trend = self.trend
+        few = len(trend.names) <= FEW
+        room, free = self._days / (FEW if few else MOST_NAMES), float("-inf")
+        for place in trend.rejected.nonzero()[0]:
+            middle, name = trend.middles[place], trend.names[place]
+            if middle < free or len(name) > LONGEST:
+                continue
+            free = middle + room
+            axes.text(
+                *(middle, 1.02, name),
+                transform=axes.get_xaxis_transform(),
+                color=REJECTED,
+                fontsize=7,
+                rotation=0 if few else 90,
+                horizontalalignment="center",
+                verticalalignment="bottom",
+            )
 
     def _ticks(self, axes: Any, most: int, *, labels: bool) -> None:
         """Set the ticks of the axis of time: a limited number, or one for each of few periods."""
@@ -208,6 +240,8 @@ class Chart:
             locator = dates.AutoDateLocator(minticks=min(3, most), maxticks=most)
             axes.xaxis.set_major_locator(locator)
             axes.xaxis.set_major_formatter(dates.ConciseDateFormatter(locator))
+            if most > MANY_TICKS and MONTH < self._days < MOST_MONTHS * MONTH:
+                axes.xaxis.set_minor_locator(dates.MonthLocator())
         else:
             room = max(1, min(most, 7 * most // longest))
             axes.xaxis.set_major_locator(ticker.MaxNLocator(room, integer=True))

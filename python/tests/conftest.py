@@ -2,7 +2,10 @@
 
 from __future__ import annotations
 
+import gc
 import io
+import resource
+import time
 from collections.abc import Callable
 from dataclasses import dataclass
 from pathlib import Path
@@ -74,6 +77,37 @@ def fixture_say(capfdbinary: pytest.CaptureFixture[bytes], monkeypatch: pytest.M
         return Said(status, out.decode(), err.decode())
 
     return say
+
+
+def spent(call: Callable[[], object]) -> float:
+    """The time that processors give to a call and to the programs that it waits for.
+
+    It doesn't hang on how busy the machine is. What other tests have left in memory isn't looked
+    through again, as it isn't in a process of its own.
+    """
+    gc.collect()
+    gc.freeze()
+    try:
+        begin = _spent_so_far()
+        call()
+        return _spent_so_far() - begin
+    finally:
+        gc.unfreeze()
+
+
+def _spent_so_far() -> float:
+    """The processor time of this process and of those that it waited for."""
+    children = resource.getrusage(resource.RUSAGE_CHILDREN)
+    return time.process_time() + children.ru_utime + children.ru_stime
+
+
+def least_spent(call: Callable[[], object], most: float) -> float:
+    """The least time of up to three calls: shared processors are slower at some times."""
+    least = spent(call)
+    for _ in range(2):
+        if least >= most:
+            least = min(least, spent(call))
+    return least
 
 
 def example(name: str) -> Path:

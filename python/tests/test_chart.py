@@ -167,6 +167,22 @@ FORMS = [(1, "{year}-{month:02}"), (12, "{year}-{month:02}"), (120, "{year}-{mon
 FORMS += [(12, "period_{number}"), (120, "a_rather_long_name_{number}")]
 
 
+def test_rejected_months_are_named(tmp_path: Path) -> None:
+    """Of ten years each month that the test rejects is named, none on another, each month a tick."""
+    trend = trend_of(months(120, "{year}-{month:02}"))
+    write_chart(trend, [], tmp_path / "chart.svg", "svg")  # which chooses what draws
+    chart = Chart(trend, trend.greatest(1))
+    chart.draw()
+    chart.figure.canvas.draw()
+    axes = chart.figure.axes[-1]
+    texts = [text for text in axes.texts if text.get_text()]
+    wanted = [name for name, is_rejected in zip(trend.names, trend.rejected) if is_rejected]
+    assert [text.get_text() for text in texts] == wanted and len(wanted) == 12
+    boxes = [text.get_window_extent() for text in texts]
+    assert all(one.x1 < other.x0 for one, other in itertools.pairwise(boxes))
+    assert len(axes.xaxis.get_minorticklocs()) >= 100
+
+
 @pytest.mark.parametrize("count, form", FORMS, ids=[f"{count}-{form}" for count, form in FORMS])
 def test_labels_can_be_read(count: int, form: str, tmp_path: Path) -> None:
     """No label of an axis of time lies on its neighbour, and each axis that has labels has some."""

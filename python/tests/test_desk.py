@@ -7,10 +7,10 @@ import doctest
 import importlib
 import subprocess
 import sys
-import time
 from pathlib import Path
 
 import pytest
+from conftest import spent
 
 import plantbal
 from plantbal import desk
@@ -84,6 +84,5 @@ def test_import_is_quick() -> None:
 
 
 def _seconds(code: str) -> float:
-    begin = time.perf_counter()
-    subprocess.run([sys.executable, "-c", code], cwd=TOP / "python", check=True, stdout=-3)
-    return time.perf_counter() - begin
+    words = [sys.executable, "-c", code]
+    return spent(lambda: subprocess.run(words, cwd=TOP / "python", check=True, stdout=-3))

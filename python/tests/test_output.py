@@ -4,7 +4,6 @@ from __future__ import annotations
 
 import io
 import sqlite3
-import time
 from collections.abc import Callable
 from decimal import Decimal
 from pathlib import Path
@@ -12,6 +11,7 @@ from pathlib import Path
 import openpyxl
 import pandas
 import pytest
+from conftest import spent
 from hypothesis import given, settings
 from hypothesis import strategies as st
 
@@ -272,9 +272,7 @@ def seconds(*calls: Callable[[], object]) -> list[float]:
     least = [float("inf")] * len(calls)
     for _ in range(9):
         for place, call in enumerate(calls):
-            begin = time.process_time()
-            call()
-            least[place] = min(least[place], time.process_time() - begin)
+            least[place] = min(least[place], spent(call))
     return least
 
 

@@ -226,3 +226,22 @@ def test_an_installed_package_tells_its_version(tmp_path: Path) -> None:
     )
     version = (TOP / "VERSION").read_text(encoding="ascii").strip()
     assert done.stdout.split() == [version, version]
+
+
+def test_setuptools_builds_the_package(tmp_path: Path) -> None:
+    """What pip builds has all files of the package, beside the command `build` of the repository."""
+    tracked = ["pyproject.toml", "VERSION", "README.md", "build"]
+    for name in tracked:
+        shutil.copy(TOP / name, tmp_path / name)
+    ignored = shutil.ignore_patterns("__pycache__")
+    shutil.copytree(TOP / "python/plantbal", tmp_path / "python/plantbal", ignore=ignored)
+    script = "from setuptools import setup; setup(script_args=['--quiet', 'build'])"
+    subprocess.run([sys.executable, "-c", script], cwd=tmp_path, check=True, capture_output=True)
+    made = tmp_path / "packaging/out/python/lib/plantbal"
+    sources = {path.relative_to(tmp_path / "python/plantbal") for path in files_of(tmp_path)}
+    assert {path.relative_to(made) for path in made.rglob("*") if path.is_file()} == sources
+
+
+def files_of(folder: Path) -> list[Path]:
+    """The files of the package in a copy of the repository."""
+    return [path for path in (folder / "python/plantbal").rglob("*") if path.is_file()]

@@ -3,13 +3,12 @@
 from __future__ import annotations
 
 import hashlib
-import os
 import re
 from dataclasses import replace
 from pathlib import Path
 
 import pytest
-from conftest import Desk, example, text_of
+from conftest import Desk, example, least_spent, text_of
 from hypothesis import given, settings
 from hypothesis import strategies as some
 from pages import read
@@ -19,8 +18,9 @@ from plantbal.page.account import account_of
 from plantbal.page.command import page
 from plantbal.page.head import program_text
 from plantbal.page.ledger import Ledger
-from plantbal.page.render import certificate, plus_minus, soft
+from plantbal.page.render import certificate, soft, worded
 from plantbal.page.statement import Line, Worth
+from plantbal.page.verdict import plus_minus
 from plantbal.runs import run
 from plantbal.report import Values, parse_rows
 
@@ -121,6 +121,13 @@ def test_streams() -> None:
     assert cells(made, "GAS_IMPORT")[8] == "○ nonredundant"
 
 
+def test_boundaries() -> None:
+    """A reader sees the name of a boundary; the drawing near a stream ends there."""
+    made = page_of("terminal.out.csv", "terminal.csv")
+    assert cells(made, "SHIPS")[1] == "JETTY → MANIFOLD"
+    assert 'data-stream="SHIPS" data-from="env" data-to="MANIFOLD"' in made
+
+
 def test_no_figure_of_an_unobservable_stream() -> None:
     """RESIDUE is printed with 3,999.850 t, which nothing determines: the page has no such figure."""
     made = page_of(*SAMPLES["tanks"])
@@ -201,6 +208,23 @@ def test_refused_rows_in_sentences() -> None:
     assert "With --session the page shows each row" in without and "Record Why" in without
 
 
+def test_the_verdict_comes_first() -> None:
+    """It stands above the refused rows; of several periods the index has the verdict of each."""
+    made = page_of(*SAMPLES["refused"])
+    assert made.index('class="verdict bad"') < made.index('id="refused"') < made.index("<h3>Tanks")
+    assert made.count('class="verdict') == 1
+    several = page_of(*SAMPLES["edits"])
+    assert several.index('id="periods"') < several.index('id="refused"')
+    assert several.index('id="refused"') < several.index('class="verdict')
+
+
+def test_words() -> None:
+    """No day is broken at its hyphens, what is to be typed is code, and the rest is a text."""
+    assert worded("on 2024-05-02: write `late,` <") == (
+        'on <span class="day">2024-05-02</span>: write <code>late,</code> &lt;'
+    )
+
+
 def test_suspects_only_under_a_reject() -> None:
     """After an elimination that ends with an accept nothing is red; the round before had its suspect."""
     made = page_of(*SAMPLES["elimination"])
@@ -229,6 +253,7 @@ def test_index_of_periods() -> None:
     assert made.count('<svg class="spark"') == 3
     assert 'aria-label="the greatest is TAILS, -4.10"' in made
     assert "FILTERED has no value in 2024-05: no reading on 2024-05-17" in said
+    assert "its flow is what the other streams leave over (± 953 t)." in said
     # of several periods the last is open
     assert re.findall(r'<details class="period" id="(p\d)"( open)?', made) == [
         ("p0", ""),
@@ -512,11 +537,6 @@ def test_xlsx(say: Desk, tmp_path: Path) -> None:
 # ---- large plants
 
 
-def spent() -> float:
-    """The time that processors gave to this process and to those that it waited for."""
-    return sum(os.times()[:4])
-
-
 LARGE = {300: (5, 2_000_000), 2000: (15, 10_000_000)}
 
 
@@ -525,14 +545,15 @@ def test_large_plants(say: Desk, program: Path, tmp_path: Path, count: int) -> N
     """The page of a plant comes in time, and isn't larger than it may be."""
     import subprocess
 
-    words = [program, "make", "--number", "1", "--streams", str(count)]
+    make = [program, "make", "--number", "1", "--streams", str(count)]
     session, output = tmp_path / "made.csv", tmp_path / "made.out.csv"
-    session.write_bytes(subprocess.run(words, capture_output=True, check=True).stdout)
+    session.write_bytes(subprocess.run(make, capture_output=True, check=True).stdout)
     run(session, tests=False, sweeps=20, program=program).to_csv(output)
-    begin = spent()
-    found = say("page", "--session", session, output)
+    path = tmp_path / "made.html"
+    words = ["page", "--session", session, "--out", path, output]
     seconds, size = LARGE[count]
-    assert found.status == 0 and spent() - begin < seconds
-    assert len(found.out.encode()) < size
-    assert 'data-near="' in found.out and '<svg class="plant"' in found.out
-    read(found.out)
+    assert least_spent(lambda: say(*words), seconds) < seconds
+    made = text_of(path)
+    assert len(made.encode()) < size
+    assert 'data-near="' in made and '<svg class="plant"' in made
+    read(made)

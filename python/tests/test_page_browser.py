@@ -99,12 +99,31 @@ def test_neighbourhood(tmp_path: Path) -> None:
     click = "document.querySelector('tr[data-stream=s50]').click()"
     arrows = "[...document.querySelectorAll('svg.plant g.edge')].map(g => g.dataset.arrow).sort()"
     said = "document.querySelector('.near').textContent"
-    found = ask(made, f"({click}, [{arrows}, {MARKED}, {said}])", tmp_path)
+    told = "[...document.querySelectorAll('g.told')].map(g => g.id + ' ' + g.textContent)"
+    found = ask(made, f"({click}, [{arrows}, {MARKED}, {said}, {told}])", tmp_path)
     assert found == [
         "b49 b50 b51 b52 s48 s49 s50 s51 s52".split(),
         ["p0-stream-s50 edge nonredundant part chosen"],
         "s50",
+        ["p0-label-s50 0.000 t○ s50"],
     ]
+
+
+def test_names_in_a_drawing_can_be_read(tmp_path: Path) -> None:
+    """A drawing is scrolled rather than made too small, and to what is chosen."""
+    size = "(svg => svg.getBoundingClientRect().width / svg.viewBox.baseVal.width)"
+    svg, canvas = "document.querySelector('svg.plant')", "document.querySelector('.canvas')"
+    click = "document.querySelector('tr[data-stream=TRUCKS]').click()"
+    aside = f"{canvas}.scrollLeft"
+    seen = (
+        f"((box, frame) => box.left >= frame.left && box.right <= frame.right)("
+        f"document.getElementById('p0-stream-TRUCKS').getBoundingClientRect(), "
+        f"{canvas}.getBoundingClientRect())"
+    )
+    question = f"[{size}({svg}), {aside}, ({click}, {seen}), {aside} > 0]"
+    found = ask_all([Asked(page_of(*REFINERY), question, 390)], tmp_path)[0]
+    assert isinstance(found, list)
+    assert found[0] > 0.8 and found[1:] == [0, True, True]
 
 
 # ---- widths
@@ -133,6 +152,8 @@ SAMPLES: dict[str, Callable[[], str]] = {
     "concentrator": lambda: page_of(*CONCENTRATOR),
     "edits": lambda: page_of("month_end.out.csv", "month_end.csv"),
     "refused": lambda: page_of("badly_typed.out.csv", "badly_typed.csv"),
+    "window": lambda: page_of("missed_dip.out.csv", "missed_dip.csv"),
+    "component": lambda: page_of("flotation_copper.out.csv", "flotation_copper.csv"),
     "wide": lambda: page(wide()),
 }
 

@@ -29,6 +29,14 @@ def test_width_by_tonnes() -> None:
     assert width_of(line, 100) == pytest.approx(5.1)
 
 
+def test_no_arrow_crosses_a_name() -> None:
+    """The names of all arrows stand above the arrows and the units."""
+    drawn = page_of(*SAMPLES["tanks"]).split("<svg ")[1].split("</svg>")[0]
+    names = re.findall(r'<g id="p0-label-([^"]*)"', drawn)
+    assert sorted(names) == sorted(re.findall(r'<g id="p0-stream-([^"]*)"', drawn)) and names
+    assert drawn.index("p0-label-") > max(drawn.rindex("p0-stream-"), drawn.rindex("p0-node-"))
+
+
 def test_legend() -> None:
     said = read(page_of(*SAMPLES["tanks"])).text
     assert "● redundant: measured, and checked by the other meters" in said

@@ -7,7 +7,6 @@ import os
 import sqlite3
 import subprocess
 import sys
-import time
 from fractions import Fraction
 from pathlib import Path
 from typing import Any
@@ -15,7 +14,7 @@ from typing import Any
 import numpy
 import pandas
 import pytest
-from conftest import TOP, Desk, example, text_of
+from conftest import TOP, Desk, example, least_spent, text_of
 from hypothesis import HealthCheck, given, settings
 from hypothesis import strategies as st
 
@@ -148,6 +147,12 @@ def block_of(session: Session, program: Path) -> Block:
     return parse_report(text).blocks_in_order[0]
 
 
+def block_of_text(session: str, program: Path, period: str) -> Block:
+    """The report of a period of a session."""
+    text = call(["run"], session.encode(), program=program)[1].decode()
+    return next(each for each in parse_report(text).blocks_in_order if each.period == period)
+
+
 QUICK = settings(
     max_examples=150, deadline=None, suppress_health_check=[HealthCheck.function_scoped_fixture]
 )
@@ -226,17 +231,17 @@ def widest(powers: tuple[int, int]) -> Block:
 def test_time(powers: tuple[int, int], most: int) -> None:
     """2,000 streams between 1,000 merged nodes take less than 2 s, most unequal ones twice that."""
     uncertainty_of(read_report(CONCENTRATOR))  # the libraries are there
-    start = time.process_time()
-    found = uncertainty_of(widest(powers))
-    assert time.process_time() - start < most
+    block = widest(powers)
+    assert least_spent(lambda: uncertainty_of(block), most) < most
+    found = uncertainty_of(block)
     assert len(found) == 2000 and found["gain"].between(0, 1).all()
     # What is left of variances is a projection on as many dimensions as the balances leave free.
     assert ((1 - found["gain"]) ** 2).sum() == pytest.approx(1000, rel=1e-6)
 
 
-def daily_variances(period: str) -> dict[str, list[int]]:
-    """Of each meter of the concentrator the variances of a month's days, the base one first."""
-    rows = [line.split(",") for line in text_of(example("concentrator/session.csv")).splitlines()]
+def daily_variances(period: str, session: str) -> dict[str, list[int]]:
+    """Of each meter of a session the variances of a month's days, the base one first."""
+    rows = [line.split(",") for line in session.splitlines()]
     found = {row[1]: [int(row[5])] for row in rows if row[0] == "stream" and row[4] == "metered"}
     for row in rows:
         if row[0] == "reading" and row[3].startswith(period):
@@ -244,37 +249,59 @@ def daily_variances(period: str) -> dict[str, list[int]]:
     return found
 
 
-def test_simulated() -> None:
-    """10,000 simulated months of the concentrator vary as much as it says, to two digits.
+def simulated(block: Block, session: str, count: int = 10_000) -> Any:
+    """The flows of simulated months like that of a block: a row a stream, a column a month.
 
     Each day's reading has an error, and each month one of the meter's base; the least squares flows
     of a month's sums are found by a dense solution.
     """
     random = numpy.random.default_rng(20240501)
+    cycles = numpy.array(cycles_of(block), dtype=float)
+    meters = [j for j, stream in enumerate(block.streams) if stream["value"]]
+    daily = [daily_variances(block.period, session)[block.streams[j]["name"]] for j in meters]
+    assert [sum(days) for days in daily] == [int(block.streams[j]["variance"]) for j in meters]
+    root = numpy.sqrt([float(sum(days)) for days in daily])
+    flows = numpy.array([float(stream["flow"]) for stream in block.streams])
+
+    def solve(readings: Any) -> Any:
+        """The least squares flows of readings, a column a month."""
+        matrix, right = cycles[meters] / root[:, None], readings / root[:, None]
+        return cycles @ numpy.linalg.lstsq(matrix, right, rcond=None)[0]
+
+    # The estimator is the program's.
+    own = solve(numpy.array([[float(block.streams[j]["value"])] for j in meters]))[:, 0]
+    for stream, flow in zip(block.streams, own):
+        assert int(stream["least_lo"]) - 1 <= flow <= int(stream["least_hi"]) + 1
+
+    errors = [numpy.sqrt(days) @ random.normal(size=(len(days), count)) for days in daily]
+    return solve(flows[meters][:, None] + numpy.array(errors))
+
+
+def assert_simulated(block: Block, session: str) -> None:
+    """Fails unless 10,000 simulated months vary as much as the uncertainties say, to two digits."""
+    months = simulated(block, session)
+    flows = numpy.array([float(stream["flow"]) for stream in block.streams])
+    found = uncertainty_of(block)["sd"].to_numpy()
+    # The standard error of a standard deviation of 10,000 months is 0.7 %, of a mean 1 %.
+    assert months.std(axis=1, ddof=1) / found == pytest.approx(1, abs=0.02)
+    assert (months.mean(axis=1) - flows) / found == pytest.approx(0, abs=0.03)
+
+
+def test_simulated() -> None:
+    """April, and May without the reading of a day: FILTERED varies by 953 t."""
+    session = text_of(example("concentrator/session.csv"))
     for block in read_report(CONCENTRATOR).blocks_in_order:
-        cycles = numpy.array(cycles_of(block), dtype=float)
-        meters = [j for j, stream in enumerate(block.streams) if stream["value"]]
-        daily = [daily_variances(block.period)[block.streams[j]["name"]] for j in meters]
-        assert [sum(days) for days in daily] == [int(block.streams[j]["variance"]) for j in meters]
-        root = numpy.sqrt([float(sum(days)) for days in daily])
-        flows = numpy.array([float(stream["flow"]) for stream in block.streams])
+        assert_simulated(block, session)
 
-        def solve(readings: Any) -> Any:
-            """The least squares flows of readings, a column a month."""
-            matrix, right = cycles[meters] / root[:, None], readings / root[:, None]
-            return cycles @ numpy.linalg.lstsq(matrix, right, rcond=None)[0]
 
-        # The estimator is the program's.
-        own = solve(numpy.array([[float(block.streams[j]["value"])] for j in meters]))[:, 0]
-        for stream, flow in zip(block.streams, own):
-            assert int(stream["least_lo"]) - 1 <= flow <= int(stream["least_hi"]) + 1
-
-        errors = [numpy.sqrt(days) @ random.normal(size=(len(days), 10_000)) for days in daily]
-        months = solve(flows[meters][:, None] + numpy.array(errors))
-        found = uncertainty_of(block)["sd"].to_numpy()
-        # The standard error of a standard deviation of 10,000 months is 0.7 %, of a mean 1 %.
-        assert months.std(axis=1, ddof=1) / found == pytest.approx(1, abs=0.02)
-        assert (months.mean(axis=1) - flows) / found == pytest.approx(0, abs=0.03)
+def test_simulated_with_an_estimate(program: Path) -> None:
+    """May with an estimate of that day, as in the guide: FILTERED varies by 20 t."""
+    estimate = "reading,estimate,FILTERED,2024-05-17,342000000,400000000000000\nreport,2024-05\n"
+    session = text_of(example("concentrator/session.csv")).replace("report,2024-05\n", estimate)
+    block = block_of_text(session, program, "2024-05")
+    assert_simulated(block, session)
+    filtered = uncertainty_of(block).set_index("name").loc["FILTERED"]
+    assert filtered["sd"] == pytest.approx(20.1e6, rel=0.005)
 
 
 # Period, stream, standard deviation and that of its meter in tonnes, and its greatest meter.

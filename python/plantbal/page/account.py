@@ -20,7 +20,7 @@ from plantbal.page.statement import (
     Tank,
     Worth,
 )
-from plantbal.page.verdict import Lost, Verdict, names_of, verdict_of, whither
+from plantbal.page.verdict import Lost, Verdict, names_of, plus_minus, verdict_of, whither
 from plantbal.report import Block, Values, Window, advice_of, blocks_of, designs_of
 
 if TYPE_CHECKING:
@@ -30,8 +30,8 @@ if TYPE_CHECKING:
 # A space that stands within a name.
 NO_BREAK = "\u00a0"
 # What lint finds that a verdict says: a meter or a tank without a value, and facts too late.
-LATE = "after-report"
-TOLD = ("missing-reading", "missing-dip", LATE)
+READING, LATE = "missing-reading", "after-report"
+TOLD = (READING, "missing-dip", LATE)
 
 
 def _pair(row: Values, low: str, high: str) -> tuple[int, int] | None:
@@ -302,7 +302,7 @@ def _statement(
         names = [each.name for each in wanted if each.code != LATE]
         have = "has" if len(names) == 1 else "have"
         what = f"{names_of(names, 2)} {have} no value" if names else "facts come after the report"
-        said = said.but(what, [f"{each.text}." for each in wanted])
+        said = said.but(what, [_sentence(each, reports[-1].last) for each in wanted])
     cant = [each for each in beyond if each.subject == period]
     if cant:
         names = [each.stream for each in cant]
@@ -310,6 +310,18 @@ def _statement(
         what = f"{flows} of {names_of(names, 2)} can't be"
         said = said.but(what, [f"{each.said}." for each in cant])
     return Statement(number, period, days, state, reports, changes, said)
+
+
+def _sentence(finding: Finding, last: Round | None) -> str:
+    """Return what lint finds as a sentence, with the ± of the flow that has no value.
+
+    A name that it begins with stays as it is.
+    """
+    text = finding.text
+    first = text[:1] if text.startswith(finding.name or " ") else text[:1].upper()
+    worth = {line.name: line.worth for line in last.lines}.get(finding.name) if last else None
+    good = f" (± {plus_minus(worth)} t)" if worth and finding.code == READING else ""
+    return f"{first}{text[1:]}{good}."
 
 
 def _without_report(period: str, over: str) -> Verdict:

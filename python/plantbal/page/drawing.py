@@ -15,7 +15,8 @@ from plantbal.topology import Arc
 # Above this many streams the neighbourhood of one is drawn.
 MOST = 60
 THINNEST, WIDEST = 1.2, 9.0
-MARGIN = 6.0
+# A drawing is scrolled rather than made smaller than this; a narrow one stays larger.
+LEAST, LARGE, NARROW = 0.85, 1.2, 640.0
 
 
 @dataclass(frozen=True, slots=True)
@@ -79,6 +80,11 @@ class Drawing:
     why: str = ""
     chosen: str = ""
     widest: int = 0
+
+    @property
+    def least_scale(self) -> float:
+        """By how much it may be made smaller to fit: its names have to be read."""
+        return max(LEAST, min(LARGE, NARROW / self.width)) if self.width else LEAST
 
 
 def figure_of(line: Line) -> str:

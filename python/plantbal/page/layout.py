@@ -11,7 +11,7 @@ from plantbal.faults import Fault, ToolMissing
 from plantbal.topology import Arc
 
 # Points a letter takes, of the fonts that browsers have.
-LETTER = 6.4
+LETTER = 7.0
 NODE_HEIGHT, TANK_HEIGHT, LABEL_HEIGHT = 26.0, 44.0, 26.0
 INCH = 72.0
 ENV = "env"

@@ -4,7 +4,7 @@ from __future__ import annotations
 
 import re
 from collections.abc import Iterable, Mapping, Sequence
-from math import log10, sqrt
+from math import sqrt
 from typing import TYPE_CHECKING, Any
 
 from plantbal.amounts import tonnes_text
@@ -14,8 +14,8 @@ from plantbal.page.drawing import KINDS, Draftsman
 from plantbal.page.head import Origin, days_text, head_of
 from plantbal.page.ledger import Ledger
 from plantbal.page.spark import spark
-from plantbal.page.statement import Account, Line, Prepared, Round, Statement, Worth
-from plantbal.page.verdict import thousandths
+from plantbal.page.statement import Account, Line, Prepared, Round, Statement
+from plantbal.page.verdict import plus_minus, thousandths
 
 if TYPE_CHECKING:
     from jinja2 import Environment
@@ -51,15 +51,6 @@ def decimal(number: float | None, places: int, plus: bool = False) -> str:
     return text[1:] if float(text.replace(",", "")) == 0 and text[0] in "+-" else text
 
 
-def plus_minus(worth: Worth | None) -> str:
-    """Return a standard deviation in tonnes, by three digits that say something."""
-    if worth is None:
-        return ""
-    size = worth.deviation / 1e6
-    places = 3 if size < 1e-9 else min(3, max(0, 2 - int(log10(size) // 1)))
-    return f"{size:,.{places}f}"
-
-
 def end_of(pair: tuple[int, int] | None, which: int) -> str:
     """Return an end of bounds in tonnes, rounded outward."""
     return "" if pair is None else tonnes_text(pair[which], toward=("down", "up")[which])
@@ -82,6 +73,21 @@ def way_of(line: Line, crossings: Mapping[str, str]) -> Any:
     outside = crossings.get(line.name, "env")
     ends = (outside if end == "env" else end for end in (line.from_, line.to))
     return Markup(" → ").join(map(soft, ends))
+
+
+def ends_of(line: Line) -> Any:
+    """Return the ends of a line as attributes of its row, which the drawing is made of."""
+    from markupsafe import Markup
+
+    return Markup('data-from="{}" data-to="{}"').format(line.from_, line.to)
+
+
+def worded(text: str) -> Any:
+    """Return a text, none of its days broken, and what is typed as code in place of its marks."""
+    from markupsafe import Markup, escape
+
+    text = re.sub(r"\b\d{4}-\d\d-\d\d\b", r'<span class="day">\g<0></span>', str(escape(text)))
+    return Markup(re.sub("`([^`]+)`", r"<code>\1</code>", text))
 
 
 def day_spans(days: tuple[str, str] | None) -> Any:
@@ -217,6 +223,8 @@ def environment() -> Environment:
         end=end_of,
         sign=sign_of,
         soft=soft,
+        words=worded,
+        ends=ends_of,
         day_spans=day_spans,
         kind_sign=lambda name: KINDS[name].sign,
         f=lambda number: f"{number:.1f}",
@@ -278,11 +286,13 @@ def render(
             refused=account.refused,
             statements=account.statements,
             unfolded=account.unfolded,
+            last=account.periods[-1] if account.statements else None,
             drawings=drawings,
             designs=[(lines, draftsman.draw(lines)) for lines in designs],
             is_advised=account.is_advised,
             meters=account.meters,
             findings=account.findings,
+            to_look_at=account.to_look_at,
             is_empty=account.is_empty,
             ledger=account.ledger,
             kinds=KINDS,

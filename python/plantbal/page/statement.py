@@ -9,7 +9,7 @@ from math import sqrt
 from typing import TYPE_CHECKING
 
 from plantbal.page.ledger import Asked, Change, Ledger
-from plantbal.page.verdict import Verdict
+from plantbal.page.verdict import Verdict, names_of
 from plantbal.report import Block
 
 if TYPE_CHECKING:
@@ -275,6 +275,16 @@ class Account:
     def unfolded(self) -> int:
         """The number of the last period's statement: it and those after it aren't folded."""
         return self.periods[-1].number if self.statements else 0
+
+    @property
+    def to_look_at(self) -> str:
+        """Which of several periods need a look, as a sentence."""
+        names = [each.period for each in self.statements if each.verdict.level in ("look", "bad")]
+        total = f"{len(self.statements):,}"
+        if not names:
+            return f"None of the {total} needs a look."
+        need = "needs" if len(names) == 1 else "need"
+        return f"{len(names):,} of {total} {need} a look: {names_of(names)}."
 
     @property
     def meters(self) -> list[Line]:

@@ -4,12 +4,13 @@ from __future__ import annotations
 
 from collections.abc import Sequence
 from dataclasses import dataclass, field, replace
+from math import log10
 from typing import TYPE_CHECKING
 
 from plantbal.report import Block
 
 if TYPE_CHECKING:
-    from plantbal.page.statement import Line
+    from plantbal.page.statement import Line, Worth
 
 # The sign that stands before each level, so that none is known by its colour alone.
 SIGNS = {"good": "✓", "plain": "–", "look": "!", "bad": "✗"}
@@ -95,6 +96,15 @@ class Lost:
 def thousandths(text: str) -> str:
     """Return thousandths as a decimal number."""
     return f"{int(text) / 1000:,.3f}" if text else ""
+
+
+def plus_minus(worth: Worth | None) -> str:
+    """Return a standard deviation in tonnes, by three digits that say something."""
+    if worth is None:
+        return ""
+    size = worth.deviation / 1e6
+    places = 3 if size < 1e-9 else min(3, max(0, 2 - int(log10(size) // 1)))
+    return f"{size:,.{places}f}"
 
 
 def names_of(names: Sequence[str], most: int = 5) -> str:

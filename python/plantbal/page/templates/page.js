@@ -10,8 +10,7 @@ function streamsOf(section) {
   if (section.streams) return section.streams;
   section.streams = new Map();
   for (const row of section.querySelectorAll('tr[data-stream]')) {
-    const name = row.dataset.stream, way = row.querySelector('td.way');
-    const [from, to] = way ? way.textContent.split(' → ') : [name, 'env'];
+    const {stream: name, from = name, to = 'env'} = row.dataset, way = row.querySelector('td.way');
     const word = row.querySelector('td.class span:last-of-type');
     section.streams.set(name, {
       name, from, to, row, kind: word.className, mark: (row.className.match(/of-(suspect|taken|meter)/) || ['', ''])[1],
@@ -33,7 +32,7 @@ function certificateOf(section, name) {
 
 function clear(section) {
   for (const row of section.querySelectorAll('tr.chosen, tr.member')) row.classList.remove('chosen', 'member');
-  for (const shape of section.querySelectorAll('g.part, g.side, g.chosen')) shape.classList.remove('part', 'side', 'chosen');
+  for (const shape of section.querySelectorAll('g.part, g.side, g.told, g.chosen')) shape.classList.remove('part', 'side', 'told', 'chosen');
   for (const svg of section.querySelectorAll('svg.marked')) svg.classList.remove('marked');
   for (const figure of section.querySelectorAll('figure.has-choice')) figure.classList.remove('has-choice');
 }
@@ -50,18 +49,28 @@ function choose(section, name, scroll) {
     const at = id => svg && svg.querySelector(`[id="${CSS.escape(figure.dataset.prefix + id)}"]`);
     for (const part of certificate.parts) {
       (at('-stream-' + part) || at('-node-' + part))?.classList.add('part');
+      at('-label-' + part)?.classList.add('told');
       const row = streamsOf(section).get(part)?.row;
       if (row && row !== stream.row) row.classList.add('member');
     }
     for (const node of certificate.side) at('-node-' + node)?.classList.add('side');
-    (at('-stream-' + name) || at('-node-' + name))?.classList.add('chosen');
-    if (svg) { svg.classList.add('marked'); figure.classList.add('has-choice'); }
+    for (const shape of [at('-stream-' + name) || at('-node-' + name), at('-label-' + name)]) shape?.classList.add('chosen');
+    if (svg) { svg.classList.add('marked'); figure.classList.add('has-choice'); center(at('-stream-' + name) || at('-node-' + name)); }
     const why = certificate.cut ? ' What enters these units leaves them.' : ' What circulates along it is seen by no meter.';
     const note = section.querySelector('.certificate');
     if (note) { note.textContent = `${name}, ${stream.kind}: ${certificate.says}.${why}`; note.classList.remove('hint'); }
   }
   if (scroll) stream.row.scrollIntoView({block: 'center', behavior: 'smooth'});
 }
+function center(shape) {
+  const canvas = shape?.closest('.canvas');
+  if (!canvas) return;
+  const box = shape.getBoundingClientRect(), frame = canvas.getBoundingClientRect();
+  canvas.scrollLeft += (box.left + box.right - frame.left - frame.right) / 2;
+  canvas.scrollTop += (box.top + box.bottom - frame.top - frame.bottom) / 2;
+}
+for (const {dataset: {prefix, near}} of document.querySelectorAll('figure.drawing[data-near]'))
+  center(document.getElementById(`${prefix}-stream-${near}`) || document.getElementById(`${prefix}-node-${near}`));
 function isSection(element) { return element.closest('section.period, details.period, section.design'); }
 document.addEventListener('click', event => {
   const arrow = event.target.closest('[data-arrow]');
@@ -146,7 +155,9 @@ function drawNear(section, figure, name) {
   svg.replaceChildren();
   svg.setAttribute('viewBox', `0 0 ${(columns - 1) * width + 380} ${rows * height + 40}`);
   svg.style.maxWidth = `${1.2 * ((columns - 1) * width + 380)}px`;
-  const outer = new Map(), pairs = new Map(), labels = [];
+  svg.style.setProperty('--least-width', `${.85 * ((columns - 1) * width + 380)}px`);
+  svg.style.setProperty('--least-height', `${.85 * (rows * height + 40)}px`);
+  const outer = new Map(), pairs = new Map(), labels = [], names = [];
   const many = arcs.length > 25;
   arcs.sort((one, other) => (other === chosen) - (one === chosen));
   const shapes = arcs.map(stream => {
@@ -180,7 +191,9 @@ function drawNear(section, figure, name) {
     if (where && (!many || near)) {
       const [x, y] = where;
       labels.push({x, y, half});
-      group.append(make('text', {class: 'figure', x, y: y + 9}, stream.figure && `${stream.figure} t`), make('text', {x, y: y - 2}, `${SIGNS[stream.kind] || ''} ${stream.name}`));
+      const label = make('g', {id: `${prefix}-label-${stream.name}`, class: `label ${kind}`, 'data-arrow': stream.name});
+      label.append(make('text', {class: 'figure', x, y: y + 9}, stream.figure && `${stream.figure} t`), make('text', {x, y: y - 2}, `${SIGNS[stream.kind] || ''} ${stream.name}`));
+      names.push(label);
     }
     return [size, group];
   });
@@ -192,6 +205,7 @@ function drawNear(section, figure, name) {
     group.append(make('rect', {x: x - 46, y: y - 13, width: 92, height: 26, rx: tank ? 12 : 3}), make('text', {x, y: y + 4}, node));
     svg.append(group);
   }
+  svg.append(...names);
   figure.dataset.near = name;
   figure.querySelectorAll('.near').forEach(each => { each.textContent = name; });
 }
