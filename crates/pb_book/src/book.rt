@@ -35,7 +35,7 @@ ghost use Rattle.pb_window.specs.Window.{IsWindow};
 
 use crate::answer::{Accepted, NotAccepted, Refused};
 use crate::costs::{judge_costs, meter_costs};
-use crate::judge::judge;
+use crate::judge::{judge, judge_fact};
 use crate::originals::keep_original;
 use crate::plain::plain_records;
 use crate::rows::{Edited, Part, Place, StoredRow};
@@ -113,7 +113,7 @@ impl Book {
             → result ≡ said_of (first_answer_of self.old row.now) }
     {
         match read_reading(self.version(), row) {
-            Some(fact) => self.store(at, &Effect::Books { fact, late: false }),
+            Some(fact) => self.book_fact(at, &fact),
             None => self.accept_any(at, row),
         }
     }
@@ -444,6 +444,23 @@ impl Book {
             Some(cause) => Err(NotAccepted::from(cause)),
             None => Ok(Accepted::Advise),
         }
+    }
+
+    // Books a fact, or returns why it is refused.
+    fn book_fact(&mut self, at: u32, fact: &Fact) -> Result<Accepted, NotAccepted>
+        requires { IsEffectInRange (Books fact.now false) }
+        ensures answer { result ≢ Err NoMemory → result ≡ said_of (unless_refused
+            (Stores (Books fact.now false)) (refusal_of self.old (Books fact.now false))) }
+        ensures stored { result ≢ Err NoMemory → self.new ≡ after_answer self.old at (unless_refused
+            (Stores (Books fact.now false)) (refusal_of self.old (Books fact.now false))) }
+        ensures unchanged { result ≡ Err NoMemory → self.new ≡ self.old }
+        ensures no_repeats { result ≡ Ok Stored → NoRepeats (facts_of self.new) }
+    {
+        if let Some(cause) = judge_fact(&self.site, &self.facts, &self.periods, fact, false) {
+            return Err(NotAccepted::Refused(cause));
+        }
+        self.add_fact(at, fact)?;
+        Ok(Accepted::Stored)
     }
 
     // Stores a row, or returns why it is refused.
