@@ -13,7 +13,7 @@ use std::alloc::{AllocError, Global};
 use std::collections::HashMap;
 use std::hash::Hash;
 
-// Room for so many facts that more of them are likely to follow, and for those. The table of a map has room for 9 times a power of 2.
+// As soon as this many facts are kept, room is made for that many. The table of a map has room for 9 times a power of 2.
 const FEW: usize = 9 << 7;
 
 const MANY: usize = 9 << 10;
@@ -76,8 +76,8 @@ fn take(map: &mut HashMap<(Name, i32), u32>, key: (Name, i32))
     map.remove(&key);
 }
 
-/// For how many more facts room is made after some: for one, until there are so many that a book is likely to have many more. Then
-/// it is made at once, so that the facts aren't moved often.
+/// For how many more facts room is made after some: for one, or for many as soon as many are likely to follow, so that the facts
+/// aren't moved often.
 pub fn more_after(facts: usize) -> usize
     ensures { 0 < result }
 {
