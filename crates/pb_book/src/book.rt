@@ -1,6 +1,6 @@
 // The book of accepted rows.
 
-ghost use Rattle.std.specs.Prelude.{◌≡◌, ◌≢◌, ◌<◌, ◌≤◌, [], length, map, All, Err, Ok, IfOk, IfSome, OnOk, OnErr, slice_get, Some, false, true};
+ghost use Rattle.std.specs.Prelude.{◌≡◌, ◌≢◌, ◌<◌, ◌≤◌, [], length, map, All, Err, Ok, IfOk, IfSome, OnOk, OnErr, slice_get, Some, false, true, vec_capacity, vec_len};
 ghost use Rattle.pb_limits.specs.Limits.{most_periods, most_periods_of_window};
 ghost use Rattle.pb_facts.specs.Grade.{IsGrade};
 ghost use Rattle.pb_site.specs.Site.{version_of};
@@ -35,7 +35,7 @@ ghost use Rattle.pb_window.specs.Window.{IsWindow};
 
 use crate::answer::{Accepted, NotAccepted, Refused};
 use crate::costs::{judge_costs, meter_costs};
-use crate::judge::judge;
+use crate::judge::{judge, judge_fact};
 use crate::originals::keep_original;
 use crate::plain::plain_records;
 use crate::rows::{Edited, Part, Place, StoredRow};
@@ -49,6 +49,11 @@ use pb_window::Window;
 use std::alloc::{AllocError, Global};
 use std::collections::HashMap;
 use std::marker::Model;
+
+// As soon as this many rows are stored, room is made for that many.
+const FEW: usize = 1 << 10;
+
+const MANY: usize = 1 << 14;
 
 /// The accepted rows of a session, in order: the places of all rows and those of the edits, and their contents by part. The facts
 /// are kept with their last values; those that an edit changed are also kept as they came, by their places.
@@ -113,7 +118,7 @@ impl Book {
             → result ≡ said_of (first_answer_of self.old row.now) }
     {
         match read_reading(self.version(), row) {
-            Some(fact) => self.store(at, &Effect::Books { fact, late: false }),
+            Some(fact) => self.book_fact(at, &fact),
             None => self.accept_any(at, row),
         }
     }
@@ -446,6 +451,23 @@ impl Book {
         }
     }
 
+    // Books a fact, or returns why it is refused.
+    fn book_fact(&mut self, at: u32, fact: &Fact) -> Result<Accepted, NotAccepted>
+        requires { IsEffectInRange (Books fact.now false) }
+        ensures answer { result ≢ Err NoMemory → result ≡ said_of (unless_refused
+            (Stores (Books fact.now false)) (refusal_of self.old (Books fact.now false))) }
+        ensures stored { result ≢ Err NoMemory → self.new ≡ after_answer self.old at (unless_refused
+            (Stores (Books fact.now false)) (refusal_of self.old (Books fact.now false))) }
+        ensures unchanged { result ≡ Err NoMemory → self.new ≡ self.old }
+        ensures no_repeats { result ≡ Ok Stored → NoRepeats (facts_of self.new) }
+    {
+        if let Some(cause) = judge_fact(&self.site, &self.facts, &self.periods, fact, false) {
+            return Err(NotAccepted::Refused(cause));
+        }
+        self.add_fact(at, fact)?;
+        Ok(Accepted::Stored)
+    }
+
     // Stores a row, or returns why it is refused.
     fn store(&mut self, at: u32, effect: &Effect) -> Result<Accepted, NotAccepted>
         requires in_range { IsEffectInRange effect.now }
@@ -494,8 +516,8 @@ impl Book {
         ensures ok { OnOk result (self.new ≡ with_row self.old at (Declares declared.now)) }
         ensures err { OnErr result (self.new ≡ self.old) }
     {
+        let part = Part::Declared(short(self.site.len())?);
         self.places.reserve(1)?;
-        let part = Part::Declared(self.site.len());
         self.site.add(*declared)?;
         self.places.push_reserved(Place { at, part });
         Ok(())
@@ -523,7 +545,7 @@ impl Book {
         ensures ok { OnOk result (self.new ≡ with_row self.old at (Books fact.now false)) }
         ensures err { OnErr result (self.new ≡ self.old) }
     {
-        self.places.reserve(1)?;
+        make_room(&mut self.places)?;
         let part = Part::Booked {
             place: self.facts.len(),
             late: false,
@@ -562,10 +584,10 @@ impl Book {
             (self.new ≡ with_row self.old at (Edits id.now edit.now reason.now)) }
         ensures err { OnErr result (self.new ≡ self.old) }
     {
+        let part = Part::Edited(short(self.edited.len())?);
         self.places.reserve(1)?;
         self.edits.reserve(1)?;
         self.edited.reserve(1)?;
-        let part = Part::Edited(self.edited.len());
         match edit {
             Edit::Change(change) => {
                 keep_original(&self.facts, &mut self.originals, id)?;
@@ -622,6 +644,22 @@ impl Book {
         self.places.push_reserved(Place { at, part });
         Ok(())
     }
+}
+
+// Makes room for the place of one more fact, or for the places of many more as soon as many are likely to follow: so they aren't
+// moved often.
+fn make_room(places: &mut Vec<Place>) -> Result<(), AllocError>
+    ensures items { places.new.items ≡ places.old.items }
+    ensures room { OnOk result (vec_len places.new < vec_capacity places.new) }
+{
+    places.reserve(if places.len() == FEW { MANY - FEW } else { 1 })
+}
+
+// A place in 32 bits. If it doesn't fit, there are more rows than memory is made for.
+fn short(place: usize) -> Result<u32, AllocError>
+    ensures { IfOk result (λ short. short ≡ place) }
+{
+    u32::try_from(place).map_err(|_| AllocError)
 }
 
 // Whether a row takes out a period, by what it does; the opening or closing of a period and an assay take out none.

@@ -120,8 +120,8 @@ fn judge_period(periods: &Periods, name: &Name, first: i32, last: i32) -> Option
     }
 }
 
-// The first cause to refuse a fact. A late fact may touch a closed period.
-fn judge_fact(
+/// The first cause to refuse a fact. A late fact may touch a closed period.
+pub fn judge_fact(
     site: &Site,
     facts: &Facts,
     periods: &Periods,

@@ -10,7 +10,7 @@ pub struct StoredRow {
     pub effect: Effect,
 }
 
-/// Where a stored row is kept: the number of its record, and its place in a part of the book.
+/// Where a stored row is kept: the number of its record, and its place in a part of the book. Each row has one, so it is short.
 #[derive(Clone, Copy)]
 pub struct Place {
     pub at: u32,
@@ -21,10 +21,10 @@ pub struct Place {
 /// or not, and the place of a closing is that of its period.
 #[derive(Clone, Copy)]
 pub enum Part {
-    Declared(usize),
+    Declared(u32),
     Opened(u32),
     Booked { place: u32, late: bool },
-    Edited(usize),
+    Edited(u32),
     Closed(u32),
     Assayed(u32),
 }

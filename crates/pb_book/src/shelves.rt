@@ -63,7 +63,7 @@ fn effect_in(
             Some(fact) => Some(Effect::Books { fact, late }),
             None => None,
         },
-        Part::Edited(i) => match edited.get(i) {
+        Part::Edited(i) => match edited.get(i as usize) {
             Some(edited) => Some(editing(edited)),
             None => None,
         },
@@ -89,7 +89,7 @@ pub(crate) fn settled_in(
     ensures in_range { IfSome result IsEffectInRange }
 {
     match part {
-        Part::Declared(i) => match declared.get(i) {
+        Part::Declared(i) => match declared.get(i as usize) {
             Some(declared) => Some(Effect::Declares(*declared)),
             None => None,
         },

@@ -13,6 +13,11 @@ use std::alloc::{AllocError, Global};
 use std::collections::HashMap;
 use std::hash::Hash;
 
+// As soon as this many facts are kept, room is made for that many. The table of a map has room for 9 times a power of 2.
+const FEW: usize = 9 << 7;
+
+const MANY: usize = 9 << 10;
+
 /// The places of the kept facts: of the live readings and dips by stream or tank and day, and of the transfers by stream and each
 /// block of days in which they may be looked up.
 #[derive(Drop)]
@@ -29,7 +34,7 @@ impl Places {
         ensures room { OnOk result (HasRoom self.new fact.now) }
     {
         match fact {
-            Fact::Reading { .. } => self.readings.reserve(1),
+            Fact::Reading { .. } => self.readings.reserve(more_after(self.readings.len())),
             Fact::Dip { .. } => self.dips.reserve(1),
             Fact::Transfer { stream, first, .. } => {
                 make_room(alloc, &mut self.transfers, *stream, block_of(*first))
@@ -69,6 +74,14 @@ fn take(map: &mut HashMap<(Name, i32), u32>, key: (Name, i32))
         ≡ (if same_key key q then None else get same_key map.old q) }
 {
     map.remove(&key);
+}
+
+/// For how many more facts room is made after some: for one, or for many as soon as many are likely to follow, so that the facts
+/// aren't moved often.
+pub fn more_after(facts: usize) -> usize
+    ensures { 0 < result }
+{
+    if facts == FEW { MANY - FEW } else { 1 }
 }
 
 /// The block of 512 days that a day lies in.

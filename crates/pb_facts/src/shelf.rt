@@ -13,6 +13,7 @@ ghost use Rattle.pb_facts.specs.Shelf.{stream_or_tank, told_fact};
 
 use crate::fact::{Change, Fact};
 use crate::facts::KeptFact;
+use crate::places::more_after;
 use indexmap::{IndexMap, IndexSet};
 use pb_rows::Name;
 use std::alloc::{AllocError, Global};
@@ -84,7 +85,7 @@ impl Shelf {
         ensures unchanged { OnErr result (self.new ≡ self.old) }
     {
         self.names.reserve(1)?;
-        self.entries.reserve(1)?;
+        self.entries.reserve(more_after(self.entries.len()))?;
         let name = number_of(&mut self.names, fact.stream_or_tank());
         put_entry(&mut self.entries, fact.id(), Entry::of(fact, name));
         Ok(())

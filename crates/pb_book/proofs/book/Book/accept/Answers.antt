@@ -19,8 +19,8 @@ pub returns-in-Some-clause-accepted : goal.returns-in-Some-clause-accepted
 returns-in-Some-clause-accepted c =
     let may : may_ask (version_at c.args.self.now) (books false c.in-Some.fact) ≡ true =
     ap (λ (v : Option Version). may_ask v (books false c.in-Some.fact)) (sym c.version.ensures.value) ∙ c.in-Some.ensures.may in
-    accepted_answer c.args.self.now c.store.new.self c.args.at (named_costs c.args.row.now) (books false c.in-Some.fact) c.store.result c.version.ensures.accepted
-    c.in-Some.ensures.in_range may c.store.ensures.stored c.store.ensures.unchanged
+    accepted_answer c.args.self.now c.book_fact.new.self c.args.at (named_costs c.args.row.now) (books false c.in-Some.fact) c.book_fact.result c.version.ensures.accepted
+    c.in-Some.ensures.in_range may c.book_fact.ensures.stored c.book_fact.ensures.unchanged
 
 pub returns-in-Some-clause-version_1 : goal.returns-in-Some-clause-version_1
 returns-in-Some-clause-version_1 c = λ one unsaid known.
@@ -28,4 +28,4 @@ returns-in-Some-clause-version_1 c = λ one unsaid known.
     let fields = c.args.row.now in
     let asks : request_in (version_at old) fields ≡ asked_as (Ok (books false c.in-Some.fact)) =
     ap (λ (v : Option Version). request_in v fields) (sym c.version.ensures.value) ∙ c.in-Some.ensures.value in
-    c.store.ensures.answer known ∙ ap said_of (sym (ap (answer_if old (named_costs fields)) asks) ∙ version_one old fields one unsaid)
+    c.book_fact.ensures.answer known ∙ ap said_of (sym (ap (answer_if old (named_costs fields)) asks) ∙ version_one old fields one unsaid)

@@ -1,3 +1,4 @@
+use Rattle.std.proofs.Common.{◌∙◌}
 use Rattle.pb_book.specs.Kept.{told_at}
 use Rattle.pb_book.proofs.FactLemmas.{no_site_fault_of}
 use Rattle.pb_book.proofs.KeptLemmas.{kept_declaration}
@@ -14,11 +15,11 @@ invariant_of-self-2 c =
     let inside = c.self.inside in
     let fine = rw (← c.self.view_is) at c.requires in
     rw (c.push_reserved.ensures.items, c.in_ok-reserve.ensures.items, c.in_ok-add.ensures.added)
-    (kept_declaration inside.site (told_at inside.facts inside.originals) inside.periods inside.edited.items inside.assays inside.facts inside.places.items inside.edits.items c.args.at c.len.result c.args.declared.now c.self.invariant fine c.len.ensures).right
+    (kept_declaration inside.site (told_at inside.facts inside.originals) inside.periods inside.edited.items inside.assays inside.facts inside.places.items inside.edits.items c.args.at c.in_ok-short.field-0 c.args.declared.now c.self.invariant fine (c.in_ok-short.ensures ∙ c.len.ensures)).right
 
 pub returns-clause-ok : goal.returns-clause-ok
 returns-clause-ok c =
     let inside = c.self.inside in
     let fine = rw (← c.self.view_is) at c.requires in
     rw (c.push_reserved.ensures.items, c.in_ok-reserve.ensures.items, c.in_ok-add.ensures.added, ← c.self.view_is)
-    (kept_declaration inside.site (told_at inside.facts inside.originals) inside.periods inside.edited.items inside.assays inside.facts inside.places.items inside.edits.items c.args.at c.len.result c.args.declared.now c.self.invariant fine c.len.ensures).rows
+    (kept_declaration inside.site (told_at inside.facts inside.originals) inside.periods inside.edited.items inside.assays inside.facts inside.places.items inside.edits.items c.args.at c.in_ok-short.field-0 c.args.declared.now c.self.invariant fine (c.in_ok-short.ensures ∙ c.len.ensures)).rows

@@ -17,7 +17,7 @@ pub invariant_of-self-2 : goal.invariant_of-self-2
 invariant_of-self-2 c =
     let inside = c.self.inside in
     let fine = rw (← c.self.view_is) at c.requires in
-    rw (c.push_reserved.ensures.items, c.in_ok-reserve.ensures.items, c.in_ok-add.ensures.added)
+    rw (c.push_reserved.ensures.items, c.in_ok-make_room.ensures.items, c.in_ok-add.ensures.added)
     (kept_fact inside.site (told_at inside.facts inside.originals) (told_at (inside.facts ++ live c.args.fact.now ∷ []) inside.originals) inside.periods inside.edited.items inside.assays inside.facts inside.places.items inside.edits.items c.args.at c.len.result c.args.fact.now false c.self.invariant fine c.len.ensures.value
     (joins inside.facts inside.originals c.args.fact.now c.self.invariant.told)).right
 
@@ -25,6 +25,6 @@ pub returns-clause-ok : goal.returns-clause-ok
 returns-clause-ok c =
     let inside = c.self.inside in
     let fine = rw (← c.self.view_is) at c.requires in
-    rw (c.push_reserved.ensures.items, c.in_ok-reserve.ensures.items, c.in_ok-add.ensures.added, ← c.self.view_is)
+    rw (c.push_reserved.ensures.items, c.in_ok-make_room.ensures.items, c.in_ok-add.ensures.added, ← c.self.view_is)
     (kept_fact inside.site (told_at inside.facts inside.originals) (told_at (inside.facts ++ live c.args.fact.now ∷ []) inside.originals) inside.periods inside.edited.items inside.assays inside.facts inside.places.items inside.edits.items c.args.at c.len.result c.args.fact.now false c.self.invariant fine c.len.ensures.value
     (joins inside.facts inside.originals c.args.fact.now c.self.invariant.told)).rows
