@@ -9,7 +9,7 @@ ghost use Rattle.pb_readback.specs.declared.reading.ReadRefused.TheVariants.{At,
 ghost use Rattle.pb_readback.specs.Faults.{fault_behind, first_unknown};
 ghost use Rattle.pb_readback.specs.Drafts.{draft_of, draft_with_row};
 ghost use Rattle.pb_readback.specs.Next.{AreCounted, IsNext, IsReadRefused, IsWithinGiven, next_by};
-ghost use Rattle.pb_readback.specs.Reading.{Breaks, BreaksFrom, Ends, IsReadFrom, IsReadWhole, IsUnderWay, KeepsResults, RefusesPart, RefusesRow, Skips, is_stream_kind};
+ghost use Rattle.pb_readback.specs.Reading.{Breaks, BreaksFrom, Ends, HaveParts, IsReadFrom, IsReadWhole, IsUnderWay, KeepsResults, RefusesPart, RefusesRow, Skips, is_stream_kind};
 ghost use Rattle.pb_readback.specs.WellFormed.{IsWellFormedBlock};
 
 use crate::block::{Block, first_on_stream};
@@ -114,6 +114,7 @@ fn next_row(records: &mut Records) -> Result<Row, ReadRefused>
 // Adds a row of this number to a draft, if it has no fault.
 fn add_row(alloc: Global, draft: &mut Draft, row: &Row, number: u32) -> Result<(), ReadRefused>
     requires way { IsUnderWay draft.old }
+    requires parts { HaveParts draft.old }
     ensures fine { OnOk result (fault_behind draft.old row.now ≡ None) }
     ensures told { OnOk result (draft.new ≡ draft_with_row draft.old row.now) }
     ensures err { IfErr result (RefusesRow draft.old row.now number) }

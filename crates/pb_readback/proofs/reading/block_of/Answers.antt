@@ -1,6 +1,7 @@
 use Rattle.std.proofs.Common.{List, ℕ, length, ap, arith, refl}
 use Rattle.std.proofs.lemmas.Result.{err_from_is_err_and}
 use Rattle.pb_readback.specs.Drafts.{draft_of}
+use Rattle.pb_readback.proofs.PartLemmas.{still_parts}
 use Rattle.pb_readback.proofs.ReadingLemmas.{begins_known, begins_under_way, broke_at, broke_before, broke_ended, read_none, read_one, read_whole, same_heading, still_way}
 use Rattle.pb_readback.proofs.ResultLemmas.{begins_kept, kept_whole, still_kept}
 use Rattle.pb_readback.proofs.reading.block_of.Goals as goal
@@ -11,6 +12,7 @@ loop-records-init c =
     (record {
       read = read_none (draft_of c.args.heading) c.args.records.now.left (begins_known c.args.heading);
       way = begins_under_way c.args.heading c.requires.heading;
+      parts = refl;
       counted = refl;
       kept = begins_kept c.args.heading;
       same = refl;
@@ -76,6 +78,7 @@ loop-records-preserved c =
       read = read_one (draft_of c.args.heading) c.loop-records.draft c.add_row.new.draft c.args.records.now.left c.loop-records.records.left c.next_row.new.records.left c.in_ok-row.row inv.read
           taken.0 c.in_ok-add_row.ensures.fine c.in_ok-add_row.ensures.told c.in_ok-look_up.ensures.ok;
       way = still_way c.loop-records.draft c.add_row.new.draft c.in_ok-row.row inv.way c.in_ok-add_row.ensures.fine c.in_ok-add_row.ensures.told;
+      parts = still_parts c.loop-records.draft c.add_row.new.draft c.in_ok-row.row inv.parts c.in_ok-add_row.ensures.fine c.in_ok-add_row.ensures.told;
       counted = omega (arith, long, one, count);
       kept = c.in_ok-look_up.ensures.kept;
       same = same_heading c.loop-records.draft c.add_row.new.draft c.in_ok-row.row c.args.heading inv.same c.in_ok-add_row.ensures.told;
@@ -96,7 +99,7 @@ overflow_cast-taken c =
     omega (arith, count, few, one, number)
 
 pub add_row-requires : goal.add_row-requires
-add_row-requires c = record { way = c.loop-records.invariant.way }
+add_row-requires c = record { way = c.loop-records.invariant.way; parts = c.loop-records.invariant.parts }
 
 pub returns-clause-ok : goal.returns-clause-ok
 returns-clause-ok c =
