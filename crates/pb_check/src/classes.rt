@@ -1,6 +1,6 @@
 // Tests 1 and 2: the class of each stream, and the cut or cycle that shows it.
 
-ghost use Rattle.std.specs.Prelude.{◌≡◌, ◌↔◌, ◌==◌, ◌<◌, true, Some, None, length, slice_get, IfSome, IsSome, All, IsTrue, MatchOption, ℕ};
+ghost use Rattle.std.specs.Prelude.{◌≡◌, ◌↔◌, ◌==◌, ◌<◌, Some, None, length, slice_get, IfSome, IsSome, All, IsTrue, MatchOption, ℕ};
 ghost use Rattle.std.specs.List.{list_any};
 ghost use Rattle.pb_graph.specs.declared.records.Member.{Member};
 ghost use Rattle.pb_graph.specs.declared.records.Step.{Step};
@@ -150,20 +150,13 @@ fn cuts_off(graph: &Graph, id: u32, side: &[bool], members: &[Member]) -> bool
     graph.is_cut(side, members) && has_member(members, id) && others_measured(graph, id, members)
 }
 
-// Whether two lists have the same steps.
-fn are_same_steps(steps: &[Step], others: &[Step]) -> bool
-    ensures { result ≡ true → steps.now ≡ others.now }
-{
-    steps == others
-}
-
 // Whether the steps are a cycle. One that is known isn't walked again.
 fn is_cycle(graph: &Graph, steps: &[Step], known: Option<&[Step]>) -> bool
     requires { IfSome known (λ cycle. IsCycle graph.now cycle.now) }
     ensures { IsTrue result ↔ IsCycle graph.now steps.now }
 {
     match known {
-        Some(cycle) if are_same_steps(steps, cycle) => true,
+        Some(cycle) if steps == cycle => true,
         _ => graph.is_cycle(steps),
     }
 }
