@@ -91,23 +91,25 @@ fn block_of(alloc: Global, heading: Heading, records: &mut Records) -> Result<Bl
     let opened = records.taken() as u32;
     let mut draft = Draft::new(alloc, heading);
     let mut results = List::new(alloc);
+    let mut row = Row::new(alloc);
     while !draft.is_ended() {
-        let row = next_row(records)?;
+        next_row(records, &mut row)?;
         add_row(alloc, &mut draft, &row, records.taken() as u32)?;
         look_up(alloc, &draft, opened, &mut results)?;
     }
     Ok(draft.block(results, alloc)?)
 }
 
-// Takes the next row of a block that isn't at its end.
-fn next_row(records: &mut Records) -> Result<Row, ReadRefused>
+// Takes the next row of a block that isn't at its end, in place of the row before it.
+fn next_row(records: &mut Records, row: &mut Row) -> Result<(), ReadRefused>
     requires few { records.old.taken < 2 ^ 31 }
-    ensures ok { IfOk result (λ row. TakesNext records.old records.new (Some row)) }
+    ensures ok { OnOk result (TakesNext records.old records.new (Some row.new)) }
     ensures err { IfErr result (Ends records.old records.new) }
 {
-    match records.next()? {
-        Some(row) => Ok(row),
-        None => Err(refused(records.taken() as u32 + 1, RowFault::Ended)),
+    if records.fill(row)? {
+        Ok(())
+    } else {
+        Err(refused(records.taken() as u32 + 1, RowFault::Ended))
     }
 }
 
