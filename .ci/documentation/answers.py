@@ -44,6 +44,7 @@ WRITTEN_AFTER = {
     ("pb_facts::Assays::push", "Ok"): r"component,",
     ("pb_blocks::Known::add", "Ok"): r"yes,",
     ("pb_blocks::Known::list", "Ok"): r"yes,",
+    ("pb_blocks::result_beside", "Ok"): r"yes,",
     ("pb_blocks::result_of", "Ok"): r"yes,",
     ("pb_blocks::said_stream", "Ok"): r"yes,",
     ("pb_book::Book::accept", "Component"): r"component,",

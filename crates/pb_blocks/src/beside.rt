@@ -1,8 +1,11 @@
 // What may be wrong with a row of a block besides its form.
 
-ghost use Rattle.std.specs.Prelude.{◌≡◌, bytes_eq};
+ghost use Rattle.std.specs.Prelude.{◌≡◌, ◌||◌, ◌&&◌, not, true, bytes_eq, codes};
+ghost use Rattle.std.specs.List.{list_all};
 ghost use Rattle.pb_blocks.specs.Beside.{has_bad_list, has_unknown_node, is_half, is_half_told, is_round, pairs_of};
 ghost use Rattle.pb_blocks.specs.Held.{leads_to_itself};
+ghost use Rattle.pb_blocks.specs.Lists.{is_part, is_side, items};
+ghost use Rattle.pb_blocks.specs.Texts.{field, is_blank, parts_field, place_after, side_field};
 
 use crate::known::Known;
 use crate::lists::{are_parts, has_unknown_item, is_side};
@@ -52,10 +55,34 @@ pub fn has_unknown_node(nodes: &Known, kind: OutputKind, fields: &Fields) -> boo
 pub fn has_bad_list(nodes: &Known, kind: OutputKind, fields: &Fields) -> bool
     ensures { result ≡ has_bad_list nodes.now kind fields.now }
 {
+    has_bad_side(nodes, kind, fields) || !are_parts(parts_field(kind, fields))
+}
+
+/// The same, if these parts of another stream are known to be signs with names: equal parts aren't read again.
+pub fn has_bad_list_beside(nodes: &Known, kind: OutputKind, fields: &Fields, known: &[u8]) -> bool
+    requires { list_all is_part (items known.now) ≡ true }
+    ensures { result ≡ has_bad_list nodes.now kind fields.now }
+{
+    has_bad_side(nodes, kind, fields) || !are_parts_beside(parts_field(kind, fields), known)
+}
+
+// Whether a stream's side doesn't list these nodes in order, or a cycle has a side.
+fn has_bad_side(nodes: &Known, kind: OutputKind, fields: &Fields) -> bool
+    ensures { result ≡ (not (is_side nodes.now (items (side_field kind fields.now)))
+        || (bytes_eq (field fields.now (place_after kind 12)) (codes "cycle")
+        && not (is_blank (side_field kind fields.now)))) }
+{
     let side = side_field(kind, fields);
     !is_side(nodes, side)
         || (is_word(field(fields, place_after(kind, 12)), b"cycle") && !side.is_empty())
-        || !are_parts(parts_field(kind, fields))
+}
+
+// Whether each item is a sign with a name, if those of another list are.
+fn are_parts_beside(text: &[u8], known: &[u8]) -> bool
+    requires { list_all is_part (items known.now) ≡ true }
+    ensures { result ≡ list_all is_part (items text.now) }
+{
+    is_word(text, known) || are_parts(text)
 }
 
 /// Whether a stream leads from a node to itself.

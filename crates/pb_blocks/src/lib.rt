@@ -17,14 +17,15 @@ mod texts;
 mod values;
 
 pub use beside::{
-    has_bad_list, has_unknown_node, is_half_told, is_round, is_word, leads_to_itself,
+    has_bad_list, has_bad_list_beside, has_unknown_node, is_half_told, is_round, is_word,
+    leads_to_itself,
 };
 pub use fault::{RowFault, lowest};
 pub use heading::heading_in;
 pub use kinds::{is_passed_over, kind_among};
 pub use known::Known;
 pub use laws::row_read_law;
-pub use results::result_of;
+pub use results::{result_beside, result_of};
 pub use rows::{Heading, Solution, StreamRow};
 pub use texts::name_field;
 pub use values::{

@@ -1,10 +1,11 @@
 // Tests 1 and 2: the class of each stream, and the cut or cycle that shows it.
 
-ghost use Rattle.std.specs.Prelude.{◌≡◌, ◌↔◌, ◌==◌, ◌<◌, Some, None, length, slice_get, IsSome, All, IsTrue, MatchOption, ℕ};
+ghost use Rattle.std.specs.Prelude.{◌≡◌, ◌↔◌, ◌==◌, ◌<◌, Some, None, length, slice_get, IfSome, IsSome, All, IsTrue, MatchOption, ℕ};
 ghost use Rattle.std.specs.List.{list_any};
 ghost use Rattle.pb_graph.specs.declared.records.Member.{Member};
 ghost use Rattle.pb_graph.specs.declared.records.Step.{Step};
 ghost use Rattle.pb_graph.specs.declared.records.Stream.{Stream};
+ghost use Rattle.pb_graph.specs.Cycle.{IsCycle};
 ghost use Rattle.pb_graph.specs.Certificates.{CutsOff, GoesRound, Shows, IsCertified};
 ghost use Rattle.pb_study.specs.WellFormed.{IsWellFormed};
 ghost use Rattle.pb_stage.specs.Printed.{have_least, EachStream};
@@ -149,16 +150,36 @@ fn cuts_off(graph: &Graph, id: u32, side: &[bool], members: &[Member]) -> bool
     graph.is_cut(side, members) && has_member(members, id) && others_measured(graph, id, members)
 }
 
+// Whether the steps are a cycle. One that is known isn't walked again.
+fn is_cycle(graph: &Graph, steps: &[Step], known: Option<&[Step]>) -> bool
+    requires { IfSome known (λ cycle. IsCycle graph.now cycle.now) }
+    ensures { IsTrue result ↔ IsCycle graph.now steps.now }
+{
+    match known {
+        Some(cycle) if steps == cycle => true,
+        _ => graph.is_cycle(steps),
+    }
+}
+
 // Whether the steps are a cycle that goes along a stream, and all other steps are along unmeasured streams.
 #[tactic(auto, using(crate::proofs::OtherLemmas::each_by_recursion, crate::proofs::OtherLemmas::each_by_place))]
-fn goes_round(graph: &Graph, id: u32, steps: &[Step]) -> bool
+fn goes_round(graph: &Graph, id: u32, steps: &[Step], known: Option<&[Step]>) -> bool
+    requires { IfSome known (λ cycle. IsCycle graph.now cycle.now) }
     ensures { IsTrue result ↔ GoesRound graph.now id steps.now }
 {
-    graph.is_cycle(steps) && has_step(steps, id) && others_unmeasured(graph, id, steps)
+    is_cycle(graph, steps, known) && has_step(steps, id) && others_unmeasured(graph, id, steps)
 }
 
 // Whether a certificate shows the class of a stream.
-fn shows(graph: &Graph, id: u32, stream: &Stream, class: Class, witness: &Witness) -> bool
+fn shows(
+    graph: &Graph,
+    id: u32,
+    stream: &Stream,
+    class: Class,
+    witness: &Witness,
+    known: Option<&[Step]>,
+) -> bool
+    requires { IfSome known (λ cycle. IsCycle graph.now cycle.now) }
     ensures { IsTrue result ↔ Shows graph.now id stream.now class witness.now }
 {
     match witness {
@@ -173,10 +194,10 @@ fn shows(graph: &Graph, id: u32, stream: &Stream, class: Class, witness: &Witnes
         },
         Witness::Cycle { steps } => match class {
             Class::Unobservable => {
-                stream.meas.is_none() && goes_round(graph, id, steps.as_slice())
+                stream.meas.is_none() && goes_round(graph, id, steps.as_slice(), known)
             }
             Class::Nonredundant => {
-                stream.meas.is_some() && goes_round(graph, id, steps.as_slice())
+                stream.meas.is_some() && goes_round(graph, id, steps.as_slice(), known)
             }
             _ => false,
         },
@@ -184,9 +205,10 @@ fn shows(graph: &Graph, id: u32, stream: &Stream, class: Class, witness: &Witnes
 }
 
 // Whether the printed cut or cycle shows the class of the stream at a place.
-fn is_shown_at(stage: &Stage, j: u32) -> bool
+fn is_shown_at(stage: &Stage, j: u32, known: Option<&[Step]>) -> bool
     requires formed { IsWellFormed stage.now }
     requires place { j < length stage.now.graph.streams }
+    requires known { IfSome known (λ cycle. IsCycle stage.now.graph cycle.now) }
     ensures { IsTrue result
         ↔ AtStream stage.now (λ j r. IsCertified stage.now.graph j r.classified) j }
 {
@@ -198,7 +220,22 @@ fn is_shown_at(stage: &Stage, j: u32) -> bool
         &stream,
         classified.class,
         &classified.witness,
+        known,
     )
+}
+
+// The cycle that was shown last: that of the stream at a place, if it has one.
+fn cycle_after<'a>(stage: &'a Stage, j: u32, known: Option<&'a [Step]>) -> Option<&'a [Step]>
+    requires formed { IsWellFormed stage.now }
+    requires place { j < length stage.now.graph.streams }
+    requires known { IfSome known (λ cycle. IsCycle stage.now.graph cycle.now) }
+    requires shown { AtStream stage.now (λ j r. IsCertified stage.now.graph j r.classified) j }
+    ensures { IfSome result (λ cycle. IsCycle stage.now.graph cycle.now) }
+{
+    match &stage.streams.at(j as usize).classified.witness {
+        Witness::Cycle { steps } => Some(steps.as_slice()),
+        Witness::Cut { .. } => known,
+    }
 }
 
 /// Test 2: the printed cut or cycle shows the class of each stream. The work is proportional to the numbers of members and steps.
@@ -209,10 +246,12 @@ pub fn witness_fault(stage: &Stage) -> Option<Fault>
         (IsStreamFault stage.now
         (AtStream stage.now (λ j r. IsCertified stage.now.graph j r.classified))) }
 {
+    let mut known = None;
     for j in 0..stage.graph.len() {
-        if !is_shown_at(stage, j) {
+        if !is_shown_at(stage, j, known) {
             return Some(at_stream(j));
         }
+        known = cycle_after(stage, j, known);
     }
     None
 }

@@ -104,7 +104,7 @@ is_known : (known : Bool) → (if known then None else Some Unknown) ≡ None �
 is_known true is = refl
 is_known false is = cc is
 
-none_lowest : (one other : Option RowFault) → lowest one other ≡ None → (one ≡ None) × (other ≡ None)
+pub none_lowest : (one other : Option RowFault) → lowest one other ≡ None → (one ≡ None) × (other ≡ None)
 none_lowest None other none = (refl, none)
 none_lowest (Some one) None none = cc none
 none_lowest (Some one) (Some other) none = cc none

@@ -4,6 +4,7 @@ mod NextLemmas
 mod ResultLemmas
 mod FormedLemmas
 mod AddingLemmas
+mod PartLemmas
 mod WrittenFieldLemmas
 mod WrittenListLemmas
 mod WrittenPartLemmas

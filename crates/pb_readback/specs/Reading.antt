@@ -1,6 +1,6 @@
 -- Inside. A draft in progress, and what reading on has shown of the records.
 use Rattle.std.specs.Prelude.{◌≡◌, ◌≢◌, ◌⊎◌, ◌≤◌, ◌+◌, ◌==◌, ℕ, pos, Bool, true, false, nat_lt, List, [], ◌∷◌, ◌++◌, length, map, Option, Some, None}
-use Rattle.std.specs.List.{list_any}
+use Rattle.std.specs.List.{list_all, list_any}
 use Rattle.pb_form.specs.declared.output.OutputKind.{OutputKind}
 use Rattle.pb_form.specs.declared.output.OutputKind.TheVariants.{Node, StreamBefore, Solved, Global, Nodal, Measure, End}
 use Rattle.pb_form.specs.Value.{Value}
@@ -16,9 +16,11 @@ use Rattle.pb_graph.specs.ProcessGraph.{IsStream, IsWithinLimits}
 use Rattle.pb_blocks.specs.declared.fault.RowFault.{RowFault}
 use Rattle.pb_blocks.specs.declared.fault.RowFault.TheVariants.{Unknown, Ended}
 use Rattle.pb_blocks.specs.declared.rows.Solution.{Solution}
+use Rattle.pb_blocks.specs.declared.rows.StreamRow.{StreamRow}
 use Rattle.pb_blocks.specs.Beside.{opening_fault}
 use Rattle.pb_blocks.specs.Counts.{IsHeading}
 use Rattle.pb_blocks.specs.Kinds.{is_passed_over}
+use Rattle.pb_blocks.specs.Lists.{is_part, items}
 use Rattle.pb_blocks.specs.Results.{result_of}
 use Rattle.pb_blocks.specs.Values.{said_global}
 use Rattle.pb_readback.specs.declared.block.Block.{Block}
@@ -84,6 +86,13 @@ pub record IsUnderWay (draft : Draft) : Type 0 where
   pub streams : length draft.streams ≤ draft.heading.streams
   pub each_stream : length draft.graph.streams ≡ length draft.streams
   pub each_row : length draft.rows ≡ length draft.streams
+
+-- the parts of the streams so far are signs with names
+abbrev pub has_parts : StreamRow → Bool
+has_parts row = list_all is_part (items row.parts)
+
+abbrev pub HaveParts : Draft → Type 0
+HaveParts draft = list_all has_parts draft.rows ≡ true
 
 -- a stream of the graph of a draft
 pub record IsStreamOf (draft : Draft) (stream : Stream) : Type 0 where

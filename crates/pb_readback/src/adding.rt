@@ -14,7 +14,7 @@ ghost use Rattle.pb_blocks.specs.Lists.{is_among};
 ghost use Rattle.pb_blocks.specs.Texts.{name_field};
 ghost use Rattle.pb_blocks.specs.Values.{said_arc, values_in};
 ghost use Rattle.pb_readback.specs.Drafts.{draft_of, draft_with_row, with_measure, with_nodal, with_stream};
-ghost use Rattle.pb_readback.specs.Reading.{no_solution, with_node, tests_begun, told_with, IsUnderWay, MayCome};
+ghost use Rattle.pb_readback.specs.Reading.{no_solution, with_node, tests_begun, told_with, HaveParts, IsUnderWay, MayCome};
 ghost use Rattle.pb_readback.specs.Faults.{fault_behind, fault_beside, row_fault_of};
 
 use crate::draft::Draft;
@@ -49,7 +49,8 @@ impl Draft {
 
     // Reads one more row: returns its lowest fault, or none, and then the draft has what the row says.
     pub(crate) fn read(&mut self, alloc: Global, row: &Row) -> Result<Option<RowFault>, AllocError>
-        requires { IsUnderWay self.old }
+        requires way { IsUnderWay self.old }
+        requires parts { HaveParts self.old }
         ensures fault { IfOk result (λ fault. fault ≡ fault_behind self.old row.now) }
         ensures told { IfOk result
             (λ fault. fault ≡ None → self.new ≡ draft_with_row self.old row.now) }
@@ -70,6 +71,7 @@ impl Draft {
     ) -> Result<Option<RowFault>, AllocError>
         requires way { IsUnderWay self.old }
         requires may { MayCome self.old kind }
+        requires parts { HaveParts self.old }
         ensures fault { IfOk result (λ fault. fault ≡ row_fault_of kind self.old fields.now) }
         ensures told { IfOk result
             (λ fault. fault ≡ None → self.new ≡ told_with kind self.old fields.now) }

@@ -10,7 +10,7 @@ ghost use Rattle.pb_readback.specs.Blocks.{block_of};
 ghost use Rattle.pb_readback.specs.Reading.{has_stream, is_on_stream, is_stream_kind};
 
 use crate::draft::Draft;
-use pb_blocks::{Known, StreamRow, result_of};
+use pb_blocks::{Known, StreamRow, result_beside, result_of};
 use pb_form::OutputKind;
 use pb_graph::{List, Member, Step, Witness};
 use pb_rows::{Name, Names};
@@ -152,8 +152,26 @@ fn results_of(
     ensures { IfOk result (λ results. results ≡ map (result_of streams.now) rows.now) }
 {
     let mut results = List::new(alloc);
-    for row in rows {
-        results.push(result_of(alloc, streams, row)?)?;
+    for (place, row) in rows.iter().enumerate() {
+        let made = result_after(alloc, streams, &rows[..place], results.as_slice(), row)?;
+        results.push(made)?;
     }
     Ok(results)
+}
+
+// The result of a row after these rows, whose results are known. Streams on one cycle often follow one another.
+fn result_after(
+    alloc: Global,
+    streams: &Known,
+    rows: &[StreamRow],
+    results: &[StreamResult],
+    row: &StreamRow,
+) -> Result<StreamResult, AllocError>
+    requires { results.now ≡ map (result_of streams.now) rows.now }
+    ensures { IfOk result (λ made. made ≡ result_of streams.now row.now) }
+{
+    match (rows.last(), results.last()) {
+        (Some(other), Some(made)) => result_beside(alloc, streams, row, other, made),
+        _ => result_of(alloc, streams, row),
+    }
 }

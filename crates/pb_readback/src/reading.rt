@@ -9,7 +9,7 @@ ghost use Rattle.pb_readback.specs.declared.reading.ReadRefused.TheVariants.{At,
 ghost use Rattle.pb_readback.specs.Faults.{fault_behind, first_unknown};
 ghost use Rattle.pb_readback.specs.Drafts.{draft_of, draft_with_row};
 ghost use Rattle.pb_readback.specs.Next.{AreCounted, IsNext, IsReadRefused, IsWithinGiven, next_by};
-ghost use Rattle.pb_readback.specs.Reading.{Breaks, BreaksFrom, Ends, IsReadFrom, IsReadWhole, IsUnderWay, KeepsResults, RefusesPart, RefusesRow, Skips, is_stream_kind};
+ghost use Rattle.pb_readback.specs.Reading.{Breaks, BreaksFrom, Ends, HaveParts, IsReadFrom, IsReadWhole, IsUnderWay, KeepsResults, RefusesPart, RefusesRow, Skips, is_stream_kind};
 ghost use Rattle.pb_readback.specs.WellFormed.{IsWellFormedBlock};
 
 use crate::block::{Block, first_on_stream};
@@ -91,29 +91,32 @@ fn block_of(alloc: Global, heading: Heading, records: &mut Records) -> Result<Bl
     let opened = records.taken() as u32;
     let mut draft = Draft::new(alloc, heading);
     let mut results = List::new(alloc);
+    let mut row = Row::new(alloc);
     while !draft.is_ended() {
-        let row = next_row(records)?;
+        next_row(records, &mut row)?;
         add_row(alloc, &mut draft, &row, records.taken() as u32)?;
         look_up(alloc, &draft, opened, &mut results)?;
     }
     Ok(draft.block(results, alloc)?)
 }
 
-// Takes the next row of a block that isn't at its end.
-fn next_row(records: &mut Records) -> Result<Row, ReadRefused>
+// Takes the next row of a block that isn't at its end, in place of the row before it.
+fn next_row(records: &mut Records, row: &mut Row) -> Result<(), ReadRefused>
     requires few { records.old.taken < 2 ^ 31 }
-    ensures ok { IfOk result (λ row. TakesNext records.old records.new (Some row)) }
+    ensures ok { OnOk result (TakesNext records.old records.new (Some row.new)) }
     ensures err { IfErr result (Ends records.old records.new) }
 {
-    match records.next()? {
-        Some(row) => Ok(row),
-        None => Err(refused(records.taken() as u32 + 1, RowFault::Ended)),
+    if records.fill(row)? {
+        Ok(())
+    } else {
+        Err(refused(records.taken() as u32 + 1, RowFault::Ended))
     }
 }
 
 // Adds a row of this number to a draft, if it has no fault.
 fn add_row(alloc: Global, draft: &mut Draft, row: &Row, number: u32) -> Result<(), ReadRefused>
     requires way { IsUnderWay draft.old }
+    requires parts { HaveParts draft.old }
     ensures fine { OnOk result (fault_behind draft.old row.now ≡ None) }
     ensures told { OnOk result (draft.new ≡ draft_with_row draft.old row.now) }
     ensures err { IfErr result (RefusesRow draft.old row.now number) }

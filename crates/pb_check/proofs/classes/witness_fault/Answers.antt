@@ -10,14 +10,17 @@ pub returns-then-not-is_shown_at : goal.returns-then-not-is_shown_at
 returns-then-not-is_shown_at c =
     let stage = c.args.stage.now in
     let j = c.loop-j.j in
-    stream_fault stage (AtStream stage (λ j r. IsCertified stage.graph j r.classified)) j c.at_stream.result (omega (arith, c.loop-j-test.true, c.len-j-end.ensures.value)) c.loop-j.invariant
+    stream_fault stage (AtStream stage (λ j r. IsCertified stage.graph j r.classified)) j c.at_stream.result (omega (arith, c.loop-j-test.true, c.len-j-end.ensures.value)) c.loop-j.invariant.each
     (fails_by (AtStream stage (λ j r. IsCertified stage.graph j r.classified) j) c.is_shown_at.result c.is_shown_at.ensures c.if-not-is_shown_at.true) c.at_stream.ensures
 
 pub loop-j-preserved : goal.loop-j-preserved
-loop-j-preserved c = one_more (AtStream c.args.stage.now (λ j r. IsCertified c.args.stage.now.graph j r.classified)) c.loop-j.j c.loop-j.invariant (c.is_shown_at.ensures.0 c.if-not-is_shown_at.false)
+loop-j-preserved c = record {
+  each = one_more (AtStream c.args.stage.now (λ j r. IsCertified c.args.stage.now.graph j r.classified)) c.loop-j.j c.loop-j.invariant.each (c.is_shown_at.ensures.0 c.if-not-is_shown_at.false);
+  known = c.cycle_after-known.ensures;
+}
 
 pub returns : goal.returns
 returns c =
     λ j result there.
     let within = slice_get_within c.args.stage.now.streams j result there in
-    c.loop-j.invariant j (omega (arith, within, c.loop-j-test.false, c.len-j-end.ensures.value, c.requires.each_stream)) result there
+    c.loop-j.invariant.each j (omega (arith, within, c.loop-j-test.false, c.len-j-end.ensures.value, c.requires.each_stream)) result there
