@@ -27,7 +27,7 @@ use Rattle.pb_kinds.specs.declared.costs.NamedCost.{NamedCost}
 use Rattle.pb_book.specs.declared.answer.Accepted.{Accepted}
 use Rattle.pb_book.specs.declared.answer.NotAccepted.{NotAccepted}
 use Rattle.pb_book.specs.declared.answer.NotAccepted.TheVariants.{NoMemory}
-use Rattle.pb_book.specs.declared.rows.StoredRow.{StoredRow}
+use Rattle.pb_kinds.specs.declared.rows.StoredRow.{StoredRow}
 use Rattle.pb_book.specs.Rows.{declared_of, period_place, version_at}
 use Rattle.pb_book.proofs.WindowAnswerLemmas.{by_window}
 

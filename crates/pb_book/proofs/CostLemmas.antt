@@ -21,7 +21,7 @@ use Rattle.pb_kinds.specs.Laws.{NamedCostsLaw}
 use Rattle.pb_kinds.specs.Requests.{request_in}
 use Rattle.pb_book.specs.declared.answer.Accepted.TheVariants.{Advise}
 use Rattle.pb_book.specs.declared.answer.Refused.{Refused}
-use Rattle.pb_book.specs.declared.rows.StoredRow.{StoredRow}
+use Rattle.pb_kinds.specs.declared.rows.StoredRow.{StoredRow}
 use Rattle.pb_book.specs.Answer.{Answer, Says, answer_if, component_or_refused, Stores, if_known, unless_refused}
 use Rattle.pb_book.specs.declared.answer.Accepted.TheVariants as answered
 use Rattle.pb_book.specs.Assays.{has_assay}

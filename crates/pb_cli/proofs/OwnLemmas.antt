@@ -33,7 +33,7 @@ use Rattle.pb_book.specs.Answer.{Answer, Refuses, Says, Stores, answer_of, cause
 use Rattle.pb_book.specs.Edits.{history_of}
 use Rattle.pb_book.specs.Laws.{AcceptedLaw, AskedWindowLaw}
 use Rattle.pb_book.specs.Named.{AreNamed, HaveWellFormedNames, NamedLaw}
-use Rattle.pb_book.specs.declared.rows.StoredRow.{StoredRow}
+use Rattle.pb_kinds.specs.declared.rows.StoredRow.{StoredRow}
 use Rattle.pb_book.specs.Rows.{declared_of, periods_of}
 use Rattle.pb_book.specs.Windows.{BookWindowsLaw, IsWindowAsked, window_between}
 use Rattle.pb_periods.specs.Windows.{names_of_periods, periods_between}

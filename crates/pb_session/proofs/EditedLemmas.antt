@@ -36,7 +36,7 @@ use Rattle.pb_book.specs.Plain.{ArePlain, PlainLaw, numbered, opened, plain_rows
 use Rattle.pb_book.specs.Refusals.{refusal_of}
 use Rattle.pb_book.specs.Windows.{refusal_of_window}
 use Rattle.pb_kinds.specs.Requests.{request_in}
-use Rattle.pb_book.specs.declared.rows.StoredRow.{StoredRow}
+use Rattle.pb_kinds.specs.declared.rows.StoredRow.{StoredRow}
 use Rattle.pb_book.specs.Rows.{declared_of, period_place, periods_of, version_at}
 use Rattle.pb_book.specs.Written.{WriteRows, WritesRow}
 use Rattle.pb_period.specs.Days.{days_of}

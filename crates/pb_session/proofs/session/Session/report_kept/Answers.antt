@@ -3,7 +3,7 @@ use Rattle.pb_rows.specs.declared.name.Names.{Names}
 use Rattle.pb_study.specs.declared.results.Options.{Options}
 use Rattle.pb_elim.proofs.StudyLaws.{least_throughout, tested}
 use Rattle.pb_periods.specs.declared.period.Period.{Period}
-use Rattle.pb_book.specs.declared.rows.StoredRow.{StoredRow}
+use Rattle.pb_kinds.specs.declared.rows.StoredRow.{StoredRow}
 use Rattle.pb_book.specs.Rows.{periods_of}
 use Rattle.pb_report.specs.declared.form.Form.{Form}
 use Rattle.pb_report.specs.Form.{text_in}

@@ -8,7 +8,7 @@ use Rattle.pb_window.specs.Codes.{AreWindowNames, stream_code, window_names}
 use Rattle.pb_window.specs.Places.{HasStreamNames}
 use Rattle.pb_site.specs.Site.{names_of}
 use Rattle.pb_periods.specs.declared.period.Period.{Period}
-use Rattle.pb_book.specs.declared.rows.StoredRow.{StoredRow}
+use Rattle.pb_kinds.specs.declared.rows.StoredRow.{StoredRow}
 use Rattle.pb_book.specs.Rows.{declared_of, periods_of}
 use Rattle.pb_limits.specs.Limits.{most_periods_of_window}
 use Rattle.pb_window.specs.Window.{IsWindow}
