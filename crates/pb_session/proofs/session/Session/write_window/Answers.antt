@@ -22,7 +22,7 @@ use Rattle.pb_report.specs.Form.{text_in}
 use Rattle.pb_report.specs.Names.{name_at}
 use Rattle.pb_report.specs.Over.{over_row}
 use Rattle.pb_session.specs.Kept.{Held}
-use Rattle.pb_session.specs.Session.{AreNamesOf, IsTextOf, Windows, WindowsBy, assembly_between}
+use Rattle.pb_session.specs.Session.{AreNamesOf, IsTextOf, Windows, assembly_between}
 use Rattle.pb_session.specs.Windowed.{IsWindowAt}
 use Rattle.pb_session.proofs.AppendingLemmas.{appends_such}
 use Rattle.pb_session.proofs.WindowedLemmas.{between_is, same_found, window_at, window_names_are, windows_at, windows_ok}
