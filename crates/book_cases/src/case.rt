@@ -4,8 +4,8 @@ ghost use Rattle.std.specs.Prelude.{◌<◌, length, IfSome};
 ghost use Rattle.pb_book.specs.Rows.{periods_of};
 
 use cases::{append_word, field, fields_from, row_of};
-use pb_book::{Accepted, Book, NotAccepted, Refused, StoredRow};
-use pb_kinds::{Edit, Effect};
+use pb_book::{Accepted, Book, NotAccepted, Refused};
+use pb_kinds::{Edit, Effect, StoredRow};
 use pb_rows::{Name, Row, Rows};
 use std::alloc::{AllocError, Global};
 

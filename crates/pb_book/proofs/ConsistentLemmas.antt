@@ -40,7 +40,7 @@ use Rattle.pb_periods.specs.Ranges.{IsPeriod}
 use Rattle.pb_book.specs.Assays.{assays_of}
 use Rattle.pb_book.specs.Refusals.{is_book_full, is_closed, is_duplicate, is_mismatch, is_moved_outside, is_out_of_order, is_out_of_range, is_out_of_service, is_outside_table, is_sealed, is_unknown, refusal_behind}
 use Rattle.pb_periods.specs.Touching.{service_of}
-use Rattle.pb_book.specs.declared.rows.StoredRow.{StoredRow}
+use Rattle.pb_kinds.specs.declared.rows.StoredRow.{StoredRow}
 use Rattle.pb_periods.specs.Closing.{closed_if_named}
 use Rattle.pb_book.specs.Rows.{declared_of, facts_after, facts_of, live, open_period, periods_after, periods_of}
 use Rattle.pb_book.proofs.AcceptedLemmas.{by_accepted}

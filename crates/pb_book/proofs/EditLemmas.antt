@@ -9,7 +9,7 @@ use Rattle.pb_site.specs.Site.{version_of}
 use Rattle.pb_facts.specs.declared.assays.Assay.{Assay}
 use Rattle.pb_periods.specs.declared.period.Period.{Period}
 use Rattle.pb_book.specs.declared.rows.Place.{Place}
-use Rattle.pb_book.specs.declared.rows.StoredRow.{StoredRow}
+use Rattle.pb_kinds.specs.declared.rows.StoredRow.{StoredRow}
 use Rattle.pb_book.specs.Edits.{edit_touches, edits_of, row_touches, touches_at}
 use Rattle.pb_book.specs.Kept.{AreOf, ArePlaced, IsKept, Shelves, row_at, rows_at}
 use Rattle.pb_book.specs.Rows.{declared_of, facts_of, version_at}

@@ -23,7 +23,7 @@ use Rattle.pb_book.specs.Kept.{AreOf}
 use Rattle.pb_book.specs.Refusals.{is_closed, is_mismatch, is_out_of_service, is_unknown, refusal_behind}
 use Rattle.pb_periods.specs.Touching.{service_of}
 use Rattle.pb_book.specs.declared.answer.Refused.TheVariants.{Range}
-use Rattle.pb_book.specs.declared.rows.StoredRow.{StoredRow}
+use Rattle.pb_kinds.specs.declared.rows.StoredRow.{StoredRow}
 use Rattle.pb_book.specs.Assays.{assays_of}
 use Rattle.pb_book.specs.Rows.{declared_of, facts_of, period_place, periods_of}
 use Rattle.pb_book.proofs.ConsistentLemmas.{fine, range_parts}

@@ -24,7 +24,7 @@ use Rattle.pb_kinds.specs.declared.rows.Effect.TheVariants.{Declares, Opens, Boo
 use Rattle.pb_book.specs.Accepted.{IsAcceptable}
 use Rattle.pb_book.specs.Live.{LiveLaw, change_in, is_struck_in, last_change, later_of, live_in, live_of, strikes, values_by}
 use Rattle.pb_book.specs.Refusals.{is_misfit}
-use Rattle.pb_book.specs.declared.rows.StoredRow.{StoredRow}
+use Rattle.pb_kinds.specs.declared.rows.StoredRow.{StoredRow}
 use Rattle.pb_book.specs.Assays.{assays_of}
 use Rattle.pb_book.specs.Rows.{declared_of, facts_after, facts_of, live, periods_of}
 use Rattle.pb_book.proofs.AcceptedLemmas.{by_accepted}

@@ -26,7 +26,7 @@ use Rattle.pb_kinds.specs.Ranges.{IsEffectInRange}
 use Rattle.pb_kinds.specs.Requests.{request_in}
 use Rattle.pb_book.specs.declared.answer.Accepted.TheVariants.{Component}
 use Rattle.pb_periods.specs.declared.period.Period.{Period}
-use Rattle.pb_book.specs.declared.rows.StoredRow.{StoredRow}
+use Rattle.pb_kinds.specs.declared.rows.StoredRow.{StoredRow}
 use Rattle.pb_book.specs.Answer.{Answer, Says, after, after_answer, answer_if, answer_of, answer_to, Stores}
 use Rattle.pb_periods.specs.Apart.{is_named}
 use Rattle.pb_book.specs.Assays.{assay_by, assays_of}

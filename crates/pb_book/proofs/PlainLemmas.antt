@@ -42,7 +42,7 @@ use Rattle.pb_kinds.specs.Ranges.{IsEffectInRange}
 use Rattle.pb_kinds.specs.Versions.{may_declare, may_do}
 use Rattle.pb_book.specs.Refusals.{is_of_other_kind, is_of_plant, is_out_of_service, is_outside_table, is_no_arc, is_sealed_by, kind_of_fact, names_other, refusal_behind, refusal_of}
 use Rattle.pb_periods.specs.Closing.{closed_if_named, is_closed_named, is_unserved_in}
-use Rattle.pb_book.specs.declared.rows.StoredRow.{StoredRow}
+use Rattle.pb_kinds.specs.declared.rows.StoredRow.{StoredRow}
 use Rattle.pb_book.specs.Rows.{declared_of, facts_after, facts_of, live, open_period, periods_after, periods_of, version_at}
 use Rattle.pb_periods.specs.Touching.{is_closed_in_service, service_of, some_closed, touches_closed, touches_in}
 use Rattle.pb_book.proofs.AcceptedLemmas.{accepted_more, by_accepted, none_accepted}

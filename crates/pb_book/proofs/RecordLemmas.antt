@@ -19,7 +19,7 @@ use Rattle.pb_book.specs.declared.rows.Part.{Part}
 use Rattle.pb_book.specs.declared.rows.Part.TheVariants as part
 use Rattle.pb_periods.specs.declared.period.Period.{Period}
 use Rattle.pb_book.specs.declared.rows.Place.{Place}
-use Rattle.pb_book.specs.declared.rows.StoredRow.{StoredRow}
+use Rattle.pb_kinds.specs.declared.rows.StoredRow.{StoredRow}
 use Rattle.pb_book.specs.Kept.{closing, editing, effect_in, opening, row_at, rows_at, settled_at, settled_in, shelves_of}
 use Rattle.pb_book.specs.Plain.{booked, settled, settled_rows}
 use Rattle.pb_book.specs.Written.{AddsRow, AddsSome, WriteRows, WritesRow}

@@ -10,7 +10,7 @@ use Rattle.pb_facts.specs.declared.assays.Assay.{Assay}
 use Rattle.pb_kinds.specs.declared.rows.Effect.{Effect}
 use Rattle.pb_periods.specs.declared.period.Period.{Period}
 use Rattle.pb_book.specs.declared.rows.Place.{Place}
-use Rattle.pb_book.specs.declared.rows.StoredRow.{StoredRow}
+use Rattle.pb_kinds.specs.declared.rows.StoredRow.{StoredRow}
 use Rattle.pb_book.specs.Kept.{AreOf, ArePlaced, Shelves, row_at, rows_at}
 use Rattle.pb_book.specs.Rows.{facts_after, facts_of, periods_after, periods_of, with_row}
 use Rattle.pb_book.specs.TakenOut.{last_row, row_takes_out, takes_out, touched_at, touching_of}

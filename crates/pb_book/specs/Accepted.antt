@@ -7,7 +7,7 @@ use Rattle.pb_kinds.specs.declared.rows.Effect.{Effect}
 use Rattle.pb_kinds.specs.Ranges.{IsEffectInRange}
 use Rattle.pb_kinds.specs.Versions.{may_do}
 use Rattle.pb_periods.specs.declared.period.Period.{Period}
-use Rattle.pb_book.specs.declared.rows.StoredRow.{StoredRow}
+use Rattle.pb_kinds.specs.declared.rows.StoredRow.{StoredRow}
 use Rattle.pb_periods.specs.Apart.{AreApart}
 use Rattle.pb_periods.specs.Ranges.{IsPeriod}
 use Rattle.pb_book.specs.Refusals.{is_outside_table, refusal_of}

@@ -6,7 +6,7 @@ use Rattle.pb_facts.specs.Assays.{grade_among, is_assay_over}
 use Rattle.pb_facts.specs.declared.assays.Assay.{Assay}
 use Rattle.pb_kinds.specs.declared.rows.Effect.{Effect}
 use Rattle.pb_kinds.specs.declared.rows.Effect.TheVariants.{Assays}
-use Rattle.pb_book.specs.declared.rows.StoredRow.{StoredRow}
+use Rattle.pb_kinds.specs.declared.rows.StoredRow.{StoredRow}
 
 -- the assay that a row gives, if it gives one
 abbrev pub assay_by : Effect → Option Assay

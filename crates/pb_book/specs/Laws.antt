@@ -2,7 +2,7 @@
 use Rattle.std.specs.Prelude.{◌≡◌, ℕ, List, [], All}
 use Rattle.pb_kinds.specs.Costs.{IsMeterCost, named_costs}
 use Rattle.pb_book.specs.declared.answer.Accepted.TheVariants.{Advise, Window}
-use Rattle.pb_book.specs.declared.rows.StoredRow.{StoredRow}
+use Rattle.pb_kinds.specs.declared.rows.StoredRow.{StoredRow}
 use Rattle.pb_book.specs.Accepted.{AreAccepted, AreConsistent}
 use Rattle.pb_book.specs.Answer.{Says, after, answer_of}
 use Rattle.pb_book.specs.Costs.{meter_costs}

@@ -8,7 +8,7 @@ use Rattle.pb_site.specs.Row.{IsDeclaredInRange}
 use Rattle.pb_site.specs.Site.{arc_names, node_names}
 use Rattle.pb_kinds.specs.Effects.{effect_names}
 use Rattle.pb_periods.specs.declared.period.Period.{Period}
-use Rattle.pb_book.specs.declared.rows.StoredRow.{StoredRow}
+use Rattle.pb_kinds.specs.declared.rows.StoredRow.{StoredRow}
 use Rattle.pb_book.specs.declared.answer.Accepted.TheVariants.{Component}
 use Rattle.pb_book.specs.Accepted.{AreAccepted}
 use Rattle.pb_book.specs.Answer.{Says, after, answer_of}

@@ -11,7 +11,7 @@ use Rattle.pb_kinds.specs.declared.rows.Edit.TheVariants as edits
 use Rattle.pb_kinds.specs.declared.rows.Effect.{Effect}
 use Rattle.pb_kinds.specs.declared.rows.Effect.TheVariants.{Declares, Opens, Books, Edits, Closes}
 use Rattle.pb_periods.specs.declared.period.Period.{Period}
-use Rattle.pb_book.specs.declared.rows.StoredRow.{StoredRow}
+use Rattle.pb_kinds.specs.declared.rows.StoredRow.{StoredRow}
 use Rattle.pb_periods.specs.Apart.{is_named}
 use Rattle.pb_periods.specs.Closing.{closed_if_named}
 

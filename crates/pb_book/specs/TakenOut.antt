@@ -8,7 +8,7 @@ use Rattle.pb_site.specs.Site.{version_of}
 use Rattle.pb_kinds.specs.declared.rows.Effect.{Effect}
 use Rattle.pb_kinds.specs.declared.rows.Effect.TheVariants.{Declares, Opens, Books, Edits, Closes, Assays}
 use Rattle.pb_periods.specs.declared.period.Period.{Period}
-use Rattle.pb_book.specs.declared.rows.StoredRow.{StoredRow}
+use Rattle.pb_kinds.specs.declared.rows.StoredRow.{StoredRow}
 use Rattle.pb_book.specs.Rows.{declared_of, facts_after, facts_of, periods_after, periods_of, with_row}
 use Rattle.pb_periods.specs.Touching.{touches_in}
 

@@ -15,7 +15,7 @@ use Rattle.pb_periods.specs.declared.windows.BetweenFault.TheVariants as between
 use Rattle.pb_periods.specs.Windows.{fault_between, names_of_periods, periods_between, span_of_period, window_over, window_plant}
 use Rattle.pb_book.specs.declared.answer.Refused.{Refused}
 use Rattle.pb_book.specs.declared.answer.Refused.TheVariants.{Unknown, Order, Mismatch, Range, Full}
-use Rattle.pb_book.specs.declared.rows.StoredRow.{StoredRow}
+use Rattle.pb_kinds.specs.declared.rows.StoredRow.{StoredRow}
 use Rattle.pb_book.specs.Accepted.{AreAccepted}
 use Rattle.pb_book.specs.Rows.{declared_of, periods_of}
 

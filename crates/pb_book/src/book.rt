@@ -38,10 +38,10 @@ use crate::costs::{judge_costs, meter_costs};
 use crate::judge::{judge, judge_fact};
 use crate::originals::keep_original;
 use crate::plain::plain_records;
-use crate::rows::{Edited, Part, Place, StoredRow};
+use crate::rows::{Edited, Part, Place};
 use crate::shelves::row_at;
 use pb_facts::{Assays, Fact, Facts, Grade};
-use pb_kinds::{Assay, Edit, Effect, NamedCosts, Request, read_reading, read_request};
+use pb_kinds::{Assay, Edit, Effect, NamedCosts, Request, StoredRow, read_reading, read_request};
 use pb_periods::{Period, Periods, judge_window, places_between, touches_in, window_over};
 use pb_rows::{Name, Reason, Row, Rows};
 use pb_site::{Declared, Site, Version};
@@ -71,7 +71,7 @@ pub struct Book {
 
 impl Model for Book {
     ghost use Rattle.std.specs.Prelude.{List};
-    ghost use Rattle.pb_book.specs.declared.rows.StoredRow.{StoredRow};
+    ghost use Rattle.pb_kinds.specs.declared.rows.StoredRow.{StoredRow};
     ghost use Rattle.pb_book.specs.Kept.{IsKept, rows_at, shelves_of, told_at};
 
     ghost Value = { List StoredRow };

@@ -20,4 +20,3 @@ pub use laws::{
     named_law, plain_law, ranges_law, touched_law, version_one_law,
 };
 pub use pb_periods::Period;
-pub use rows::StoredRow;

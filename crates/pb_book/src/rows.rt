@@ -1,14 +1,7 @@
-// The stored rows of a book, and where they are kept.
+// Where the stored rows of a book are kept.
 
-use pb_kinds::{Edit, Effect};
+use pb_kinds::Edit;
 use pb_rows::{Name, Reason};
-
-/// A stored row: the number of its record in the session, counted from 1, and what it does.
-#[derive(Clone, Copy)]
-pub struct StoredRow {
-    pub at: u32,
-    pub effect: Effect,
-}
 
 /// Where a stored row is kept: the number of its record, and its place in a part of the book. Each row has one, so it is short.
 #[derive(Clone, Copy)]

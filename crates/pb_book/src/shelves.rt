@@ -6,9 +6,9 @@ ghost use Rattle.pb_kinds.specs.Ranges.{IsEffectInRange};
 ghost use Rattle.pb_book.specs.Kept.{closing, editing, effect_in, opening, row_at, settled_in, shelves_of, told_at};
 
 use crate::originals::told_at;
-use crate::rows::{Edited, Part, Place, StoredRow};
+use crate::rows::{Edited, Part, Place};
 use pb_facts::{Assays, Fact, Facts};
-use pb_kinds::Effect;
+use pb_kinds::{Effect, StoredRow};
 use pb_periods::{Period, Periods};
 use pb_site::Declared;
 use std::collections::HashMap;

@@ -33,7 +33,7 @@ use Rattle.pb_book.specs.Answer.{Answer, Refuses, Says, Stores, answer_of, cause
 use Rattle.pb_book.specs.Edits.{history_of}
 use Rattle.pb_book.specs.Laws.{AcceptedLaw, AskedWindowLaw}
 use Rattle.pb_book.specs.Named.{AreNamed, HaveWellFormedNames, NamedLaw}
-use Rattle.pb_book.specs.declared.rows.StoredRow.{StoredRow}
+use Rattle.pb_kinds.specs.declared.rows.StoredRow.{StoredRow}
 use Rattle.pb_book.specs.Rows.{declared_of, periods_of}
 use Rattle.pb_book.specs.Windows.{BookWindowsLaw, IsWindowAsked, window_between}
 use Rattle.pb_periods.specs.Windows.{names_of_periods, periods_between}
@@ -60,7 +60,7 @@ use Rattle.pb_report.specs.Over.{over_row}
 use Rattle.pb_report.specs.Refusal.{refused_row}
 use Rattle.pb_site.specs.Site.{names_of, version_of}
 use Rattle.pb_session.specs.History.{told, told_history, told_period}
-use Rattle.pb_session.specs.Session.{Adds, AddsAccepted, AddsBy, AreNamesOf, Balances, BalancesBy, IsHistoryText, IsReport, IsReportAfter, IsSessionText, IsTextOf, Reports, ReportsBy, SessionState, Windows, WindowsBy, assembly_between, state_after, window_head}
+use Rattle.pb_session.specs.Session.{Adds, AddsAccepted, AddsBy, AreNamesOf, Balances, IsHistoryText, IsReport, IsSessionText, IsTextOf, Reports, ReportsBy, SessionState, Windows, assembly_between, state_after, window_head}
 use Rattle.pb_audit.specs.Judgement.{AreFindings, Finding, IsJudgement, IsPassedBlock, finds_wrong, passed}
 use Rattle.pb_audit.specs.Laws.{OneFindingsLaw, PassedLaw}
 use Rattle.pb_cli.proofs.ServedLemmas.{days_named}
@@ -170,9 +170,9 @@ served_named rows days named =
     record { nodes = nodes; streams = streams }
 
 -- a report can be read back
-reportable : AreKnown → (state : SessionState) (names : Names) (period : List ℕ) (graph : ProcessGraph) (text : List ℕ) → IsSound state → HaveForms names → is_name period ≡ true
-    → (report : IsReport state names period graph text) → IsReportable names period state.options report.study
-reportable known state names period graph text sound forms name report = record {
+reportable : AreKnown → (state : SessionState) (before : List OutputRow) (names : Names) (period : List ℕ) (graph : ProcessGraph) (text : List ℕ) → IsSound state → HaveForms names → is_name period ≡ true
+    → (report : IsReport state before names period graph text) → IsReportable names period state.options report.study
+reportable known state before names period graph text sound forms name report = record {
   named = record {
     graph = graph;
     named = report.named.each;
@@ -194,28 +194,23 @@ reportable known state names period graph text sound forms name report = record 
   greatest_round = omega (arith, report.is_study.rounds.between, report.is_study.rounds.rounds, sound.options.greatest_rounds);
 }
 
-report_read : AreKnown → (state : SessionState) (names : Names) (period : List ℕ) (graph : ProcessGraph) (text : List ℕ) → IsSound state → HaveForms names → is_name period ≡ true
-    → IsReport state names period graph text → ReadsBack text
-report_read known state names period graph text sound forms name report =
-    let able = reportable known state names period graph text sound forms name report in
-    record {
-      rows = study_rows names period state.options report.study;
+-- rows without a block, and a report after them
+report_read : AreKnown → (state : SessionState) (before : List OutputRow) (names : Names) (period : List ℕ) (graph : ProcessGraph) (text : List ℕ) → IsSound state → HaveForms names → is_name period ≡ true
+    → BeginWithWords before → AreBlocks (records_in before) [] → IsReport state before names period graph text → ReadsBack text
+report_read known state before names period graph text sound forms name words others report =
+    let rows : List OutputRow = study_rows names period state.options report.study in
+    let whole : text ≡ text_in Csv before ++ text_in Csv rows =
+    in_csv state (before ++ rows) text sound.form report.rows ∙ flat_map-append (row_text Csv) before rows in
+    subst (λ (t : List ℕ). ReadsBack t) (sym whole) (both_read known.join (text_in Csv before) (text_in Csv rows) (passed_over before (text_in Csv before) refl words others) (record {
+      rows = rows;
       blocks = blocks_from names period state.options 0 report.study.stages;
-      text_is = in_csv state (study_rows names period state.options report.study) text sound.form report.rows;
+      text_is = refl;
       words = known.words.studies names period state.options report.study;
-      are = known.rows names period state.options report.study able;
+      are = known.rows names period state.options report.study (reportable known state before names period graph text sound forms name report);
       pass =
           blocks_pass names period state.options 0 report.study.stages
           (known.own graph state.options (critical_of state.rows) report.study report.limits report.is_study);
-    }
-
--- a report after other rows
-report_after_read : AreKnown → (state : SessionState) (rows : List OutputRow) (names : Names) (period : List ℕ) (graph : ProcessGraph) (text : List ℕ) → IsSound state → HaveForms names
-    → is_name period ≡ true → BeginWithWords rows → AreBlocks (records_in rows) [] → IsReportAfter state rows names period graph text → ReadsBack text
-report_after_read known state rows names period graph text sound forms name words others after =
-    subst (λ (t : List ℕ). ReadsBack t) (sym after.whole)
-    (both_read known.join after.front after.rest (passed_over rows after.front (in_csv state rows after.front sound.form after.before) words others)
-    (report_read known state names period graph after.rest sound forms name after.report))
+    }))
 
 -- a period's name is a name
 period_named : NamedLaw → (state : SessionState) (i : ℕ) (period : Period) → IsSound state → slice_get (periods_of state.rows) i ≡ Some period → is_name period.name ≡ true
@@ -228,20 +223,20 @@ over_read known state period stream text sound is =
     let rows : List OutputRow = over_row period stream ∷ [] in
     passed_over rows text (in_csv state rows text sound.form is) (known.words.over period stream) (known.others.over period stream)
 
+-- a report after such rows, or the row of a stream beyond the limits
+reports_by_read : AreKnown → (state : SessionState) (before : List OutputRow) (names : Names) (period : List ℕ) (assembly : Result ProcessGraph Assembly) (text : List ℕ) → IsSound state → HaveForms names
+    → is_name period ≡ true → BeginWithWords before → AreBlocks (records_in before) [] → ReportsBy state before names period assembly text → ReadsBack text
+reports_by_read known state before names period (Ok graph) text sound forms name words others report =
+    report_read known state before names period graph text sound forms name words others report
+reports_by_read known state before names period (Err (Over j)) text sound forms name words others is = over_read known state period (name_at names.streams j) text sound is
+reports_by_read known state before names period (Err NoMemory) text sound forms name words others is = absurd is
+
 reports_read : AreKnown → NamedLaw → (state : SessionState) (i : ℕ) (text : List ℕ) → IsSound state → (found : Option Period) → slice_get (periods_of state.rows) i ≡ found
     → Reports state found text → ReadsBack text
 reports_read known law state i text sound None at reports = absurd reports
-reports_read known law state i text sound (Some period) at reports = by (assembly_of state.rows (days_of period)) reports
-  where
-    named : AreNamed state.rows
-    named = law.named state.rows sound.named
-
-    by : (a : Result ProcessGraph Assembly) → ReportsBy state period a text → ReadsBack text
-    by (Ok graph) report =
-        report_read known state (period_names state.rows (days_of period)) period.name graph text sound (served_named state.rows (days_of period) named)
-        (period_named law state i period sound at) report
-    by (Err (Over j)) is = over_read known state period.name (name_at (period_names state.rows (days_of period)).streams j) text sound is
-    by (Err NoMemory) is = absurd is
+reports_read known law state i text sound (Some period) at reports =
+    reports_by_read known state [] (period_names state.rows (days_of period)) period.name (assembly_of state.rows (days_of period)) text sound
+    (served_named state.rows (days_of period) (law.named state.rows sound.named)) (period_named law state i period sound at) refl refl reports
 
 -- ---- the balance of a component
 
@@ -249,15 +244,10 @@ reports_read known law state i text sound (Some period) at reports = by (assembl
 balances_read : AreKnown → NamedLaw → (state : SessionState) (component : List ℕ) (i : ℕ) (text : List ℕ) → IsSound state → (found : Option Period) → slice_get (periods_of state.rows) i ≡ found
     → Balances state component found text → ReadsBack text
 balances_read known law state component i text sound None at balance = absurd balance
-balances_read known law state component i text sound (Some period) at (answer, of, by) = read answer by
-  where
-    read : (a : Result ProcessGraph Assembly) → BalancesBy state component period a text → ReadsBack text
-    read (Ok graph) after =
-        report_after_read known state (component_row component period.name ∷ []) (period_names state.rows (days_of period)) period.name graph text sound
-        (served_named state.rows (days_of period) (law.named state.rows sound.named)) (period_named law state i period sound at) (known.words.components component period.name)
-        (known.others.components component period.name) after
-    read (Err (Over j)) is = over_read known state period.name (name_at (period_names state.rows (days_of period)).streams j) text sound is
-    read (Err NoMemory) is = absurd is
+balances_read known law state component i text sound (Some period) at (answer, of, by) =
+    reports_by_read known state (component_row component period.name ∷ []) (period_names state.rows (days_of period)) period.name answer text sound
+    (served_named state.rows (days_of period) (law.named state.rows sound.named)) (period_named law state i period sound at) (known.words.components component period.name)
+    (known.others.components component period.name) by
 
 -- ---- a window of several periods
 
@@ -268,33 +258,18 @@ pub record AreKnownWindows : Type 0 where
 
 windows_read : AreKnown → AreKnownWindows → NamedLaw → (state : SessionState) (i k : ℕ) (text : List ℕ) → IsSound state → IsWindowAsked state.rows i k
     → Windows state (slice_get (periods_of state.rows) i) (slice_get (periods_of state.rows) k) text → ReadsBack text
-windows_read known windows law state i k text sound asked adds = by (assembly_between state.rows first last) here
-  where
-    first : Period
-    first = asked.one
-
-    last : Period
-    last = asked.other
-
-    here : WindowsBy state first last (assembly_between state.rows first last) text
-    here =
-        subst (λ (o : Option Period). Windows state (Some first) o text) asked.last_is
-        (subst (λ (o : Option Period). Windows state o (slice_get (periods_of state.rows) k) text) asked.first_is adds)
-
-    name : is_name first.name ≡ true
-    name = period_named law state i first sound asked.first_is
-
-    by : (a : Result ProcessGraph Assembly) → WindowsBy state first last a text → ReadsBack text
-    by (Ok graph) after =
-        let window = window_between state.rows first last in
-        let periods = periods_between (periods_of state.rows) first last in
-        let places = window_places (names_of (declared_of state.rows)) (names_of_periods periods) window in
-        let codes = (windows.books state.rows first last sound.accepted asked.no_cause).names in
-        report_after_read known state (window_head state.rows first last) (window_names window) first.name graph text sound
-        (record { nodes = codes.nodes.forms; streams = codes.streams.forms }) name (known.words.windows first.name last.name (length periods) places)
-        (known.others.windows first.name last.name (length periods) places) after
-    by (Err (Over j)) is = over_read known state first.name (name_at (window_names (window_between state.rows first last)).streams j) text sound is
-    by (Err NoMemory) is = absurd is
+windows_read known windows law state i k text sound asked adds =
+    let first = asked.one in
+    let last = asked.other in
+    let window = window_between state.rows first last in
+    let periods = periods_between (periods_of state.rows) first last in
+    let places = window_places (names_of (declared_of state.rows)) (names_of_periods periods) window in
+    let codes = (windows.books state.rows first last sound.accepted asked.no_cause).names in
+    reports_by_read known state (window_head state.rows first last) (window_names window) first.name (assembly_between state.rows first last) text sound
+    (record { nodes = codes.nodes.forms; streams = codes.streams.forms }) (period_named law state i first sound asked.first_is) (known.words.windows first.name last.name (length periods) places)
+    (known.others.windows first.name last.name (length periods) places)
+    (subst (λ (o : Option Period). Windows state (Some first) o text) asked.last_is
+    (subst (λ (o : Option Period). Windows state o (slice_get (periods_of state.rows) k) text) asked.first_is adds))
 
 -- ---- one record, and all of them
 

@@ -4,7 +4,7 @@ use Rattle.std.specs.Prelude.{◌-◌, slice_get}
 use Rattle.std.proofs.lemmas.List.{length-take-le, take_more, take-append-le, take_all}
 use Rattle.pb_book.specs.Accepted.{AreAccepted}
 use Rattle.pb_book.specs.Laws.{AcceptedLaw}
-use Rattle.pb_book.specs.declared.rows.StoredRow.{StoredRow}
+use Rattle.pb_kinds.specs.declared.rows.StoredRow.{StoredRow}
 use Rattle.pb_book.specs.Rows.{periods_of}
 use Rattle.pb_periods.specs.declared.period.Period.{Period}
 use Rattle.pb_graph.specs.ProcessGraph.{IsProcessGraph}

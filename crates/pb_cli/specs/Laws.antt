@@ -2,6 +2,7 @@
 -- session has one summary.
 use Rattle.std.specs.Prelude.{◌≡◌, ℕ, ◌≤◌, Bool, false, List, All}
 use Rattle.pb_limits.specs.Limits.{most_made_streams}
+use Rattle.pb_rows.specs.Records.{records_of}
 use Rattle.pb_graph.specs.ProcessGraph.{ProcessGraph, IsProcessGraph}
 use Rattle.pb_study.specs.declared.results.Study.{Study}
 use Rattle.pb_study.specs.declared.results.Options.{Options}
@@ -12,7 +13,8 @@ use Rattle.pb_check.specs.Verdict.{IsPassed}
 use Rattle.pb_report.specs.declared.form.Form.{Form}
 use Rattle.pb_report.specs.declared.form.Form.TheVariants.{Csv}
 use Rattle.pb_make.specs.Plant.{least_streams}
-use Rattle.pb_cli.specs.Run.{IsCheck, IsTextOfCheck, IsTextOfRun}
+use Rattle.pb_audit.specs.Judgement.{IsJudgement, IsJudgementText}
+use Rattle.pb_cli.specs.Run.{IsTextOfRun}
 use Rattle.pb_cli.specs.Summary.{IsSummaryText, made_options}
 
 -- each input has a text of its run, for any options within their limits, in each form
@@ -27,11 +29,12 @@ OneRunTextLaw =
 
 -- each input has the text of its check
 abbrev pub SomeCheckTextLaw : Type 0
-SomeCheckTextLaw = (input : List ℕ) → (text : List ℕ) × IsTextOfCheck input text
+SomeCheckTextLaw = (input : List ℕ) → (text : List ℕ) × IsJudgementText (records_of input) text
 
 -- and no other
 abbrev pub OneCheckTextLaw : Type 0
-OneCheckTextLaw = (input one other : List ℕ) → IsTextOfCheck input one → IsTextOfCheck input other → one ≡ other
+OneCheckTextLaw =
+    (input one other : List ℕ) → IsJudgementText (records_of input) one → IsJudgementText (records_of input) other → one ≡ other
 
 -- each stage of a study passes at the gap and the sweeps of the study
 abbrev pub OwnLaw : Type 0
@@ -43,7 +46,7 @@ OwnLaw = (graph : ProcessGraph) (options : Options) (critical : Critical) (study
 abbrev pub OwnReportsLaw : Type 0
 OwnReportsLaw =
     (options : Options) (input text judgement : List ℕ) (wrong : Bool) → AreOptions options → IsTextOfRun options Csv input text
-    → IsCheck wrong text judgement → wrong ≡ false
+    → IsJudgement wrong (records_of text) judgement → wrong ≡ false
 
 -- a made session has at most one summary
 abbrev pub OneSummaryLaw : Type 0

@@ -34,11 +34,6 @@ IsTextOfRun options form input text = IsSessionText (new_session options form) 1
 abbrev pub refuses : Options → Form → List ℕ → Bool
 refuses options form input = refuses_some (new_session options form) 1 (records_of input)
 
--- The output for these bytes, and whether some record of them is refused.
-pub record IsOutput (options : Options) (form : Form) (refused : Bool) (input output : List ℕ) : Type 0 where
-  pub is_text : IsTextOfRun options form input output
-  pub refuses_as : refuses options form input ≡ refused
-
 -- the text that is made: that of the session with this number and this many streams, or its summary
 abbrev pub IsMade : ℕ → ℕ → Bool → ℕ → ℕ → List ℕ → Type 0
 IsMade number streams false gap sweeps text = text ≡ session_text number streams
@@ -46,33 +41,24 @@ IsMade number streams true gap sweeps text = IsSummaryText number streams gap sw
 
 -- whether a command makes a session or its summary
 abbrev pub is_making : Command → Bool
-is_making (Run options form) = false
-is_making Check = false
 is_making (Make number streams summary gap sweeps) = true
+is_making command = false
 
 -- the words give a command that makes a session or its summary
 abbrev pub AskToMake : List (List ℕ) → Type 0
 AskToMake words = (command : Command) × IsCommandOf words command × (is_making command ≡ true)
 
--- The judgement of the records of these bytes, and whether it finds anything wrong.
-abbrev pub IsCheck : Bool → List ℕ → List ℕ → Type 0
-IsCheck wrong input output = IsJudgement wrong (records_of input) output
-
--- the judgement of these bytes, whatever it finds
-abbrev pub IsTextOfCheck : List ℕ → List ℕ → Type 0
-IsTextOfCheck input output = IsJudgementText (records_of input) output
-
 -- The whole output of a command for this input, and whether it shows that something is wrong: that a record of a run was refused,
 -- or that a block of a check fails or one of its records can't be read.
 abbrev pub IsWhole : Bool → Command → List ℕ → List ℕ → Type 0
-IsWhole wrong (Run options form) input output = IsOutput options form wrong input output
-IsWhole wrong Check input output = IsCheck wrong input output
+IsWhole wrong (Run options form) input output = IsTextOfRun options form input output × (wrong ≡ refuses options form input)
+IsWhole wrong Check input output = IsJudgement wrong (records_of input) output
 IsWhole wrong (Make number streams summary gap sweeps) input output = (wrong ≡ false) × IsMade number streams summary gap sweeps output
 
 -- a proper beginning of the output; for a run, the texts of the first records and a proper beginning of the next one's
 abbrev pub IsCutShort : Command → List ℕ → List ℕ → Type 0
 IsCutShort (Run options form) input bytes = AreTextsCutShort (new_session options form) (records_of input) bytes
-IsCutShort Check input bytes = IsBeginningOf (IsTextOfCheck input) bytes
+IsCutShort Check input bytes = IsBeginningOf (IsJudgementText (records_of input)) bytes
 IsCutShort (Make number streams summary gap sweeps) input bytes = IsBeginningOf (IsMade number streams summary gap sweeps) bytes
 
 -- the texts of the first records of a run, or the first rows of a check, whole
@@ -86,14 +72,10 @@ pub record IsReadWhole (source_old source_new : SourceSeen) (input : List ℕ) :
   pub taken_all : TakesInTurns source_old source_new input
   pub end : IsAtEnd source_new.remaining
 
--- nothing was read, or all of it
-abbrev pub ReadsIf : Bool → SourceSeen → SourceSeen → List ℕ → Type 0
-ReadsIf true source_old source_new input = (source_new ≡ source_old) × (input ≡ [])
-ReadsIf false source_old source_new input = IsReadWhole source_old source_new input
-
 -- a command reads its input to the end; one that makes a session reads nothing
 abbrev pub Reads : Command → SourceSeen → SourceSeen → List ℕ → Type 0
-Reads command source_old source_new input = ReadsIf (is_making command) source_old source_new input
+Reads (Make number streams summary gap sweeps) source_old source_new input = (source_new ≡ source_old) × (input ≡ [])
+Reads command source_old source_new input = IsReadWhole source_old source_new input
 
 -- The words give a command, its input was read, and bytes with this property were put.
 pub record Does (Wrote : Command → List ℕ → List ℕ → Type 0) (words : List (List ℕ)) (source_old source_new : SourceSeen) (sink_old sink_new : SinkSeen) : Type 0 where
@@ -109,21 +91,13 @@ pub record ShowsInput (source_old source_new : SourceSeen) (input : List ℕ) : 
   pub within : length input ≤ most_bytes
   pub no_fault : Rose source_old.faults source_new.faults → ⊥
 
--- nothing is required of the source, or that it shows this input
-abbrev pub IsGivenIf : Bool → SourceSeen → SourceSeen → List ℕ → Type 0
-IsGivenIf true source_old source_new input = input ≡ []
-IsGivenIf false source_old source_new input = ShowsInput source_old source_new input
-
--- what a command needs from its source to end normally: the making of a session needs nothing
+-- what a command needs from its source to end normally: that it shows this input; the making of a session needs nothing
 abbrev pub IsGiven : Command → SourceSeen → SourceSeen → List ℕ → Type 0
-IsGiven command source_old source_new input = IsGivenIf (is_making command) source_old source_new input
-
--- how a check ends: by whether anything wrong is found
-abbrev pub EndsAsChecked : List ℕ → Status → Type 0
-EndsAsChecked input status = (wrong : Bool) × Judges wrong (records_of input) × (status ≡ done_status wrong)
+IsGiven (Make number streams summary gap sweeps) source_old source_new input = input ≡ []
+IsGiven command source_old source_new input = ShowsInput source_old source_new input
 
 -- how a command ends if it reads and writes everything
 abbrev pub EndsAs : Command → List ℕ → Status → Type 0
 EndsAs (Run options form) input status = status ≡ done_status (refuses options form input)
-EndsAs Check input status = EndsAsChecked input status
+EndsAs Check input status = (wrong : Bool) × Judges wrong (records_of input) × (status ≡ done_status wrong)
 EndsAs (Make number streams summary gap sweeps) input status = status ≡ Done

@@ -1,10 +1,10 @@
 -- Statement. The summary of a made session: one row on how its study came out.
-use Rattle.std.specs.Prelude.{◌≡◌, ℕ, false, List, [], ◌∷◌, length, Option, Some, None, slice_get, Result, Ok, Err}
+use Rattle.std.specs.Prelude.{◌≡◌, ℕ, false, List, [], ◌∷◌, length, Option, IsSomeAnd, slice_get, Result, Ok, Err}
 use Rattle.pb_study.specs.declared.results.Options.{Options}
 use Rattle.pb_study.specs.declared.results.Stage.{Stage}
 use Rattle.pb_graph.specs.ProcessGraph.{ProcessGraph}
 use Rattle.pb_periods.specs.declared.period.Period.{Period}
-use Rattle.pb_book.specs.declared.rows.StoredRow.{StoredRow}
+use Rattle.pb_kinds.specs.declared.rows.StoredRow.{StoredRow}
 use Rattle.pb_book.specs.Rows.{periods_of}
 use Rattle.pb_period.specs.Days.{days_of}
 use Rattle.pb_period.specs.declared.graph.Assembly.{Assembly}
@@ -44,9 +44,8 @@ SumsUpBy number streams rows state period (Err NoMemory) text = ⊥
 
 -- the study of the period at a place
 abbrev pub SumsUp : ℕ → ℕ → ℕ → SessionState → Option Period → List ℕ → Type 0
-SumsUp number streams rows state (Some period) text =
-    SumsUpBy number streams rows state period (assembly_of state.rows (days_of period)) text
-SumsUp number streams rows state None text = ⊥
+SumsUp number streams rows state found text =
+    IsSomeAnd found (λ period. SumsUpBy number streams rows state period (assembly_of state.rows (days_of period)) text)
 
 -- The text of the summary of the session made from a number, with this many streams, for this gap and at most this many sweeps.
 abbrev pub IsSummaryText : ℕ → ℕ → ℕ → ℕ → List ℕ → Type 0

@@ -10,7 +10,8 @@ ghost use Rattle.pb_session.specs.Session.{Adds, IsSessionText, new_session, ref
 ghost use Rattle.pb_cli.specs.declared.status.Status.TheVariants.{Done, DoneRefused, WriteFault, NoMemory};
 ghost use Rattle.pb_cli.specs.Status.{done_status};
 ghost use Rattle.pb_cli.specs.Prefix.{AreTextsOfSome, AreTextsCutShort, IsBeginningOf};
-ghost use Rattle.pb_cli.specs.Run.{IsOutput, refuses};
+ghost use Rattle.pb_cli.specs.Run.{IsWhole, refuses};
+ghost use Rattle.pb_words.specs.declared.command.Command.TheVariants.{Run};
 
 use crate::status::Status;
 use pb_io::{Sink, SinkFailed, write_all};
@@ -61,9 +62,9 @@ pub fn answer<W: Sink>(
 
     // All of the output was written, and the status says whether some record was refused.
     ensures done { result ≡ Done →
-        PutsSuch (IsOutput options form false input.now) (W.seen sink.old) (W.seen sink.new) }
+        PutsSuch (IsWhole false (Run options form) input.now) (W.seen sink.old) (W.seen sink.new) }
     ensures done_refused { result ≡ DoneRefused →
-        PutsSuch (IsOutput options form true input.now) (W.seen sink.old) (W.seen sink.new) }
+        PutsSuch (IsWhole true (Run options form) input.now) (W.seen sink.old) (W.seen sink.new) }
 
     // WriteFault is the answer iff the sink counted a fault. What was written is a proper beginning of the output.
     ensures write_fault { result ≡ WriteFault →

@@ -9,7 +9,8 @@ ghost use Rattle.pb_audit.specs.Next.{FindsNext};
 ghost use Rattle.pb_cli.specs.declared.status.Status.TheVariants.{Done, DoneRefused, WriteFault, NoMemory};
 ghost use Rattle.pb_cli.specs.Judging.{TellsFinding};
 ghost use Rattle.pb_cli.specs.Prefix.{IsBeginningOf};
-ghost use Rattle.pb_cli.specs.Run.{IsCheck, IsTextOfCheck, EndsAsChecked};
+ghost use Rattle.pb_cli.specs.Run.{EndsAs, IsCutShort, IsWhole};
+ghost use Rattle.pb_words.specs.declared.command.Command.TheVariants.{Check};
 
 use crate::answers::Stopped;
 use crate::status::Status;
@@ -25,15 +26,15 @@ pub fn judge<W: Sink>(alloc: Global, input: &[u8], sink: &mut W) -> Status
 
     // All rows were written, and the status says whether anything wrong was found.
     ensures done { result ≡ Done →
-        PutsSuch (IsCheck false input.now) (W.seen sink.old) (W.seen sink.new) }
+        PutsSuch (IsWhole false Check input.now) (W.seen sink.old) (W.seen sink.new) }
     ensures done_refused { result ≡ DoneRefused →
-        PutsSuch (IsCheck true input.now) (W.seen sink.old) (W.seen sink.new) }
+        PutsSuch (IsWhole true Check input.now) (W.seen sink.old) (W.seen sink.new) }
 
     // WriteFault is the answer iff the sink counted a fault. What was written is a proper beginning of the rows.
     ensures write_fault { result ≡ WriteFault →
         Rose (W.seen sink.old).faults (W.seen sink.new).faults }
     ensures write_fault_cut { result ≡ WriteFault →
-        PutsSuch (IsBeginningOf (IsTextOfCheck input.now)) (W.seen sink.old) (W.seen sink.new) }
+        PutsSuch (IsCutShort Check input.now) (W.seen sink.old) (W.seen sink.new) }
     ensures no_write_fault { result ≢ WriteFault →
         (W.seen sink.new).faults ≡ (W.seen sink.old).faults }
 
@@ -42,7 +43,7 @@ pub fn judge<W: Sink>(alloc: Global, input: &[u8], sink: &mut W) -> Status
         PutsSuch (IsJudgementPart (records_of input.now)) (W.seen sink.old) (W.seen sink.new) }
 
     // No other answer is possible.
-    ensures answers { EndsAsChecked input.now result
+    ensures answers { EndsAs Check input.now result
         ⊎ ((result ≡ WriteFault) ⊎ (result ≡ NoMemory)) }
 
     // No empty piece was put.

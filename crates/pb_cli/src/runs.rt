@@ -136,7 +136,7 @@ fn read_input<R: Source>(alloc: Global, command: Command, source: &mut R) -> Res
         (status ≡ ReadFault) ⊎ ((status ≡ TooLarge) ⊎ (status ≡ NoMemory))) }
     ensures faults_stay { (R.seen source.old).faults ≤ (R.seen source.new).faults }
 {
-    if is_making(command) {
+    if matches!(command, Command::Make { .. }) {
         return Ok(Vec::new(alloc));
     }
     match read_all(alloc, source, MOST_BYTES) {
@@ -144,15 +144,5 @@ fn read_input<R: Source>(alloc: Global, command: Command, source: &mut R) -> Res
         Err(ReadEnd::Fault) => Err(Status::ReadFault),
         Err(ReadEnd::TooLarge) => Err(Status::TooLarge),
         Err(ReadEnd::NoMemory) => Err(Status::NoMemory),
-    }
-}
-
-// Whether a command makes a session or its summary.
-fn is_making(command: Command) -> bool
-    ensures { result ≡ is_making command }
-{
-    match command {
-        Command::Make { .. } => true,
-        Command::Run { .. } | Command::Check => false,
     }
 }

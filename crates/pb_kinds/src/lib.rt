@@ -17,5 +17,5 @@ pub use costs::{NamedCost, NamedCosts};
 pub use laws::{asking_law, named_costs_law, stored_law};
 pub use pb_facts::Assay;
 pub use reading::{read_reading, read_request};
-pub use rows::{Edit, Effect, Request};
+pub use rows::{Edit, Effect, Request, StoredRow};
 pub use writing::write_effect;

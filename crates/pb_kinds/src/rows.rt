@@ -4,6 +4,13 @@ use pb_facts::{Assay, Change, Fact};
 use pb_rows::{Name, Reason};
 use pb_site::Declared;
 
+/// A stored row: the number of its record in the session, counted from 1, and what it does.
+#[derive(Clone, Copy)]
+pub struct StoredRow {
+    pub at: u32,
+    pub effect: Effect,
+}
+
 /// What a stored row does.
 #[derive(Clone, Copy)]
 pub enum Effect {

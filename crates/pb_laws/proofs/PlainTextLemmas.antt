@@ -43,7 +43,7 @@ use Rattle.pb_kinds.specs.declared.rows.Effect.{Effect}
 use Rattle.pb_kinds.specs.declared.rows.Effect.TheVariants.{Declares, Opens, Books, Edits, Closes, Assays}
 use Rattle.pb_kinds.specs.declared.rows.Request.{Request}
 use Rattle.pb_kinds.specs.declared.rows.Request.TheVariants.{Store}
-use Rattle.pb_book.specs.declared.rows.StoredRow.{StoredRow}
+use Rattle.pb_kinds.specs.declared.rows.StoredRow.{StoredRow}
 use Rattle.pb_book.specs.Plain.{PlainLaw, booked, numbered, plain_rows, settled, settled_rows}
 use Rattle.pb_book.specs.Rows.{facts_after, facts_of}
 use Rattle.pb_book.specs.Written.{WriteRows, WritesRow}

@@ -1,7 +1,7 @@
 -- Statement. The plain rows can always be written: there is a text whose records write them.
 use Rattle.std.specs.Prelude.{ℕ, List}
 use Rattle.pb_rows.specs.Records.{records_of}
-use Rattle.pb_book.specs.declared.rows.StoredRow.{StoredRow}
+use Rattle.pb_kinds.specs.declared.rows.StoredRow.{StoredRow}
 use Rattle.pb_book.specs.Accepted.{AreAccepted}
 use Rattle.pb_book.specs.Named.{HaveWellFormedNames}
 use Rattle.pb_book.specs.Plain.{plain_rows}

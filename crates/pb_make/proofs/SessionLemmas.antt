@@ -9,7 +9,7 @@ use Rattle.pb_limits.specs.Limits.{most_made_streams}
 use Rattle.pb_rows.specs.Written.{begins_with_word}
 use Rattle.pb_site.specs.declared.declared.Declared.{Declared}
 use Rattle.pb_book.specs.Answer.{after}
-use Rattle.pb_book.specs.declared.rows.StoredRow.{StoredRow}
+use Rattle.pb_kinds.specs.declared.rows.StoredRow.{StoredRow}
 use Rattle.pb_make.specs.declared.plant.MadeStream.{MadeStream}
 use Rattle.pb_make.specs.Bounds.{IsMade}
 use Rattle.pb_make.specs.Laws.{Anything, AreTaken, HasMadePeriod}

@@ -21,7 +21,7 @@ use Rattle.pb_periods.specs.declared.period.Period.{Period}
 use Rattle.pb_book.specs.Assays.{assay_by, assays_of}
 use Rattle.pb_book.specs.Answer.{Stores, after, after_answer, answer_if, answer_of, is_refused, unless_refused}
 use Rattle.pb_book.specs.Refusals.{is_book_full, is_closed, is_duplicate, is_mismatch, is_out_of_order, is_out_of_range, is_sealed, is_unknown, refusal_behind, refusal_of}
-use Rattle.pb_book.specs.declared.rows.StoredRow.{StoredRow}
+use Rattle.pb_kinds.specs.declared.rows.StoredRow.{StoredRow}
 use Rattle.pb_book.specs.Rows.{declaration_in, declared_of, facts_after, facts_of, periods_after, periods_of, version_at}
 
 -- what is stored so far

@@ -4,7 +4,7 @@ use Rattle.pb_limits.specs.Limits.{most_made_streams}
 use Rattle.pb_fixed.specs.Sums.{sum_over}
 use Rattle.pb_rows.specs.Records.{records_of}
 use Rattle.pb_book.specs.Answer.{after, answer_of, is_refused}
-use Rattle.pb_book.specs.declared.rows.StoredRow.{StoredRow}
+use Rattle.pb_kinds.specs.declared.rows.StoredRow.{StoredRow}
 use Rattle.pb_book.specs.Rows.{periods_of}
 use Rattle.pb_make.specs.declared.plant.MadeStream.{MadeStream}
 use Rattle.pb_make.specs.Plant.{least_streams, made_streams, units_of}

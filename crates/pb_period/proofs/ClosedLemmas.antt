@@ -35,7 +35,7 @@ use Rattle.pb_facts.specs.Facts.{live_facts}
 use Rattle.pb_kinds.specs.declared.rows.Effect.TheVariants.{Declares}
 use Rattle.pb_book.specs.declared.answer.Refused.TheVariants.{Unknown, Duplicate, Order, Mismatch, Sealed, Closed, Range, Full}
 use Rattle.pb_periods.specs.declared.period.Period.{Period}
-use Rattle.pb_book.specs.declared.rows.StoredRow.{StoredRow}
+use Rattle.pb_kinds.specs.declared.rows.StoredRow.{StoredRow}
 use Rattle.pb_book.specs.Accepted.{AreAccepted, IsAcceptable}
 use Rattle.pb_book.proofs.BookLaws.{consistent}
 use Rattle.pb_book.specs.Refusals.{is_outside_table, is_sealed, serves_closed}

@@ -39,7 +39,7 @@ use Rattle.pb_kinds.specs.declared.rows.Effect.TheVariants.{Declares, Opens, Boo
 use Rattle.pb_periods.specs.declared.period.Period.{Period}
 use Rattle.pb_periods.specs.Apart.{shares_a_day}
 use Rattle.pb_book.specs.TakenOut.{takes_out, touches_by_id, touching_of}
-use Rattle.pb_book.specs.declared.rows.StoredRow.{StoredRow}
+use Rattle.pb_kinds.specs.declared.rows.StoredRow.{StoredRow}
 use Rattle.pb_book.specs.Rows.{declaration_in, declared_of, facts_after, facts_of, live}
 use Rattle.pb_periods.specs.Touching.{is_boundary_of, touches_in, touches_period}
 use Rattle.pb_period.specs.declared.amount.Amount.{Amount}

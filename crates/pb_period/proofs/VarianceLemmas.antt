@@ -34,7 +34,7 @@ use Rattle.pb_facts.specs.declared.facts.KeptFact.{KeptFact}
 use Rattle.pb_facts.specs.Fact.{IsFactInRange, is_dip_on, is_reading_on}
 use Rattle.pb_facts.specs.Facts.{live_facts}
 use Rattle.pb_facts.specs.Share.{share_of}
-use Rattle.pb_book.specs.declared.rows.StoredRow.{StoredRow}
+use Rattle.pb_kinds.specs.declared.rows.StoredRow.{StoredRow}
 use Rattle.pb_book.specs.Rows.{declared_of, facts_of}
 use Rattle.pb_period.specs.declared.amount.Amount.{Amount}
 use Rattle.pb_period.specs.declared.days.Days.{Days}

@@ -30,7 +30,7 @@ use Rattle.pb_facts.specs.declared.facts.KeptFact.{KeptFact}
 use Rattle.pb_facts.specs.Fact.{IsFactInRange, is_dip_on}
 use Rattle.pb_facts.specs.Facts.{live_facts}
 use Rattle.pb_periods.specs.declared.period.Period.{Period}
-use Rattle.pb_book.specs.declared.rows.StoredRow.{StoredRow}
+use Rattle.pb_kinds.specs.declared.rows.StoredRow.{StoredRow}
 use Rattle.pb_book.specs.Rows.{declared_of, facts_of, periods_of}
 use Rattle.pb_periods.specs.Windows.{names_of_periods}
 use Rattle.pb_period.specs.declared.amount.Amount.{Amount}

@@ -2,7 +2,7 @@
 use Rattle.std.specs.Prelude.{ℕ, List, map, Option}
 use Rattle.pb_facts.specs.declared.grade.Grade.{Grade}
 use Rattle.pb_periods.specs.declared.period.Period.{Period}
-use Rattle.pb_book.specs.declared.rows.StoredRow.{StoredRow}
+use Rattle.pb_kinds.specs.declared.rows.StoredRow.{StoredRow}
 use Rattle.pb_book.specs.Assays.{grade_of}
 use Rattle.pb_period.specs.Days.{days_of}
 use Rattle.pb_period.specs.PeriodGraph.{period_names}

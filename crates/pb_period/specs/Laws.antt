@@ -13,7 +13,7 @@ use Rattle.pb_periods.specs.declared.period.Period.{Period}
 use Rattle.pb_book.specs.Accepted.{AreAccepted}
 use Rattle.pb_book.specs.TakenOut.{takes_out, touching_of}
 use Rattle.pb_book.specs.Plain.{plain_stored}
-use Rattle.pb_book.specs.declared.rows.StoredRow.{StoredRow}
+use Rattle.pb_kinds.specs.declared.rows.StoredRow.{StoredRow}
 use Rattle.pb_book.specs.Rows.{declared_of, facts_of, periods_of, with_row}
 use Rattle.pb_period.specs.Days.{days_of}
 use Rattle.pb_period.specs.declared.days.Days.{Days}

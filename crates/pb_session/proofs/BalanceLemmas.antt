@@ -14,7 +14,7 @@ use Rattle.pb_facts.specs.declared.grade.Grade.{Grade}
 use Rattle.pb_assay.specs.Component.{component_of, component_overs, component_streams, component_unless_over}
 use Rattle.pb_elim.specs.Study.{IsStudyOf}
 use Rattle.pb_periods.specs.declared.period.Period.{Period}
-use Rattle.pb_book.specs.declared.rows.StoredRow.{StoredRow}
+use Rattle.pb_kinds.specs.declared.rows.StoredRow.{StoredRow}
 use Rattle.pb_book.specs.Assays.{grade_of}
 use Rattle.pb_book.specs.Rows.{periods_of}
 use Rattle.pb_period.specs.Days.{days_of}
@@ -22,10 +22,11 @@ use Rattle.pb_period.specs.Grades.{grades_of}
 use Rattle.pb_period.specs.declared.graph.Assembly.{Assembly}
 use Rattle.pb_period.specs.declared.graph.Assembly.TheVariants.{NoMemory}
 use Rattle.pb_period.specs.PeriodGraph.{IsStreamOfGraph, NamesAStream, assembly_of, period_graph, period_names}
+use Rattle.pb_report.specs.Component.{component_row}
 use Rattle.pb_session.specs.Criticals.{critical_of}
 use Rattle.pb_session.specs.Keeping.{HasCountsOf, IsBalanceAt, IsStudied}
 use Rattle.pb_session.specs.Kept.{IsKeptAt}
-use Rattle.pb_session.specs.Session.{AreNamesOf, Balances, BalancesBy, BalancesIn, IsBalanceOf, SessionState, last_stage}
+use Rattle.pb_session.specs.Session.{AreNamesOf, Balances, BalancesIn, IsBalanceOf, ReportsBy, SessionState, last_stage}
 use Rattle.pb_session.proofs.KeepingLemmas.{first_classes, has_graph}
 use Rattle.pb_session.proofs.NamedLemmas.{unless_is}
 use Rattle.pb_session.proofs.ReportLemmas.{at_found}
@@ -89,14 +90,16 @@ pub balance_at : (state : SessionState) (component : List ℕ) (found : Option P
     → IsBalanceAt state component found answer
 balance_at state component found period graph grades answer there is grades_are of =
     let here : IsBalanceOf state graph (grades_of state.rows component period) answer = subst (λ (gs : List (Option Grade)). IsBalanceOf state graph gs answer) grades_are of in
-    subst (λ (o : Option Period). IsBalanceAt state component o answer) (sym there) (subst (λ (a : Result ProcessGraph Assembly). BalancesIn state component period a answer) is here)
+    subst (λ (o : Option Period). IsBalanceAt state component o answer) (sym there)
+    (subst (λ (a : Result ProcessGraph Assembly). BalancesIn state (grades_of state.rows component period) a answer) is here)
 
 -- and if the period has no graph
 pub fault_at : (state : SessionState) (component : List ℕ) (found : Option Period) (period : Period) (why : Assembly) → found ≡ Some period → Err why ≡ assembly_of state.rows (days_of period)
     → IsBalanceAt state component found (Err why)
 fault_at state component found period why there is =
     let answer : Result ProcessGraph Assembly = Err why in
-    subst (λ (o : Option Period). IsBalanceAt state component o answer) (sym there) (subst (λ (a : Result ProcessGraph Assembly). BalancesIn state component period a answer) is refl)
+    subst (λ (o : Option Period). IsBalanceAt state component o answer) (sym there)
+    (subst (λ (a : Result ProcessGraph Assembly). BalancesIn state (grades_of state.rows component period) a answer) is refl)
 
 -- what holds for the graph of a period that is found holds for its assembled graph
 pub of_graph : (P : ProcessGraph → Type 0) (rows : List StoredRow) (found : Option Period) (period : Period) (graph : ProcessGraph) → found ≡ Some period
@@ -107,7 +110,8 @@ of_graph P rows found period graph there is holds =
 
 -- the text of the balance for an answer of the period that is found
 pub balances_at : (state : SessionState) (component : List ℕ) (found : Option Period) (period : Period) (answer : Result ProcessGraph Assembly) (text : List ℕ) → found ≡ Some period
-    → IsBalanceAt state component found answer → BalancesBy state component period answer text → Balances state component found text
+    → IsBalanceAt state component found answer → ReportsBy state (component_row component period.name ∷ []) (period_names state.rows (days_of period)) period.name answer text
+    → Balances state component found text
 balances_at state component found period answer text there at by =
     let here : IsBalanceAt state component (Some period) answer = subst (λ (o : Option Period). IsBalanceAt state component o answer) there at in
     let balance : Balances state component (Some period) text = (answer, here, by) in

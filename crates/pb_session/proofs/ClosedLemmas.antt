@@ -2,7 +2,7 @@
 use Rattle.std.proofs.Common.{◌≡◌, ◌∙◌, ◌∷◌, [], ℕ, List, length, sym, ap, subst, arith, length-append}
 use Rattle.pb_kinds.specs.declared.rows.Effect.TheVariants.{Declares}
 use Rattle.pb_book.specs.Accepted.{AreAccepted}
-use Rattle.pb_book.specs.declared.rows.StoredRow.{StoredRow}
+use Rattle.pb_kinds.specs.declared.rows.StoredRow.{StoredRow}
 use Rattle.pb_period.specs.Days.{days_of}
 use Rattle.pb_period.specs.Laws.{ClosedGraphsLaw, LeavesGraph}
 use Rattle.pb_session.specs.Closed.{LeavesClosed}

@@ -36,7 +36,7 @@ use Rattle.pb_book.specs.Plain.{ArePlain, PlainLaw, numbered, opened, plain_rows
 use Rattle.pb_book.specs.Refusals.{refusal_of}
 use Rattle.pb_book.specs.Windows.{refusal_of_window}
 use Rattle.pb_kinds.specs.Requests.{request_in}
-use Rattle.pb_book.specs.declared.rows.StoredRow.{StoredRow}
+use Rattle.pb_kinds.specs.declared.rows.StoredRow.{StoredRow}
 use Rattle.pb_book.specs.Rows.{declared_of, period_place, periods_of, version_at}
 use Rattle.pb_book.specs.Written.{WriteRows, WritesRow}
 use Rattle.pb_period.specs.Days.{days_of}
@@ -48,11 +48,12 @@ use Rattle.pb_period.specs.declared.graph.Assembly.TheVariants.{Over, NoMemory}
 use Rattle.pb_report.specs.Component.{component_row}
 use Rattle.pb_report.specs.Form.{text_in}
 use Rattle.pb_report.specs.Names.{name_at}
+use Rattle.pb_report.specs.Row.{OutputRow}
 use Rattle.pb_report.specs.Over.{over_row}
 use Rattle.pb_session.proofs.RowLemmas.{AnswersOf, answers}
 use Rattle.pb_session.specs.Criticals.{declared_critical}
 use Rattle.pb_session.specs.Edited.{EditedFileLaw, begun}
-use Rattle.pb_session.specs.Session.{Adds, AddsAccepted, AddsBy, Balances, BalancesBy, BalancesIn, component_assembly, IsReport, IsSessionText, Reports, ReportsBy, SessionState, refuses_some, state_after}
+use Rattle.pb_session.specs.Session.{Adds, AddsAccepted, AddsBy, Balances, BalancesIn, component_assembly, IsReport, IsSessionText, Reports, ReportsBy, SessionState, refuses_some, state_after}
 
 -- a session with these rows in place of its own
 abbrev with_rows : SessionState → List StoredRow → SessionState
@@ -190,9 +191,9 @@ plain_answer rows plain i accepted one fields are within is =
     ∙ same_said rows plain accepted one (named_costs fields) (request_in (version_at rows) fields) are is
 
 -- the study of a graph depends only on the declarations
-report_as : (state : SessionState) (rows other : List StoredRow) (names : Names) (period : List ℕ) (graph : ProcessGraph) (text : List ℕ) → declared_of rows ≡ declared_of other
-    → IsReport (with_rows state rows) names period graph text → IsReport (with_rows state other) names period graph text
-report_as state rows other names period graph text same report = record {
+report_as : (state : SessionState) (rows other : List StoredRow) (before : List OutputRow) (names : Names) (period : List ℕ) (graph : ProcessGraph) (text : List ℕ) → declared_of rows ≡ declared_of other
+    → IsReport (with_rows state rows) before names period graph text → IsReport (with_rows state other) before names period graph text
+report_as state rows other before names period graph text same report = record {
   limits = report.limits;
   named = report.named;
   study = report.study;
@@ -204,10 +205,9 @@ report_as state rows other names period graph text same report = record {
 }
 
 -- so does the component graph, and the assays
-balances_in_as : (state : SessionState) (rows other : List StoredRow) (component : List ℕ) (period same_days : Period) (assembly answer : Result ProcessGraph Assembly) → declared_of rows ≡ declared_of other
-    → grades_of rows component period ≡ grades_of other component same_days → BalancesIn (with_rows state rows) component period assembly answer
-    → BalancesIn (with_rows state other) component same_days assembly answer
-balances_in_as state rows other component period same_days (Ok graph) answer same grades of = record {
+balances_in_as : (state : SessionState) (rows other : List StoredRow) (given same_given : List (Option Grade)) (assembly answer : Result ProcessGraph Assembly) → declared_of rows ≡ declared_of other
+    → given ≡ same_given → BalancesIn (with_rows state rows) given assembly answer → BalancesIn (with_rows state other) same_given assembly answer
+balances_in_as state rows other given same_given (Ok graph) answer same grades of = record {
   limits = of.limits;
   study = of.study;
   is_study = subst (λ (ds : List Declared). IsStudyOf graph state.options (declared_critical ds) of.study) same of.is_study;
@@ -215,30 +215,16 @@ balances_in_as state rows other component period same_days (Ok graph) answer sam
   is_last = of.is_last;
   is = of.is ∙ ap (λ (gs : List (Option Grade)). component_assembly (component_of graph of.last.streams gs)) grades;
 }
-balances_in_as state rows other component period same_days (Err why) answer same grades of = of
+balances_in_as state rows other given same_given (Err why) answer same grades of = of
 
--- a report of a period is the same if the declarations and the names are, whether the period is open or closed
-reports_by_as : (state : SessionState) (rows other : List StoredRow) (period same_days : Period) (assembly : Result ProcessGraph Assembly) (text : List ℕ) → declared_of rows ≡ declared_of other
-    → same_days.name ≡ period.name → period_names rows (days_of period) ≡ period_names other (days_of same_days) → ReportsBy (with_rows state rows) period assembly text → ReportsBy (with_rows state other) same_days assembly text
-reports_by_as state rows other period same_days (Ok graph) text declared name names report =
-    subst (λ (n : List ℕ). IsReport (with_rows state other) (period_names other (days_of same_days)) n graph text) (sym name)
-    (subst (λ (n : Names). IsReport (with_rows state other) n period.name graph text) names (report_as state rows other (period_names rows (days_of period)) period.name graph text declared report))
-reports_by_as state rows other period same_days (Err (Over j)) text declared name names report =
-    report ∙ ap₂ (λ (n : List ℕ) (ns : Names). text_in state.form (over_row n (name_at ns.streams j) ∷ [])) (sym name) names
-reports_by_as state rows other period same_days (Err NoMemory) text declared name names report = absurd report
-
--- and so does the balance of a component
-balances_by_as : (state : SessionState) (rows other : List StoredRow) (component : List ℕ) (period same_days : Period) (answer : Result ProcessGraph Assembly) (text : List ℕ) → declared_of rows ≡ declared_of other
-    → same_days.name ≡ period.name → period_names rows (days_of period) ≡ period_names other (days_of same_days) → BalancesBy (with_rows state rows) component period answer text
-    → BalancesBy (with_rows state other) component same_days answer text
-balances_by_as state rows other component period same_days (Ok graph) text declared name names balance = record {
-  front = balance.front;
-  rest = balance.rest;
-  before = balance.before ∙ ap (λ (n : List ℕ). text_in state.form (component_row component n ∷ [])) (sym name);
-  report = reports_by_as state rows other period same_days (Ok graph) balance.rest declared name names balance.report;
-  whole = balance.whole;
-}
-balances_by_as state rows other component period same_days (Err why) text declared name names over = reports_by_as state rows other period same_days (Err why) text declared name names over
+-- and so does a report, if the names are the same
+reports_by_as : (state : SessionState) (rows other : List StoredRow) (before : List OutputRow) (names same_names : Names) (period : List ℕ) (assembly : Result ProcessGraph Assembly) (text : List ℕ) → declared_of rows ≡ declared_of other
+    → names ≡ same_names → ReportsBy (with_rows state rows) before names period assembly text → ReportsBy (with_rows state other) before same_names period assembly text
+reports_by_as state rows other before names same_names period (Ok graph) text declared same report =
+    subst (λ (n : Names). IsReport (with_rows state other) before n period graph text) same (report_as state rows other before names period graph text declared report)
+reports_by_as state rows other before names same_names period (Err (Over j)) text declared same report =
+    report ∙ ap (λ (ns : Names). text_in state.form (over_row period (name_at ns.streams j) ∷ [])) same
+reports_by_as state rows other before names same_names period (Err NoMemory) text declared same report = absurd report
 
 -- the grades of a component in a period follow from the assays and the names of the period's streams
 same_grades : (rows other : List StoredRow) (component : List ℕ) (period same_days : Period) → assays_of rows ≡ assays_of other → same_days.name ≡ period.name
@@ -253,15 +239,18 @@ reports_to : (state : SessionState) (plain : List StoredRow) (found : Option Per
     → Reports state found text → Reports (with_rows state plain) (option_map opened found) text
 reports_to state plain None text are graphs report = absurd report
 reports_to state plain (Some period) text are graphs report =
-    subst (λ (a : Result ProcessGraph Assembly). ReportsBy (with_rows state plain) (opened period) a text) (sym (graphs.days (days_of period)))
-    (reports_by_as state state.rows plain period (opened period) (assembly_of state.rows (days_of period)) text (sym are.declared) refl (sym (graphs.names (days_of period))) report)
+    let names = period_names state.rows (days_of period) in
+    let same = period_names plain (days_of period) in
+    subst (λ (a : Result ProcessGraph Assembly). ReportsBy (with_rows state plain) [] same period.name a text) (sym (graphs.days (days_of period)))
+    (reports_by_as state state.rows plain [] names same period.name (assembly_of state.rows (days_of period)) text (sym are.declared) (sym (graphs.names (days_of period))) report)
 
 reports_back : (state : SessionState) (plain : List StoredRow) (found : Option Period) (text : List ℕ) → ArePlain state.rows plain → HaveSameGraphs state.rows plain
     → Reports (with_rows state plain) (option_map opened found) text → Reports state found text
 reports_back state plain None text are graphs report = absurd report
 reports_back state plain (Some period) text are graphs report =
-    reports_by_as state plain state.rows (opened period) period (assembly_of state.rows (days_of period)) text are.declared refl (graphs.names (days_of period))
-    (subst (λ (a : Result ProcessGraph Assembly). ReportsBy (with_rows state plain) (opened period) a text) (graphs.days (days_of period)) report)
+    let names = period_names plain (days_of period) in
+    reports_by_as state plain state.rows [] names (period_names state.rows (days_of period)) period.name (assembly_of state.rows (days_of period)) text are.declared (graphs.names (days_of period))
+    (subst (λ (a : Result ProcessGraph Assembly). ReportsBy (with_rows state plain) [] names period.name a text) (graphs.days (days_of period)) report)
 
 balances_to : (state : SessionState) (plain : List StoredRow) (component : List ℕ) (found : Option Period) (text : List ℕ) → ArePlain state.rows plain → HaveSameGraphs state.rows plain
     → Balances state component found text → Balances (with_rows state plain) component (option_map opened found) text
@@ -269,10 +258,12 @@ balances_to state plain component None text are graphs balance = absurd balance
 balances_to state plain component (Some period) text are graphs (answer, of, by) =
     let names = sym (graphs.names (days_of period)) in
     let grades = same_grades state.rows plain component period (opened period) (sym are.assays) refl names in
-    let of_now = balances_in_as state state.rows plain component period (opened period) (assembly_of state.rows (days_of period)) answer (sym are.declared) grades of in (
+    let given = grades_of plain component (opened period) in
+    let of_now = balances_in_as state state.rows plain (grades_of state.rows component period) given (assembly_of state.rows (days_of period)) answer (sym are.declared) grades of in (
       answer,
-      subst (λ (a : Result ProcessGraph Assembly). BalancesIn (with_rows state plain) component (opened period) a answer) (sym (graphs.days (days_of period))) of_now,
-      balances_by_as state state.rows plain component period (opened period) answer text (sym are.declared) refl names by,
+      subst (λ (a : Result ProcessGraph Assembly). BalancesIn (with_rows state plain) given a answer) (sym (graphs.days (days_of period))) of_now,
+      reports_by_as state state.rows plain (component_row component period.name ∷ []) (period_names state.rows (days_of period)) (period_names plain (days_of period)) period.name answer text
+          (sym are.declared) names by,
     )
 
 balances_back : (state : SessionState) (plain : List StoredRow) (component : List ℕ) (found : Option Period) (text : List ℕ) → ArePlain state.rows plain → HaveSameGraphs state.rows plain
@@ -281,10 +272,12 @@ balances_back state plain component None text are graphs balance = absurd balanc
 balances_back state plain component (Some period) text are graphs (answer, of, by) =
     let names = graphs.names (days_of period) in
     let grades = same_grades plain state.rows component (opened period) period are.assays refl names in
-    let of_here = subst (λ (a : Result ProcessGraph Assembly). BalancesIn (with_rows state plain) component (opened period) a answer) (graphs.days (days_of period)) of in (
+    let given = grades_of plain component (opened period) in
+    let of_here = subst (λ (a : Result ProcessGraph Assembly). BalancesIn (with_rows state plain) given a answer) (graphs.days (days_of period)) of in (
       answer,
-      balances_in_as state plain state.rows component (opened period) period (assembly_of state.rows (days_of period)) answer are.declared grades of_here,
-      balances_by_as state plain state.rows component (opened period) period answer text are.declared refl names by,
+      balances_in_as state plain state.rows given (grades_of state.rows component period) (assembly_of state.rows (days_of period)) answer are.declared grades of_here,
+      reports_by_as state plain state.rows (component_row component period.name ∷ []) (period_names plain (days_of period)) (period_names state.rows (days_of period)) period.name answer text
+          are.declared names by,
     )
 
 found_plain : (rows plain : List StoredRow) (i : ℕ) → ArePlain rows plain → slice_get (periods_of plain) i ≡ option_map opened (slice_get (periods_of rows) i)

@@ -36,7 +36,7 @@ use Rattle.pb_periods.specs.Apart.{is_named}
 use Rattle.pb_book.specs.Windows.{refusal_of_window}
 use Rattle.pb_book.specs.Refusals.{refusal_of}
 use Rattle.pb_kinds.specs.Requests.{request_in}
-use Rattle.pb_book.specs.declared.rows.StoredRow.{StoredRow}
+use Rattle.pb_kinds.specs.declared.rows.StoredRow.{StoredRow}
 use Rattle.pb_periods.specs.Closing.{closed_if_named}
 use Rattle.pb_book.specs.Rows.{declared_of, facts_of, open_period, period_place, periods_after, periods_of, version_at, with_row}
 use Rattle.pb_period.specs.Days.{days_of}

@@ -10,7 +10,7 @@ use Rattle.std.proofs.lemmas.Option.{slice_get-get_or, slice_get_past}
 use Rattle.pb_study.specs.declared.results.Stage.{Stage}
 use Rattle.pb_study.specs.declared.results.Study.{Study}
 use Rattle.pb_book.specs.declared.answer.Accepted.TheVariants.{Stored}
-use Rattle.pb_book.specs.declared.rows.StoredRow.{StoredRow}
+use Rattle.pb_kinds.specs.declared.rows.StoredRow.{StoredRow}
 use Rattle.pb_book.specs.TakenOut.{touched_at}
 use Rattle.pb_session.specs.declared.kept.KeptStudy.{KeptStudy}
 use Rattle.pb_session.specs.Kept.{kept_behind, most_kept, untouched, without}

@@ -9,7 +9,7 @@ use Rattle.pb_advise.specs.Choice.{AreCosts}
 use Rattle.pb_site.specs.declared.declared.Arc.{Arc}
 use Rattle.pb_site.specs.Site.{HasDistinctNames, arc_names, arcs_of, names_of}
 use Rattle.pb_kinds.specs.declared.costs.NamedCost.{NamedCost}
-use Rattle.pb_book.specs.declared.rows.StoredRow.{StoredRow}
+use Rattle.pb_kinds.specs.declared.rows.StoredRow.{StoredRow}
 use Rattle.pb_kinds.specs.Costs.{IsMeterCost}
 use Rattle.pb_book.specs.Costs.{cost_of_arc, meter_costs}
 use Rattle.pb_book.specs.Rows.{declared_of}

@@ -12,7 +12,7 @@ use Rattle.pb_form.specs.declared.fault.FormFault.{FormFault}
 use Rattle.pb_kinds.specs.declared.rows.Request.{Request}
 use Rattle.pb_kinds.specs.declared.rows.Request.TheVariants as asked
 use Rattle.pb_periods.specs.Apart.{is_named}
-use Rattle.pb_book.specs.declared.rows.StoredRow.{StoredRow}
+use Rattle.pb_kinds.specs.declared.rows.StoredRow.{StoredRow}
 use Rattle.pb_book.specs.Rows.{declared_of, period_place, periods_of, version_at}
 use Rattle.pb_kinds.specs.Requests.{request_in}
 use Rattle.pb_kinds.specs.declared.costs.NamedCost.{NamedCost}

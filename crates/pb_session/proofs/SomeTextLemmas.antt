@@ -26,7 +26,7 @@ use Rattle.pb_kinds.specs.Costs.{IsMeterCost, named_costs}
 use Rattle.pb_book.specs.Accepted.{AreAccepted}
 use Rattle.pb_book.specs.Assays.{grade_of}
 use Rattle.pb_book.specs.Costs.{meter_costs}
-use Rattle.pb_book.specs.declared.rows.StoredRow.{StoredRow}
+use Rattle.pb_kinds.specs.declared.rows.StoredRow.{StoredRow}
 use Rattle.pb_book.specs.declared.answer.Accepted.TheVariants.{Blank, Design, Report, History, Advise, Component, Window}
 use Rattle.pb_book.specs.declared.answer.Accepted.{Accepted}
 use Rattle.pb_periods.specs.declared.period.Period.{Period}
@@ -43,9 +43,10 @@ use Rattle.pb_period.specs.declared.graph.Assembly.TheVariants.{Over, NoMemory}
 use Rattle.pb_period.specs.PeriodGraph.{assembly_of, base_of, design_graph, period_graph, period_names, unless_over}
 use Rattle.pb_report.specs.Component.{component_row}
 use Rattle.pb_report.specs.Form.{text_in}
+use Rattle.pb_report.specs.Row.{OutputRow}
 use Rattle.pb_session.specs.Criticals.{critical_of}
 use Rattle.pb_session.specs.History.{told_history}
-use Rattle.pb_session.specs.Session.{AddsAccepted, AddsBy, AreNamesOf, Balances, BalancesBy, BalancesIn, IsBalanceOf, IsHistoryText, IsReport, Reports, ReportsBy, SessionState, Windows, WindowsBy, assembly_between, component_assembly, last_stage, state_after, window_head}
+use Rattle.pb_session.specs.Session.{AddsAccepted, AddsBy, AreNamesOf, Balances, BalancesIn, IsBalanceOf, IsHistoryText, IsReport, Reports, ReportsBy, SessionState, Windows, assembly_between, component_assembly, last_stage, state_after, window_head}
 use Rattle.pb_session.specs.Laws.{SomeTextLaw, SomeSessionTextLaw}
 use Rattle.pb_session.proofs.BalanceLemmas.{counts_of, each_result, last_there, names_as}
 use Rattle.pb_session.proofs.NamedLemmas.{costs_are, names_are, period_names_are}
@@ -57,10 +58,10 @@ never_memory : (graph : ProcessGraph) (found : Option ℕ) → unless_over graph
 never_memory graph (Some stream) = λ is. cc is
 never_memory graph None = λ is. cc is
 
--- the report of a process graph that has these names
-some_study_text : SomeStudyLaw → CertifiedLaw → LeastThroughoutLaw → TestedLaw → (state : SessionState) (names : Names) (period : List ℕ) (graph : ProcessGraph) → AreOptions state.options
-    → IsProcessGraph graph → AreNamesOf names graph → (text : List ℕ) × IsReport state names period graph text
-some_study_text studies certified least tested state names period graph asked within named =
+-- the report of a process graph that has these names, after some rows
+some_study_text : SomeStudyLaw → CertifiedLaw → LeastThroughoutLaw → TestedLaw → (state : SessionState) (before : List OutputRow) (names : Names) (period : List ℕ) (graph : ProcessGraph) → AreOptions state.options
+    → IsProcessGraph graph → AreNamesOf names graph → (text : List ℕ) × IsReport state before names period graph text
+some_study_text studies certified least tested state before names period graph asked within named =
     let (study, is_study) = studies graph state.options (critical_of state.rows) within asked in (
       _,
       record {
@@ -77,10 +78,10 @@ some_study_text studies certified least tested state names period graph asked wi
 
 some_report : SomeStudyLaw → CertifiedLaw → LeastThroughoutLaw → TestedLaw → (state : SessionState) (period : Period) (assembly : Result ProcessGraph Assembly) → AreOptions state.options
     → HaveGraphs state.rows → IfOk assembly IsProcessGraph → assembly ≡ assembly_of state.rows (days_of period) → assembly ≢ Err NoMemory
-    → (text : List ℕ) × ReportsBy state period assembly text
+    → (text : List ℕ) × ReportsBy state [] (period_names state.rows (days_of period)) period.name assembly text
 some_report studies certified least tested state period (Ok graph) asked graphs within is sure =
     let named = period_names_are state.rows (days_of period) graph (graphs.named (days_of period)) is in
-    some_study_text studies certified least tested state (period_names state.rows (days_of period)) period.name graph asked within named
+    some_study_text studies certified least tested state [] (period_names state.rows (days_of period)) period.name graph asked within named
 some_report studies certified least tested state period (Err (Over j)) asked graphs within is sure = (_, refl)
 some_report studies certified least tested state period (Err NoMemory) asked graphs within is sure = absurd (sure refl)
 
@@ -117,7 +118,8 @@ never_fault graph None is = cc is
 -- the balance of a component in a period with this graph
 some_balance_of : (state : SessionState) → HaveBalances state.rows → (component : List ℕ) (period : Period) (graph : ProcessGraph) → AreOptions state.options → IsProcessGraph graph
     → AreNamesOf (period_names state.rows (days_of period)) graph
-    → (text : List ℕ) × (answer : Result ProcessGraph Assembly) × IsBalanceOf state graph (grades_of state.rows component period) answer × BalancesBy state component period answer text
+    → (text : List ℕ) × (answer : Result ProcessGraph Assembly) × IsBalanceOf state graph (grades_of state.rows component period) answer
+    × ReportsBy state (component_row component period.name ∷ []) (period_names state.rows (days_of period)) period.name answer text
 some_balance_of state known component period graph asked within named = by (component_of graph last.0.streams grades) refl
   where
     names : Names
@@ -152,22 +154,20 @@ some_balance_of state known component period graph asked within named = by (comp
     }
 
     by : (r : Result ProcessGraph ComponentFault) → component_of graph last.0.streams grades ≡ r
-        → (text : List ℕ) × (answer : Result ProcessGraph Assembly) × IsBalanceOf state graph grades answer × BalancesBy state component period answer text
+        → (text : List ℕ) × (answer : Result ProcessGraph Assembly) × IsBalanceOf state graph grades answer
+        × ReportsBy state (component_row component period.name ∷ []) names period.name answer text
     by (Ok whole) is =
         let limits = known.graph graph whole last.0.streams grades within results graded are_grades is in
         let own = names_as names graph whole named (counts_of graph whole last.0.streams grades results graded is) in
-        let (rest, report) = some_study_text known.studies known.certified known.least known.tested state names period.name whole asked limits own in (
-          _,
-          Ok whole,
-          is_balance (Ok whole) is,
-          record { front = text_in state.form (component_row component period.name ∷ []); rest = rest; before = refl; report = report; whole = refl },
-        )
+        let (text, report) = some_study_text known.studies known.certified known.least known.tested state (component_row component period.name ∷ []) names period.name whole asked limits own in
+        (text, Ok whole, is_balance (Ok whole) is, report)
     by (Err (fault.Over j)) is = (_, Err (Over j), is_balance (Err (fault.Over j)) is, refl)
     by (Err fault.NoMemory) is = absurd (never_fault (record { nodes = graph.nodes; streams = component_streams graph.streams last.0.streams grades }) _ is)
 
 some_balance : (state : SessionState) → HaveBalances state.rows → (component : List ℕ) (period : Period) (assembly : Result ProcessGraph Assembly) → AreOptions state.options → HaveGraphs state.rows
     → IfOk assembly IsProcessGraph → assembly ≡ assembly_of state.rows (days_of period) → assembly ≢ Err NoMemory
-    → (text : List ℕ) × (answer : Result ProcessGraph Assembly) × BalancesIn state component period assembly answer × BalancesBy state component period answer text
+    → (text : List ℕ) × (answer : Result ProcessGraph Assembly) × BalancesIn state (grades_of state.rows component period) assembly answer
+    × ReportsBy state (component_row component period.name ∷ []) (period_names state.rows (days_of period)) period.name answer text
 some_balance state known component period (Ok graph) asked graphs within is sure =
     some_balance_of state known component period graph asked within (period_names_are state.rows (days_of period) graph (graphs.named (days_of period)) is)
 some_balance state known component period (Err (Over j)) asked graphs within is sure = (_, Err (Over j), refl, refl)
@@ -200,12 +200,12 @@ have_windows books graphs rows accepted first last none =
     record { made = made; within = graphs rows (periods_between (periods_of rows) first last) (window_between rows first last) accepted made.form }
 
 some_window_by : (state : SessionState) → HaveBalances state.rows → (first last : Period) (assembly : Result ProcessGraph Assembly) → AreOptions state.options → IsBookWindow state.rows first last
-    → IfOk assembly IsProcessGraph → assembly ≡ assembly_between state.rows first last → assembly ≢ Err NoMemory → (text : List ℕ) × WindowsBy state first last assembly text
+    → IfOk assembly IsProcessGraph → assembly ≡ assembly_between state.rows first last → assembly ≢ Err NoMemory
+    → (text : List ℕ) × ReportsBy state (window_head state.rows first last) (window_names (window_between state.rows first last)) first.name assembly text
 some_window_by state known first last (Ok graph) asked made within is sure =
     let names = window_names (window_between state.rows first last) in
     let named = window_names_are state.rows (periods_between (periods_of state.rows) first last) (window_between state.rows first last) graph made.names is in
-    let (rest, report) = some_study_text known.studies known.certified known.least known.tested state names first.name graph asked within named in
-    (_, record { front = text_in state.form (window_head state.rows first last); rest = rest; before = refl; report = report; whole = refl })
+    some_study_text known.studies known.certified known.least known.tested state (window_head state.rows first last) names first.name graph asked within named
 some_window_by state known first last (Err (Over j)) asked made within is sure = (_, refl)
 some_window_by state known first last (Err NoMemory) asked made within is sure = absurd (sure refl)
 

@@ -34,32 +34,25 @@ use Rattle.pb_report.specs.Advice.{advice_rows}
 use Rattle.pb_report.specs.Design.{design_rows}
 use Rattle.pb_report.specs.Study.{study_rows}
 use Rattle.pb_session.specs.Criticals.{critical_of}
-use Rattle.pb_session.specs.Session.{AddsAccepted, AddsBy, Balances, BalancesBy, BalancesIn, IsBalanceOf, IsReport, IsReportAfter, SessionState, Reports, ReportsBy, IsHistoryText, Windows, WindowsBy, assembly_between, component_assembly, last_stage, state_after, window_head}
+use Rattle.pb_session.specs.Session.{AddsAccepted, AddsBy, Balances, BalancesIn, IsBalanceOf, IsReport, SessionState, Reports, ReportsBy, IsHistoryText, Windows, assembly_between, component_assembly, last_stage, state_after, window_head}
 use Rattle.pb_session.specs.Laws.{OneTextLaw, OneSessionTextLaw}
 
--- the report of a graph
-study_text : OneStudyLaw → (state : SessionState) (names : Names) (period : List ℕ) (graph : ProcessGraph) (one other : List ℕ)
-    → IsReport state names period graph one → IsReport state names period graph other → one ≡ other
-study_text law state names period graph one other a b =
-    let text : Study → List ℕ = λ study. text_in state.form (study_rows names period state.options study) in
+-- the report of a graph, after some rows
+study_text : OneStudyLaw → (state : SessionState) (before : List OutputRow) (names : Names) (period : List ℕ) (graph : ProcessGraph) (one other : List ℕ)
+    → IsReport state before names period graph one → IsReport state before names period graph other → one ≡ other
+study_text law state before names period graph one other a b =
+    let text : Study → List ℕ = λ study. text_in state.form (before ++ study_rows names period state.options study) in
     a.rows ∙ ap text (law graph state.options (critical_of state.rows) a.study b.study a.limits a.is_study b.is_study) ∙ sym b.rows
 
--- and a report after some rows
-after_text : OneStudyLaw → (state : SessionState) (rows : List OutputRow) (names : Names) (period : List ℕ) (graph : ProcessGraph) (one other : List ℕ)
-    → IsReportAfter state rows names period graph one → IsReportAfter state rows names period graph other → one ≡ other
-after_text law state rows names period graph one other a b =
-    let front : a.front ≡ b.front = a.before ∙ sym b.before in
-    let rest : a.rest ≡ b.rest = study_text law state names period graph a.rest b.rest a.report b.report in
-    a.whole ∙ ap₂ (λ (x y : List ℕ). x ++ y) front rest ∙ sym b.whole
-
-reports_by_text : OneStudyLaw → (state : SessionState) (period : Period) (assembly : Result ProcessGraph Assembly) (one other : List ℕ)
-    → ReportsBy state period assembly one → ReportsBy state period assembly other → one ≡ other
-reports_by_text law state period (Ok graph) one other a b = study_text law state (period_names state.rows (days_of period)) period.name graph one other a b
-reports_by_text law state period (Err (Over j)) one other a b = a ∙ sym b
-reports_by_text law state period (Err NoMemory) one other a b = absurd a
+reports_by_text : OneStudyLaw → (state : SessionState) (before : List OutputRow) (names : Names) (period : List ℕ) (assembly : Result ProcessGraph Assembly) (one other : List ℕ)
+    → ReportsBy state before names period assembly one → ReportsBy state before names period assembly other → one ≡ other
+reports_by_text law state before names period (Ok graph) one other a b = study_text law state before names period graph one other a b
+reports_by_text law state before names period (Err (Over j)) one other a b = a ∙ sym b
+reports_by_text law state before names period (Err NoMemory) one other a b = absurd a
 
 report_text : OneStudyLaw → (state : SessionState) (period : Option Period) (one other : List ℕ) → Reports state period one → Reports state period other → one ≡ other
-report_text law state (Some period) one other a b = reports_by_text law state period (assembly_of state.rows (days_of period)) one other a b
+report_text law state (Some period) one other a b =
+    reports_by_text law state [] (period_names state.rows (days_of period)) period.name (assembly_of state.rows (days_of period)) one other a b
 report_text law state None one other a b = absurd a
 
 -- ---- the balance of a component
@@ -75,36 +68,25 @@ one_balance law state graph grades one other a b =
     let last : a.last ≡ b.last = same_stage a.last b.last (last_stage b.study) (ap last_stage (sym same) ∙ a.is_last) b.is_last in
     a.is ∙ ap (λ (stage : Stage). component_assembly (component_of graph stage.streams grades)) last ∙ sym b.is
 
-balance_in : OneStudyLaw → (state : SessionState) (component : List ℕ) (period : Period) (assembly one other : Result ProcessGraph Assembly)
-    → BalancesIn state component period assembly one → BalancesIn state component period assembly other → one ≡ other
-balance_in law state component period (Ok graph) one other a b = one_balance law state graph (grades_of state.rows component period) one other a b
-balance_in law state component period (Err why) one other a b = a ∙ sym b
-
-balance_by_text : OneStudyLaw → (state : SessionState) (component : List ℕ) (period : Period) (answer : Result ProcessGraph Assembly) (one other : List ℕ)
-    → BalancesBy state component period answer one → BalancesBy state component period answer other → one ≡ other
-balance_by_text law state component period (Ok graph) one other a b =
-    after_text law state (component_row component period.name ∷ []) (period_names state.rows (days_of period)) period.name graph one other a b
-balance_by_text law state component period (Err (Over j)) one other a b = a ∙ sym b
-balance_by_text law state component period (Err NoMemory) one other a b = absurd a
+balance_in : OneStudyLaw → (state : SessionState) (grades : List (Option Grade)) (assembly one other : Result ProcessGraph Assembly)
+    → BalancesIn state grades assembly one → BalancesIn state grades assembly other → one ≡ other
+balance_in law state grades (Ok graph) one other a b = one_balance law state graph grades one other a b
+balance_in law state grades (Err why) one other a b = a ∙ sym b
 
 balance_text : OneStudyLaw → (state : SessionState) (component : List ℕ) (period : Option Period) (one other : List ℕ)
     → Balances state component period one → Balances state component period other → one ≡ other
 balance_text law state component (Some period) one other (a, a_of, a_by) (b, b_of, b_by) =
-    let same : a ≡ b = balance_in law state component period (assembly_of state.rows (days_of period)) a b a_of b_of in
-    balance_by_text law state component period b one other (subst (λ (answer : Result ProcessGraph Assembly). BalancesBy state component period answer one) same a_by) b_by
+    let same : a ≡ b = balance_in law state (grades_of state.rows component period) (assembly_of state.rows (days_of period)) a b a_of b_of in
+    let rows = component_row component period.name ∷ [] in
+    let names = period_names state.rows (days_of period) in
+    reports_by_text law state rows names period.name b one other (subst (λ (answer : Result ProcessGraph Assembly). ReportsBy state rows names period.name answer one) same a_by) b_by
 balance_text law state component None one other a b = absurd a
 
 -- ---- a window of several periods
 
-windows_by_text : OneStudyLaw → (state : SessionState) (first last : Period) (assembly : Result ProcessGraph Assembly) (one other : List ℕ) → WindowsBy state first last assembly one
-    → WindowsBy state first last assembly other → one ≡ other
-windows_by_text law state first last (Ok graph) one other a b =
-    after_text law state (window_head state.rows first last) (window_names (window_between state.rows first last)) first.name graph one other a b
-windows_by_text law state first last (Err (Over j)) one other a b = a ∙ sym b
-windows_by_text law state first last (Err NoMemory) one other a b = absurd a
-
 window_text : OneStudyLaw → (state : SessionState) (first last : Option Period) (one other : List ℕ) → Windows state first last one → Windows state first last other → one ≡ other
-window_text law state (Some first) (Some last) one other a b = windows_by_text law state first last (assembly_between state.rows first last) one other a b
+window_text law state (Some first) (Some last) one other a b =
+    reports_by_text law state (window_head state.rows first last) (window_names (window_between state.rows first last)) first.name (assembly_between state.rows first last) one other a b
 window_text law state (Some first) None one other a b = absurd a
 window_text law state None last one other a b = absurd a
 

@@ -31,7 +31,7 @@ use Rattle.pb_kinds.specs.Costs.{named_costs}
 use Rattle.pb_kinds.specs.Versions.{may_declare, may_do}
 use Rattle.pb_book.specs.declared.answer.Accepted.TheVariants as answered
 use Rattle.pb_periods.specs.declared.period.Period.{Period}
-use Rattle.pb_book.specs.declared.rows.StoredRow.{StoredRow}
+use Rattle.pb_kinds.specs.declared.rows.StoredRow.{StoredRow}
 use Rattle.pb_book.specs.Accepted.{AreAccepted}
 use Rattle.pb_book.specs.Answer.{Answer, Refuses, Says, Stores, after_answer, answer_of}
 use Rattle.pb_book.specs.Assays.{grade_of}
@@ -44,7 +44,7 @@ use Rattle.pb_book.specs.VersionOne.{VersionOneLaw, first_answer_of, says_versio
 use Rattle.pb_periods.specs.Windows.{keeps_idle_nodes, window_arc, window_plant}
 use Rattle.pb_period.specs.declared.days.Days.{Days}
 use Rattle.pb_period.specs.declared.graph.Assembly.{Assembly}
-use Rattle.pb_period.specs.declared.graph.Assembly.TheVariants.{Over, NoMemory}
+use Rattle.pb_period.specs.Grades.{grades_of}
 use Rattle.pb_period.specs.Days.{days_of}
 use Rattle.pb_period.specs.Measurement.{amount_of, measured, measurement}
 use Rattle.pb_period.specs.PeriodGraph.{assembly_in, assembly_of, graph_in, graph_with, period_names, within_limits}
@@ -52,12 +52,11 @@ use Rattle.pb_period.specs.WindowGraph.{flow_measured, measured_in}
 use Rattle.pb_report.specs.Component.{component_row}
 use Rattle.pb_report.specs.Form.{text_in}
 use Rattle.pb_report.specs.History.{history_rows}
-use Rattle.pb_report.specs.Names.{name_at}
-use Rattle.pb_report.specs.Over.{over_row}
+use Rattle.pb_report.specs.Row.{OutputRow}
 use Rattle.pb_session.proofs.EditedLemmas.{seam}
 use Rattle.pb_session.specs.History.{told, told_period}
-use Rattle.pb_session.specs.Session.{AddsBy, Balances, BalancesBy, BalancesIn, IsBalanceOf, IsHistoryText, IsReport, IsReportAfter, Reports, ReportsBy, SessionState, state_after}
-use Rattle.pb_session.specs.VersionOne.{FirstAddsBy, FirstBalances, FirstBalancesBy, FirstBalancesIn, FirstPlantLaw, FirstRefusalLaw, FirstReports, FirstReportsBy, FirstSessionTextLaw, FirstTells, FirstTextLaw, FirstWindowLaw, IsFirstText, accepts_version_2, first_amount, first_assembly, first_graph, first_history, first_measured, first_state_after, first_touches, first_window_arc, first_window_plant}
+use Rattle.pb_session.specs.Session.{AddsBy, Balances, BalancesIn, IsHistoryText, Reports, ReportsBy, SessionState, state_after}
+use Rattle.pb_session.specs.VersionOne.{FirstAddsBy, FirstBalances, FirstPlantLaw, FirstRefusalLaw, FirstReports, FirstSessionTextLaw, FirstTells, FirstTextLaw, FirstWindowLaw, IsFirstText, accepts_version_2, first_amount, first_assembly, first_grades, first_graph, first_history, first_measured, first_state_after, first_touches, first_window_arc, first_window_plant}
 
 -- ---- the graph of a period
 
@@ -120,52 +119,33 @@ tells_one state (Some period) text one =
 
 -- ---- the report of a period
 
-over_one : (state : SessionState) (period : Period) (j : ℕ) → version_of (declared_of state.rows) ≡ One
-    → text_in state.form (over_row period.name (name_at (period_names state.rows (days_of period)).streams j) ∷ [])
-    ≡ text_in state.form (over_row period.name (name_at (arc_names (declared_of state.rows)) j) ∷ [])
-over_one state period j one =
-    ap (λ (names : Names). text_in state.form (over_row period.name (name_at names.streams j) ∷ [])) (names_one state.rows (days_of period) one)
-
-reports_by_one : (state : SessionState) (period : Period) (assembly : Result ProcessGraph Assembly) (text : List ℕ) → version_of (declared_of state.rows) ≡ One
-    → ReportsBy state period assembly text ↔ FirstReportsBy state period assembly text
-reports_by_one state period (Ok graph) text one =
+reports_by_one : (state : SessionState) (before : List OutputRow) (period : Period) (assembly : Result ProcessGraph Assembly) (text : List ℕ) → version_of (declared_of state.rows) ≡ One
+    → ReportsBy state before (period_names state.rows (days_of period)) period.name assembly text ↔ ReportsBy state before (names_of (declared_of state.rows)) period.name assembly text
+reports_by_one state before period assembly text one =
     let names = names_one state.rows (days_of period) one in (
-      λ is. subst (λ (ns : Names). IsReport state ns period.name graph text) names is,
-      λ is. subst (λ (ns : Names). IsReport state ns period.name graph text) (sym names) is,
+      λ is. subst (λ (ns : Names). ReportsBy state before ns period.name assembly text) names is,
+      λ is. subst (λ (ns : Names). ReportsBy state before ns period.name assembly text) (sym names) is,
     )
-reports_by_one state period (Err (Over j)) text one = (λ is. is ∙ over_one state period j one, λ is. is ∙ sym (over_one state period j one))
-reports_by_one state period (Err NoMemory) text one = (λ is. is, λ is. is)
 
 reports_one : (state : SessionState) (found : Option Period) (text : List ℕ) → version_of (declared_of state.rows) ≡ One → Reports state found text ↔ FirstReports state found text
 reports_one state None text one = (λ is. is, λ is. is)
 reports_one state (Some period) text one =
     let same = assembly_one state.rows (days_of period) one in (
-      λ is. (reports_by_one state period (first_assembly state.rows (days_of period)) text one).0
-          (subst (λ (assembly : Result ProcessGraph Assembly). ReportsBy state period assembly text) same is),
-      λ is. subst (λ (assembly : Result ProcessGraph Assembly). ReportsBy state period assembly text) (sym same)
-          ((reports_by_one state period (first_assembly state.rows (days_of period)) text one).1 is),
+      λ is. (reports_by_one state [] period (first_assembly state.rows (days_of period)) text one).0
+          (subst (λ (assembly : Result ProcessGraph Assembly). ReportsBy state [] (period_names state.rows (days_of period)) period.name assembly text) same is),
+      λ is. subst (λ (assembly : Result ProcessGraph Assembly). ReportsBy state [] (period_names state.rows (days_of period)) period.name assembly text) (sym same)
+          ((reports_by_one state [] period (first_assembly state.rows (days_of period)) text one).1 is),
     )
 
 -- ---- the balance of a component
 
 balances_in_one : (state : SessionState) (component : List ℕ) (period : Period) (assembly answer : Result ProcessGraph Assembly) → version_of (declared_of state.rows) ≡ One
-    → BalancesIn state component period assembly answer ↔ FirstBalancesIn state component period assembly answer
-balances_in_one state component period (Ok graph) answer one =
+    → BalancesIn state (grades_of state.rows component period) assembly answer ↔ BalancesIn state (first_grades state.rows component period) assembly answer
+balances_in_one state component period assembly answer one =
     let grades = ap (λ (names : Names). map (grade_of state.rows component period.name) names.streams) (names_one state.rows (days_of period) one) in (
-      λ is. subst (λ (gs : List (Option Grade)). IsBalanceOf state graph gs answer) grades is,
-      λ is. subst (λ (gs : List (Option Grade)). IsBalanceOf state graph gs answer) (sym grades) is,
+      λ is. subst (λ (gs : List (Option Grade)). BalancesIn state gs assembly answer) grades is,
+      λ is. subst (λ (gs : List (Option Grade)). BalancesIn state gs assembly answer) (sym grades) is,
     )
-balances_in_one state component period (Err why) answer one = (λ is. is, λ is. is)
-
-balances_by_one : (state : SessionState) (component : List ℕ) (period : Period) (answer : Result ProcessGraph Assembly) (text : List ℕ) → version_of (declared_of state.rows) ≡ One
-    → BalancesBy state component period answer text ↔ FirstBalancesBy state component period answer text
-balances_by_one state component period (Ok graph) text one =
-    let names = names_one state.rows (days_of period) one in (
-      λ is. subst (λ (ns : Names). IsReportAfter state (component_row component period.name ∷ []) ns period.name graph text) names is,
-      λ is. subst (λ (ns : Names). IsReportAfter state (component_row component period.name ∷ []) ns period.name graph text) (sym names) is,
-    )
-balances_by_one state component period (Err (Over j)) text one = (λ is. is ∙ over_one state period j one, λ is. is ∙ sym (over_one state period j one))
-balances_by_one state component period (Err NoMemory) text one = (λ is. is, λ is. is)
 
 balances_one : (state : SessionState) (component : List ℕ) (found : Option Period) (text : List ℕ) → version_of (declared_of state.rows) ≡ One
     → Balances state component found text ↔ FirstBalances state component found text
@@ -175,14 +155,14 @@ balances_one state component (Some period) text one =
       λ (answer, of, by). (
         answer,
         (balances_in_one state component period (first_assembly state.rows (days_of period)) answer one).0
-            (subst (λ (assembly : Result ProcessGraph Assembly). BalancesIn state component period assembly answer) same of),
-        (balances_by_one state component period answer text one).0 by,
+            (subst (λ (assembly : Result ProcessGraph Assembly). BalancesIn state (grades_of state.rows component period) assembly answer) same of),
+        (reports_by_one state (component_row component period.name ∷ []) period answer text one).0 by,
       ),
       λ (answer, of, by). (
         answer,
-        subst (λ (assembly : Result ProcessGraph Assembly). BalancesIn state component period assembly answer) (sym same)
+        subst (λ (assembly : Result ProcessGraph Assembly). BalancesIn state (grades_of state.rows component period) assembly answer) (sym same)
             ((balances_in_one state component period (first_assembly state.rows (days_of period)) answer one).1 of),
-        (balances_by_one state component period answer text one).1 by,
+        (reports_by_one state (component_row component period.name ∷ []) period answer text one).1 by,
       ),
     )
 

@@ -3,6 +3,7 @@ use Rattle.std.specs.Prelude.{filter_map, map, OnErr, OnOk}
 use Rattle.std.specs.List.{cons_option}
 use Rattle.std.proofs.Common.{◌≡◌, ◌∙◌, ◌<◌, ◌≤◌, ℕ, List, [], ◌∷◌, ◌++◌, length, slice_get, All, Option, Some, None, Result, Ok, Err, refl, sym, ap, ap₂, subst, arith, append_assoc, take}
 use Rattle.std.proofs.Math.Seq.{take-append_seam}
+use Rattle.std.proofs.lemmas.Grind.{flat_map-append}
 use Rattle.std.proofs.lemmas.List.{length-map}
 use Rattle.std.proofs.lemmas.List.Elements.{All-cons, All-nil}
 use Rattle.std.proofs.lemmas.Option.{slice_get_within}
@@ -19,17 +20,18 @@ use Rattle.pb_window.specs.Places.{HaveNames, window_places}
 use Rattle.pb_window.specs.Window.{IsWindow}
 use Rattle.pb_site.specs.Site.{names_of}
 use Rattle.pb_periods.specs.declared.period.Period.{Period}
-use Rattle.pb_book.specs.declared.rows.StoredRow.{StoredRow}
+use Rattle.pb_kinds.specs.declared.rows.StoredRow.{StoredRow}
 use Rattle.pb_book.specs.Rows.{declared_of, periods_of}
 use Rattle.pb_book.specs.Windows.{ArePlacesBetween, HavePlaceNames, IsWindowAsked, IsWindowBetween, OfEnds, window_between}
 use Rattle.pb_periods.specs.Windows.{names_of_periods, periods_between}
 use Rattle.pb_period.specs.declared.graph.Assembly.{Assembly}
 use Rattle.pb_period.specs.PeriodGraph.{unless_over}
 use Rattle.pb_period.specs.WindowGraph.{measured_window, periods_at, stream_measured, window_assembly}
-use Rattle.pb_report.specs.Form.{text_in}
+use Rattle.pb_report.specs.Form.{row_text, text_in}
 use Rattle.pb_report.specs.Row.{OutputRow}
+use Rattle.pb_report.specs.Study.{study_rows}
 use Rattle.pb_report.specs.Window.{window_rows}
-use Rattle.pb_session.specs.Session.{AreNamesOf, IsReport, IsReportAfter, SessionState, Windows, WindowsBy, assembly_between, window_head}
+use Rattle.pb_session.specs.Session.{AreNamesOf, IsReport, ReportsBy, SessionState, Windows, assembly_between, window_head}
 use Rattle.pb_session.specs.Windowed.{IsWindowAt}
 
 -- ---- the periods at some places
@@ -132,21 +134,34 @@ between_is rows first last one other places window r first_is last_is between is
 
 -- the text of a window whose ends are found
 pub windows_at : (state : SessionState) (first last : ℕ) (one other : Period) (assembly : Result ProcessGraph Assembly) (text : List ℕ) → slice_get (periods_of state.rows) first ≡ Some one
-    → slice_get (periods_of state.rows) last ≡ Some other → assembly ≡ assembly_between state.rows one other → WindowsBy state one other assembly text
+    → slice_get (periods_of state.rows) last ≡ Some other → assembly ≡ assembly_between state.rows one other
+    → ReportsBy state (window_head state.rows one other) (window_names (window_between state.rows one other)) one.name assembly text
     → Windows state (slice_get (periods_of state.rows) first) (slice_get (periods_of state.rows) last) text
 windows_at state first last one other assembly text first_is last_is is by =
     subst (λ (o : Option Period). Windows state o (slice_get (periods_of state.rows) last) text) (sym first_is)
-    (subst (λ (o : Option Period). Windows state (Some one) o text) (sym last_is) (subst (λ (a : Result ProcessGraph Assembly). WindowsBy state one other a text) is by))
+    (subst (λ (o : Option Period). Windows state (Some one) o text) (sym last_is)
+    (subst (λ (a : Result ProcessGraph Assembly). ReportsBy state (window_head state.rows one other) (window_names (window_between state.rows one other)) one.name a text) is by))
 
 -- rows were appended, and then a report
 pub after_ok : {T E : Type 0} (r : Result T E) (state : SessionState) (rows : List OutputRow) (names : Names) (period : List ℕ) (graph : ProcessGraph) (old middle new : List ℕ)
-    → middle ≡ old ++ text_in state.form rows → OnOk r ((t : List ℕ) × (new ≡ middle ++ t) × IsReport state names period graph t)
-    → OnOk r ((t : List ℕ) × (new ≡ old ++ t) × IsReportAfter state rows names period graph t)
+    → middle ≡ old ++ text_in state.form rows → OnOk r ((t : List ℕ) × (new ≡ middle ++ t) × IsReport state [] names period graph t)
+    → OnOk r ((t : List ℕ) × (new ≡ old ++ t) × IsReport state rows names period graph t)
 after_ok (Ok x) state rows names period graph old middle new begun (text, written, report) =
     let head = text_in state.form rows in (
       head ++ text,
       written ∙ ap (λ (t : List ℕ). t ++ text) begun ∙ append_assoc old head text,
-      record { front = head; rest = text; before = refl; report = report; whole = refl },
+      record {
+        limits = report.limits;
+        named = report.named;
+        study = report.study;
+        is_study = report.is_study;
+        certified = report.certified;
+        least = report.least;
+        tested = report.tested;
+        rows =
+            ap (λ (t : List ℕ). head ++ t) report.rows
+            ∙ sym (flat_map-append (row_text state.form) rows (study_rows names period state.options report.study));
+      },
     )
 after_ok (Err e) state rows names period graph old middle new begun appended = tt
 
@@ -159,24 +174,24 @@ after_err (Err e) old head middle new before before_is begun kept = kept ∙ ap�
 -- the rows of a window were appended, and then a report
 pub head_ok : {T E : Type 0} (r : Result T E) (state : SessionState) (first last : ℕ) (a : Period) (names : Names) (graph : ProcessGraph) (rows : List OutputRow) (old middle new : List ℕ)
     → slice_get (periods_of state.rows) first ≡ Some a → OfEnds state.rows first last (λ (one other : Period). rows ≡ window_head state.rows one other) → middle ≡ old ++ text_in state.form rows
-    → OnOk r ((t : List ℕ) × (new ≡ middle ++ t) × IsReport state names a.name graph t)
-    → OnOk r (OfEnds state.rows first last (λ (one other : Period). (t : List ℕ) × (new ≡ old ++ t) × IsReportAfter state (window_head state.rows one other) names one.name graph t))
+    → OnOk r ((t : List ℕ) × (new ≡ middle ++ t) × IsReport state [] names a.name graph t)
+    → OnOk r (OfEnds state.rows first last (λ (one other : Period). (t : List ℕ) × (new ≡ old ++ t) × IsReport state (window_head state.rows one other) names one.name graph t))
 head_ok (Err e) state first last a names graph rows old middle new a_is heads begun appended = tt
 head_ok {T = T} {E = E} (Ok x) state first last a names graph rows old middle new a_is heads begun (text, written, report) = λ one other first_is last_is.
     let one_is : a ≡ one = same_found a one (slice_get (periods_of state.rows) first) a_is first_is in
     let said : Result T E = Ok x in
     after_ok said state (window_head state.rows one other) names one.name graph old middle new
     (begun ∙ ap (λ (rs : List OutputRow). old ++ text_in state.form rs) (heads one other first_is last_is))
-    (text, written, subst (λ (p : Period). IsReport state names p.name graph text) one_is report)
+    (text, written, subst (λ (p : Period). IsReport state [] names p.name graph text) one_is report)
 
 -- a report after the rows of a window was appended
 pub windows_ok : {T E : Type 0} (r : Result T E) (state : SessionState) (first last : ℕ) (one other : Period) (names : Names) (graph : ProcessGraph) (old new : List ℕ)
     → slice_get (periods_of state.rows) first ≡ Some one → slice_get (periods_of state.rows) last ≡ Some other → names ≡ window_names (window_between state.rows one other)
     → Ok graph ≡ assembly_between state.rows one other
-    → OnOk r (OfEnds state.rows first last (λ (a b : Period). (t : List ℕ) × (new ≡ old ++ t) × IsReportAfter state (window_head state.rows a b) names a.name graph t))
+    → OnOk r (OfEnds state.rows first last (λ (a b : Period). (t : List ℕ) × (new ≡ old ++ t) × IsReport state (window_head state.rows a b) names a.name graph t))
     → OnOk r ((t : List ℕ) × (new ≡ old ++ t) × Windows state (slice_get (periods_of state.rows) first) (slice_get (periods_of state.rows) last) t)
 windows_ok (Ok x) state first last one other names graph old new first_is last_is names_are graph_is appended =
     let (text, written, is) = appended one other first_is last_is in
-    let by : WindowsBy state one other (Ok graph) text = subst (λ (n : Names). IsReportAfter state (window_head state.rows one other) n one.name graph text) names_are is in
+    let by = subst (λ (n : Names). IsReport state (window_head state.rows one other) n one.name graph text) names_are is in
     (text, written, windows_at state first last one other (Ok graph) text first_is last_is graph_is by)
 windows_ok (Err e) state first last one other names graph old new first_is last_is names_are graph_is appended = tt

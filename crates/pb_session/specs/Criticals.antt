@@ -5,7 +5,7 @@ use Rattle.pb_study.specs.declared.results.CriticalRow.{CriticalRow}
 use Rattle.pb_site.specs.declared.declared.Declared.{Declared}
 use Rattle.pb_site.specs.declared.declared.Declared.TheVariants.{CritGlobal}
 use Rattle.pb_site.specs.Site.{measure_of, nodal_of}
-use Rattle.pb_book.specs.declared.rows.StoredRow.{StoredRow}
+use Rattle.pb_kinds.specs.declared.rows.StoredRow.{StoredRow}
 use Rattle.pb_book.specs.Rows.{declared_of}
 
 -- the critical value of the global test that a declaration declares, with its degrees of freedom

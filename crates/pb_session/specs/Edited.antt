@@ -4,7 +4,7 @@ use Rattle.pb_book.specs.declared.answer.Accepted.TheVariants.{Report, Component
 use Rattle.pb_book.specs.Accepted.{AreAccepted}
 use Rattle.pb_book.specs.Answer.{Says, answer_of}
 use Rattle.pb_book.specs.Plain.{plain_rows}
-use Rattle.pb_book.specs.declared.rows.StoredRow.{StoredRow}
+use Rattle.pb_kinds.specs.declared.rows.StoredRow.{StoredRow}
 use Rattle.pb_book.specs.Written.{WriteRows}
 use Rattle.pb_session.specs.Session.{Adds, IsSessionText, SessionState, new_session, refuses_some}
 

@@ -6,7 +6,7 @@ use Rattle.pb_kinds.specs.declared.rows.Edit.TheVariants as edits
 use Rattle.pb_kinds.specs.declared.rows.Effect.{Effect}
 use Rattle.pb_kinds.specs.declared.rows.Effect.TheVariants.{Books, Edits, Closes}
 use Rattle.pb_periods.specs.declared.period.Period.{Period}
-use Rattle.pb_book.specs.declared.rows.StoredRow.{StoredRow}
+use Rattle.pb_kinds.specs.declared.rows.StoredRow.{StoredRow}
 use Rattle.pb_book.specs.Edits.{history_of}
 use Rattle.pb_report.specs.declared.history.HistoryRow.{HistoryRow}
 use Rattle.pb_report.specs.declared.history.HistoryWord.{HistoryWord}

@@ -17,9 +17,10 @@ use Rattle.pb_book.specs.declared.answer.Accepted.{Accepted}
 use Rattle.pb_book.specs.declared.answer.Accepted.TheVariants.{Stored}
 use Rattle.pb_periods.specs.declared.period.Period.{Period}
 use Rattle.pb_book.specs.TakenOut.{touched_at}
-use Rattle.pb_book.specs.declared.rows.StoredRow.{StoredRow}
+use Rattle.pb_kinds.specs.declared.rows.StoredRow.{StoredRow}
 use Rattle.pb_book.specs.Rows.{periods_of}
 use Rattle.pb_period.specs.Days.{days_of}
+use Rattle.pb_period.specs.Grades.{grades_of}
 use Rattle.pb_period.specs.declared.graph.Assembly.{Assembly}
 use Rattle.pb_period.specs.PeriodGraph.{assembly_of}
 use Rattle.pb_session.specs.declared.kept.KeptStudy.{KeptStudy}
@@ -146,7 +147,8 @@ pub record HasCountsOf (graph other : ProcessGraph) : Type 0 where
 
 -- the answer is the component graph of the period at a place, or the first stream beyond the limits
 abbrev pub IsBalanceAt : SessionState → List ℕ → Option Period → Result ProcessGraph Assembly → Type 0
-IsBalanceAt state component (Some period) answer = BalancesIn state component period (assembly_of state.rows (days_of period)) answer
+IsBalanceAt state component (Some period) answer =
+    BalancesIn state (grades_of state.rows component period) (assembly_of state.rows (days_of period)) answer
 IsBalanceAt state component None answer = ⊥
 
 -- ---- the invariant

@@ -10,7 +10,7 @@ use Rattle.pb_book.specs.declared.answer.Accepted.TheVariants.{Report}
 use Rattle.pb_periods.specs.declared.period.Period.{Period}
 use Rattle.pb_book.specs.Answer.{Answer, Says, Stores, answer_of}
 use Rattle.pb_book.specs.TakenOut.{touched_at}
-use Rattle.pb_book.specs.declared.rows.StoredRow.{StoredRow}
+use Rattle.pb_kinds.specs.declared.rows.StoredRow.{StoredRow}
 use Rattle.pb_book.specs.Rows.{periods_of, with_row}
 use Rattle.pb_period.specs.Days.{days_of}
 use Rattle.pb_period.specs.declared.graph.Assembly.{Assembly}

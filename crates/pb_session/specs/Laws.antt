@@ -3,7 +3,7 @@ use Rattle.std.specs.Prelude.{◌≡◌, ℕ, List}
 use Rattle.pb_study.specs.Options.{AreOptions}
 use Rattle.pb_study.specs.Criticals.{AreCritical}
 use Rattle.pb_book.specs.Accepted.{AreAccepted}
-use Rattle.pb_book.specs.declared.rows.StoredRow.{StoredRow}
+use Rattle.pb_kinds.specs.declared.rows.StoredRow.{StoredRow}
 use Rattle.pb_session.specs.Criticals.{critical_of}
 use Rattle.pb_session.specs.Session.{Adds, IsSessionText, SessionState}
 

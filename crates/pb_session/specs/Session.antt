@@ -1,5 +1,5 @@
 -- Statement. The output of a session.
-use Rattle.std.specs.Prelude.{◌≡◌, ℕ, ℤ, ◌+◌, Bool, ◌||◌, false, List, [], ◌∷◌, ◌++◌, Option, Some, None, slice_get, length, All, Result, Ok, Err, codes}
+use Rattle.std.specs.Prelude.{◌≡◌, ℕ, ℤ, ◌+◌, Bool, ◌||◌, false, List, [], ◌∷◌, ◌++◌, Option, Some, None, IsSomeAnd, slice_get, length, All, Result, Ok, Err, codes}
 use Rattle.pb_rows.specs.declared.name.Names.{Names}
 use Rattle.pb_window.specs.Codes.{window_names}
 use Rattle.pb_window.specs.Places.{window_places}
@@ -24,7 +24,7 @@ use Rattle.pb_kinds.specs.Costs.{named_costs}
 use Rattle.pb_book.specs.declared.answer.Accepted.{Accepted}
 use Rattle.pb_book.specs.declared.answer.Accepted.TheVariants as answered
 use Rattle.pb_periods.specs.declared.period.Period.{Period}
-use Rattle.pb_book.specs.declared.rows.StoredRow.{StoredRow}
+use Rattle.pb_kinds.specs.declared.rows.StoredRow.{StoredRow}
 use Rattle.pb_book.specs.Rows.{declared_of, periods_of}
 use Rattle.pb_book.specs.Costs.{meter_costs}
 use Rattle.pb_periods.specs.Windows.{names_of_periods, periods_between}
@@ -88,10 +88,10 @@ pub record IsAdviceText (state : SessionState) (names : Names) (graph : ProcessG
   pub cheapest : IsCheapest graph costs advice
   pub rows : IsTextOf state (advice_rows names advice) text
 
--- The text is the report of a period with this name and this graph: the rows of the study of the graph, by the critical values of
--- the stored rows and under the names of its nodes and streams. Each stage of the study is certified and has least bounds at each
--- stream that has bounds; if it has tests, it has those of its redundant streams.
-pub record IsReport (state : SessionState) (names : Names) (period : List ℕ) (graph : ProcessGraph) (text : List ℕ) : Type 0 where
+-- The text is the report of a period with this name and this graph after some rows: these rows, and the rows of the study of the
+-- graph, by the critical values of the stored rows and under the names of its nodes and streams. Each stage of the study is certified
+-- and has least bounds at each stream that has bounds; if it has tests, it has those of its redundant streams.
+pub record IsReport (state : SessionState) (before : List OutputRow) (names : Names) (period : List ℕ) (graph : ProcessGraph) (text : List ℕ) : Type 0 where
   pub limits : IsProcessGraph graph
   pub named : AreNamesOf names graph
   pub study : Study
@@ -99,27 +99,20 @@ pub record IsReport (state : SessionState) (names : Names) (period : List ℕ) (
   pub certified : All IsCertifiedStage study.stages
   pub least : All HasLeastThroughout study.stages
   pub tested : All TestsEachRedundant study.stages
-  pub rows : IsTextOf state (study_rows names period state.options study) text
+  pub rows : IsTextOf state (before ++ study_rows names period state.options study) text
 
--- the text of a report, or the row that names the first stream beyond the limits
-abbrev pub ReportsBy : SessionState → Period → Result ProcessGraph Assembly → List ℕ → Type 0
-ReportsBy state period (Ok graph) text = IsReport state (period_names state.rows (days_of period)) period.name graph text
-ReportsBy state period (Err (Over j)) text =
-    IsTextOf state (over_row period.name (name_at (period_names state.rows (days_of period)).streams j) ∷ []) text
-ReportsBy state period (Err NoMemory) text = ⊥
+-- the text of a report after some rows, given its graph and the names of the graph's nodes and streams; or the row that names the
+-- first stream beyond the limits
+abbrev pub ReportsBy : SessionState → List OutputRow → Names → List ℕ → Result ProcessGraph Assembly → List ℕ → Type 0
+ReportsBy state before names period (Ok graph) text = IsReport state before names period graph text
+ReportsBy state before names period (Err (Over j)) text = IsTextOf state (over_row period (name_at names.streams j) ∷ []) text
+ReportsBy state before names period (Err NoMemory) text = ⊥
 
 -- the text of the report of the period at a place
 abbrev pub Reports : SessionState → Option Period → List ℕ → Type 0
-Reports state (Some period) text = ReportsBy state period (assembly_of state.rows (days_of period)) text
-Reports state None text = ⊥
-
--- The text consists of these rows, followed by the report of a graph.
-pub record IsReportAfter (state : SessionState) (rows : List OutputRow) (names : Names) (period : List ℕ) (graph : ProcessGraph) (text : List ℕ) : Type 0 where
-  pub front : List ℕ
-  pub rest : List ℕ
-  pub before : IsTextOf state rows front
-  pub report : IsReport state names period graph rest
-  pub whole : text ≡ front ++ rest
+Reports state found text =
+    IsSomeAnd found (λ period. ReportsBy state [] (period_names state.rows (days_of period)) period.name
+    (assembly_of state.rows (days_of period)) text)
 
 -- ---- the balance of a component
 
@@ -143,27 +136,18 @@ pub record IsBalanceOf (state : SessionState) (graph : ProcessGraph) (grades : L
   pub is_last : last_stage study ≡ Some last
   pub is : answer ≡ component_assembly (component_of graph last.streams grades)
 
--- the component graph of the graph of a period, or the first stream of the period beyond the limits
-abbrev pub BalancesIn : SessionState → List ℕ → Period → Result ProcessGraph Assembly → Result ProcessGraph Assembly → Type 0
-BalancesIn state component period (Ok graph) answer = IsBalanceOf state graph (grades_of state.rows component period) answer
-BalancesIn state component period (Err why) answer = answer ≡ Err why
+-- the component graph of the graph of a period, from these grades; or the first stream of the period beyond the limits
+abbrev pub BalancesIn : SessionState → List (Option Grade) → Result ProcessGraph Assembly → Result ProcessGraph Assembly → Type 0
+BalancesIn state grades (Ok graph) answer = IsBalanceOf state graph grades answer
+BalancesIn state grades (Err why) answer = answer ≡ Err why
 
--- the text of the balance of a component in a period, given its graph: the row of the component, and the report of the graph under
--- the names of the period's nodes and streams; or the row that names the first stream beyond the limits
-abbrev pub BalancesBy : SessionState → List ℕ → Period → Result ProcessGraph Assembly → List ℕ → Type 0
-BalancesBy state component period (Ok graph) text =
-    IsReportAfter state (component_row component period.name ∷ []) (period_names state.rows (days_of period)) period.name graph text
-BalancesBy state component period (Err (Over j)) text =
-    IsTextOf state (over_row period.name (name_at (period_names state.rows (days_of period)).streams j) ∷ []) text
-BalancesBy state component period (Err NoMemory) text = ⊥
-
--- the text of the balance of a component in the period at a place
+-- the text of the balance of a component in the period at a place: the row of the component, and the report of its component graph
+-- under the names of the period's nodes and streams
 abbrev pub Balances : SessionState → List ℕ → Option Period → List ℕ → Type 0
-Balances state component (Some period) text =
-    (answer : Result ProcessGraph Assembly)
-    × BalancesIn state component period (assembly_of state.rows (days_of period)) answer
-    × BalancesBy state component period answer text
-Balances state component None text = ⊥
+Balances state component found text =
+    IsSomeAnd found (λ period. (answer : Result ProcessGraph Assembly)
+    × BalancesIn state (grades_of state.rows component period) (assembly_of state.rows (days_of period)) answer
+    × ReportsBy state (component_row component period.name ∷ []) (period_names state.rows (days_of period)) period.name answer text)
 
 -- ---- a window of several periods
 
@@ -178,26 +162,19 @@ window_head rows first last =
 abbrev pub assembly_between : List StoredRow → Period → Period → Result ProcessGraph Assembly
 assembly_between rows first last = window_assembly rows (periods_between (periods_of rows) first last) (window_between rows first last)
 
--- the text of a window under the name of its first period: the rows before its report, and the report of its graph under the names
--- of its nodes and streams; or the row that names the first stream beyond the limits
-abbrev pub WindowsBy : SessionState → Period → Period → Result ProcessGraph Assembly → List ℕ → Type 0
-WindowsBy state first last (Ok graph) text =
-    IsReportAfter state (window_head state.rows first last) (window_names (window_between state.rows first last)) first.name graph text
-WindowsBy state first last (Err (Over j)) text =
-    IsTextOf state (over_row first.name (name_at (window_names (window_between state.rows first last)).streams j) ∷ []) text
-WindowsBy state first last (Err NoMemory) text = ⊥
-
--- the text of the window from the period at one place to the period at another
+-- the text of the window from the period at one place to the period at another, under the name of the first: the rows before its
+-- report, and the report of its graph under the names of its nodes and streams
 abbrev pub Windows : SessionState → Option Period → Option Period → List ℕ → Type 0
-Windows state (Some first) (Some last) text = WindowsBy state first last (assembly_between state.rows first last) text
-Windows state first last text = ⊥
+Windows state found other text =
+    IsSomeAnd found (λ first. IsSomeAnd other (λ last. ReportsBy state (window_head state.rows first last)
+    (window_names (window_between state.rows first last)) first.name (assembly_between state.rows first last) text))
 
 -- ---- what a record adds
 
 -- the text of the history of the period at a place
 abbrev pub IsHistoryText : SessionState → Option Period → List ℕ → Type 0
-IsHistoryText state (Some period) text = IsTextOf state (told_history state.rows period) text
-IsHistoryText state None text = ⊥
+IsHistoryText state found text =
+    IsSomeAnd found (λ period. IsTextOf state (told_history state.rows period) text)
 
 -- the text that an accepted record adds, given the costs that it names
 abbrev pub AddsAccepted : SessionState → List NamedCost → Accepted → List ℕ → Type 0

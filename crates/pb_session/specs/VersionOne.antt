@@ -13,6 +13,7 @@ use Rattle.pb_site.specs.declared.declared.Version.TheVariants.{One}
 use Rattle.pb_site.specs.Faults.{most_arcs}
 use Rattle.pb_site.specs.Site.{arc_names, arcs_of, boundary_names, names_of, node_names, points_of_tank, service_in, version_of}
 use Rattle.pb_facts.specs.declared.fact.Fact.{Fact}
+use Rattle.pb_facts.specs.declared.grade.Grade.{Grade}
 use Rattle.pb_facts.specs.declared.fact.Fact.TheVariants.{Reading, Transfer, Dip}
 use Rattle.pb_facts.specs.Fact.{is_dip_on}
 use Rattle.pb_facts.specs.Facts.{live_facts}
@@ -21,7 +22,7 @@ use Rattle.pb_kinds.specs.Costs.{named_costs}
 use Rattle.pb_book.specs.declared.answer.Accepted.{Accepted}
 use Rattle.pb_book.specs.declared.answer.Accepted.TheVariants as answered
 use Rattle.pb_periods.specs.declared.period.Period.{Period}
-use Rattle.pb_book.specs.declared.rows.StoredRow.{StoredRow}
+use Rattle.pb_kinds.specs.declared.rows.StoredRow.{StoredRow}
 use Rattle.pb_book.specs.Accepted.{AreAccepted}
 use Rattle.pb_book.specs.Answer.{Answer, Refuses, Says, Stores, after_answer, answer_of, cause_code}
 use Rattle.pb_periods.specs.Apart.{shares_a_day}
@@ -37,7 +38,6 @@ use Rattle.pb_periods.specs.Windows.{is_inventory, window_plant}
 use Rattle.pb_period.specs.declared.amount.Amount.{Amount}
 use Rattle.pb_period.specs.declared.days.Days.{Days}
 use Rattle.pb_period.specs.declared.graph.Assembly.{Assembly}
-use Rattle.pb_period.specs.declared.graph.Assembly.TheVariants.{Over, NoMemory}
 use Rattle.pb_period.specs.Days.{days_of, each_of}
 use Rattle.pb_period.specs.Facts.{content_of, read_on, total_of, transferred}
 use Rattle.pb_period.specs.Measurement.{change_of, measurement, read_total}
@@ -45,11 +45,9 @@ use Rattle.pb_period.specs.PeriodGraph.{design_graph, graph_with, within_limits}
 use Rattle.pb_period.specs.WindowGraph.{flow_measured}
 use Rattle.pb_report.specs.Component.{component_row}
 use Rattle.pb_report.specs.History.{history_rows}
-use Rattle.pb_report.specs.Names.{name_at}
-use Rattle.pb_report.specs.Over.{over_row}
 use Rattle.pb_report.specs.Refusal.{refused_row}
 use Rattle.pb_session.specs.History.{told, told_period}
-use Rattle.pb_session.specs.Session.{Adds, IsAdviceText, IsBalanceOf, IsDesign, IsReport, IsReportAfter, IsSessionText, IsTextOf, SessionState, Windows, state_after}
+use Rattle.pb_session.specs.Session.{Adds, BalancesIn, IsAdviceText, IsDesign, IsSessionText, IsTextOf, ReportsBy, SessionState, Windows, state_after}
 
 -- ---- the graph of a period
 
@@ -95,17 +93,10 @@ first_history rows period =
 
 -- ---- what a record adds
 
--- the text of the report of a period, given its graph, by the names of the plant; or the row that names the first stream beyond the
--- limits
-abbrev pub FirstReportsBy : SessionState → Period → Result ProcessGraph Assembly → List ℕ → Type 0
-FirstReportsBy state period (Ok graph) text = IsReport state (names_of (declared_of state.rows)) period.name graph text
-FirstReportsBy state period (Err (Over j)) text =
-    IsTextOf state (over_row period.name (name_at (arc_names (declared_of state.rows)) j) ∷ []) text
-FirstReportsBy state period (Err NoMemory) text = ⊥
-
--- the text of the report of the period at a place
+-- the text of the report of the period at a place, by the names of the plant
 abbrev pub FirstReports : SessionState → Option Period → List ℕ → Type 0
-FirstReports state (Some period) text = FirstReportsBy state period (first_assembly state.rows (days_of period)) text
+FirstReports state (Some period) text =
+    ReportsBy state [] (names_of (declared_of state.rows)) period.name (first_assembly state.rows (days_of period)) text
 FirstReports state None text = ⊥
 
 -- the text of the history of the period at a place
@@ -114,25 +105,16 @@ FirstTells state (Some period) text =
     IsTextOf state (history_rows (told_period period) (filter_map told (first_history state.rows period))) text
 FirstTells state None text = ⊥
 
--- the component graph of the graph of a period, from the grades of all streams; or the first stream of the period beyond the limits
-abbrev pub FirstBalancesIn : SessionState → List ℕ → Period → Result ProcessGraph Assembly → Result ProcessGraph Assembly → Type 0
-FirstBalancesIn state component period (Ok graph) answer =
-    IsBalanceOf state graph (map (grade_of state.rows component period.name) (arc_names (declared_of state.rows))) answer
-FirstBalancesIn state component period (Err why) answer = answer ≡ Err why
+-- the grades of all streams of the plant over a period
+abbrev pub first_grades : List StoredRow → List ℕ → Period → List (Option Grade)
+first_grades rows component period = map (grade_of rows component period.name) (arc_names (declared_of rows))
 
--- the text of the balance of a component in a period, given its graph, by the names of the plant; or the row that names the first
--- stream beyond the limits
-abbrev pub FirstBalancesBy : SessionState → List ℕ → Period → Result ProcessGraph Assembly → List ℕ → Type 0
-FirstBalancesBy state component period (Ok graph) text =
-    IsReportAfter state (component_row component period.name ∷ []) (names_of (declared_of state.rows)) period.name graph text
-FirstBalancesBy state component period (Err why) text = FirstReportsBy state period (Err why) text
-
--- the text of the balance of a component in the period at a place
+-- the text of the balance of a component in the period at a place, by the names of the plant
 abbrev pub FirstBalances : SessionState → List ℕ → Option Period → List ℕ → Type 0
 FirstBalances state component (Some period) text =
     (answer : Result ProcessGraph Assembly)
-    × FirstBalancesIn state component period (first_assembly state.rows (days_of period)) answer
-    × FirstBalancesBy state component period answer text
+    × BalancesIn state (first_grades state.rows component period) (first_assembly state.rows (days_of period)) answer
+    × ReportsBy state (component_row component period.name ∷ []) (names_of (declared_of state.rows)) period.name answer text
 FirstBalances state component None text = ⊥
 
 -- the text that an accepted record adds; for a window, introduced after version 2, it is the same as in all sessions

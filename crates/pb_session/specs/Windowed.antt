@@ -7,7 +7,7 @@ use Rattle.pb_window.specs.Places.{HaveNames}
 use Rattle.pb_window.specs.Window.{IsWindow}
 use Rattle.pb_site.specs.Site.{names_of}
 use Rattle.pb_periods.specs.declared.period.Period.{Period}
-use Rattle.pb_book.specs.declared.rows.StoredRow.{StoredRow}
+use Rattle.pb_kinds.specs.declared.rows.StoredRow.{StoredRow}
 use Rattle.pb_book.specs.Rows.{declared_of, periods_of}
 use Rattle.pb_periods.specs.Windows.{names_of_periods, periods_between}
 use Rattle.pb_book.specs.Windows.{window_between}

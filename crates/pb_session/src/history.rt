@@ -6,9 +6,9 @@ ghost use Rattle.pb_book.specs.Edits.{edits_of, history_of};
 ghost use Rattle.pb_book.specs.Rows.{periods_of};
 ghost use Rattle.pb_session.specs.History.{told, told_period, word_of};
 
-use pb_book::{Book, Period, StoredRow};
+use pb_book::{Book, Period};
 use pb_graph::List;
-use pb_kinds::{Edit, Effect};
+use pb_kinds::{Edit, Effect, StoredRow};
 use pb_report::{HistoryRow, HistoryWord};
 use std::alloc::{AllocError, Global};
 

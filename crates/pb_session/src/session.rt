@@ -85,7 +85,7 @@ impl Session {
     ghost use Rattle.pb_session.specs.FirstStage.{Begins, IsFirstStage, TellsAStream};
     ghost use Rattle.pb_session.specs.Keeping.{HasCountsOf, IsBalanceAt, IsReportedAt, IsReportedOf, IsStudied};
     ghost use Rattle.pb_session.specs.Kept.{IsKeptAt, Keeps, KeepsAccepted, KeepsReportOf, most_kept, reported_after, reported_behind, reported_of};
-    ghost use Rattle.pb_session.specs.Session.{Adds, AddsAccepted, AreNamesOf, Balances, IsAdviceText, IsBalanceOf, IsDesign, IsHistoryText, IsReport, IsReportAfter, IsTextOf, Reports, Windows, state_after, window_head};
+    ghost use Rattle.pb_session.specs.Session.{Adds, AddsAccepted, AreNamesOf, Balances, IsAdviceText, IsBalanceOf, IsDesign, IsHistoryText, IsReport, IsTextOf, Reports, Windows, state_after, window_head};
     ghost use Rattle.pb_session.specs.Windowed.{IsWindowAt};
 
     /// A session that has stored nothing.
@@ -419,7 +419,7 @@ impl Session {
         requires names { AreNamesOf names.now graph.now }
         requires limits { IsProcessGraph graph.now }
         ensures ok { OnOk result (AppendsText
-            (IsReport self.now.state names.now period.now graph.now) out.old out.new) }
+            (IsReport self.now.state [] names.now period.now graph.now) out.old out.new) }
         ensures leaves { IfOk result (IsReportedOf self.now i graph.now) }
         ensures err { OnErr result (KeepsText out.old out.new) }
     {
@@ -447,7 +447,7 @@ impl Session {
         requires names { AreNamesOf names.now graph.now }
         requires limits { IsProcessGraph graph.now }
         ensures ok { OnOk result (AppendsText
-            (IsReport self.now.state names.now period.now graph.now) out.old out.new) }
+            (IsReport self.now.state [] names.now period.now graph.now) out.old out.new) }
         ensures err { OnErr result (KeepsText out.old out.new) }
     {
         let study = self.study_of(graph)?;
@@ -506,7 +506,7 @@ impl Session {
     ) -> Result<(), AllocError>
         requires names { AreNamesOf names.now graph.now }
         requires limits { IsProcessGraph graph.now }
-        ensures ok { OnOk result (AppendsText (IsReportAfter self.now.state
+        ensures ok { OnOk result (AppendsText (IsReport self.now.state
             (component_row component.now period.now ∷ []) names.now period.now graph.now)
             out.old out.new) }
         ensures err { OnErr result (KeepsText out.old out.new) }
@@ -615,7 +615,7 @@ impl Session {
         requires names { AreNamesOf names.now graph.now }
         requires limits { IsProcessGraph graph.now }
         ensures ok { OnOk result (OfEnds self.now.state.rows first last (λ one other. AppendsText
-            (IsReportAfter self.now.state (window_head self.now.state.rows one other) names.now
+            (IsReport self.now.state (window_head self.now.state.rows one other) names.now
             one.name graph.now) out.old out.new)) }
         ensures err { OnErr result (KeepsText out.old out.new) }
     {
@@ -646,7 +646,7 @@ impl Session {
         requires names { AreNamesOf names.now graph.now }
         requires limits { IsProcessGraph graph.now }
         ensures ok { OnOk result (AppendsText
-            (IsReport self.now.state names.now period.now graph.now) out.old out.new) }
+            (IsReport self.now.state [] names.now period.now graph.now) out.old out.new) }
         ensures err { OnErr result (out.new.items ≡ take before out.old.items) }
     {
         if let Err(fault) = self.write_graph(names, period, graph, out) {

@@ -1,5 +1,6 @@
 -- What was given, and the command that it asks for.
-use Rattle.std.proofs.Common.{inl, inr, ◌≡◌, ◌∙◌, ◌||◌, ◌&&◌, ◌≤◌, ◌≢◌, arith, ℕ, ℤ, pos, negsuc, Bool, cond, true, false, refl, sym, ap, ap₂, subst, List, Option, Some, None, is_some, codes, leb-true, true≢false, int_le, unwrap_or, IfSome, ◌≤ℤ◌}
+use Rattle.std.specs.Prelude.{unsigned_abs}
+use Rattle.std.proofs.Common.{inl, inr, ◌≡◌, ◌∙◌, ◌||◌, ◌&&◌, ◌≤◌, ◌≢◌, arith, ℕ, ℤ, pos, negsuc, Bool, cond, true, false, refl, sym, ap, ap₂, subst, List, Option, Some, None, is_some, codes, leb-true, true≢false, int_le, unwrap_or, IfSome, ◌≤ℤ◌, option_map}
 use Rattle.std.proofs.lemmas.Int.{ints}
 use Rattle.std.specs.Str.{bytes_eq}
 use Rattle.pb_rows.specs.Number.{number, within}
@@ -9,7 +10,7 @@ use Rattle.pb_words.specs.Given.{Given}
 use Rattle.pb_limits.specs.Limits.{default_gap, default_number, default_streams, default_sweeps, most_gap, most_made_streams, most_rounds, most_sweeps}
 use Rattle.pb_study.specs.Options.{AreOptions}
 use Rattle.pb_make.specs.Plant.{least_streams}
-use Rattle.pb_words.specs.Command.{Asks, AsksCheck, AsksMake, AsksRun, IsCommandInRange, IsCommandOf, IsFormOf, greatest_number, natural, number_or}
+use Rattle.pb_words.specs.Command.{Asks, AsksCheck, AsksMake, AsksRun, IsCommandInRange, IsCommandOf, IsFormOf, greatest_number, number_or}
 use Rattle.pb_words.specs.Line.{IsGivenByClap}
 use Rattle.pb_words.proofs.EndLemmas.{parts_of_taken, taken_of_parts}
 use Rattle.pb_words.specs.declared.command.Command.{Command}
@@ -37,12 +38,12 @@ natural_within least most (Some (pos n)) z e = go (int_le (pos least) (pos n)) (
     go false b le is = absurd (some≢none z (sym is))
 
 -- a number that was read lies in its range
-natural_range : (least most : ℕ) (o : Option ℤ) (n : ℕ) → natural (within (pos least) (pos most) o) ≡ Some n → (least ≤ n) × (n ≤ most)
+natural_range : (least most : ℕ) (o : Option ℤ) (n : ℕ) → option_map unsigned_abs (within (pos least) (pos most) o) ≡ Some n → (least ≤ n) × (n ≤ most)
 natural_range least most None n e = absurd (some≢none n (sym e))
 natural_range least most (Some (negsuc m)) n e = absurd (some≢none n (sym e))
 natural_range least most (Some (pos m)) n e = go (int_le (pos least) (pos m)) refl (int_le (pos m) (pos most)) refl e
   where
-    go : (a : Bool) → int_le (pos least) (pos m) ≡ a → (b : Bool) → int_le (pos m) (pos most) ≡ b → natural (cond (a && b) (Some (pos m)) None) ≡ Some n → (least ≤ n) × (n ≤ most)
+    go : (a : Bool) → int_le (pos least) (pos m) ≡ a → (b : Bool) → int_le (pos m) (pos most) ≡ b → option_map unsigned_abs (cond (a && b) (Some (pos m)) None) ≡ Some n → (least ≤ n) × (n ≤ most)
     go true lo true hi is = rw (sym (same_some m n is)) (leb-true least m lo, leb-true m most hi)
     go true lo false hi is = absurd (some≢none n (sym is))
     go false lo b hi is = absurd (some≢none n (sym is))

@@ -1,5 +1,5 @@
 -- Statement. The commands, and the words that give each.
-use Rattle.std.specs.Prelude.{◌≡◌, ◌≤◌, ◌⊎◌, ℕ, ℤ, pos, negsuc, Bool, false, ◌||◌, List, Option, Some, None, is_some, codes, ⊤}
+use Rattle.std.specs.Prelude.{◌≡◌, ◌≤◌, ◌⊎◌, ℕ, pos, Bool, false, ◌||◌, List, Option, Some, None, is_some, option_map, unsigned_abs, codes, ⊤}
 use Rattle.pb_rows.specs.Number.{number, within}
 use Rattle.pb_limits.specs.Limits.{default_gap, default_number, default_streams, default_sweeps, most_gap, most_made_streams, most_rounds, most_sweeps}
 use Rattle.pb_study.specs.declared.results.Options.{Options}
@@ -16,16 +16,10 @@ use Rattle.pb_words.specs.declared.command.Command.TheVariants.{Run, Check, Make
 abbrev pub greatest_number : ℕ
 greatest_number = 4294967295
 
--- a whole number as a natural one, if it isn't negative
-abbrev pub natural : Option ℤ → Option ℕ
-natural None = None
-natural (Some (pos n)) = Some n
-natural (Some (negsuc n)) = None
-
 -- the number that a text gives within a range, in the form that `read_whole` reads; if no text was given, the usual number
 abbrev pub number_or : ℕ → ℕ → ℕ → Option (List ℕ) → Option ℕ
 number_or least most usual None = Some usual
-number_or least most usual (Some text) = natural (within (pos least) (pos most) (number text))
+number_or least most usual (Some text) = option_map unsigned_abs (within (pos least) (pos most) (number text))
 
 -- the form that a text names; csv if no text was given
 abbrev pub IsFormOf : Option (List ℕ) → Form → Type 0

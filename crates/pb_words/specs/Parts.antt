@@ -1,5 +1,5 @@
 -- Statement. The parts of a command line: the word of a mode, flags, and options with their values.
-use Rattle.std.specs.Prelude.{◌≡◌, ℕ, ◌==◌, Bool, false, IsTrue, List, [], ◌∷◌, ◌++◌, codes}
+use Rattle.std.specs.Prelude.{◌≡◌, ℕ, ◌==◌, Bool, false, IsTrue, List, [], ◌∷◌, ◌++◌, codes, flat_map}
 use Rattle.std.specs.List.{list_any, All}
 use Rattle.std.specs.Str.{bytes_eq}
 use Rattle.pb_rows.specs.Bytes.{dash}
@@ -32,8 +32,7 @@ words_of (joined name value) = (codes "--" ++ (name ++ equals_sign ∷ value)) �
 
 -- the words of the parts, in order
 abbrev pub words_of_parts : List Part → List (List ℕ)
-words_of_parts [] = []
-words_of_parts (part ∷ rest) = words_of part ++ words_of_parts rest
+words_of_parts parts = flat_map words_of parts
 
 -- what a part is about: the mode, or the option by its name
 abbrev pub name_of : Part → List ℕ

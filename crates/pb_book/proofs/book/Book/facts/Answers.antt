@@ -1,6 +1,6 @@
 use Rattle.std.proofs.Common.{subst, List}
 use Rattle.pb_facts.specs.Facts.{NoRepeats}
-use Rattle.pb_book.specs.declared.rows.StoredRow.{StoredRow}
+use Rattle.pb_kinds.specs.declared.rows.StoredRow.{StoredRow}
 use Rattle.pb_book.specs.Accepted.{AreInTables}
 use Rattle.pb_book.specs.Rows.{declared_of, facts_of}
 use Rattle.pb_book.proofs.ConsistentLemmas.{consistent}

@@ -1,6 +1,6 @@
 use Rattle.std.proofs.Common.{◌≡◌, ◌∙◌, List, None, ap, subst, sym}
 use Rattle.pb_facts.specs.Facts.{NoRepeats}
-use Rattle.pb_book.specs.declared.rows.StoredRow.{StoredRow}
+use Rattle.pb_kinds.specs.declared.rows.StoredRow.{StoredRow}
 use Rattle.pb_book.specs.Accepted.{IsAcceptable}
 use Rattle.pb_book.specs.Kept.{rows_at, shelves_of, told_at}
 use Rattle.pb_book.specs.Refusals.{refusal_of}

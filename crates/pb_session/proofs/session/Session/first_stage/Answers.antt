@@ -1,7 +1,7 @@
 use Rattle.std.proofs.Common.{◌≡◌, ◌≢◌, ℕ, List, IfErr, IfSome, Result, Ok, Err, slice_get, ap, refl, subst}
 use Rattle.pb_study.specs.declared.results.Stage.{Stage}
 use Rattle.pb_graph.specs.ProcessGraph.{ProcessGraph}
-use Rattle.pb_book.specs.declared.rows.StoredRow.{StoredRow}
+use Rattle.pb_kinds.specs.declared.rows.StoredRow.{StoredRow}
 use Rattle.pb_book.specs.Rows.{periods_of}
 use Rattle.pb_period.specs.Days.{days_of}
 use Rattle.pb_period.specs.declared.graph.Assembly.{Assembly}

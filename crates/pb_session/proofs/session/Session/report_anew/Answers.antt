@@ -2,7 +2,7 @@ use Rattle.std.proofs.Common.{◌≡◌, ◌≢◌, ◌∙◌, ◌<◌, ◌∷�
 use Rattle.pb_rows.specs.declared.name.Names.{Names}
 use Rattle.pb_graph.specs.ProcessGraph.{ProcessGraph}
 use Rattle.pb_periods.specs.declared.period.Period.{Period}
-use Rattle.pb_book.specs.declared.rows.StoredRow.{StoredRow}
+use Rattle.pb_kinds.specs.declared.rows.StoredRow.{StoredRow}
 use Rattle.pb_book.specs.Rows.{periods_of}
 use Rattle.pb_period.specs.declared.days.Days.{Days}
 use Rattle.pb_period.specs.Days.{days_of}
@@ -77,7 +77,7 @@ returns-in-Ok-clause-ok c =
     let names_now : names ≡ period_names state.rows (days_of period) = subst (λ (rs : List StoredRow). names ≡ period_names rs (days_of period)) rows_is names_is in
     let answer_now : c.assemble.result ≡ assembly_of state.rows (days_of period) = subst (λ (rs : List StoredRow). c.assemble.result ≡ assembly_of rs (days_of period)) rows_is answer_is in
     let (text, written, is) = c.in_ok-report_graph-in-Ok.ensures.ok in
-    (text, written, reports_at state i period (Ok graph) text at_now (sym c.in-Ok.is ∙ answer_now) (subst (λ (n : Names). IsReport state n period.name graph text) names_now is))
+    (text, written, reports_at state i period (Ok graph) text at_now (sym c.in-Ok.is ∙ answer_now) (subst (λ (n : Names). IsReport state [] n period.name graph text) names_now is))
 
 pub returns-in-Ok-clause-leaves : goal.returns-in-Ok-clause-leaves
 returns-in-Ok-clause-leaves c =

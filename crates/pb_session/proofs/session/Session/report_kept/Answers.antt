@@ -1,9 +1,9 @@
-use Rattle.std.proofs.Common.{◌≡◌, ◌∙◌, List, Some, None, Ok, ℕ, Option, slice_get, ap, ap₂, subst}
+use Rattle.std.proofs.Common.{◌≡◌, ◌∙◌, List, [], Some, None, Ok, ℕ, Option, slice_get, ap, ap₂, subst}
 use Rattle.pb_rows.specs.declared.name.Names.{Names}
 use Rattle.pb_study.specs.declared.results.Options.{Options}
 use Rattle.pb_elim.proofs.StudyLaws.{least_throughout, tested}
 use Rattle.pb_periods.specs.declared.period.Period.{Period}
-use Rattle.pb_book.specs.declared.rows.StoredRow.{StoredRow}
+use Rattle.pb_kinds.specs.declared.rows.StoredRow.{StoredRow}
 use Rattle.pb_book.specs.Rows.{periods_of}
 use Rattle.pb_report.specs.declared.form.Form.{Form}
 use Rattle.pb_report.specs.Form.{text_in}
@@ -48,7 +48,7 @@ returns c =
     let text = line c.self.inside.form c.period-name.result.name c.self.inside.options in
     let text_is : text ≡ line state.form has.period.name state.options =
     ap₂ (λ (form : Form) (name : List ℕ). line form name c.self.inside.options) form_is name_is ∙ ap (line state.form has.period.name) options_is in
-    let report : IsReport state names has.period.name has.graph text = record {
+    let report : IsReport state [] names has.period.name has.graph text = record {
       limits = has.kept.limits;
       named = named.1;
       study = study;
@@ -59,7 +59,7 @@ returns c =
       rows = text_is;
     } in
     let reports : Reports state found text =
-    reports_at state i has.period (Ok has.graph) text has.there has.is (subst (λ (n : Names). IsReport state n has.period.name has.graph text) named.0 report) in
+    reports_at state i has.period (Ok has.graph) text has.there has.is (subst (λ (n : Names). IsReport state [] n has.period.name has.graph text) named.0 report) in
     let reported : Reported = record { made = None } in
     let leaves : IsReportedOf held i has.graph reported = record { limits = has.kept.limits; made = c.requires.kept } in
     record {

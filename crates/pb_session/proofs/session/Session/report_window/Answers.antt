@@ -1,7 +1,7 @@
 use Rattle.std.proofs.Common.{◌≡◌, ◌∙◌, ◌<◌, ◌++◌, List, ℕ, length, slice_get, Some, All, sym, ap, subst}
 use Rattle.pb_window.specs.Places.{HaveNames, window_places}
 use Rattle.pb_site.specs.Site.{names_of}
-use Rattle.pb_book.specs.declared.rows.StoredRow.{StoredRow}
+use Rattle.pb_kinds.specs.declared.rows.StoredRow.{StoredRow}
 use Rattle.pb_book.specs.Rows.{declared_of, periods_of}
 use Rattle.pb_periods.specs.Windows.{names_of_periods}
 use Rattle.pb_period.specs.WindowGraph.{periods_at}

@@ -5,7 +5,7 @@ use Rattle.pb_graph.specs.ProcessGraph.{ProcessGraph}
 use Rattle.pb_advise.specs.Choice.{AreCosts}
 use Rattle.pb_site.specs.Site.{HasDistinctNames, names_of}
 use Rattle.pb_kinds.specs.Costs.{IsMeterCost, named_costs}
-use Rattle.pb_book.specs.declared.rows.StoredRow.{StoredRow}
+use Rattle.pb_kinds.specs.declared.rows.StoredRow.{StoredRow}
 use Rattle.pb_book.specs.Costs.{meter_costs}
 use Rattle.pb_book.specs.Rows.{declared_of}
 use Rattle.pb_period.specs.PeriodGraph.{base_of, design_graph}

@@ -2,7 +2,7 @@ use Rattle.std.proofs.Common.{◌≡◌, ◌≢◌, ◌∙◌, ◌<◌, ◌∷�
 use Rattle.pb_rows.specs.declared.name.Names.{Names}
 use Rattle.pb_graph.specs.ProcessGraph.{ProcessGraph}
 use Rattle.pb_periods.specs.declared.period.Period.{Period}
-use Rattle.pb_book.specs.declared.rows.StoredRow.{StoredRow}
+use Rattle.pb_kinds.specs.declared.rows.StoredRow.{StoredRow}
 use Rattle.pb_book.specs.Rows.{periods_of}
 use Rattle.pb_period.specs.Days.{days_of}
 use Rattle.pb_period.specs.declared.graph.Assembly.{Assembly}
@@ -16,7 +16,7 @@ use Rattle.pb_report.specs.Names.{name_at}
 use Rattle.pb_report.specs.Over.{over_row}
 use Rattle.pb_session.specs.Keeping.{HasCountsOf, IsBalanceAt}
 use Rattle.pb_session.specs.Kept.{Held}
-use Rattle.pb_session.specs.Session.{AreNamesOf, Balances, IsReportAfter, SessionState}
+use Rattle.pb_session.specs.Session.{AreNamesOf, Balances, IsReport, SessionState}
 use Rattle.pb_session.proofs.AppendingLemmas.{appends_so, appends_such}
 use Rattle.pb_session.proofs.BalanceLemmas.{balances_at, names_as}
 use Rattle.pb_session.proofs.NamedLemmas.{graph_names_are, stream_named}
@@ -110,8 +110,8 @@ returns-in-Ok-clause-ok c =
     let k = named_period state c.self.inside.book c.args.i c.period-period.result c.in_ok-names.names (ap (λ (h : Held). h.state.rows) c.self.view_is) c.period-period.ensures.value c.in_ok-names.ensures.ok c.in_ok-names.ensures.named in
     let at : IsBalanceAt state component found (Ok graph) =
     subst (λ (r : Result ProcessGraph Assembly). IsBalanceAt state component found r) c.in-Ok.is (c.balance.ensures.answer (ok_sure graph c.balance.result c.in-Ok.is)) in
-    appends_so c.write_component.result (IsReportAfter state rows c.in_ok-names.names period.name graph) (Balances state component found) _ _
-    (λ text is. balances_at state component found period (Ok graph) text k.there at (subst (λ (n : Names). IsReportAfter state rows n period.name graph text) k.names_are is))
+    appends_so c.write_component.result (IsReport state rows c.in_ok-names.names period.name graph) (Balances state component found) _ _
+    (λ text is. balances_at state component found period (Ok graph) text k.there at (subst (λ (n : Names). IsReport state rows n period.name graph text) k.names_are is))
     c.write_component.ensures.ok
 
 pub returns-in-Err-Over-clause-ok : goal.returns-in-Err-Over-clause-ok

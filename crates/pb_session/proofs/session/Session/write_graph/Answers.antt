@@ -1,4 +1,4 @@
-use Rattle.std.proofs.Common.{ap}
+use Rattle.std.proofs.Common.{[], ap}
 use Rattle.pb_session.specs.Kept.{Held}
 use Rattle.pb_session.specs.Session.{IsReport}
 use Rattle.pb_session.proofs.AppendingLemmas.{appends_such}
@@ -12,7 +12,7 @@ write_study-requires c = record {
 
 pub returns-clause-ok : goal.returns-clause-ok
 returns-clause-ok c =
-    appends_such c.write_study.result (IsReport c.args.self.now.state c.args.names.now c.args.period.now c.args.graph.now) _ _ _
+    appends_such c.write_study.result (IsReport c.args.self.now.state [] c.args.names.now c.args.period.now c.args.graph.now) _ _ _
     (report_of c.args.self.now.state c.self.inside.options c.self.inside.form c.args.names.now c.args.period.now c.args.graph.now c.in_ok-study.study
     (ap (λ (h : Held). h.state.options) c.self.view_is) (ap (λ (h : Held). h.state.form) c.self.view_is) c.requires.names c.in_ok-study.ensures)
     c.write_study.ensures.ok

@@ -5,7 +5,7 @@ use Rattle.pb_graph.specs.ProcessGraph.{ProcessGraph}
 use Rattle.pb_window.specs.declared.window.Window.{Window}
 use Rattle.pb_window.specs.Codes.{stream_code, window_names}
 use Rattle.pb_periods.specs.declared.period.Period.{Period}
-use Rattle.pb_book.specs.declared.rows.StoredRow.{StoredRow}
+use Rattle.pb_kinds.specs.declared.rows.StoredRow.{StoredRow}
 use Rattle.pb_book.specs.Rows.{periods_of}
 use Rattle.pb_book.specs.Windows.{ArePlacesBetween, IsWindowAsked, IsWindowBetween, window_between}
 use Rattle.pb_period.specs.declared.graph.Assembly.{Assembly}
