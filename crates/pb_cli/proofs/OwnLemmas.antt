@@ -59,7 +59,7 @@ use Rattle.pb_report.specs.Names.{name_at}
 use Rattle.pb_report.specs.Over.{over_row}
 use Rattle.pb_report.specs.Refusal.{refused_row}
 use Rattle.pb_site.specs.Site.{names_of, version_of}
-use Rattle.pb_session.specs.History.{told, told_history, told_period}
+use Rattle.pb_report.specs.History.{history_rows}
 use Rattle.pb_session.specs.Session.{Adds, AddsAccepted, AddsBy, AreNamesOf, Balances, IsHistoryText, IsReport, IsSessionText, IsTextOf, Reports, ReportsBy, SessionState, Windows, assembly_between, state_after, window_head}
 use Rattle.pb_audit.specs.Judgement.{AreFindings, Finding, IsJudgement, IsPassedBlock, finds_wrong, passed}
 use Rattle.pb_audit.specs.Laws.{OneFindingsLaw, PassedLaw}
@@ -279,9 +279,9 @@ record_read known windows law state at fields text sound adds = by (answer_of st
     tells : (found : Option Period) → IsHistoryText state found text → ReadsBack text
     tells None is = absurd is
     tells (Some period) is =
-        let edits = filter_map told (history_of state.rows period) in
-        let rows : List OutputRow = told_history state.rows period in
-        passed_over rows text (in_csv state rows text sound.form is) (known.words.histories (told_period period) edits) (known.others.histories (told_period period) edits)
+        let edits = history_of state.rows period in
+        let rows = history_rows period.name period.closed edits in
+        passed_over rows text (in_csv state rows text sound.form is) (known.words.histories period.name period.closed edits) (known.others.histories period.name period.closed edits)
 
     nothing : text ≡ [] → ReadsBack text
     nothing is = subst (λ (t : List ℕ). ReadsBack t) (sym is) none_read

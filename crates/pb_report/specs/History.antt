@@ -1,46 +1,41 @@
 -- Statement. The history of a period: its state, and the edits that touch it, in the order in which they were made.
-use Rattle.std.specs.Prelude.{ℕ, pos, List, [], ◌∷◌, length, map, Option, slice_get}
+use Rattle.std.specs.Prelude.{◌≡◌, ◌<◌, ℕ, pos, Bool, true, List, [], ◌∷◌, length, map}
 use Rattle.pb_form.specs.Value.{Value, Missing, Name, Number, Reason, Word}
+use Rattle.pb_form.specs.Words.{edit_words}
+use Rattle.pb_form.specs.Writing.{IsFirst}
 use Rattle.pb_form.specs.declared.output.OutputKind.TheVariants as kind
-use Rattle.pb_report.specs.declared.history.HistoryRow.{HistoryRow}
-use Rattle.pb_report.specs.declared.history.HistoryWord.{HistoryWord}
-use Rattle.pb_report.specs.declared.history.HistoryWord.TheVariants.{Close, Late, Amend, Strike}
-use Rattle.pb_report.specs.declared.history.Period.{Period}
+use Rattle.pb_facts.specs.Fact.{id_of}
+use Rattle.pb_kinds.specs.declared.rows.Edit.TheVariants.{Change, Strike}
+use Rattle.pb_kinds.specs.declared.rows.Effect.{Effect}
+use Rattle.pb_kinds.specs.declared.rows.Effect.TheVariants.{Books, Edits, Closes}
+use Rattle.pb_kinds.specs.declared.rows.StoredRow.{StoredRow}
 use Rattle.pb_choices.specs.Places.{truth_place}
-use Rattle.pb_report.specs.Row.{OutputRow, row_of, value_or_none}
+use Rattle.pb_report.specs.Row.{OutputRow, row_of}
 
--- what an edit did: the place of its word, and the word at a place
-abbrev pub edit_place : HistoryWord → ℕ
-edit_place Close = 0
-edit_place Late = 1
-edit_place Amend = 2
-edit_place Strike = 3
+-- what is written of an edit: its word, the fact that it is about and its reason; a row that edits nothing has none of them
+abbrev pub edit_values : Effect → List Value
+edit_values (Closes name) = Word 0 ∷ Missing ∷ Missing ∷ []
+edit_values (Books fact true) = Word 1 ∷ Name (id_of fact) ∷ Missing ∷ []
+edit_values (Edits id (Change change) reason) = Word 2 ∷ Name id ∷ Reason reason ∷ []
+edit_values (Edits id Strike reason) = Word 3 ∷ Name id ∷ Reason reason ∷ []
+edit_values effect = Missing ∷ Missing ∷ Missing ∷ []
 
-abbrev pub placed_edit : ℕ → Option HistoryWord
-placed_edit place = slice_get (Close ∷ Late ∷ Amend ∷ Strike ∷ []) place
-
--- the fact that an edit is about; a closing is about no fact
-abbrev pub edit_id : HistoryWord → Option (List ℕ) → Value
-edit_id Close id = Missing
-edit_id word id = value_or_none Name id
-
--- the reason of an edit; only an amendment and a strike have one
-abbrev pub edit_reason : HistoryWord → Option (List ℕ) → Value
-edit_reason Amend reason = value_or_none Reason reason
-edit_reason Strike reason = value_or_none Reason reason
-edit_reason word reason = Missing
-
--- the row of an edit: the number of its record in the session, its word, its fact and its reason
-abbrev pub edit_row : HistoryRow → OutputRow
-edit_row edit =
-    row_of kind.Edit
-    (Number (pos edit.at) ∷ Word (edit_place edit.word) ∷ edit_id edit.word edit.id ∷ edit_reason edit.word edit.reason ∷ [])
+-- the row of an edit: the number of its record in the session, and what is written of it
+abbrev pub edit_row : StoredRow → OutputRow
+edit_row edit = row_of kind.Edit (Number (pos edit.at) ∷ edit_values edit.effect)
 
 -- the row of the period: its name, its state, and how many edits follow
-abbrev pub period_row : Period → ℕ → OutputRow
-period_row period edits =
-    row_of kind.History (Name period.name ∷ Word (truth_place period.closed) ∷ Number (pos edits) ∷ [])
+abbrev pub period_row : List ℕ → Bool → ℕ → OutputRow
+period_row name closed edits =
+    row_of kind.History (Name name ∷ Word (truth_place closed) ∷ Number (pos edits) ∷ [])
 
--- the rows of a history
-abbrev pub history_rows : Period → List HistoryRow → List OutputRow
-history_rows period edits = period_row period (length edits) ∷ map edit_row edits
+-- the rows of the history of a period of this name, given whether it is closed and its edits
+abbrev pub history_rows : List ℕ → Bool → List StoredRow → List OutputRow
+history_rows name closed edits = period_row name closed (length edits) ∷ map edit_row edits
+
+-- The word of an edit is one of its column, each word of the column is that of an edit, and no word appears twice.
+pub record EditWordsLaw : Type 0 where
+  pub word : (effect : Effect) (place : ℕ) (others : List Value)
+      → edit_values effect ≡ Word place ∷ others → IsFirst edit_words place
+  pub each : (place : ℕ) → place < length edit_words
+      → (effect : Effect) × (others : List Value) × (edit_values effect ≡ Word place ∷ others)

@@ -26,9 +26,7 @@ pub use advice::write_advice;
 pub use component::write_component;
 pub use design::write_design;
 pub use form::{Form, write_row};
-pub use history::{
-    HistoryRow, HistoryWord, Period, edit_place, edit_words_law, placed_edit, write_history,
-};
+pub use history::{edit_words_law, write_history};
 pub use over::write_over;
 pub use refused::write_refused;
 pub use study::write_study;

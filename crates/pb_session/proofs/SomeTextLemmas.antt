@@ -45,7 +45,7 @@ use Rattle.pb_report.specs.Component.{component_row}
 use Rattle.pb_report.specs.Form.{text_in}
 use Rattle.pb_report.specs.Row.{OutputRow}
 use Rattle.pb_session.specs.Criticals.{critical_of}
-use Rattle.pb_session.specs.History.{told_history}
+use Rattle.pb_report.specs.History.{history_rows}
 use Rattle.pb_session.specs.Session.{AddsAccepted, AddsBy, AreNamesOf, Balances, BalancesIn, IsBalanceOf, IsHistoryText, IsReport, Reports, ReportsBy, SessionState, Windows, assembly_between, component_assembly, last_stage, state_after, window_head}
 use Rattle.pb_session.specs.Laws.{SomeTextLaw, SomeSessionTextLaw}
 use Rattle.pb_session.proofs.BalanceLemmas.{counts_of, each_result, last_there, names_as}
@@ -221,7 +221,7 @@ some_window state known i k asked windows window =
 some_history : (state : SessionState) (i : ℕ) → i < length (periods_of state.rows) → (text : List ℕ) × IsHistoryText state (slice_get (periods_of state.rows) i) text
 some_history state i there =
     let period = get_or (periods_of state.rows) i some_period in
-    let text = text_in state.form (told_history state.rows period) in
+    let text = text_in state.form (history_rows period.name period.closed (history_of state.rows period)) in
     (text, subst (λ (found : Option Period). IsHistoryText state found text) (sym (slice_get-get_or (periods_of state.rows) i some_period there)) refl)
 
 some_advice : SomeAdviceLaw → CheapestLaw → (state : SessionState) (costs : List NamedCost) → HaveGraphs state.rows → All IsMeterCost (meter_costs (declared_of state.rows) costs)

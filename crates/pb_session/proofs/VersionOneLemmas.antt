@@ -54,7 +54,6 @@ use Rattle.pb_report.specs.Form.{text_in}
 use Rattle.pb_report.specs.History.{history_rows}
 use Rattle.pb_report.specs.Row.{OutputRow}
 use Rattle.pb_session.proofs.EditedLemmas.{seam}
-use Rattle.pb_session.specs.History.{told, told_period}
 use Rattle.pb_session.specs.Session.{AddsBy, Balances, BalancesIn, IsHistoryText, Reports, ReportsBy, SessionState, state_after}
 use Rattle.pb_session.specs.VersionOne.{FirstAddsBy, FirstBalances, FirstPlantLaw, FirstRefusalLaw, FirstReports, FirstSessionTextLaw, FirstTells, FirstTextLaw, FirstWindowLaw, IsFirstText, accepts_version_2, first_amount, first_assembly, first_grades, first_graph, first_history, first_measured, first_state_after, first_touches, first_window_arc, first_window_plant}
 
@@ -114,7 +113,7 @@ history_one rows period one =
 tells_one : (state : SessionState) (found : Option Period) (text : List ℕ) → version_of (declared_of state.rows) ≡ One → IsHistoryText state found text ↔ FirstTells state found text
 tells_one state None text one = (λ is. is, λ is. is)
 tells_one state (Some period) text one =
-    let same = ap (λ (edits : List StoredRow). text_in state.form (history_rows (told_period period) (filter_map told edits))) (history_one state.rows period one) in
+    let same = ap (λ (edits : List StoredRow). text_in state.form (history_rows period.name period.closed edits)) (history_one state.rows period one) in
     (λ is. is ∙ same, λ is. is ∙ sym same)
 
 -- ---- the report of a period

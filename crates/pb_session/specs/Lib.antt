@@ -1,7 +1,6 @@
 -- Statement
 pub mod Appending
 pub mod Criticals
-pub mod History
 pub mod Session
 pub mod FirstStage
 pub mod Laws

@@ -27,6 +27,7 @@ use Rattle.pb_periods.specs.declared.period.Period.{Period}
 use Rattle.pb_kinds.specs.declared.rows.StoredRow.{StoredRow}
 use Rattle.pb_book.specs.Rows.{declared_of, periods_of}
 use Rattle.pb_book.specs.Costs.{meter_costs}
+use Rattle.pb_book.specs.Edits.{history_of}
 use Rattle.pb_periods.specs.Windows.{names_of_periods, periods_between}
 use Rattle.pb_book.specs.Windows.{window_between}
 use Rattle.pb_book.specs.Answer.{Answer, Refuses, Says, Stores, after, answer_of, cause_code, is_refused}
@@ -37,7 +38,6 @@ use Rattle.pb_period.specs.declared.graph.Assembly.TheVariants.{Over, NoMemory}
 use Rattle.pb_period.specs.PeriodGraph.{assembly_of, design_graph, period_names}
 use Rattle.pb_period.specs.WindowGraph.{window_assembly}
 use Rattle.pb_session.specs.Criticals.{critical_of}
-use Rattle.pb_session.specs.History.{told_history}
 use Rattle.pb_report.specs.declared.form.Form.{Form}
 use Rattle.pb_report.specs.Form.{text_in}
 use Rattle.pb_report.specs.Row.{OutputRow}
@@ -46,6 +46,7 @@ use Rattle.pb_report.specs.Refusal.{refused_row}
 use Rattle.pb_report.specs.Advice.{advice_rows}
 use Rattle.pb_report.specs.Component.{component_row}
 use Rattle.pb_report.specs.Design.{design_rows}
+use Rattle.pb_report.specs.History.{history_rows}
 use Rattle.pb_report.specs.Over.{over_row}
 use Rattle.pb_report.specs.Study.{study_rows}
 use Rattle.pb_report.specs.Window.{window_rows}
@@ -171,10 +172,10 @@ Windows state found other text =
 
 -- ---- what a record adds
 
--- the text of the history of the period at a place
+-- the text of the history of the period at a place: its state, and the edits that touch it, in the order of their records
 abbrev pub IsHistoryText : SessionState → Option Period → List ℕ → Type 0
 IsHistoryText state found text =
-    IsSomeAnd found (λ period. IsTextOf state (told_history state.rows period) text)
+    IsSomeAnd found (λ period. IsTextOf state (history_rows period.name period.closed (history_of state.rows period)) text)
 
 -- the text that an accepted record adds, given the costs that it names
 abbrev pub AddsAccepted : SessionState → List NamedCost → Accepted → List ℕ → Type 0

@@ -46,7 +46,6 @@ use Rattle.pb_period.specs.WindowGraph.{flow_measured}
 use Rattle.pb_report.specs.Component.{component_row}
 use Rattle.pb_report.specs.History.{history_rows}
 use Rattle.pb_report.specs.Refusal.{refused_row}
-use Rattle.pb_session.specs.History.{told, told_period}
 use Rattle.pb_session.specs.Session.{Adds, BalancesIn, IsAdviceText, IsDesign, IsSessionText, IsTextOf, ReportsBy, SessionState, Windows, state_after}
 
 -- ---- the graph of a period
@@ -102,7 +101,7 @@ FirstReports state None text = ⊥
 -- the text of the history of the period at a place
 abbrev pub FirstTells : SessionState → Option Period → List ℕ → Type 0
 FirstTells state (Some period) text =
-    IsTextOf state (history_rows (told_period period) (filter_map told (first_history state.rows period))) text
+    IsTextOf state (history_rows period.name period.closed (first_history state.rows period)) text
 FirstTells state None text = ⊥
 
 -- the grades of all streams of the plant over a period

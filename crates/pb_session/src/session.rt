@@ -12,7 +12,7 @@ ghost use Rattle.pb_book.specs.Windows.{IsWindowAsked, OfEnds};
 
 use crate::classes::classes_in;
 use crate::criticals::declared_critical;
-use crate::history::{told_edits, told_period};
+use crate::history::history_of;
 use crate::kept::{KeptStudy, drop_touched, last_stage, place_of, settle};
 use crate::windows::places_of;
 use pb_advise::advise;
@@ -306,8 +306,15 @@ impl Session {
         ensures err { OnErr result (KeepsText out.old out.new) }
     {
         let period = self.book.period(i);
-        let edits = told_edits(self.alloc, &self.book, i)?;
-        write_history(self.alloc, &told_period(&period), &edits, self.form, out)
+        let edits = history_of(self.alloc, &self.book, i)?;
+        write_history(
+            self.alloc,
+            &period.name,
+            period.closed,
+            edits.as_slice(),
+            self.form,
+            out,
+        )
     }
 
     // Appends the report of a period, or the row that names the first stream beyond the limits, and keeps what it leaves. All

@@ -1,5 +1,5 @@
-use Rattle.pb_report.proofs.EditLemmas.{edit_table}
+use Rattle.pb_report.proofs.EditLemmas.{edit_words_stand}
 use Rattle.pb_report.proofs.history.edit_words_law.Goals as goal
 
 pub returns : goal.returns
-returns c = edit_table
+returns c = edit_words_stand
