@@ -1,5 +1,5 @@
 -- Statement. The rows of a study read back as its stages, and the other rows of a session are passed over.
-use Rattle.std.specs.Prelude.{◌≡◌, ℕ, ◌+◌, ◌≤◌, List, [], ◌∷◌, map, length, All, AllPairs, None, slice_index_or, true, false, codes}
+use Rattle.std.specs.Prelude.{◌≡◌, ℕ, ◌+◌, ◌≤◌, Bool, List, [], ◌∷◌, map, length, All, AllPairs, None, slice_index_or, true, false, codes}
 use Rattle.std.specs.List.{list_all}
 use Rattle.pb_limits.specs.Limits.{most_gap, most_rounds, most_sweeps}
 use Rattle.pb_rows.specs.declared.name.Names.{Names}
@@ -14,8 +14,7 @@ use Rattle.pb_study.specs.declared.results.Study.{Study}
 use Rattle.pb_graph.specs.ProcessGraph.{IsProcessGraph, ProcessGraph}
 use Rattle.pb_advise.specs.declared.advice.Advice.{Advice}
 use Rattle.pb_window.specs.declared.names.WindowPlace.{WindowPlace}
-use Rattle.pb_report.specs.declared.history.HistoryRow.{HistoryRow}
-use Rattle.pb_report.specs.declared.history.Period.{Period}
+use Rattle.pb_kinds.specs.declared.rows.StoredRow.{StoredRow}
 use Rattle.pb_report.specs.declared.form.Form.TheVariants.{Csv}
 use Rattle.pb_report.specs.Form.{text_in}
 use Rattle.pb_report.specs.Advice.{advice_rows}
@@ -97,7 +96,8 @@ pub record PassedRowsLaw : Type 0 where
   pub over : (period stream : List ℕ) → AreBlocks (records_in (over_row period stream ∷ [])) []
   pub designs : (names : Names) (graph : ProcessGraph) (classes : List Classified)
       → AreBlocks (records_in (design_rows names graph classes)) []
-  pub histories : (period : Period) (edits : List HistoryRow) → AreBlocks (records_in (history_rows period edits)) []
+  pub histories : (name : List ℕ) (closed : Bool) (edits : List StoredRow)
+      → AreBlocks (records_in (history_rows name closed edits)) []
   pub advices : (names : Names) (advice : Advice) → AreBlocks (records_in (advice_rows names advice)) []
   pub windows : (first last : List ℕ) (periods : ℕ) (places : List WindowPlace)
       → AreBlocks (records_in (window_rows first last periods places)) []
@@ -112,7 +112,7 @@ pub record RowWordsLaw : Type 0 where
   pub refused : (at code : ℕ) → BeginWithWords (refused_row at code ∷ [])
   pub over : (period stream : List ℕ) → BeginWithWords (over_row period stream ∷ [])
   pub designs : (names : Names) (graph : ProcessGraph) (classes : List Classified) → BeginWithWords (design_rows names graph classes)
-  pub histories : (period : Period) (edits : List HistoryRow) → BeginWithWords (history_rows period edits)
+  pub histories : (name : List ℕ) (closed : Bool) (edits : List StoredRow) → BeginWithWords (history_rows name closed edits)
   pub advices : (names : Names) (advice : Advice) → BeginWithWords (advice_rows names advice)
   pub windows : (first last : List ℕ) (periods : ℕ) (places : List WindowPlace)
       → BeginWithWords (window_rows first last periods places)
