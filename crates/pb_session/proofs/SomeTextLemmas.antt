@@ -26,6 +26,7 @@ use Rattle.pb_kinds.specs.Costs.{IsMeterCost, named_costs}
 use Rattle.pb_book.specs.Accepted.{AreAccepted}
 use Rattle.pb_book.specs.Assays.{grade_of}
 use Rattle.pb_book.specs.Costs.{meter_costs}
+use Rattle.pb_book.specs.Edits.{history_of}
 use Rattle.pb_kinds.specs.declared.rows.StoredRow.{StoredRow}
 use Rattle.pb_book.specs.declared.answer.Accepted.TheVariants.{Blank, Design, Report, History, Advise, Component, Window}
 use Rattle.pb_book.specs.declared.answer.Accepted.{Accepted}

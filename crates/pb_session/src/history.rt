@@ -1,6 +1,6 @@
 // The edits of a history.
 
-ghost use Rattle.std.specs.Prelude.{◌≡◌, ◌<◌, ◌++◌, length, IfOk, IfSome, OnOk, slice_get};
+ghost use Rattle.std.specs.Prelude.{◌≡◌, ◌<◌, ◌++◌, ◌∷◌, [], length, IfOk, IfSome, OnOk, slice_get};
 ghost use Rattle.std.specs.Option.{option_to_list};
 ghost use Rattle.pb_book.specs.Edits.{edits_of, history_of};
 ghost use Rattle.pb_book.specs.Rows.{periods_of};
@@ -31,7 +31,14 @@ fn push_at(book: &Book, e: usize, edits: &mut List<StoredRow>) -> Result<(), All
         ++ option_to_list (slice_get (edits_of book.now) e)) }
 {
     match book.edit(e) {
-        Some(row) => edits.push(row),
+        Some(row) => push_copy(edits, &row),
         None => Ok(()),
     }
+}
+
+// Appends a copy of an item.
+fn push_copy<T: Copy + Drop>(items: &mut List<T>, item: &T) -> Result<(), AllocError>
+    ensures { OnOk result (items.new ≡ items.old ++ item.now ∷ []) }
+{
+    items.push(*item)
 }
