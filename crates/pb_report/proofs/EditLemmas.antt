@@ -1,7 +1,7 @@
 -- The words of edits.
-use Rattle.std.proofs.Common.{◌≡◌, ◌<◌, ℕ, zero, suc, true, false, List, [], ◌∷◌, refl, sym, subst, arith}
+use Rattle.std.proofs.Common.{◌≡◌, ◌<◌, ℕ, zero, suc, true, false, List, [], ◌∷◌, refl, subst, arith}
 use Rattle.std.specs.Prelude.{pos}
-use Rattle.pb_form.specs.Value.{Value, Missing, Name, Reason, Word}
+use Rattle.pb_form.specs.Value.{Value, Word}
 use Rattle.pb_form.specs.Words.{edit_words}
 use Rattle.pb_form.specs.Writing.{IsFirst}
 use Rattle.pb_facts.specs.declared.fact.Change.TheVariants.{Amount}

@@ -1,5 +1,5 @@
 -- A session of version 1 writes what it wrote before version 2 existed.
-use Rattle.std.proofs.Common.{◌≡◌, ◌∙◌, ◌+◌, ℕ, Bool, true, false, List, [], ◌∷◌, ◌++◌, length, map, Option, Some, None, Result, Ok, Err, slice_get, refl, sym, ap, subst, append_assoc}
+use Rattle.std.proofs.Common.{◌≡◌, ◌∙◌, ◌+◌, ℕ, Bool, true, false, List, [], ◌∷◌, ◌++◌, length, map, Option, Some, None, Result, slice_get, refl, sym, ap, subst, append_assoc}
 use Rattle.std.specs.Prelude.{◌-◌, ◌↔◌, filter, filter_map, option_map}
 use Rattle.std.specs.List.{cons_option}
 use Rattle.std.proofs.Math.Bool.{and-false}
@@ -20,7 +20,7 @@ use Rattle.pb_site.specs.declared.declared.Version.{Version}
 use Rattle.pb_site.specs.declared.declared.Version.TheVariants.{One}
 use Rattle.pb_site.specs.OnDays.{names_on}
 use Rattle.pb_site.specs.Row.{arc_in}
-use Rattle.pb_site.specs.Site.{arc_names, arcs_of, boundary_names, names_of, node_names, version_of}
+use Rattle.pb_site.specs.Site.{arcs_of, boundary_names, names_of, node_names, version_of}
 use Rattle.pb_facts.specs.declared.fact.Fact.{Fact}
 use Rattle.pb_facts.specs.declared.fact.Fact.TheVariants.{Reading, Transfer, Dip}
 use Rattle.pb_facts.specs.Facts.{live_facts}
