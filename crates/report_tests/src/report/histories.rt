@@ -1,9 +1,10 @@
 // Rows of histories, in both forms.
 
 use super::name;
-use pb_graph::List;
-use pb_report::{Form, HistoryRow, HistoryWord, Period, write_history};
-use pb_rows::Reason;
+use pb_facts::{Change, Fact};
+use pb_kinds::{Edit, Effect, StoredRow};
+use pb_report::{Form, write_history};
+use pb_rows::{Name, Reason};
 use std::alloc::Global;
 use std::test::Fail;
 
@@ -11,38 +12,54 @@ fn reason(bytes: &[u8]) -> Result<Reason, Fail> {
     Ok(Reason::read(bytes).ok_or("a reason")?)
 }
 
-// A closing and the edits after it. Fields that aren't written are filled too.
-fn edits(alloc: Global) -> Result<List<HistoryRow>, Fail> {
-    let id = Some(name(b"r1")?);
-    let words = [
-        (5, HistoryWord::Close, reason(b"not written")?),
-        (7, HistoryWord::Late, reason(b"not written")?),
-        (
-            8,
-            HistoryWord::Amend,
-            reason(b"typed \"twice\", \\ not 'once' ~")?,
-        ),
-        (4294967295, HistoryWord::Strike, reason(b"wrong day")?),
-    ];
-    let mut edits = List::new(alloc);
-    for (at, word, why) in words {
-        edits.push(HistoryRow {
-            at,
-            word,
-            id,
-            reason: Some(why),
-        })?;
+fn reading(id: Name, stream: Name) -> Fact {
+    Fact::Reading {
+        id,
+        stream,
+        day: 0,
+        grams: 1000,
+        variance: 1,
     }
-    Ok(edits)
 }
 
+// A closing and the edits after it.
 fn history(alloc: Global, form: Form) -> Result<Vec<u8>, Fail> {
-    let period = Period {
-        name: name(b"Day_1.a-Z")?,
-        closed: true,
-    };
+    let period = name(b"Day_1.a-Z")?;
+    let id = name(b"r1")?;
+    let edits = [
+        StoredRow {
+            at: 5,
+            effect: Effect::Closes(period),
+        },
+        StoredRow {
+            at: 7,
+            effect: Effect::Books {
+                fact: reading(id, name(b"s")?),
+                late: true,
+            },
+        },
+        StoredRow {
+            at: 8,
+            effect: Effect::Edits {
+                id,
+                edit: Edit::Change(Change::Amount {
+                    grams: 900,
+                    variance: 1,
+                }),
+                reason: reason(b"typed \"twice\", \\ not 'once' ~")?,
+            },
+        },
+        StoredRow {
+            at: 4294967295,
+            effect: Effect::Edits {
+                id,
+                edit: Edit::Strike,
+                reason: reason(b"wrong day")?,
+            },
+        },
+    ];
     let mut out = Vec::new(alloc);
-    write_history(alloc, &period, &edits(alloc)?, form, &mut out)?;
+    write_history(alloc, &period, true, &edits, form, &mut out)?;
     Ok(out)
 }
 
@@ -74,12 +91,8 @@ edit,4294967295,strike,r1,wrong day
 #[test]
 fn writes_a_history_without_edits(rt: HostRuntime) -> Result<(), Fail> {
     let alloc = rt.alloc();
-    let period = Period {
-        name: name(b"d1")?,
-        closed: false,
-    };
     let mut out = Vec::from_slice(alloc, b"before\n")?;
-    write_history(alloc, &period, &List::new(alloc), Form::Csv, &mut out)?;
+    write_history(alloc, &name(b"d1")?, false, &[], Form::Csv, &mut out)?;
     assert_eq!(rt; out.as_slice(), b"before\nhistory,d1,open,0\n".as_slice());
     Ok(())
 }
