@@ -1,6 +1,6 @@
 -- The reports of a run read back as the stages of their studies, each of which passes.
 use Rattle.std.proofs.Common.{◌≡◌, ◌∙◌, ◌&&◌, ℕ, ◌+◌, ◌≤◌, Bool, true, false, List, [], ◌∷◌, ◌++◌, length, map, All, Option, Some, None, Result, Ok, Err, ap, ap₂, sym, refl, subst, arith, slice_get, get_or, codes}
-use Rattle.std.specs.Prelude.{filter_map, is_some, slice_index_or}
+use Rattle.std.specs.Prelude.{is_some, slice_index_or}
 use Rattle.std.proofs.lemmas.Option.{get_or_from_slice_get, slice_get-get_or, slice_get_within}
 use Rattle.std.specs.List.{flat_map, list_all, list_any}
 use Rattle.std.proofs.lemmas.List.{map-append}
