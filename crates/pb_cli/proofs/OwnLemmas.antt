@@ -136,12 +136,12 @@ pub record AreKnown : Type 0 where
 
 -- rows without a block
 passed_over : AreKnown → (rows : List OutputRow) (text : List ℕ) → text ≡ text_in Csv rows → All IsPassedRow rows → ReadsBack text
-passed_over known rows text is passed = record {
+passed_over known rows text is each = record {
   rows = rows;
   blocks = [];
   text_is = is;
-  words = known.words.rows rows (All-weaker IsPassedRow HasKindWord (λ row (each : IsPassedRow row). each.word) rows passed);
-  are = known.others rows passed;
+  words = known.words.rows rows (All-weaker IsPassedRow HasKindWord (λ row (is : IsPassedRow row). is.word) rows each);
+  are = known.others rows each;
   pass = All-nil IsPassedBlock;
 }
 
@@ -219,11 +219,11 @@ reportable known state before names period graph text sound forms name report = 
 -- rows without a block, and a report after them
 report_read : AreKnown → (state : SessionState) (before : List OutputRow) (names : Names) (period : List ℕ) (graph : ProcessGraph) (text : List ℕ) → IsSound state → HaveForms names → is_name period ≡ true
     → All IsPassedRow before → IsReport state before names period graph text → ReadsBack text
-report_read known state before names period graph text sound forms name passed report =
+report_read known state before names period graph text sound forms name each report =
     let rows : List OutputRow = study_rows names period state.options report.study in
     let whole : text ≡ text_in Csv before ++ text_in Csv rows =
     in_csv state (before ++ rows) text sound.form report.rows ∙ flat_map-append (row_text Csv) before rows in
-    subst (λ (t : List ℕ). ReadsBack t) (sym whole) (both_read known.join (text_in Csv before) (text_in Csv rows) (passed_over known before (text_in Csv before) refl passed) (record {
+    subst (λ (t : List ℕ). ReadsBack t) (sym whole) (both_read known.join (text_in Csv before) (text_in Csv rows) (passed_over known before (text_in Csv before) refl each) (record {
       rows = rows;
       blocks = blocks_from names period state.options 0 report.study.stages;
       text_is = refl;
@@ -248,10 +248,10 @@ over_read known state period stream text sound is =
 -- a report after such rows, or the row of a stream beyond the limits
 reports_by_read : AreKnown → (state : SessionState) (before : List OutputRow) (names : Names) (period : List ℕ) (assembly : Result ProcessGraph Assembly) (text : List ℕ) → IsSound state → HaveForms names
     → is_name period ≡ true → All IsPassedRow before → ReportsBy state before names period assembly text → ReadsBack text
-reports_by_read known state before names period (Ok graph) text sound forms name passed report =
-    report_read known state before names period graph text sound forms name passed report
-reports_by_read known state before names period (Err (Over j)) text sound forms name passed is = over_read known state period (name_at names.streams j) text sound is
-reports_by_read known state before names period (Err NoMemory) text sound forms name passed is = absurd is
+reports_by_read known state before names period (Ok graph) text sound forms name each report =
+    report_read known state before names period graph text sound forms name each report
+reports_by_read known state before names period (Err (Over j)) text sound forms name each is = over_read known state period (name_at names.streams j) text sound is
+reports_by_read known state before names period (Err NoMemory) text sound forms name each is = absurd is
 
 reports_read : AreKnown → NamedLaw → (state : SessionState) (i : ℕ) (text : List ℕ) → IsSound state → (found : Option Period) → slice_get (periods_of state.rows) i ≡ found
     → Reports state found text → ReadsBack text
@@ -317,9 +317,9 @@ record_read known windows law state at fields text sound adds = by (answer_of st
         let names = names_of (declared_of state.rows) in
         let graph = design_graph state.rows in
         let rows : List OutputRow = design_rows names graph design.classes in
-        let passed = classes_passed names 0 graph.streams design.classes in
+        let each = classes_passed names 0 graph.streams design.classes in
         passed_over known rows text (in_csv state rows text sound.form design.rows)
-        (All-cons IsPassedRow (graph_row graph) (rows_with (class_row names) 0 graph.streams design.classes) (one_passed (graph_row graph) refl refl) passed)
+        (All-cons IsPassedRow (graph_row graph) (rows_with (class_row names) 0 graph.streams design.classes) (one_passed (graph_row graph) refl refl) each)
     said (Report i) asks reports = reports_read known law state i text sound (slice_get (periods_of state.rows) i) refl reports
     said (History i) asks is = tells (slice_get (periods_of state.rows) i) is
     said (Component component i) asks balance = balances_read known law state component i text sound (slice_get (periods_of state.rows) i) refl balance
