@@ -84,12 +84,12 @@ StudyRowsLaw =
 abbrev pub HasKindWord : OutputRow → Type 0
 HasKindWord row = slice_get row.values 0 ≡ Some (Word 0)
 
--- a row of a kind that is passed over between blocks, whatever its other values are
+-- a row of a kind that is passed over between blocks, with the kind's word
 pub record IsPassedRow (row : OutputRow) : Type 0 where
   pub kind : Contains passed_kinds row.kind
   pub word : HasKindWord row
 
--- All rows of these kinds are passed over.
+-- All rows of the kinds that are passed over between blocks are passed over, whatever their other values are.
 abbrev pub PassedRowsLaw : Type 0
 PassedRowsLaw = (rows : List OutputRow) → All IsPassedRow rows → AreBlocks (records_in rows) []
 
