@@ -15,7 +15,7 @@ use Rattle.pb_form.specs.Value.{Value}
 use Rattle.pb_form.specs.Value as value
 use Rattle.pb_form.specs.declared.output.OutputKind.{OutputKind}
 use Rattle.pb_form.specs.declared.output.OutputKind.TheVariants as kind
-use Rattle.pb_blocks.specs.Kinds.{has_word_of, is_passed_over, passed_kinds}
+use Rattle.pb_blocks.specs.Kinds.{is_passed_over, passed_kinds}
 use Rattle.pb_report.specs.Row.{OutputRow, fields_of, row_of}
 use Rattle.pb_readback.specs.Written.{HasKindWord, IsPassedRow, PassedRowsLaw, records_in}
 
@@ -36,11 +36,11 @@ any_agree (column ∷ columns) (field ∷ fields) any =
     and_from (has_word column.holds field) (agrees columns fields) (any_word column.holds field first) (any_agree columns fields rest)
 
 -- a row has the word of its own kind
-own_word : (kind : OutputKind) (values : List Value) → has_word_of (texts_of (output_columns kind) (value.Word 0 ∷ values)) kind ≡ true
+own_word : (kind : OutputKind) (values : List Value) → agrees (output_columns kind) (texts_of (output_columns kind) (value.Word 0 ∷ values)) ≡ true
 own_word kind.Refused values = any_agree (drop 1 (output_columns kind.Refused)) (texts_of (drop 1 (output_columns kind.Refused)) values) refl
 own_word it values = any_agree (drop 1 (output_columns it)) (texts_of (drop 1 (output_columns it)) values) refl
 
-row_word : (kind : OutputKind) (values : List Value) → slice_get values 0 ≡ Some (value.Word 0) → has_word_of (texts_of (output_columns kind) values) kind ≡ true
+row_word : (kind : OutputKind) (values : List Value) → slice_get values 0 ≡ Some (value.Word 0) → agrees (output_columns kind) (texts_of (output_columns kind) values) ≡ true
 row_word kind [] word = cc word
 row_word kind (first ∷ values) word =
     let same : first ≡ value.Word 0 = cc word in
@@ -48,7 +48,7 @@ row_word kind (first ∷ values) word =
 
 is_passed : (row : OutputRow) → IsPassedRow row → is_passed_over (fields_of row) ≡ true
 is_passed row is =
-    list_any-from_Any (has_word_of (fields_of row)) passed_kinds (is.kind.0, row.kind, is.kind.1, is.kind.2, row_word row.kind row.values is.word)
+    list_any-from_Any (λ kind. agrees (output_columns kind) (fields_of row)) passed_kinds (is.kind.0, row.kind, is.kind.1, is.kind.2, row_word row.kind row.values is.word)
 
 pub others_passed : PassedRowsLaw
 others_passed [] all = refl
@@ -59,9 +59,9 @@ others_passed (row ∷ rows) all =
 -- ---- which rows are of such kinds
 
 -- a row whose kind is found among those that are passed over
-pub one_passed : (row : OutputRow) → find (has_word_of (fields_of (row_of row.kind []))) passed_kinds ≡ Some row.kind → HasKindWord row → IsPassedRow row
+pub one_passed : (row : OutputRow) → find (λ kind. agrees (output_columns kind) (fields_of (row_of row.kind []))) passed_kinds ≡ Some row.kind → HasKindWord row → IsPassedRow row
 one_passed row found word =
-    let test = has_word_of (fields_of (row_of row.kind [])) in
+    let test : OutputKind → Bool = λ kind. agrees (output_columns kind) (fields_of (row_of row.kind [])) in
     let place = position_or_len test passed_kinds in
     let at = sym (find_at test passed_kinds) ∙ found in
     record { kind = (place, slice_get_within passed_kinds place row.kind at, get_or_from_slice_get passed_kinds place row.kind row.kind at); word = word }
