@@ -19,6 +19,8 @@ use Rattle.pb_study.specs.declared.results.StreamResult.{StreamResult}
 use Rattle.pb_study.specs.declared.results.Stage.{Stage}
 use Rattle.pb_study.specs.declared.results.Study.{Study}
 use Rattle.pb_graph.specs.ProcessGraph.{IsProcessGraph, ProcessGraph}
+use Rattle.pb_graph.specs.declared.records.Classified.{Classified}
+use Rattle.pb_graph.specs.declared.records.Stream.{Stream}
 use Rattle.pb_stage.specs.Certified.{HasLeastThroughout, IsCertifiedStage}
 use Rattle.pb_study.specs.Criticals.{AreCritical}
 use Rattle.pb_elim.specs.Laws.{FormedLaw}
@@ -46,23 +48,26 @@ use Rattle.pb_report.specs.declared.form.Form.{Form}
 use Rattle.pb_report.specs.declared.form.Form.TheVariants.{Csv}
 use Rattle.pb_report.specs.Form.{row_text, text_in}
 use Rattle.pb_report.specs.Row.{OutputRow, fields_of}
+use Rattle.pb_report.specs.Rows.{rows_with}
 use Rattle.pb_report.specs.Study.{study_rows}
 use Rattle.pb_readback.specs.declared.block.Block.{Block}
 use Rattle.pb_readback.specs.Laws.{JoinLaw}
 use Rattle.pb_readback.specs.Next.{AreBlocks}
-use Rattle.pb_readback.specs.Written.{BeginWithWords, HasBoundsForLeast, IsReportable, PassedRowsLaw, RowTextLaw, RowWordsLaw, StudyRowsLaw, block_with, blocks_from, records_in}
+use Rattle.pb_readback.specs.Written.{BeginWithWords, HasBoundsForLeast, HasKindWord, IsPassedRow, IsReportable, PassedRowsLaw, RowTextLaw, RowWordsLaw, StudyRowsLaw, block_with, blocks_from, records_in}
 use Rattle.pb_session.specs.Criticals.{critical_of}
-use Rattle.pb_report.specs.Advice.{advice_rows}
+use Rattle.pb_report.specs.Advice.{advice_row, advice_rows, meter_row}
 use Rattle.pb_report.specs.Component.{component_row}
-use Rattle.pb_report.specs.Design.{design_rows}
+use Rattle.pb_report.specs.Design.{class_row, design_rows, graph_row}
+use Rattle.pb_report.specs.History.{edit_row, history_rows, period_row}
 use Rattle.pb_report.specs.Names.{name_at}
 use Rattle.pb_report.specs.Over.{over_row}
 use Rattle.pb_report.specs.Refusal.{refused_row}
+use Rattle.pb_report.specs.Window.{place_row, window_row}
 use Rattle.pb_site.specs.Site.{names_of, version_of}
-use Rattle.pb_report.specs.History.{history_rows}
 use Rattle.pb_session.specs.Session.{Adds, AddsAccepted, AddsBy, AreNamesOf, Balances, IsHistoryText, IsReport, IsSessionText, IsTextOf, Reports, ReportsBy, SessionState, Windows, assembly_between, state_after, window_head}
 use Rattle.pb_audit.specs.Judgement.{AreFindings, Finding, IsJudgement, IsPassedBlock, finds_wrong, passed}
 use Rattle.pb_audit.specs.Laws.{OneFindingsLaw, PassedLaw}
+use Rattle.pb_readback.proofs.ReadbackLaws.{list_passed, one_passed, only_passed}
 use Rattle.pb_cli.proofs.ServedLemmas.{days_named}
 use Rattle.pb_cli.specs.Laws.{OwnLaw}
 
@@ -78,10 +83,6 @@ pub record ReadsBack (text : List ℕ) : Type 0 where
 -- no row
 none_read : ReadsBack []
 none_read = record { rows = []; blocks = []; text_is = refl; words = refl; are = refl; pass = All-nil IsPassedBlock }
-
--- rows without a block
-passed_over : (rows : List OutputRow) (text : List ℕ) → text ≡ text_in Csv rows → BeginWithWords rows → AreBlocks (records_in rows) [] → ReadsBack text
-passed_over rows text is words are = record { rows = rows; blocks = []; text_is = is; words = words; are = are; pass = All-nil IsPassedBlock }
 
 -- one text after the other
 both_read : JoinLaw → (front back : List ℕ) → ReadsBack front → ReadsBack back → ReadsBack (front ++ back)
@@ -120,8 +121,6 @@ sound_after accepted named state at fields sound = record {
 in_csv : (state : SessionState) (rows : List OutputRow) (text : List ℕ) → state.form ≡ Csv → text ≡ text_in state.form rows → text ≡ text_in Csv rows
 in_csv state rows text csv is = is ∙ ap (λ (form : Form). text_in form rows) csv
 
--- ---- a report
-
 -- What is known about studies, their rows, and the other rows.
 pub record AreKnown : Type 0 where
   pub join : JoinLaw
@@ -131,6 +130,28 @@ pub record AreKnown : Type 0 where
   pub formed : FormedLaw
   pub own : OwnLaw
   pub critical : (rows : List StoredRow) → AreAccepted rows → AreCritical (critical_of rows)
+
+-- ---- rows that are passed over
+
+-- rows without a block
+passed_over : AreKnown → (rows : List OutputRow) (text : List ℕ) → text ≡ text_in Csv rows → All IsPassedRow rows → ReadsBack text
+passed_over known rows text is each = record {
+  rows = rows;
+  blocks = [];
+  text_is = is;
+  words = known.words.rows rows (All-weaker IsPassedRow HasKindWord (λ row (is : IsPassedRow row). is.word) rows each);
+  are = known.others rows each;
+  pass = All-nil IsPassedBlock;
+}
+
+classes_passed : (names : Names) (i : ℕ) (streams : List Stream) (classes : List Classified) → All IsPassedRow (rows_with (class_row names) i streams classes)
+classes_passed names i [] classes = All-nil IsPassedRow
+classes_passed names i (stream ∷ streams) [] = All-nil IsPassedRow
+classes_passed names i (stream ∷ streams) (classified ∷ classes) =
+    All-cons IsPassedRow (class_row names i stream classified) (rows_with (class_row names) (i + 1) streams classes)
+    (one_passed (class_row names i stream classified) refl refl) (classes_passed names (i + 1) streams classes)
+
+-- ---- a report
 
 at_place : {X : Type 0} (P : X → Type 0) (xs : List X) (i : ℕ) (x : X) → slice_get xs i ≡ Some x → All P xs → P x
 at_place P xs i x is all = subst P (get_or_from_slice_get xs i x x is) (all i x (slice_get_within xs i x is))
@@ -196,12 +217,12 @@ reportable known state before names period graph text sound forms name report = 
 
 -- rows without a block, and a report after them
 report_read : AreKnown → (state : SessionState) (before : List OutputRow) (names : Names) (period : List ℕ) (graph : ProcessGraph) (text : List ℕ) → IsSound state → HaveForms names → is_name period ≡ true
-    → BeginWithWords before → AreBlocks (records_in before) [] → IsReport state before names period graph text → ReadsBack text
-report_read known state before names period graph text sound forms name words others report =
+    → All IsPassedRow before → IsReport state before names period graph text → ReadsBack text
+report_read known state before names period graph text sound forms name each report =
     let rows : List OutputRow = study_rows names period state.options report.study in
     let whole : text ≡ text_in Csv before ++ text_in Csv rows =
     in_csv state (before ++ rows) text sound.form report.rows ∙ flat_map-append (row_text Csv) before rows in
-    subst (λ (t : List ℕ). ReadsBack t) (sym whole) (both_read known.join (text_in Csv before) (text_in Csv rows) (passed_over before (text_in Csv before) refl words others) (record {
+    subst (λ (t : List ℕ). ReadsBack t) (sym whole) (both_read known.join (text_in Csv before) (text_in Csv rows) (passed_over known before (text_in Csv before) refl each) (record {
       rows = rows;
       blocks = blocks_from names period state.options 0 report.study.stages;
       text_is = refl;
@@ -221,22 +242,22 @@ period_named law state i period sound at =
 over_read : AreKnown → (state : SessionState) (period stream text : List ℕ) → IsSound state → IsTextOf state (over_row period stream ∷ []) text → ReadsBack text
 over_read known state period stream text sound is =
     let rows : List OutputRow = over_row period stream ∷ [] in
-    passed_over rows text (in_csv state rows text sound.form is) (known.words.over period stream) (known.others.over period stream)
+    passed_over known rows text (in_csv state rows text sound.form is) (only_passed (over_row period stream) (one_passed (over_row period stream) refl refl))
 
 -- a report after such rows, or the row of a stream beyond the limits
 reports_by_read : AreKnown → (state : SessionState) (before : List OutputRow) (names : Names) (period : List ℕ) (assembly : Result ProcessGraph Assembly) (text : List ℕ) → IsSound state → HaveForms names
-    → is_name period ≡ true → BeginWithWords before → AreBlocks (records_in before) [] → ReportsBy state before names period assembly text → ReadsBack text
-reports_by_read known state before names period (Ok graph) text sound forms name words others report =
-    report_read known state before names period graph text sound forms name words others report
-reports_by_read known state before names period (Err (Over j)) text sound forms name words others is = over_read known state period (name_at names.streams j) text sound is
-reports_by_read known state before names period (Err NoMemory) text sound forms name words others is = absurd is
+    → is_name period ≡ true → All IsPassedRow before → ReportsBy state before names period assembly text → ReadsBack text
+reports_by_read known state before names period (Ok graph) text sound forms name each report =
+    report_read known state before names period graph text sound forms name each report
+reports_by_read known state before names period (Err (Over j)) text sound forms name each is = over_read known state period (name_at names.streams j) text sound is
+reports_by_read known state before names period (Err NoMemory) text sound forms name each is = absurd is
 
 reports_read : AreKnown → NamedLaw → (state : SessionState) (i : ℕ) (text : List ℕ) → IsSound state → (found : Option Period) → slice_get (periods_of state.rows) i ≡ found
     → Reports state found text → ReadsBack text
 reports_read known law state i text sound None at reports = absurd reports
 reports_read known law state i text sound (Some period) at reports =
     reports_by_read known state [] (period_names state.rows (days_of period)) period.name (assembly_of state.rows (days_of period)) text sound
-    (served_named state.rows (days_of period) (law.named state.rows sound.named)) (period_named law state i period sound at) refl refl reports
+    (served_named state.rows (days_of period) (law.named state.rows sound.named)) (period_named law state i period sound at) (All-nil IsPassedRow) reports
 
 -- ---- the balance of a component
 
@@ -246,8 +267,8 @@ balances_read : AreKnown → NamedLaw → (state : SessionState) (component : Li
 balances_read known law state component i text sound None at balance = absurd balance
 balances_read known law state component i text sound (Some period) at (answer, of, by) =
     reports_by_read known state (component_row component period.name ∷ []) (period_names state.rows (days_of period)) period.name answer text sound
-    (served_named state.rows (days_of period) (law.named state.rows sound.named)) (period_named law state i period sound at) (known.words.components component period.name)
-    (known.others.components component period.name) by
+    (served_named state.rows (days_of period) (law.named state.rows sound.named)) (period_named law state i period sound at)
+    (only_passed (component_row component period.name) (one_passed (component_row component period.name) refl refl)) by
 
 -- ---- a window of several periods
 
@@ -264,10 +285,11 @@ windows_read known windows law state i k text sound asked adds =
     let window = window_between state.rows first last in
     let periods = periods_between (periods_of state.rows) first last in
     let places = window_places (names_of (declared_of state.rows)) (names_of_periods periods) window in
+    let row = window_row first.name last.name (length periods) in
     let codes = (windows.books state.rows first last sound.accepted asked.no_cause).names in
     reports_by_read known state (window_head state.rows first last) (window_names window) first.name (assembly_between state.rows first last) text sound
-    (record { nodes = codes.nodes.forms; streams = codes.streams.forms }) (period_named law state i first sound asked.first_is) (known.words.windows first.name last.name (length periods) places)
-    (known.others.windows first.name last.name (length periods) places)
+    (record { nodes = codes.nodes.forms; streams = codes.streams.forms }) (period_named law state i first sound asked.first_is)
+    (list_passed row (one_passed row refl refl) place_row (λ place. one_passed (place_row place) refl refl) places)
     (subst (λ (o : Option Period). Windows state (Some first) o text) asked.last_is
     (subst (λ (o : Option Period). Windows state o (slice_get (periods_of state.rows) k) text) asked.first_is adds))
 
@@ -280,8 +302,9 @@ record_read known windows law state at fields text sound adds = by (answer_of st
     tells None is = absurd is
     tells (Some period) is =
         let edits = history_of state.rows period in
-        let rows = history_rows period.name period.closed edits in
-        passed_over rows text (in_csv state rows text sound.form is) (known.words.histories period.name period.closed edits) (known.others.histories period.name period.closed edits)
+        let rows : List OutputRow = history_rows period.name period.closed edits in
+        let row = period_row period.name period.closed (length edits) in
+        passed_over known rows text (in_csv state rows text sound.form is) (list_passed row (one_passed row refl refl) edit_row (λ edit. one_passed (edit_row edit) refl refl) edits)
 
     nothing : text ≡ [] → ReadsBack text
     nothing is = subst (λ (t : List ℕ). ReadsBack t) (sym is) none_read
@@ -293,7 +316,9 @@ record_read known windows law state at fields text sound adds = by (answer_of st
         let names = names_of (declared_of state.rows) in
         let graph = design_graph state.rows in
         let rows : List OutputRow = design_rows names graph design.classes in
-        passed_over rows text (in_csv state rows text sound.form design.rows) (known.words.designs names graph design.classes) (known.others.designs names graph design.classes)
+        let each = classes_passed names 0 graph.streams design.classes in
+        passed_over known rows text (in_csv state rows text sound.form design.rows)
+        (All-cons IsPassedRow (graph_row graph) (rows_with (class_row names) 0 graph.streams design.classes) (one_passed (graph_row graph) refl refl) each)
     said (Report i) asks reports = reports_read known law state i text sound (slice_get (periods_of state.rows) i) refl reports
     said (History i) asks is = tells (slice_get (periods_of state.rows) i) is
     said (Component component i) asks balance = balances_read known law state component i text sound (slice_get (periods_of state.rows) i) refl balance
@@ -301,12 +326,14 @@ record_read known windows law state at fields text sound adds = by (answer_of st
     said Advise asks advised =
         let names = names_of (declared_of state.rows) in
         let rows : List OutputRow = advice_rows names advised.advice in
-        passed_over rows text (in_csv state rows text sound.form advised.rows) (known.words.advices names advised.advice) (known.others.advices names advised.advice)
+        let row = advice_row advised.advice in
+        passed_over known rows text (in_csv state rows text sound.form advised.rows)
+        (list_passed row (one_passed row refl refl) (meter_row names) (λ meter. one_passed (meter_row names meter) refl refl) advised.advice.meter)
 
     by : (answer : Answer) → answer_of state.rows fields ≡ answer → AddsBy state at (named_costs fields) answer text → ReadsBack text
     by (Refuses cause) asks is =
-        let rows : List OutputRow = refused_row at (cause_code cause) ∷ [] in
-        passed_over rows text (in_csv state rows text sound.form is) (known.words.refused at (cause_code cause)) (known.others.refused at (cause_code cause))
+        let row = refused_row at (cause_code cause) in
+        passed_over known (row ∷ []) text (in_csv state (row ∷ []) text sound.form is) (only_passed row (one_passed row refl refl))
     by (Stores effect) asks is = nothing is
     by (Says accepted) asks is = said accepted asks is
 

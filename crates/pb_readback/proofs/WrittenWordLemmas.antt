@@ -1,11 +1,16 @@
--- Each row of a session's output begins with a word.
-use Rattle.std.specs.Prelude.{map}
+-- Rows of any kinds begin with a word, and so do the rows of a study.
+use Rattle.std.specs.Prelude.{map, slice_get}
 use Rattle.std.specs.Option.{option_map, option_to_list}
 use Rattle.std.specs.List.{list_all}
-use Rattle.std.proofs.Common.{◌≡◌, ◌∙◌, ℕ, ◌+◌, List, [], ◌∷◌, ◌++◌, length, true, Option, None, Some, refl, ap}
+use Rattle.std.proofs.Common.{◌≡◌, ◌∙◌, ℕ, ◌+◌, All, List, [], ◌∷◌, ◌++◌, length, true, Option, None, Some, refl, ap}
 use Rattle.std.proofs.lemmas.Bool.{and_from}
 use Rattle.std.proofs.lemmas.List.{map-append}
+use Rattle.std.proofs.lemmas.List.Elements.{All-head, All-tail}
 use Rattle.std.proofs.lemmas.List.Folds.{list_all-append}
+use Rattle.pb_form.specs.OutputRows.{output_columns}
+use Rattle.pb_form.specs.TextLaws.{OutputWordLaw}
+use Rattle.pb_form.specs.Texts.{texts_of}
+use Rattle.pb_form.specs.Value.{Value, Word}
 use Rattle.pb_rows.specs.declared.name.Names.{Names}
 use Rattle.pb_rows.specs.Written.{begins_with_word}
 use Rattle.pb_study.specs.declared.results.Options.{Options}
@@ -14,15 +19,11 @@ use Rattle.pb_study.specs.declared.results.Stop.{Stop}
 use Rattle.pb_study.specs.declared.results.Taken.{Taken}
 use Rattle.pb_study.specs.declared.results.Tests.{Tests}
 use Rattle.pb_report.specs.Block.{block_rows, end_row, node_row, result_row, solved_row}
-use Rattle.pb_report.specs.Advice.{meter_row}
-use Rattle.pb_report.specs.Design.{class_row}
-use Rattle.pb_report.specs.History.{edit_row}
 use Rattle.pb_report.specs.Row.{OutputRow, fields_of}
 use Rattle.pb_report.specs.Rows.{rows_with}
 use Rattle.pb_report.specs.Study.{round_rows, stage_rows, stop_row}
 use Rattle.pb_report.specs.Tests.{measure_row, nodal_row, tests_rows}
-use Rattle.pb_report.specs.Window.{place_row}
-use Rattle.pb_readback.specs.Written.{BeginWithWords, RowWordsLaw, records_in}
+use Rattle.pb_readback.specs.Written.{BeginWithWords, HasKindWord, RowWordsLaw, records_in}
 
 words_both : (front back : List OutputRow) → BeginWithWords front → BeginWithWords back → BeginWithWords (front ++ back)
 words_both front back first second =
@@ -72,15 +73,22 @@ stop_words : (period : List ℕ) (rounds : ℕ) (stop : Option Stop) → BeginWi
 stop_words period rounds None = refl
 stop_words period rounds (Some reason) = refl
 
-pub all_words : RowWordsLaw
-all_words = record {
-  refused = λ at code. refl;
-  over = λ period stream. refl;
-  designs = λ names graph classes. words_with (class_row names) (λ i stream classified. refl) 0 graph.streams classes;
-  histories = λ name closed edits. words_of edit_row (λ edit. refl) edits;
-  advices = λ names advice. words_of (meter_row names) (λ meter. refl) advice.meter;
-  windows = λ first last periods places. words_of place_row (λ place. refl) places;
-  components = λ component period. refl;
+-- rows that have the words of their kinds
+kind_words : OutputWordLaw → (rows : List OutputRow) → All HasKindWord rows → BeginWithWords rows
+kind_words law [] all = refl
+kind_words law (row ∷ rows) all =
+    and_from (begins_with_word (fields_of row)) (list_all begins_with_word (records_in rows)) (by row.values (All-head HasKindWord row rows all))
+    (kind_words law rows (All-tail HasKindWord row rows all))
+  where
+    by : (values : List Value) → slice_get values 0 ≡ Some (Word 0) → begins_with_word (texts_of (output_columns row.kind) values) ≡ true
+    by [] word = cc word
+    by (first ∷ values) word =
+        let same : first ≡ Word 0 = cc word in
+        rw same (law row.kind values)
+
+pub all_words : OutputWordLaw → RowWordsLaw
+all_words law = record {
+  rows = kind_words law;
   studies = λ names period options study.
       words_both (stage_rows names period options study.taken study.stages) (option_to_list (option_map (stop_row period (length study.taken)) study.stop))
       (stage_words names period options study.taken study.stages) (stop_words period (length study.taken) study.stop);

@@ -1,32 +1,23 @@
 -- Statement. The rows of a study read back as its stages, and the other rows of a session are passed over.
-use Rattle.std.specs.Prelude.{◌≡◌, ℕ, ◌+◌, ◌≤◌, Bool, List, [], ◌∷◌, map, length, All, AllPairs, None, slice_index_or, true, false, codes}
+use Rattle.std.specs.Prelude.{◌≡◌, ℕ, ◌+◌, ◌≤◌, List, [], ◌∷◌, map, length, All, AllPairs, Contains, None, Some, slice_get, slice_index_or, true, false, codes}
 use Rattle.std.specs.List.{list_all}
 use Rattle.pb_limits.specs.Limits.{most_gap, most_rounds, most_sweeps}
 use Rattle.pb_rows.specs.declared.name.Names.{Names}
 use Rattle.pb_rows.specs.Name.{is_name, same_name}
 use Rattle.pb_rows.specs.Records.{records_of}
 use Rattle.pb_rows.specs.Written.{begins_with_word}
-use Rattle.pb_graph.specs.declared.records.Classified.{Classified}
 use Rattle.pb_study.specs.declared.results.Options.{Options}
 use Rattle.pb_study.specs.declared.results.Stage.{Stage}
 use Rattle.pb_study.specs.declared.results.StreamResult.{StreamResult}
 use Rattle.pb_study.specs.declared.results.Study.{Study}
-use Rattle.pb_graph.specs.ProcessGraph.{IsProcessGraph, ProcessGraph}
-use Rattle.pb_advise.specs.declared.advice.Advice.{Advice}
-use Rattle.pb_window.specs.declared.names.WindowPlace.{WindowPlace}
-use Rattle.pb_kinds.specs.declared.rows.StoredRow.{StoredRow}
+use Rattle.pb_graph.specs.ProcessGraph.{IsProcessGraph}
+use Rattle.pb_form.specs.Value.{Word}
+use Rattle.pb_blocks.specs.Kinds.{passed_kinds}
 use Rattle.pb_report.specs.declared.form.Form.TheVariants.{Csv}
 use Rattle.pb_report.specs.Form.{text_in}
-use Rattle.pb_report.specs.Advice.{advice_rows}
-use Rattle.pb_report.specs.Component.{component_row}
-use Rattle.pb_report.specs.Design.{design_rows}
-use Rattle.pb_report.specs.History.{history_rows}
 use Rattle.pb_report.specs.Names.{IsNamedStudy}
-use Rattle.pb_report.specs.Over.{over_row}
-use Rattle.pb_report.specs.Refusal.{refused_row}
 use Rattle.pb_report.specs.Row.{OutputRow, fields_of}
 use Rattle.pb_report.specs.Study.{study_rows}
-use Rattle.pb_report.specs.Window.{window_rows}
 use Rattle.pb_readback.specs.declared.block.Block.{Block}
 use Rattle.pb_readback.specs.Next.{AreBlocks}
 
@@ -89,34 +80,26 @@ StudyRowsLaw =
     (names : Names) (period : List ℕ) (options : Options) (study : Study) → IsReportable names period options study
     → AreBlocks (records_in (study_rows names period options study)) (blocks_from names period options 0 study.stages)
 
--- The rows of refusals, of reports that can't be made, of designs, of histories and of advice are passed over, and so are the rows
--- before the report of a window and before the balance of a component.
-pub record PassedRowsLaw : Type 0 where
-  pub refused : (at code : ℕ) → AreBlocks (records_in (refused_row at code ∷ [])) []
-  pub over : (period stream : List ℕ) → AreBlocks (records_in (over_row period stream ∷ [])) []
-  pub designs : (names : Names) (graph : ProcessGraph) (classes : List Classified)
-      → AreBlocks (records_in (design_rows names graph classes)) []
-  pub histories : (name : List ℕ) (closed : Bool) (edits : List StoredRow)
-      → AreBlocks (records_in (history_rows name closed edits)) []
-  pub advices : (names : Names) (advice : Advice) → AreBlocks (records_in (advice_rows names advice)) []
-  pub windows : (first last : List ℕ) (periods : ℕ) (places : List WindowPlace)
-      → AreBlocks (records_in (window_rows first last periods places)) []
-  pub components : (component period : List ℕ) → AreBlocks (records_in (component_row component period ∷ [])) []
+-- the first value of a row is the word of its kind
+abbrev pub HasKindWord : OutputRow → Type 0
+HasKindWord row = slice_get row.values 0 ≡ Some (Word 0)
+
+-- a row of a kind that is passed over between blocks, with the kind's word
+pub record IsPassedRow (row : OutputRow) : Type 0 where
+  pub kind : Contains passed_kinds row.kind
+  pub word : HasKindWord row
+
+-- All rows of the kinds that are passed over between blocks are passed over, whatever their other values are.
+abbrev pub PassedRowsLaw : Type 0
+PassedRowsLaw = (rows : List OutputRow) → All IsPassedRow rows → AreBlocks (records_in rows) []
 
 -- rows that begin with a word, so that they read back from their text as they were written
 abbrev pub BeginWithWords : List OutputRow → Type 0
 BeginWithWords rows = list_all begins_with_word (records_in rows) ≡ true
 
--- Each row of a session's output begins with a word.
+-- Rows of any kinds begin with a word, and so do the rows of a study.
 pub record RowWordsLaw : Type 0 where
-  pub refused : (at code : ℕ) → BeginWithWords (refused_row at code ∷ [])
-  pub over : (period stream : List ℕ) → BeginWithWords (over_row period stream ∷ [])
-  pub designs : (names : Names) (graph : ProcessGraph) (classes : List Classified) → BeginWithWords (design_rows names graph classes)
-  pub histories : (name : List ℕ) (closed : Bool) (edits : List StoredRow) → BeginWithWords (history_rows name closed edits)
-  pub advices : (names : Names) (advice : Advice) → BeginWithWords (advice_rows names advice)
-  pub windows : (first last : List ℕ) (periods : ℕ) (places : List WindowPlace)
-      → BeginWithWords (window_rows first last periods places)
-  pub components : (component period : List ℕ) → BeginWithWords (component_row component period ∷ [])
+  pub rows : (rows : List OutputRow) → All HasKindWord rows → BeginWithWords rows
   pub studies : (names : Names) (period : List ℕ) (options : Options) (study : Study)
       → BeginWithWords (study_rows names period options study)
 

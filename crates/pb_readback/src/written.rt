@@ -3,7 +3,7 @@
 ghost use Rattle.pb_readback.specs.Written.{PassedRowsLaw, RowTextLaw, RowWordsLaw, StudyRowsLaw, StudyTextLaw};
 
 use pb_choices::word_tables_law;
-use pb_form::text_law;
+use pb_form::{output_word_law, text_law};
 use pb_rows::{number_text_law, written_rows_law};
 
 /// The law that the rows of a study, as they are written in CSV, read back as its stages: one block for each, in order, with the
@@ -16,16 +16,17 @@ pub fn study_rows_law()
     number_text_law();
 }
 
-/// The law that the rows of refusals, of reports that can't be made, of designs, of histories and of advice are passed over, and so
-/// are the rows before the report of a window and before the balance of a component.
+/// The law that rows of the kinds that are passed over between blocks are passed over, whatever their values are.
 pub fn passed_rows_law()
     ensures { PassedRowsLaw }
 {}
 
-/// The law that each row of a session's output begins with a word, so that the rows read back from their text in CSV.
+/// The law that rows of any kinds, and the rows of a study, begin with a word, so that they read back from their text in CSV.
 pub fn row_words_law()
     ensures { RowWordsLaw }
-{}
+{
+    output_word_law();
+}
 
 /// The law that rows which begin with a word read back from their text in CSV.
 pub fn row_text_law()

@@ -12,7 +12,8 @@ use Rattle.pb_kinds.specs.declared.rows.StoredRow.{StoredRow}
 use Rattle.pb_choices.specs.Places.{truth_place}
 use Rattle.pb_report.specs.Row.{OutputRow, row_of}
 
--- what is written of an edit: its word, the fact that it is about and its reason; a row that edits nothing has none of them
+-- what is written of an edit: its word, by its place in `edit_words`, the fact that it is about and its reason; a row that edits nothing
+-- has none of them
 abbrev pub edit_values : Effect → List Value
 edit_values (Closes name) = Word 0 ∷ Missing ∷ Missing ∷ []
 edit_values (Books fact true) = Word 1 ∷ Name (id_of fact) ∷ Missing ∷ []
