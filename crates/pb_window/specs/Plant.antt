@@ -32,13 +32,9 @@ closing_day (Some service) span = int_min span.last service.until
 abbrev pub is_end : ℕ → PlantArc → Bool
 is_end node arc = (arc.from == node) || (arc.to == node)
 
--- an arc in service joins a node in a period
-abbrev pub is_joined : List PlantArc → Span → ℕ → Bool
-is_joined arcs span node = list_any (λ (arc : PlantArc). is_served span arc && is_end node arc) arcs
-
 -- A unit or tank is a node of the graph of a period if an arc in service joins it, or if idle ones are kept.
 abbrev pub is_node_in : Plant → Span → ℕ → Bool
-is_node_in plant span node = plant.keeps_idle || is_joined plant.arcs span node
+is_node_in plant span node = plant.keeps_idle || list_any (λ (arc : PlantArc). is_served span arc && is_end node arc) plant.arcs
 
 -- these units and tanks, in order
 abbrev pub nodes_in : Plant → Span → List ℕ

@@ -73,14 +73,9 @@ window_flows arcs nodes spans = flat_map (flows_of_period arcs nodes) (numbered_
 abbrev pub span_of : List Span → ℕ → Option Span
 span_of spans period = if period == 0 then None else slice_get spans (period - 1)
 
--- a period, if an arc is in service in it
-abbrev pub if_served : PlantArc → Option Span → Option Span
-if_served arc None = None
-if_served arc (Some span) = if is_served span arc then Some span else None
-
 -- the period with a number, if there is one and an arc is in service in it
 abbrev pub stay_of : List Span → PlantArc → ℕ → Option Span
-stay_of spans arc period = if_served arc (span_of spans period)
+stay_of spans arc period = option_and_then (λ (span : Span). if is_served span arc then Some span else None) (span_of spans period)
 
 -- The day at whose end the content between two periods is held: the day at whose end it closes in the period before, or, if the tank isn't
 -- in service then, the day at whose end it opens in the period after. There is no content if the tank is in service in neither.
@@ -91,8 +86,7 @@ content_day arc None None = None
 
 -- an end of a content: the tank's node in a period in which it is in service, otherwise the environment
 abbrev pub content_end : List WindowNode → ℕ → PlantArc → Option Span → ℕ
-content_end nodes period arc None = 0
-content_end nodes period arc (Some span) = window_number_of nodes period arc.from
+content_end nodes period arc stay = option_map_or (λ _. window_number_of nodes period arc.from) stay 0
 
 -- what a tank holds after the period with a number (0 for the first opening) and before the next one
 abbrev pub content_after : List WindowNode → List Span → NumberedArc → ℕ → Option WindowStream
