@@ -15,10 +15,10 @@ id_of (Transfer id stream first last grams variance) = id
 id_of (Dip id tank day mm density variance) = id
 
 -- the stream or tank that the fact names
-abbrev pub place_of_fact : Fact → List ℕ
-place_of_fact (Reading id stream day grams variance) = stream
-place_of_fact (Transfer id stream first last grams variance) = stream
-place_of_fact (Dip id tank day mm density variance) = tank
+abbrev pub named_by : Fact → List ℕ
+named_by (Reading id stream day grams variance) = stream
+named_by (Transfer id stream first last grams variance) = stream
+named_by (Dip id tank day mm density variance) = tank
 
 -- a reading of this stream on this day
 abbrev pub is_reading_on : List ℕ → ℤ → Fact → Bool
