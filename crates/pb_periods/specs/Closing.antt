@@ -7,8 +7,7 @@ use Rattle.pb_periods.specs.Touching.{is_served_in}
 
 -- the period, closed
 abbrev pub closed : Period → Period
-closed period =
-    record { name = period.name; first = period.first; last = period.last; closed = true }
+closed period = record period { closed = true }
 
 -- a period is closed if it has this name, and otherwise unchanged
 abbrev pub closed_if_named : List ℕ → Period → Period
