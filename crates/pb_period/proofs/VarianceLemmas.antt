@@ -157,7 +157,7 @@ change_fair content (Some opening) (Some closing) each before after = let one = 
 
 amount_fair : (declared : List Declared) (facts : List Fact) (days : Days) (service : Option Service) (kind : ArcKind) (name : List ℕ) → All IsFactInRange facts
     → IfSome (amount_of declared facts days service kind name) IsFair
-amount_fair declared facts days service Metered name all = read_total_fair (read_on facts name) (days_between (first_served service days).first) (last_served service days).last) (λ day. read_fair facts name day all)
+amount_fair declared facts days service Metered name all = read_total_fair (read_on facts name) (days_between (first_served service days.first) (last_served service days.last)) (λ day. read_fair facts name day all)
 amount_fair declared facts days service Batch name all = total_fair_all (transferred days name) facts (transferred_fair days name) all
 amount_fair declared facts days service Plain name all = tt
 amount_fair declared facts days service Tank name all =

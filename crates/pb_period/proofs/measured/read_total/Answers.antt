@@ -36,8 +36,8 @@ loop-day-init c =
       from = omega (arith, ints);
       few = omega (arith, none);
       so_far = ap₂ (λ (a b : ℤ). read_more c.zero-total.result read (days_until a b)) start_is end_is
-          ∙ ap (λ (total : Amount). read_more total read (days_between (first_served service days)).first) (last_served service days)).last) c.zero-total.ensures
-          ∙ read_start read (days_between (first_served service days).first) (last_served service days).last);
+          ∙ ap (λ (total : Amount). read_more total read (days_between (first_served service days.first) (last_served service days.last))) c.zero-total.ensures
+          ∙ read_start read (days_between (first_served service days.first) (last_served service days.last));
       small = of_more_facts 0 (int_gap start start) c.zero-total.result (omega arith) (subst (IsAmount 0) (sym c.zero-total.ensures) none_is_amount);
     }
 

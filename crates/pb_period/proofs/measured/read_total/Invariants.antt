@@ -15,6 +15,6 @@ invariant-loop-day l =
     record {
       from : l.first ≤ℤ l.day;
       few : int_gap l.first l.day ≤ most_days_of_period;
-      so_far : read_more l.total (read_on (live_facts l.facts) l.stream) (days_until l.day l.day-end) ≡ read_total (read_on (live_facts l.facts) l.stream) (days_between (first_served l.fn.service l.fn.days).first) (last_served l.fn.service l.fn.days).last);
+      so_far : read_more l.total (read_on (live_facts l.facts) l.stream) (days_until l.day l.day-end) ≡ read_total (read_on (live_facts l.facts) l.stream) (days_between (first_served l.fn.service l.fn.days.first) (last_served l.fn.service l.fn.days.last));
       small : IsAmount (int_gap l.first l.day) l.total;
     }
