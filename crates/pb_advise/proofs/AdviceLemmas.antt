@@ -14,7 +14,8 @@ use Rattle.pb_forest.specs.Laws.{IsAcyclic}
 use Rattle.pb_forest.proofs.ForestLaws.{part_law, unique_law}
 use Rattle.pb_advise.specs.declared.advice.Meter.{Meter}
 use Rattle.pb_advise.specs.Choice.{stays_unmeasured, cost_of}
-use Rattle.pb_advise.specs.Advice.{precedes, IsAdvisedChoice, marked_from, streams_of, metered_streams, IsMeter, IsShown, ShowsChoice}
+use Rattle.pb_advise.specs.Advice.{precedes, IsAdvisedChoice, streams_of, metered_streams, IsMeter, IsShown, ShowsChoice}
+use Rattle.pb_advise.specs.Order.{marked_from}
 use Rattle.pb_advise.specs.Laws.{CheapestLaw, OneAdviceLaw}
 use Rattle.pb_advise.proofs.CycleLemmas.{both_all, cycles_is}
 use Rattle.pb_advise.proofs.MeteredLemmas.{suffices_is}

@@ -11,7 +11,8 @@ use Rattle.pb_graph.specs.Cycle.{is_distinct, start_of}
 use Rattle.pb_graph.proofs.WalkLemmas.{some_same, ends_is, stream_of, reach_none, reach_one, reach_both, reach_back}
 use Rattle.pb_advise.specs.declared.advice.Meter.{Meter}
 use Rattle.pb_advise.specs.Choice.{stays_unmeasured, cost_of}
-use Rattle.pb_advise.specs.Advice.{IsShown, marked_from, metered_streams}
+use Rattle.pb_advise.specs.Advice.{IsShown, metered_streams}
+use Rattle.pb_advise.specs.Order.{marked_from}
 use Rattle.pb_advise.specs.Laws.{CyclesLaw}
 use Rattle.pb_advise.proofs.LeastLemmas.{le_is, may_replace, AreReplaceable, least_cost}
 

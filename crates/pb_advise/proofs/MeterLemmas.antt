@@ -9,8 +9,8 @@ use Rattle.pb_graph.specs.ProcessGraph.{ProcessGraph}
 use Rattle.pb_advise.specs.declared.advice.Meter.{Meter}
 use Rattle.pb_advise.specs.declared.advice.Advice.{Advice}
 use Rattle.pb_advise.specs.Choice.{AreCosts, cost_of}
-use Rattle.pb_advise.specs.Advice.{marked_from, streams_of, metered_streams, IsChosenCycle, IsMeter, IsAdvice, IsAdvisedChoice}
-use Rattle.pb_advise.specs.Order.{AreMetersBefore}
+use Rattle.pb_advise.specs.Advice.{streams_of, metered_streams, IsChosenCycle, IsMeter, IsAdvice, IsAdvisedChoice}
+use Rattle.pb_advise.specs.Order.{marked_from, AreMetersBefore}
 use Rattle.pb_advise.proofs.CostLemmas.{cost_none}
 
 -- ---- one more mark

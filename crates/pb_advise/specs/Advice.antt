@@ -1,6 +1,6 @@
 -- Statement. The advice: the cheapest choice that suffices, with a cycle for each of its streams that shows why it needs a meter.
-use Rattle.std.specs.Prelude.{◌≡◌, ◌≢◌, ◌↔◌, ℕ, ◌+◌, ◌*◌, ◌<◌, ℤ, pos, ◌≤ℤ◌, int_le, int_lt, nat_lt, Bool, true, false, ◌&&◌, ◌||◌, List, [], ◌∷◌, length, map, Some, slice_get, get_or, All}
-use Rattle.std.specs.List.{AllByRecursion}
+use Rattle.std.specs.Prelude.{◌≡◌, ◌≢◌, ◌↔◌, ℕ, ◌+◌, ◌*◌, ◌<◌, ℤ, pos, ◌≤ℤ◌, int_le, int_lt, nat_lt, Bool, true, false, ◌&&◌, ◌||◌, List, ◌∷◌, length, filter_map, map, Some, None, if◌then◌else◌, slice_get, get_or, All}
+use Rattle.std.specs.List.{AllByRecursion, enumerate_from}
 use Rattle.pb_limits.specs.Limits.{most_streams}
 use Rattle.pb_fixed.specs.Sums.{item}
 use Rattle.pb_graph.specs.declared.records.Stream.{Stream}
@@ -28,15 +28,9 @@ pub record IsAdvisedChoice (graph : ProcessGraph) (costs : List ℤ) (chosen : L
   pub decided : (j : ℕ) (stream : Stream) → slice_get graph.streams j ≡ Some stream → is_measured stream ≡ false
       → (get_or chosen j false ≡ true) ↔ Reaches (ends_of (precedes costs j) graph.streams) stream.from stream.to
 
--- the places of the marked items, in order; the first item has this place
-abbrev pub marked_from : ℕ → List Bool → List ℕ
-marked_from place [] = []
-marked_from place (true ∷ marks) = place ∷ marked_from (place + 1) marks
-marked_from place (false ∷ marks) = marked_from (place + 1) marks
-
--- the streams of a choice, in order
+-- the streams of a choice, in order: the places of its marks
 abbrev pub streams_of : List Bool → List ℕ
-streams_of chosen = marked_from 0 chosen
+streams_of chosen = filter_map (λ (one : ℕ × Bool). if one.1 then Some one.0 else None) (enumerate_from 0 chosen)
 
 -- the streams of meters
 abbrev pub metered_streams : List Meter → List ℕ

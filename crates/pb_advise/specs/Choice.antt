@@ -1,19 +1,15 @@
 -- Statement. Choices of unmeasured streams to meter: when one suffices, and what it costs.
-use Rattle.std.specs.Prelude.{◌≡◌, ℕ, ◌^◌, ℤ, pos, ◌+ℤ◌, ◌≤ℤ◌, Bool, true, false, not, ◌&&◌, List, [], ◌∷◌, length, Some, slice_get, get_or, All, if◌then◌else◌}
-use Rattle.pb_graph.specs.declared.records.Meas.{Meas}
+use Rattle.std.specs.Prelude.{◌≡◌, ℕ, ◌^◌, ℤ, pos, ◌≤ℤ◌, Bool, true, false, not, ◌&&◌, List, [], ◌∷◌, length, zip, Some, slice_get, get_or, All, if◌then◌else◌}
+use Rattle.pb_fixed.specs.Sums.{sum_over}
 use Rattle.pb_graph.specs.declared.records.Stream.{Stream}
 use Rattle.pb_graph.specs.declared.records.Class.TheVariants.{Observable}
 use Rattle.pb_graph.specs.ProcessGraph.{ProcessGraph, is_measured}
 use Rattle.pb_graph.specs.Walk.{unmeasured}
 use Rattle.pb_graph.specs.Classes.{IsClassOf}
 
--- what a new meter reads; it doesn't matter, since no class depends on a value or a variance
-abbrev pub some_measurement : Meas
-some_measurement = record { value = pos 0; variance = pos 1 }
-
--- a stream, with a meter if it is chosen
+-- a stream, with a meter if it is chosen; what the meter reads doesn't matter, since no class depends on a value or a variance
 abbrev pub metered : Bool → Stream → Stream
-metered true stream = record { from = stream.from; to = stream.to; meas = Some some_measurement }
+metered true stream = record { from = stream.from; to = stream.to; meas = Some (record { value = pos 0; variance = pos 1 }) }
 metered false stream = stream
 
 -- streams, the chosen ones with meters
@@ -57,6 +53,4 @@ pub record AreCosts (graph : ProcessGraph) (costs : List ℤ) : Type 0 where
 
 -- the cost of a choice: the sum of the costs of its streams
 abbrev pub cost_of : List ℤ → List Bool → ℤ
-cost_of [] chosen = pos 0
-cost_of (cost ∷ costs) [] = pos 0
-cost_of (cost ∷ costs) (mark ∷ chosen) = (if mark then cost else pos 0) +ℤ cost_of costs chosen
+cost_of costs chosen = sum_over (λ (one : ℤ × Bool). if one.1 then one.0 else pos 0) (zip costs chosen)

@@ -1,6 +1,6 @@
 -- Inside. The order in which the code takes streams, and what it knows about the first ones.
-use Rattle.std.specs.Prelude.{◌≡◌, ◌≢◌, ℕ, ◌<◌, ℤ, ◌-ℤ◌, ◌==◌, Bool, true, false, List, length, take, Option, None, ◌*◌, ◌≤ℤ◌, Some, slice_get, get_or, pos, unsigned_abs}
-use Rattle.std.specs.List.{AllByRecursion, list_any}
+use Rattle.std.specs.Prelude.{◌≡◌, ◌≢◌, ℕ, ◌<◌, ℤ, ◌-ℤ◌, ◌==◌, Bool, true, false, List, length, filter_map, take, if◌then◌else◌, Option, None, ◌*◌, ◌≤ℤ◌, Some, slice_get, get_or, pos, unsigned_abs}
+use Rattle.std.specs.List.{AllByRecursion, enumerate_from, list_any}
 use Rattle.pb_fixed.specs.Sums.{item}
 use Rattle.pb_graph.specs.declared.records.Stream.{Stream}
 use Rattle.pb_graph.specs.declared.records.Step.{Step}
@@ -9,6 +9,10 @@ use Rattle.pb_graph.specs.Walk.{ends_of, unmeasured, Reaches}
 use Rattle.pb_advise.specs.declared.advice.Advice.{Advice}
 use Rattle.pb_advise.specs.Choice.{most_cost, cost_of, stays_unmeasured}
 use Rattle.pb_advise.specs.Advice.{precedes, streams_of, metered_streams, IsMeter, IsChosenCycle}
+
+-- the places of the marked items, in order; the first item has this place
+abbrev pub marked_from : ℕ → List Bool → List ℕ
+marked_from place marks = filter_map (λ (one : ℕ × Bool). if one.1 then Some one.0 else None) (enumerate_from place marks)
 
 -- by how much the cost of a stream is below the greatest cost, and the place of the stream
 abbrev pub Candidate : Type 0

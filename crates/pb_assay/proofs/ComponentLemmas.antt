@@ -6,6 +6,7 @@ use Rattle.std.proofs.lemmas.List.{append-nil}
 use Rattle.std.proofs.lemmas.List.Elements.{All-get_or}
 use Rattle.std.proofs.lemmas.Option.{get_or_from_slice_get, slice_get_within}
 use Rattle.std.specs.List.{position_or_len}
+use Rattle.std.specs.Option.{option_map_or}
 use Rattle.std.proofs.lemmas.List.Sums.{fails_before_first, position_or_len_is}
 use Rattle.std.proofs.Math.ListN.{drop_of_length-le}
 use Rattle.pb_graph.specs.declared.records.Stream.{Stream}
@@ -14,7 +15,7 @@ use Rattle.pb_graph.specs.ProcessGraph.{IsStream, ProcessGraph}
 use Rattle.pb_facts.specs.declared.grade.Grade.{Grade}
 use Rattle.pb_assay.specs.declared.component.ComponentFault.{ComponentFault}
 use Rattle.pb_assay.specs.declared.component.ComponentFault.TheVariants.{Over}
-use Rattle.pb_assay.specs.Component.{component_stream, component_of, component_streams, is_component_over, component_overs, component_unless_over}
+use Rattle.pb_assay.specs.Component.{component_stream, component_of, component_streams, is_component_over, component_overs}
 
 pub some_is : {B : Type 0} (a b : B) → Some a ≡ Some b → a ≡ b
 some_is a b is = ap (λ o. unwrap_or o a) is
@@ -61,6 +62,10 @@ made_graph graph rs gs = record { nodes = graph.nodes; streams = component_strea
 
 -- ---- the first stream that is over the limits
 
+-- a graph, unless a stream is over the limits
+abbrev pub unless_over : ProcessGraph → Option ℕ → Result ProcessGraph ComponentFault
+unless_over graph found = option_map_or (λ stream. Err (Over stream)) found (Ok graph)
+
 pub over_is : (rs : List StreamResult) (gs : List (Option Grade)) (j : ℕ) (r : StreamResult) (g : Option Grade) → slice_get rs j ≡ Some r → slice_get gs j ≡ Some g
     → get_or (component_overs rs gs) j false ≡ is_component_over r g
 over_is [] gs j r g at_r at_g = cc at_r
@@ -102,7 +107,7 @@ pub first_over : (graph : ProcessGraph) (rs : List StreamResult) (gs : List (Opt
     → Err (Over j) ≡ component_of graph rs gs
 first_over graph rs gs j r g lt each at_r at_g before over =
     let long = overs_each rs gs each in
-    sym (ap (component_unless_over (made_graph graph rs gs))
+    sym (ap (unless_over (made_graph graph rs gs))
     (position_at (component_overs rs gs) j (omega (arith, long, lt)) before (over_is rs gs j r g at_r at_g ∙ over)))
 
 pub finished : (graph whole : ProcessGraph) (rs : List StreamResult) (gs : List (Option Grade)) (j : ℕ) → length rs ≤ j → length gs ≡ length rs → whole.nodes ≡ graph.nodes
@@ -111,8 +116,8 @@ finished graph whole rs gs j past each nodes all before =
     let long = overs_each rs gs each in
     let none = position_none (component_overs rs gs) (λ k lt. before k (omega (arith, lt, long, past))) in
     let same = ap₂ (λ (n : ℕ) (streams : List Stream). let g : ProcessGraph = record { nodes = n; streams = streams } in g) nodes (sym all) in
-    ap (λ (g : ProcessGraph). component_unless_over g None) same
-    ∙ sym (ap (component_unless_over (made_graph graph rs gs)) none)
+    ap (λ (g : ProcessGraph). unless_over g None) same
+    ∙ sym (ap (unless_over (made_graph graph rs gs)) none)
 
 -- the ends of the stream at a place
 pub ends_at : (nodes : ℕ) (ss : List Stream) (j : ℕ) (s : Stream) → All (IsStream nodes) ss → slice_get ss j ≡ Some s → IsStream nodes s
@@ -139,9 +144,9 @@ none_over graph component rs gs each answer = by (position (λ over. over) (comp
   where
     by : (o : Option ℕ) → position (λ over. over) (component_overs rs gs) ≡ o
         → (made_graph graph rs gs ≡ component) × ((k : ℕ) → k < length rs → get_or (component_overs rs gs) k false ≡ false)
-    by (Some j) at = cc (sym (ap (component_unless_over (made_graph graph rs gs)) at) ∙ answer)
+    by (Some j) at = cc (sym (ap (unless_over (made_graph graph rs gs)) at) ∙ answer)
     by None at =
         let long = overs_each rs gs each in (
-          ap (graph_in (made_graph graph rs gs)) (sym (ap (component_unless_over (made_graph graph rs gs)) at) ∙ answer),
+          ap (graph_in (made_graph graph rs gs)) (sym (ap (unless_over (made_graph graph rs gs)) at) ∙ answer),
           λ k lt. no_place (component_overs rs gs) at k (omega (arith, lt, long)),
         )

@@ -12,10 +12,10 @@ use Rattle.pb_graph.specs.ProcessGraph.{ProcessGraph}
 use Rattle.pb_facts.specs.declared.grade.Grade.{Grade}
 use Rattle.pb_assay.specs.declared.component.ComponentFault.TheVariants.{Over}
 use Rattle.pb_assay.specs.Grade.{IsCarried, carried, carries_too_much}
-use Rattle.pb_assay.specs.Component.{IsComponentStream, IsOverAt, component_overs, component_stream, component_streams, component_unless_over, counted_grade}
+use Rattle.pb_assay.specs.Component.{IsComponentStream, IsOverAt, component_overs, component_stream, component_streams, counted_grade}
 use Rattle.pb_assay.specs.Laws.{ComponentLaw, FirstOverLaw}
 use Rattle.pb_assay.proofs.CarriedLemmas.{carried_is}
-use Rattle.pb_assay.proofs.ComponentLemmas.{made_graph, none_over, over_is, some_is, streams_each}
+use Rattle.pb_assay.proofs.ComponentLemmas.{made_graph, none_over, over_is, some_is, streams_each, unless_over}
 
 -- ---- the grade that counts
 
@@ -105,7 +105,7 @@ first_is graph rs gs j answer = record {
   before = λ k lt is. cc (sym (marked rs gs k is) ∙ parts.2 k lt);
 }
   where
-    place : (o : Option ℕ) → component_unless_over (made_graph graph rs gs) o ≡ Err (Over j) → o ≡ Some j
+    place : (o : Option ℕ) → unless_over (made_graph graph rs gs) o ≡ Err (Over j) → o ≡ Some j
     place None is = cc is
     place (Some i) is = cc is
 

@@ -1,5 +1,5 @@
 -- Statement. The component graph: a plant whose streams are measured by what their printed flows carry of one component.
-use Rattle.std.specs.Prelude.{◌≡◌, ◌≢◌, ℕ, ◌<◌, Bool, true, false, List, [], ◌∷◌, length, position, option_map, slice_get, Option, Some, None, IsSomeAnd, Result, Ok, Err}
+use Rattle.std.specs.Prelude.{◌≡◌, ◌≢◌, ℕ, ◌<◌, Bool, true, false, List, length, map, zip, position, option_map, slice_get, Option, Some, None, IsSomeAnd, Result, Ok, Err}
 use Rattle.std.specs.Option.{option_map_or}
 use Rattle.pb_graph.specs.declared.records.Stream.{Stream}
 use Rattle.pb_graph.specs.declared.records.Class.{Class}
@@ -30,28 +30,18 @@ is_component_over printed grade = option_map_or (carries_too_much printed.flow) 
 
 -- the streams of the component graph, each by what is printed of it and by its grade
 abbrev pub component_streams : List Stream → List StreamResult → List (Option Grade) → List Stream
-component_streams [] printed grades = []
-component_streams (stream ∷ streams) [] grades = []
-component_streams (stream ∷ streams) (result ∷ printed) [] = []
-component_streams (stream ∷ streams) (result ∷ printed) (grade ∷ grades) =
-    component_stream result grade stream ∷ component_streams streams printed grades
+component_streams streams printed grades =
+    map (λ (one : Stream × (StreamResult × Option Grade)). component_stream one.1.0 one.1.1 one.0) (zip streams (zip printed grades))
 
 -- which of these streams are over the limits
 abbrev pub component_overs : List StreamResult → List (Option Grade) → List Bool
-component_overs [] grades = []
-component_overs (result ∷ printed) [] = []
-component_overs (result ∷ printed) (grade ∷ grades) = is_component_over result grade ∷ component_overs printed grades
-
--- the graph, unless a stream is over the limits
-abbrev pub component_unless_over : ProcessGraph → Option ℕ → Result ProcessGraph ComponentFault
-component_unless_over graph (Some stream) = Err (Over stream)
-component_unless_over graph None = Ok graph
+component_overs printed grades = map (λ (one : StreamResult × Option Grade). is_component_over one.0 one.1) (zip printed grades)
 
 -- The component graph of a graph, or its first stream that is over the limits.
 abbrev pub component_of : ProcessGraph → List StreamResult → List (Option Grade) → Result ProcessGraph ComponentFault
 component_of graph printed grades =
-    component_unless_over (record { nodes = graph.nodes; streams = component_streams graph.streams printed grades })
-    (position (λ over. over) (component_overs printed grades))
+    option_map_or (λ stream. Err (Over stream)) (position (λ over. over) (component_overs printed grades))
+    (Ok (record { nodes = graph.nodes; streams = component_streams graph.streams printed grades }))
 
 -- a stream that is named as over the limits is one of the graph's
 abbrev pub NamesAStreamOf : ProcessGraph → ComponentFault → Type 0

@@ -19,8 +19,8 @@ use Rattle.pb_kinds.specs.declared.rows.Edit.TheVariants as edits
 use Rattle.pb_kinds.specs.declared.rows.Effect.TheVariants.{Edits}
 use Rattle.pb_book.specs.declared.answer.Refused.{Refused}
 use Rattle.pb_book.specs.declared.answer.Refused.TheVariants.{Unknown}
-use Rattle.pb_book.specs.Causes.{cause_of_change, cause_of_edit}
-use Rattle.pb_book.specs.Refusals.{is_misfit, is_moved_outside, is_outside_table, refusal_behind}
+use Rattle.pb_book.specs.Causes.{cause_of_change, cause_of_edit, is_misfit, is_moved_outside}
+use Rattle.pb_book.specs.Refusals.{is_outside_table, refusal_behind}
 use Rattle.pb_periods.proofs.PeriodLemmas.{none_at_first, position_at_first}
 
 -- a live fact of an id repeats each kept fact of the id

@@ -17,7 +17,7 @@ use Rattle.pb_site.specs.declared.declared.Declared.{Declared}
 use Rattle.pb_site.specs.declared.declared.Declared.TheVariants.{Version2, Boundary, Tank, Strap, Stream, CritGlobal, CritNodal, CritMeasure}
 use Rattle.pb_site.specs.declared.declared.Version.{Version}
 use Rattle.pb_site.specs.Row.{declares_tank, point_of}
-use Rattle.pb_site.specs.Site.{is_tank, points_of_tank, table_of, version_of}
+use Rattle.pb_site.specs.Site.{is_tank, points_of_tank, table_of, version_of, service_in}
 use Rattle.pb_site.specs.Faults.{is_declaration_out_of_order}
 use Rattle.pb_facts.specs.declared.fact.Fact.{Fact}
 use Rattle.pb_facts.specs.declared.fact.Fact.TheVariants.{Reading, Transfer, Dip}
@@ -25,7 +25,7 @@ use Rattle.pb_facts.specs.declared.facts.KeptFact.{KeptFact}
 use Rattle.pb_facts.specs.declared.fact.Change.{Change}
 use Rattle.pb_facts.specs.declared.fact.Change.TheVariants.{Amount, Level}
 use Rattle.pb_facts.specs.Changes.{IsChangeInRange, amended, changed, struck}
-use Rattle.pb_facts.specs.Fact.{IsFactInRange, is_too_long}
+use Rattle.pb_facts.specs.Fact.{IsFactInRange, is_too_long, named_by}
 use Rattle.pb_facts.specs.Facts.{has_id, is_live_with}
 use Rattle.pb_book.specs.declared.answer.Refused.TheVariants.{Unknown, Duplicate, Order, Mismatch, Sealed, Closed, Range, Full}
 use Rattle.pb_facts.specs.declared.assays.Assay.{Assay}
@@ -38,14 +38,14 @@ use Rattle.pb_periods.specs.Apart.{IsApartFrom, is_named, shares_a_day}
 use Rattle.pb_kinds.specs.Ranges.{IsEffectInRange}
 use Rattle.pb_periods.specs.Ranges.{IsPeriod}
 use Rattle.pb_book.specs.Assays.{assays_of}
-use Rattle.pb_book.specs.Refusals.{is_book_full, is_closed, is_duplicate, is_mismatch, is_moved_outside, is_out_of_order, is_out_of_range, is_out_of_service, is_outside_table, is_sealed, is_unknown, refusal_behind}
-use Rattle.pb_periods.specs.Touching.{service_of}
+use Rattle.pb_book.specs.Refusals.{is_book_full, is_closed, is_duplicate, is_mismatch, is_out_of_order, is_out_of_range, is_out_of_service, is_outside_table, is_sealed, is_unknown, refusal_behind}
 use Rattle.pb_kinds.specs.declared.rows.StoredRow.{StoredRow}
 use Rattle.pb_periods.specs.Closing.{closed_if_named}
 use Rattle.pb_book.specs.Rows.{declared_of, facts_after, facts_of, live, open_period, periods_after, periods_of}
 use Rattle.pb_book.proofs.AcceptedLemmas.{by_accepted}
 use Rattle.pb_book.proofs.KeptLemmas.{declared_more, declared_same, facts_more, periods_more_of}
 use Rattle.pb_periods.proofs.PeriodLemmas.{closed_apart, closed_days, fails_at}
+use Rattle.pb_book.specs.Causes.{is_moved_outside}
 
 -- no cause holds for a row
 pub record IsFine (version : Version) (declared : List Declared) (kept : List KeptFact) (periods : List Period) (assays : List Assay) (effect : Effect) : Type 0 where
@@ -82,14 +82,14 @@ fine version declared kept periods assays effect none =
 
 -- a fact in its range
 pub record IsFactInside (version : Version) (declared : List Declared) (fact : Fact) : Type 0 where
-  pub serving : is_out_of_service (service_of version declared fact) fact ≡ false
+  pub serving : is_out_of_service (service_in version declared (named_by fact)) fact ≡ false
   pub short : is_too_long fact ≡ false
   pub inside : is_outside_table declared fact ≡ false
 
 pub range_parts : (version : Version) (declared : List Declared) (kept : List KeptFact) (periods : List Period) (fact : Fact) (late : Bool) → is_out_of_range version declared kept periods (Books fact late) ≡ false
     → IsFactInside version declared fact
 range_parts version declared kept periods fact late range =
-    let parts = or_parts (is_out_of_service (service_of version declared fact) fact) (is_too_long fact || is_outside_table declared fact) range in
+    let parts = or_parts (is_out_of_service (service_in version declared (named_by fact)) fact) (is_too_long fact || is_outside_table declared fact) range in
     let others = or_parts (is_too_long fact) (is_outside_table declared fact) parts.1 in
     record { serving = parts.0; short = others.0; inside = others.1 }
 

@@ -21,10 +21,11 @@ use Rattle.pb_kinds.specs.Requests.{request_in}
 use Rattle.pb_book.specs.declared.answer.Accepted.TheVariants.{Advise}
 use Rattle.pb_kinds.specs.declared.rows.StoredRow.{StoredRow}
 use Rattle.pb_book.specs.Answer.{Says, answer_if}
-use Rattle.pb_book.specs.Costs.{cost_after, cost_named, cost_of_arc, cost_of_kind, is_cost_of, names_twice}
+use Rattle.pb_book.specs.Costs.{cost_named, cost_of_arc, is_cost_of, names_twice}
 use Rattle.pb_book.specs.Laws.{MeterCostsLaw}
 use Rattle.pb_book.specs.Rows.{declared_of, version_at}
 use Rattle.pb_book.proofs.AnswerLemmas.{AnswersTo, answers_to}
+use Rattle.pb_site.specs.Row.{is_plain}
 
 -- ---- a record that is accepted as one that asks for advice asks for it
 
@@ -35,6 +36,10 @@ asks_advice rows costs (Ok request) is =
     ap (λ (r : Request). let asks : Result Request FormFault = Ok r in asks) (subst (AnswersTo rows request) is (answers_to rows costs request))
 
 -- ---- what meters cost
+
+-- what a meter on a stream costs, with one more cost named
+abbrev pub cost_after : List ℕ → ℤ → NamedCost → ℤ
+cost_after stream cost named = if is_cost_of stream named then named.cost else cost
 
 abbrev IsCostInRange : NamedCost → Type 0
 IsCostInRange named = IsMeterCost named.cost
@@ -54,7 +59,7 @@ one_in_range = (omega (arith, ints), omega (arith, ints))
 none_in_range : IsMeterCost (pos 0)
 none_in_range = (omega (arith, ints), omega (arith, ints))
 
-pub kind_in_range : (kind : ArcKind) (cost : ℤ) → IsMeterCost cost → IsMeterCost (cost_of_kind kind cost)
+pub kind_in_range : (kind : ArcKind) (cost : ℤ) → IsMeterCost cost → IsMeterCost (if is_plain kind then cost else pos 0)
 kind_in_range Plain cost is = is
 kind_in_range Metered cost is = none_in_range
 kind_in_range Batch cost is = none_in_range

@@ -5,12 +5,12 @@ use Rattle.std.specs.Option.{option_eq}
 use Rattle.std.proofs.Common.{◌≡◌, ◌∙◌, ℕ, List, [], Bool, true, false, Option, Some, None, refl, sym, ap}
 use Rattle.pb_site.specs.declared.declared.Declared.{Declared}
 use Rattle.pb_site.specs.declared.declared.Version.{Version}
-use Rattle.pb_site.specs.Site.{version_of}
+use Rattle.pb_site.specs.Site.{version_of, service_in}
 use Rattle.pb_facts.specs.declared.fact.Fact.{Fact}
 use Rattle.pb_facts.specs.declared.fact.FactFault.{FactFault}
 use Rattle.pb_facts.specs.declared.fact.FactFault.TheVariants.{Duplicate, Order}
 use Rattle.pb_facts.specs.declared.facts.KeptFact.{KeptFact}
-use Rattle.pb_facts.specs.Fact.{is_fact_out_of_order, is_too_long}
+use Rattle.pb_facts.specs.Fact.{is_fact_out_of_order, is_too_long, named_by}
 use Rattle.pb_facts.specs.Facts.{are_facts_full, fact_fault_of, is_duplicate_fact, is_live_with, live_place_of}
 use Rattle.pb_kinds.specs.declared.rows.Edit.TheVariants as edits
 use Rattle.pb_site.specs.Faults.{site_fault_of}
@@ -21,7 +21,6 @@ use Rattle.pb_book.specs.Accepted.{IsAcceptable}
 use Rattle.pb_periods.specs.Apart.{is_named}
 use Rattle.pb_book.specs.Kept.{AreOf}
 use Rattle.pb_book.specs.Refusals.{is_closed, is_mismatch, is_out_of_service, is_unknown, refusal_behind}
-use Rattle.pb_periods.specs.Touching.{service_of}
 use Rattle.pb_book.specs.declared.answer.Refused.TheVariants.{Range}
 use Rattle.pb_kinds.specs.declared.rows.StoredRow.{StoredRow}
 use Rattle.pb_book.specs.Assays.{assays_of}
@@ -64,7 +63,7 @@ no_disorder same kept fact fault result itself is tells none new = by (is_fact_o
 pub out_of_service : (version : Version) (declared : List Declared) (kept : List KeptFact) (periods : List Period) (fact : Fact) (late : Bool)
     → is_unknown declared kept periods (Books fact late) ≡ false → is_duplicate_fact kept fact ≡ false → is_fact_out_of_order fact ≡ false
     → is_mismatch declared kept periods (Books fact late) ≡ false → is_closed version declared periods (Books fact late) ≡ false
-    → is_out_of_service (service_of version declared fact) fact ≡ true → Some Range ≡ refusal_behind version declared kept periods [] (Books fact late)
+    → is_out_of_service (service_in version declared (named_by fact)) fact ≡ true → Some Range ≡ refusal_behind version declared kept periods [] (Books fact late)
 out_of_service version declared kept periods fact late known new order matching opened out = rw (known, new, order, matching, opened, out) refl
 
 -- nor has a declaration a fault

@@ -23,7 +23,6 @@ use Rattle.pb_kinds.specs.declared.rows.Edit.TheVariants as edits
 use Rattle.pb_kinds.specs.declared.rows.Effect.TheVariants.{Declares, Opens, Books, Edits, Closes, Assays}
 use Rattle.pb_book.specs.Accepted.{IsAcceptable}
 use Rattle.pb_book.specs.Live.{LiveLaw, change_in, is_struck_in, last_change, later_of, live_in, live_of, strikes, values_by}
-use Rattle.pb_book.specs.Refusals.{is_misfit}
 use Rattle.pb_kinds.specs.declared.rows.StoredRow.{StoredRow}
 use Rattle.pb_book.specs.Assays.{assays_of}
 use Rattle.pb_book.specs.Rows.{declared_of, facts_after, facts_of, live, periods_of}
@@ -33,6 +32,7 @@ use Rattle.pb_book.proofs.KeptLemmas.{facts_more}
 use Rattle.pb_periods.proofs.NameLemmas.{any_map}
 use Rattle.pb_periods.proofs.PeriodLemmas.{fails_at, none_at_first, position_at_first}
 use Rattle.pb_book.proofs.PlainLemmas.{AreWellIn, none_well, well_step}
+use Rattle.pb_book.specs.Causes.{is_misfit}
 
 -- a fact that came with a row, as the rows leave it
 abbrev kept_of : List StoredRow → Fact → KeptFact

@@ -1,5 +1,5 @@
 -- The plain rows of accepted rows: none is refused.
-use Rattle.std.specs.Prelude.{◌||◌, ◌&&◌, All, filter_map, find, map, nat_le, not, option_and_then}
+use Rattle.std.specs.Prelude.{is_none, ◌||◌, ◌&&◌, All, filter_map, find, map, nat_le, not, option_and_then}
 use Rattle.std.specs.List.{cons_option, list_any}
 use Rattle.std.specs.Option.{option_map}
 use Rattle.std.proofs.Common.{◌≡◌, ◌∙◌, ◌+◌, ◌<◌, ◌≤◌, ℕ, ℤ, List, [], ◌∷◌, ◌++◌, get_or, length, Bool, true, false, Option, Some, None, refl, sym, ap, subst, arith, inl, inr, append_assoc, length-append}
@@ -27,7 +27,7 @@ use Rattle.pb_facts.specs.declared.fact.Fact.{Fact}
 use Rattle.pb_facts.specs.declared.fact.Fact.TheVariants.{Reading, Transfer, Dip}
 use Rattle.pb_facts.specs.declared.facts.KeptFact.{KeptFact}
 use Rattle.pb_facts.specs.Changes.{changed}
-use Rattle.pb_facts.specs.Fact.{IsFactInRange, id_of, is_fact_out_of_order, is_too_long}
+use Rattle.pb_facts.specs.Fact.{IsFactInRange, id_of, is_fact_out_of_order, is_too_long, named_by}
 use Rattle.pb_facts.specs.Facts.{NoRepeats, are_facts_full, has_id, is_duplicate_fact, is_live_with, is_repeat, live_fact, live_facts}
 use Rattle.pb_facts.specs.declared.assays.Assay.{Assay}
 use Rattle.pb_kinds.specs.declared.rows.Effect.{Effect}
@@ -40,11 +40,11 @@ use Rattle.pb_book.specs.Assays.{assays_of}
 use Rattle.pb_book.specs.Plain.{PlainLaw, booked, numbered, opened, plain_stored, settled, settled_rows}
 use Rattle.pb_kinds.specs.Ranges.{IsEffectInRange}
 use Rattle.pb_kinds.specs.Versions.{may_declare, may_do}
-use Rattle.pb_book.specs.Refusals.{is_of_other_kind, is_of_plant, is_out_of_service, is_outside_table, is_no_arc, is_sealed_by, kind_of_fact, names_other, refusal_behind, refusal_of}
+use Rattle.pb_book.specs.Refusals.{is_of_other_kind, is_of_plant, is_out_of_service, is_outside_table, is_sealed_by, names_other, refusal_behind, refusal_of}
 use Rattle.pb_periods.specs.Closing.{closed_if_named, is_closed_named, is_unserved_in}
 use Rattle.pb_kinds.specs.declared.rows.StoredRow.{StoredRow}
 use Rattle.pb_book.specs.Rows.{declared_of, facts_after, facts_of, live, open_period, periods_after, periods_of, version_at}
-use Rattle.pb_periods.specs.Touching.{is_closed_in_service, service_of, some_closed, touches_closed, touches_in}
+use Rattle.pb_periods.specs.Touching.{is_closed_in_service, some_closed, touches_in, some_closed_with}
 use Rattle.pb_book.proofs.AcceptedLemmas.{accepted_more, by_accepted, none_accepted}
 use Rattle.pb_book.proofs.ConsistentLemmas.{IsFine, amended_one, consistent, fine, range_parts, struck_one}
 use Rattle.pb_book.proofs.KeptLemmas.{assays_more, assays_same, declared_more, declared_same, facts_more, periods_more_of}
@@ -98,29 +98,13 @@ version_stays [] more some = absurd (omega (arith, some))
 version_stays (Version2 ∷ declared) more some = refl
 version_stays (d ∷ declared) more some = refl
 
--- the name of what a fact is of
-abbrev of_name : Fact → List ℕ
-of_name (Reading id stream day grams variance) = stream
-of_name (Transfer id stream first last grams variance) = stream
-of_name (Dip id tank day mm density variance) = tank
-
-kind_is : (declared : List Declared) (fact : Fact) → kind_of_fact declared fact ≡ kind_of declared (of_name fact)
-kind_is declared (Reading id stream day grams variance) = refl
-kind_is declared (Transfer id stream first last grams variance) = refl
-kind_is declared (Dip id tank day mm density variance) = refl
-
-service_is : (version : Version) (declared : List Declared) (fact : Fact) → service_of version declared fact ≡ service_in version declared (of_name fact)
-service_is version declared (Reading id stream day grams variance) = refl
-service_is version declared (Transfer id stream first last grams variance) = refl
-service_is version declared (Dip id tank day mm density variance) = refl
-
 -- what a fact names is declared, of its kind, and in service
 pub record IsFactOf (declared : List Declared) (fact : Fact) : Type 0 where
-  known : names_other fact (kind_of_fact declared fact) ≡ false
-  matching : is_of_other_kind fact (kind_of_fact declared fact) ≡ false
+  known : names_other fact (kind_of declared (named_by fact)) ≡ false
+  matching : is_of_other_kind fact (kind_of declared (named_by fact)) ≡ false
   order : is_fact_out_of_order fact ≡ false
   short : is_too_long fact ≡ false
-  serving : is_out_of_service (service_of (version_of declared) declared fact) fact ≡ false
+  serving : is_out_of_service (service_in (version_of declared) declared (named_by fact)) fact ≡ false
 
 names_other_none : (fact : Fact) → names_other fact None ≡ true
 names_other_none (Reading id stream day grams variance) = refl
@@ -139,24 +123,24 @@ service_stays Two declared grown name service arc more at own there other =
     ap (option_and_then (λ (a : Arc). a.service)) there ∙ other ∙ sym own ∙ sym (ap (option_and_then (λ (a : Arc). a.service)) at)
 
 fact_of_more : (declared more : List Declared) (fact : Fact) → IsFactOf declared fact → IsFactOf (declared ++ more) fact
-fact_of_more declared more fact right = by (arc_named declared (of_name fact)) refl
+fact_of_more declared more fact right = by (arc_named declared (named_by fact)) refl
   where
-    by : (found : Option Arc) → arc_named declared (of_name fact) ≡ found → IsFactOf (declared ++ more) fact
+    by : (found : Option Arc) → arc_named declared (named_by fact) ≡ found → IsFactOf (declared ++ more) fact
     by None is =
-        let none : kind_of_fact declared fact ≡ None = kind_is declared fact ∙ ap (option_map (λ (arc : Arc). arc.kind)) is in
+        let none : kind_of declared (named_by fact) ≡ None = ap (option_map (λ (arc : Arc). arc.kind)) is in
         cc (sym (names_other_none fact) ∙ sym (ap (names_other fact) none) ∙ right.known)
     by (Some arc) is =
         let grown = declared ++ more in
-        let seen : option_map kind_and_service (arc_named declared (of_name fact)) ≡ Some (kind_and_service arc) = ap (option_map kind_and_service) is in
+        let seen : option_map kind_and_service (arc_named declared (named_by fact)) ≡ Some (kind_and_service arc) = ap (option_map kind_and_service) is in
         let grown_seen =
-        seen_stays (boundary_names declared) (node_names declared) (boundary_names grown) (node_names grown) (of_name fact) (kind_and_service arc) declared more seen in
-        let stays : IsSeen arc.kind arc.service (arc_named grown (of_name fact)) = seen_arc (kind_and_service arc) (arc_named grown (of_name fact)) grown_seen in
-        let kind : kind_of_fact grown fact ≡ kind_of_fact declared fact =
-        kind_is grown fact ∙ ap (option_map (λ (a : Arc). a.kind)) stays.there ∙ ap Some stays.kind_is ∙ sym (ap (option_map (λ (a : Arc). a.kind)) is) ∙ sym (kind_is declared fact) in
-        let version = version_stays declared more (some_declared declared (of_name fact) arc is) in
-        let service : service_of (version_of grown) grown fact ≡ service_of (version_of declared) declared fact =
-        service_is (version_of grown) grown fact ∙ ap (λ (v : Version). service_in v grown (of_name fact)) version
-        ∙ service_stays (version_of declared) declared grown (of_name fact) arc.service arc stays.arc is refl stays.there stays.service_is ∙ sym (service_is (version_of declared) declared fact) in
+        seen_stays (boundary_names declared) (node_names declared) (boundary_names grown) (node_names grown) (named_by fact) (kind_and_service arc) declared more seen in
+        let stays : IsSeen arc.kind arc.service (arc_named grown (named_by fact)) = seen_arc (kind_and_service arc) (arc_named grown (named_by fact)) grown_seen in
+        let kind : kind_of grown (named_by fact) ≡ kind_of declared (named_by fact) =
+        ap (option_map (λ (a : Arc). a.kind)) stays.there ∙ ap Some stays.kind_is ∙ sym (ap (option_map (λ (a : Arc). a.kind)) is) in
+        let version = version_stays declared more (some_declared declared (named_by fact) arc is) in
+        let service : service_in (version_of grown) grown (named_by fact) ≡ service_in (version_of declared) declared (named_by fact) =
+        ap (λ (v : Version). service_in v grown (named_by fact)) version
+        ∙ service_stays (version_of declared) declared grown (named_by fact) arc.service arc stays.arc is refl stays.there stays.service_is in
         record {
           known = ap (names_other fact) kind ∙ right.known;
           matching = ap (is_of_other_kind fact) kind ∙ right.matching;
@@ -344,7 +328,7 @@ none_closed_now : (periods : List Period) → some_closed (map opened periods) �
 none_closed_now [] = refl
 none_closed_now (period ∷ periods) = none_closed_now periods
 
-none_touched : (touching : Fact → Period → Bool) (fact : Fact) (periods : List Period) → list_any (touches_closed touching fact) (map opened periods) ≡ false
+none_touched : (touching : Fact → Period → Bool) (fact : Fact) (periods : List Period) → some_closed_with (touching fact) (map opened periods) ≡ false
 none_touched touching fact [] = refl
 none_touched touching fact (period ∷ periods) = none_touched touching fact periods
 
@@ -500,7 +484,7 @@ base_step rows at (Assays assay) right accepted =
     let good = fine version (declared_of rows) (facts_of rows) periods assays (Assays assay) accepted.no_cause in
     let again : IsFine version (declared_of rows) [] (map opened periods) assays (Assays assay) =
     record {
-      known = ap (λ (b : Bool). is_no_arc (declared_of rows) assay.stream || not b) (opened_named assay.period periods) ∙ good.known;
+      known = ap (λ (b : Bool). is_none (kind_of (declared_of rows) assay.stream) || not b) (opened_named assay.period periods) ∙ good.known;
       new = good.new;
       order = refl;
       matching = refl;

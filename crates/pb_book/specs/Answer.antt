@@ -1,5 +1,6 @@
 -- Statement. The answer to a record, given the rows stored before it, and the rows stored after it.
-use Rattle.std.specs.Prelude.{ℕ, Bool, true, false, List, Option, Some, None, Result, Ok, Err}
+use Rattle.std.specs.Prelude.{ℕ, Bool, true, false, List, Option, Some, None, Result, Ok, Err, if◌then◌else◌}
+use Rattle.std.specs.Option.{option_map_or}
 use Rattle.pb_form.specs.declared.fault.FormFault.{FormFault}
 use Rattle.pb_form.specs.declared.fault.FormFault.TheVariants as fault
 use Rattle.pb_kinds.specs.declared.costs.NamedCost.{NamedCost}
@@ -53,13 +54,11 @@ pub data Answer : Type 0 where
 
 -- this answer, unless there is a cause to refuse the record
 abbrev pub unless_refused : Answer → Option Refused → Answer
-unless_refused answer (Some cause) = Refuses cause
-unless_refused answer None = answer
+unless_refused answer cause = option_map_or Refuses cause answer
 
 -- what the book says of a period, by its place; a record that names no period is refused
 abbrev pub if_known : (ℕ → Accepted) → Option ℕ → Answer
-if_known accepted (Some period) = Says (accepted period)
-if_known accepted None = Refuses Unknown
+if_known accepted place = option_map_or (λ (period : ℕ). Says (accepted period)) place (Refuses Unknown)
 
 -- a window is refused unless its first and last periods exist
 abbrev pub window_or_refused : List StoredRow → Option ℕ → Option ℕ → Answer
@@ -68,8 +67,7 @@ window_or_refused rows first last = Refuses Unknown
 
 -- the balance of a component over a period is refused unless the period exists and there is an assay of the component over it
 abbrev pub component_or_refused : List ℕ → Bool → Option ℕ → Answer
-component_or_refused component true (Some period) = Says (Component component period)
-component_or_refused component assayed period = Refuses Unknown
+component_or_refused component assayed place = if assayed then if_known (Component component) place else Refuses Unknown
 
 -- the answer to a request, given the costs that its record names
 abbrev pub answer_to : List StoredRow → List NamedCost → Request → Answer

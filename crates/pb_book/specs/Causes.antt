@@ -1,9 +1,11 @@
--- Inside. The first cause to refuse an edit of a live fact.
-use Rattle.std.specs.Prelude.{not, List, Option, Some, None, if◌then◌else◌}
+-- Inside. The first cause to refuse an edit of a live fact, and what a change must not do.
+use Rattle.std.specs.Prelude.{◌&&◌, ℕ, Bool, not, List, Option, Some, None, if◌then◌else◌}
 use Rattle.pb_site.specs.declared.declared.Declared.{Declared}
 use Rattle.pb_facts.specs.declared.fact.Change.{Change}
 use Rattle.pb_facts.specs.declared.fact.Fact.{Fact}
+use Rattle.pb_facts.specs.declared.facts.KeptFact.{KeptFact}
 use Rattle.pb_facts.specs.Changes.{changed, fits}
+use Rattle.pb_facts.specs.Facts.{is_live_with}
 use Rattle.pb_kinds.specs.declared.rows.Edit.{Edit}
 use Rattle.pb_kinds.specs.declared.rows.Edit.TheVariants as edits
 use Rattle.pb_book.specs.declared.answer.Refused.{Refused}
@@ -21,3 +23,11 @@ cause_of_change declared fact change =
 abbrev pub cause_of_edit : List Declared → Fact → Edit → Option Refused
 cause_of_edit declared fact (edits.Change change) = cause_of_change declared fact change
 cause_of_edit declared fact edits.Strike = None
+
+-- a live fact of this id, which the change doesn't fit
+abbrev pub is_misfit : List ℕ → Change → KeptFact → Bool
+is_misfit id change kept = is_live_with id kept && not (fits change kept.fact)
+
+-- a live fact of this id, which after the change would be a dip whose level is outside the table of its tank
+abbrev pub is_moved_outside : List Declared → List ℕ → Change → KeptFact → Bool
+is_moved_outside declared id change kept = is_live_with id kept && is_outside_table declared (changed change kept.fact)

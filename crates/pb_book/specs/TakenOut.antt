@@ -26,11 +26,9 @@ touches_by_id touching kept id period =
 -- touches.
 abbrev pub takes_out : (Fact → Period → Bool) → List KeptFact → Effect → Period → Bool
 takes_out touching kept (Declares declared) period = true
-takes_out touching kept (Opens name first last) period = false
 takes_out touching kept (Books fact late) period = touching fact period
 takes_out touching kept (Edits id edit reason) period = touches_by_id touching kept id period
-takes_out touching kept (Closes name) period = false
-takes_out touching kept (Assays assay) period = false
+takes_out touching kept effect period = false
 
 -- the row that was stored last
 abbrev pub last_row : List StoredRow → Option StoredRow

@@ -1,11 +1,13 @@
 // What meters cost, given an `advise` row, and why the costs that it names are refused.
 
-ghost use Rattle.std.specs.Prelude.{◌≡◌, ℕ, pos, List, All, IfOk, IfSome, map, unwrap_or};
+ghost use Rattle.std.specs.Prelude.{◌≡◌, ℕ, pos, List, All, IfOk, IfSome, false, if◌then◌else◌, map, not, true, unwrap_or};
 ghost use Rattle.std.specs.HashMap.{get};
 ghost use Rattle.std.specs.List.{list_any};
+ghost use Rattle.std.specs.Option.{option_map_or};
 ghost use Rattle.pb_rows.specs.Name.{same_name};
+ghost use Rattle.pb_site.specs.Row.{is_inventory, is_plain};
 ghost use Rattle.pb_kinds.specs.Costs.{IsMeterCost};
-ghost use Rattle.pb_book.specs.Costs.{cost_named, cost_of_kind, is_no_stream, is_not_plain, meter_costs, names_measured, names_twice, names_unknown, refusal_of_costs};
+ghost use Rattle.pb_book.specs.Costs.{cost_named, meter_costs, names_measured, names_twice, names_unknown, refusal_of_costs};
 
 use crate::answer::Refused;
 use indexmap::IndexSet;
@@ -52,7 +54,7 @@ fn some_unknown(site: &Site, named: &NamedCosts) -> bool
 
 // Whether this isn't the kind of a stream.
 fn is_no_stream(kind: Option<ArcKind>) -> bool
-    ensures { result ≡ is_no_stream kind }
+    ensures { result ≡ option_map_or is_inventory kind true }
 {
     matches!(kind, None | Some(ArcKind::Tank))
 }
@@ -84,7 +86,7 @@ fn some_measured(site: &Site, named: &NamedCosts) -> bool
 
 // Whether this isn't the kind of a plain stream.
 fn is_not_plain(kind: Option<ArcKind>) -> bool
-    ensures { result ≡ is_not_plain kind }
+    ensures { result ≡ not (option_map_or is_plain kind false) }
 {
     !matches!(kind, Some(ArcKind::Plain))
 }
@@ -119,8 +121,8 @@ fn costs_by_name(alloc: Global, named: &NamedCosts) -> Result<HashMap<Name, i64>
 
 // What a meter on an arc costs.
 fn cost_of_arc(costs: &HashMap<Name, i64>, arc: &Arc) -> i64
-    ensures { result ≡ cost_of_kind arc.now.kind
-        (unwrap_or (get same_name costs.now arc.now.name) (pos 1)) }
+    ensures { result ≡ (if is_plain arc.now.kind
+        then unwrap_or (get same_name costs.now arc.now.name) (pos 1) else pos 0) }
 {
     match arc.kind {
         ArcKind::Plain => costs.get(&arc.name).copied().unwrap_or(PLAIN_COST),

@@ -4,14 +4,14 @@
 ghost use Rattle.std.specs.Prelude.{◌≡◌, ◌&&◌, [], not, Option, Some};
 ghost use Rattle.std.specs.List.{list_any};
 ghost use Rattle.pb_facts.specs.Changes.{changed, fits};
-ghost use Rattle.pb_facts.specs.Fact.{IsFactInRange};
+ghost use Rattle.pb_facts.specs.Fact.{IsFactInRange, named_by};
 ghost use Rattle.pb_site.specs.declared.declared.ArcKind.{ArcKind};
 ghost use Rattle.pb_site.specs.declared.declared.Version.TheVariants.{One};
-ghost use Rattle.pb_site.specs.Site.{version_of};
+ghost use Rattle.pb_site.specs.Site.{kind_of, version_of};
 ghost use Rattle.pb_kinds.specs.declared.rows.Effect.TheVariants.{Books, Closes, Declares, Edits, Opens};
 ghost use Rattle.pb_kinds.specs.Ranges.{IsEffectInRange};
 ghost use Rattle.pb_book.specs.Causes.{cause_of_change, cause_of_edit};
-ghost use Rattle.pb_book.specs.Refusals.{is_closed, is_of_other_kind, is_of_plant, is_out_of_service, is_outside_table, is_sealed_by, kind_of_fact, names_other, refusal_behind, serves_closed};
+ghost use Rattle.pb_book.specs.Refusals.{is_closed, is_of_other_kind, is_of_plant, is_out_of_service, is_outside_table, is_sealed_by, names_other, refusal_behind, serves_closed};
 
 use crate::answer::Refused;
 use pb_facts::{Assays, Change, Fact, FactFault, Facts, MOST_ASSAYS};
@@ -246,7 +246,7 @@ fn judge_assay(site: &Site, periods: &Periods, assays: &Assays, assay: &Assay) -
 
 // The kind of the stream, or of the tank, that a fact names, if one is declared.
 fn kind_of_fact(site: &Site, fact: &Fact) -> Option<ArcKind>
-    ensures { result ≡ kind_of_fact site.now fact.now }
+    ensures { result ≡ kind_of site.now (named_by fact.now) }
 {
     match fact {
         Fact::Reading { stream, .. } => site.kind_of(stream),

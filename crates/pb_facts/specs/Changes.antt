@@ -20,12 +20,9 @@ fits (Amount grams variance) fact = true
 
 -- a fact with its values replaced by these: its id, its stream or tank and its days stay the same
 abbrev pub changed : Change → Fact → Fact
-changed (Amount grams variance) (Reading id stream day old_grams old_variance) =
-    Reading id stream day grams variance
-changed (Amount grams variance) (Transfer id stream first last old_grams old_variance) =
-    Transfer id stream first last grams variance
-changed (Level mm density variance) (Dip id tank day old_mm old_density old_variance) =
-    Dip id tank day mm density variance
+changed (Amount grams variance) (Reading id stream day _ _) = Reading id stream day grams variance
+changed (Amount grams variance) (Transfer id stream first last _ _) = Transfer id stream first last grams variance
+changed (Level mm density variance) (Dip id tank day _ _ _) = Dip id tank day mm density variance
 changed change fact = fact
 
 -- the kept facts, with the values of the live fact with this id replaced by these

@@ -14,15 +14,20 @@ id_of (Reading id stream day grams variance) = id
 id_of (Transfer id stream first last grams variance) = id
 id_of (Dip id tank day mm density variance) = id
 
+-- the stream or tank that the fact names
+abbrev pub named_by : Fact → List ℕ
+named_by (Reading id stream day grams variance) = stream
+named_by (Transfer id stream first last grams variance) = stream
+named_by (Dip id tank day mm density variance) = tank
+
 -- a reading of this stream on this day
 abbrev pub is_reading_on : List ℕ → ℤ → Fact → Bool
-is_reading_on wanted on (Reading id stream day grams variance) =
-    same_name stream wanted && int_eq day on
+is_reading_on wanted on (Reading _ stream day _ _) = same_name stream wanted && int_eq day on
 is_reading_on wanted on _ = false
 
 -- a dip of this tank at the end of this day
 abbrev pub is_dip_on : List ℕ → ℤ → Fact → Bool
-is_dip_on wanted on (Dip id tank day mm density variance) = same_name tank wanted && int_eq day on
+is_dip_on wanted on (Dip _ tank day _ _ _) = same_name tank wanted && int_eq day on
 is_dip_on wanted on _ = false
 
 -- a transfer of this stream that has a day from one to another
@@ -44,8 +49,7 @@ is_fact_out_of_order _ = false
 
 -- a transfer of too many days, counting its first and its last
 abbrev pub is_too_long : Fact → Bool
-is_too_long (Transfer id stream first last grams variance) =
-    int_le (pos most_days_of_transfer) (last -ℤ first)
+is_too_long (Transfer _ _ first last _ _) = int_le (pos most_days_of_transfer) (last -ℤ first)
 is_too_long _ = false
 
 -- the numbers of a fact lie in their ranges

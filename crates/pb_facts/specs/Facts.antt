@@ -31,7 +31,7 @@ is_repeat_by_day fact kept = not kept.struck && is_on_day_of fact kept.fact
 
 -- a kept fact that a new one repeats: it has the same id, struck or not, or it is live and has the same stream or tank and day
 abbrev pub is_repeat : Fact → KeptFact → Bool
-is_repeat fact kept = has_id (id_of fact) kept || is_repeat_by_day fact kept
+is_repeat fact kept = has_id (id_of fact) kept || (not kept.struck && is_on_day_of fact kept.fact)
 
 -- a new fact repeats some kept one
 abbrev pub is_duplicate_fact : List KeptFact → Fact → Bool

@@ -25,7 +25,7 @@ use Rattle.pb_site.specs.Faults.{is_declaration_out_of_order, is_duplicate_decla
 use Rattle.pb_site.specs.Laws.{IsSamePart, PlantLaw, SamePartLaw}
 use Rattle.pb_site.specs.OnDays.{arcs_on, declares_in_service, names_on, nodes_on}
 use Rattle.pb_site.specs.Row.{point_of}
-use Rattle.pb_site.specs.Service.{day_of_closing, day_of_opening}
+use Rattle.pb_site.specs.Service.{day_of_opening, last_served}
 use Rattle.pb_site.specs.Site.{is_tank, points_of_tank, version_of}
 use Rattle.pb_facts.specs.declared.fact.Fact.{Fact}
 use Rattle.pb_facts.specs.declared.fact.Fact.TheVariants.{Reading, Transfer, Dip}
@@ -47,7 +47,7 @@ use Rattle.pb_period.specs.Days.{days_of}
 use Rattle.pb_period.specs.Facts.{content_of}
 use Rattle.pb_period.specs.Laws.{ClosedGraphsLaw}
 use Rattle.pb_period.specs.Measurement.{amount_of, change_of, closing_less_opening, measurement}
-use Rattle.pb_period.specs.PeriodGraph.{measured_served, period_graph, served_graph, stream_among, within_limits}
+use Rattle.pb_period.specs.PeriodGraph.{period_graph, served_graph, stream_among, within_limits, measured_in}
 use Rattle.pb_period.proofs.PlainLemmas.{graph_by, graph_is}
 use Rattle.pb_period.proofs.PlantLemmas.{no_fault, plant_of}
 use Rattle.pb_period.proofs.VarianceLemmas.{live_have}
@@ -133,7 +133,7 @@ same_amount grows declared row facts days service ArcKind.Tank name order inside
     let other = content_of (points_of_tank declared name) in
     let Same : Fact → Type 0 = λ fact. content fact ≡ other fact in
     let opening = day_of_opening service days.first in
-    let closing = day_of_closing service days.last in
+    let closing = last_served service days.last in
     same_change content other (find (is_dip_on name opening) facts) (find (is_dip_on name closing) facts)
     (found_has (IsInTable declared) Same (is_dip_on name opening) facts (same_content grows declared row name opening order) inside)
     (found_has (IsInTable declared) Same (is_dip_on name closing) facts (same_content grows declared row name closing order) inside)
@@ -144,9 +144,9 @@ same_served : TableGrowsLaw → (declared : List Declared) (row : Declared) (fac
 same_served grows declared row facts days order inside same =
     let grown = declared ++ row ∷ [] in
     let graph : List ℕ → List Arc → (Arc → Option Meas) → ProcessGraph = λ nodes arcs measure. record { nodes = length nodes; streams = map (stream_among nodes measure) arcs } in
-    let measured : measured_served grown facts days ≡ measured_served declared facts days =
+    let measured : measured_in Two grown facts days ≡ measured_in Two declared facts days =
     λ i arc. option_map (measurement arc.base) (same_amount grows declared row facts days arc.service arc.kind arc.name order inside i) in
-    ap₂ (λ (nodes : List ℕ) (arcs : List Arc). graph nodes arcs (measured_served grown facts days)) same.nodes same.arcs
+    ap₂ (λ (nodes : List ℕ) (arcs : List Arc). graph nodes arcs (measured_in Two grown facts days)) same.nodes same.arcs
     ∙ ap (graph (nodes_on Two declared days.first days.last) (arcs_on Two declared days.first days.last)) measured
 
 -- ---- what was accepted before a row, and the row

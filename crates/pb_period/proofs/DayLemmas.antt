@@ -8,10 +8,11 @@ use Rattle.pb_site.specs.declared.declared.Service.{Service}
 use Rattle.pb_site.specs.Service.{first_served, last_served}
 use Rattle.pb_period.specs.declared.amount.Amount.{Amount}
 use Rattle.pb_period.specs.Amounts.{IsAmount, IsSpan, sum_of_two}
-use Rattle.pb_period.specs.Days.{day_count, days_from}
+use Rattle.pb_period.specs.Days.{day_count}
 use Rattle.pb_period.specs.Facts.{no_amount, total_of}
 use Rattle.pb_period.specs.Measurement.{read_total}
 use Rattle.pb_period.proofs.AmountLemmas.{more_none, none_more, of_more_facts, sum_assoc, sum_is_amount}
+use Rattle.pb_periods.specs.Windows.{days_in_row}
 
 -- how far a day is after another one
 pub gap_is : (a b : ℤ) → a ≤ℤ b → pos (int_gap a b) ≡ b -ℤ a
@@ -34,13 +35,13 @@ gap_past (negsuc a) (negsuc b) le = omega (arith, ints, le)
 
 -- the days from one day up to another
 abbrev pub days_until : ℤ → ℤ → List ℤ
-days_until day end = days_from day (int_gap day end)
+days_until day end = days_in_row day (int_gap day end)
 
 days_next : (day end : ℤ) → day <ℤ end → days_until day end ≡ day ∷ days_until (day +ℤ pos 1) end
-days_next day end lt = ap (days_from day) (gap_next day end lt)
+days_next day end lt = ap (days_in_row day) (gap_next day end lt)
 
 days_past : (day end : ℤ) → end ≤ℤ day → days_until day end ≡ []
-days_past day end le = ap (days_from day) (gap_past day end le)
+days_past day end le = ap (days_in_row day) (gap_past day end le)
 
 -- a total, with what a meter read on some more days, if it was read on each of them
 abbrev pub read_more : Amount → (ℤ → Option Amount) → List ℤ → Option Amount

@@ -1,5 +1,5 @@
 -- Streams of a graph, arc by arc, and the first stream that is over the limits.
-use Rattle.std.specs.Prelude.{filter, nat_lt, int_lt, option_map, unwrap_or, map, position, IfSome, All}
+use Rattle.std.specs.Prelude.{◌||◌, unsigned_abs, filter, nat_lt, int_lt, option_map, unwrap_or, map, position, IfSome, All}
 use Rattle.std.proofs.Common.{◌≡◌, ◌∙◌, ◌+◌, ◌≤◌, ◌≤ℤ◌, ℕ, zero, suc, pos, unsigned_abs, List, [], ◌∷◌, ◌++◌, length, drop, slice_get, true, false, Option, Some, None, Ok, Err, inl, inr, refl, sym, ap, ap₂, subst, cond, append_assoc, arith, length-append, ◌<◌, Bool, get_or}
 use Rattle.std.proofs.lemmas.Bool.{cases_Bool, or_parts, ltb-false, ltb-true}
 use Rattle.std.proofs.lemmas.Int.{ints}
@@ -18,7 +18,7 @@ use Rattle.pb_book.specs.Rows.{declared_of, facts_of}
 use Rattle.pb_period.specs.declared.days.Days.{Days}
 use Rattle.pb_period.specs.declared.graph.Assembly.TheVariants.{Over}
 use Rattle.pb_period.specs.Measurement.{measured}
-use Rattle.pb_period.specs.PeriodGraph.{is_over, is_over_limits, stream_with, unless_over, within_limits}
+use Rattle.pb_period.specs.PeriodGraph.{is_over, stream_with, unless_over, within_limits}
 
 some_is : {B : Type 0} (a b : B) → Some a ≡ Some b → a ≡ b
 some_is a b is = ap (λ o. unwrap_or o a) is
@@ -47,6 +47,10 @@ pub one_more : {A B : Type 0} (f : A → B) (whole made : List B) (xs : List A) 
 one_more f whole made xs j s is so_far = so_far ∙ ap (λ rest. made ++ rest) (next f xs j s is) ∙ sym (append_assoc made (s ∷ []) (map f (drop (j + 1) xs)))
 
 -- ---- the limits
+
+-- a measurement is above the limits of a graph
+abbrev is_over_limits : Meas → Bool
+is_over_limits meas = nat_lt most_value (unsigned_abs meas.value) || int_lt (pos most_variance) meas.variance
 
 meas_within : (meas : Meas) → is_over_limits meas ≡ false → pos 1 ≤ℤ meas.variance → IsMeasurement meas
 meas_within meas not_over least =

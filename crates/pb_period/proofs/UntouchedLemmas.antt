@@ -23,7 +23,7 @@ use Rattle.pb_site.specs.declared.declared.Service.{Service}
 use Rattle.pb_site.specs.declared.declared.Version.{Version}
 use Rattle.pb_site.specs.declared.declared.Version.TheVariants.{One, Two}
 use Rattle.pb_site.specs.OnDays.{arcs_on, is_arc_in_service, nodes_on, place_among}
-use Rattle.pb_site.specs.Service.{day_of_closing, day_of_opening, is_in_service_within}
+use Rattle.pb_site.specs.Service.{day_of_opening, is_in_service_within, last_served, first_served}
 use Rattle.pb_site.specs.Site.{AreDistinct, arc_names, arcs_of, node_names, points_of_tank, service_in, version_of}
 use Rattle.pb_facts.specs.declared.fact.Change.{Change}
 use Rattle.pb_facts.specs.declared.fact.Change.TheVariants.{Level}
@@ -44,13 +44,14 @@ use Rattle.pb_book.specs.Rows.{declaration_in, declared_of, facts_after, facts_o
 use Rattle.pb_periods.specs.Touching.{is_boundary_of, touches_in, touches_period}
 use Rattle.pb_period.specs.declared.amount.Amount.{Amount}
 use Rattle.pb_period.specs.declared.days.Days.{Days}
-use Rattle.pb_period.specs.Days.{day_count, days_from, days_of, each_of}
+use Rattle.pb_period.specs.Days.{day_count, days_of}
 use Rattle.pb_period.specs.Facts.{content_of, read_amount, read_on, share_on, total_of, transferred}
 use Rattle.pb_period.specs.Laws.{LeavesDays}
-use Rattle.pb_period.specs.Measurement.{amount_of, change_of, measured, measurement, read_total, served_days}
-use Rattle.pb_period.specs.PeriodGraph.{measured_served, period_graph, stream_among, stream_with, within_limits}
+use Rattle.pb_period.specs.Measurement.{amount_of, change_of, measured, measurement, read_total}
+use Rattle.pb_period.specs.PeriodGraph.{period_graph, stream_among, stream_with, within_limits, measured_in}
 use Rattle.pb_period.proofs.DayLemmas.{served_within}
 use Rattle.pb_period.proofs.PlainLemmas.{graph_by, graph_is}
+use Rattle.pb_periods.specs.Windows.{days_in_row, days_between}
 
 -- ---- what is found, and what is given, among those that pass a wider test
 
@@ -80,7 +81,7 @@ given_among f q (x ∷ xs) none =
 
 -- ---- a meter on the days of a period
 
-each_day : (P : ℤ → Type 0) (n : ℕ) (day : ℤ) → ((d : ℤ) → day ≤ℤ d → d <ℤ (day +ℤ pos n) → P d) → AllByRecursion P (days_from day n)
+each_day : (P : ℤ → Type 0) (n : ℕ) (day : ℤ) → ((d : ℤ) → day ≤ℤ d → d <ℤ (day +ℤ pos n) → P d) → AllByRecursion P (days_in_row day n)
 each_day P zero day each = tt
 each_day P (suc n) day each =
     (each day (omega (arith, ints)) (omega (arith, ints)), each_day P n (day +ℤ pos 1) (λ d from to. each d (omega (arith, ints, from)) (omega (arith, ints, to))))
@@ -91,7 +92,7 @@ some_days (pos a) (negsuc b) d from to = absurd (omega (arith, ints, from, to))
 some_days (negsuc a) (pos b) d from to = omega (arith, ints, from, to)
 some_days (negsuc a) (negsuc b) d from to = omega (arith, ints, from, to)
 
-within_days : (P : ℤ → Type 0) (days : Days) → ((d : ℤ) → days.first ≤ℤ d → d ≤ℤ days.last → P d) → AllByRecursion P (each_of days)
+within_days : (P : ℤ → Type 0) (days : Days) → ((d : ℤ) → days.first ≤ℤ d → d ≤ℤ days.last → P d) → AllByRecursion P (days_between days.first days.last)
 within_days P days each =
     each_day P (day_count days.first days.last) days.first
     (λ d from to. let before = some_days days.first (days.last +ℤ pos 1) d from to in each d from (omega (arith, ints, before)))
@@ -177,11 +178,11 @@ none_moved version declared period stream (Transfer id own first last grams vari
 same_int : (day : ℤ) → int_eq day day ≡ true
 same_int day = (Decides-int_eq day day).1 refl
 
-ends_with : (service : Option Service) (period : Period) → is_boundary_of service (day_of_closing service period.last) period ≡ true
-ends_with service period = rw (same_int (day_of_closing service period.last)) refl
+ends_with : (service : Option Service) (period : Period) → is_boundary_of service (last_served service period.last) period ≡ true
+ends_with service period = rw (same_int (last_served service period.last)) refl
 
 opens_before : (service : Option Service) (period : Period) → is_boundary_of service (day_of_opening service period.first) period ≡ true
-opens_before service period = elim (cases_Bool (int_eq (day_of_opening service period.first) (day_of_closing service period.last))) [
+opens_before service period = elim (cases_Bool (int_eq (day_of_opening service period.first) (last_served service period.last))) [
   | inl is ↦ rw is refl
   | inr other ↦ rw (other, same_int (day_of_opening service period.first)) refl
 ]
@@ -202,9 +203,9 @@ amount_among : (version : Version) (declared : List Declared) (period : Period) 
     → amount_of declared (touching (touches_in version declared) period facts) (days_of period) service kind name ≡ amount_of declared facts (days_of period) service kind name
 amount_among version declared period facts service Metered name own serves =
     let among = touching (touches_in version declared) period facts in
-    let served = served_days service (days_of period) in
+    let served : Days = record { first = first_served service period.first; last = last_served service period.last } in
     let inside = served_within service period.first period.last in
-    same_total (read_on among name) (read_on facts name) (each_of served)
+    same_total (read_on among name) (read_on facts name) (days_between served.first served.last)
     (within_days (λ (day : ℤ). read_on among name day ≡ read_on facts name day) served
     (λ day from to. read_among version declared period facts name day (omega (arith, ints, inside.0, from)) (omega (arith, ints, inside.1, to))))
 amount_among version declared period facts service Batch name own serves =
@@ -214,7 +215,7 @@ amount_among version declared period facts service Plain name own serves = refl
 amount_among version declared period facts service Tank name own serves =
     let touch = λ (fact : Fact). touches_in version declared fact period in
     let opening = day_of_opening service period.first in
-    let closing = day_of_closing service period.last in
+    let closing = last_served service period.last in
     ap₂ (change_of (content_of (points_of_tank declared name)))
     (find_among (is_dip_on name opening) touch facts (dip_touches version declared period service name opening own serves (opens_before service period)))
     (find_among (is_dip_on name closing) touch facts (dip_touches version declared period service name closing own serves (ends_with service period)))
@@ -284,7 +285,7 @@ same_graph Two declared period facts other distinct same =
     let touch = touches_in Two declared in
     let days = days_of period in
     let nodes = nodes_on Two declared days.first days.last in
-    let stream : List Fact → Arc → Stream = λ fs. stream_among nodes (measured_served declared fs days) in
+    let stream : List Fact → Arc → Stream = λ fs. stream_among nodes (measured_in Two declared fs days) in
     let each : (fs : List Fact) → AllByRecursion (λ (arc : Arc). is_arc_in_service days.first days.last arc ≡ true → stream (touching touch period fs) arc ≡ stream fs arc) (arcs_of declared) =
     λ fs. all_by (HasOwnService (arcs_of declared)) (λ (arc : Arc). is_arc_in_service days.first days.last arc ≡ true → stream (touching touch period fs) arc ≡ stream fs arc) (arcs_of declared)
     (λ arc own serves. ap (λ (m : Option Meas). let s : Stream = record { from = place_among nodes arc.from; to = place_among nodes arc.to; meas = m } in s)

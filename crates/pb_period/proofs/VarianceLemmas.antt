@@ -25,8 +25,8 @@ use Rattle.pb_site.specs.declared.declared.Version.{Version}
 use Rattle.pb_site.specs.declared.declared.Version.TheVariants.{One, Two}
 use Rattle.pb_site.specs.Laws.{IsDeclaredPlant, IsPartOnDays, JoinsPlaces}
 use Rattle.pb_site.specs.OnDays.{arcs_on, is_arc_in_service, name_at_node, names_on, nodes_on}
-use Rattle.pb_site.specs.Service.{day_of_closing, day_of_opening}
-use Rattle.pb_site.specs.Row.{IsArcBase}
+use Rattle.pb_site.specs.Service.{day_of_opening, last_served, first_served}
+use Rattle.pb_site.specs.Row.{IsArcBase, is_plain}
 use Rattle.pb_site.specs.Site.{IsArc, arcs_of, node_names, points_of_tank}
 use Rattle.pb_facts.specs.declared.fact.Fact.{Fact}
 use Rattle.pb_facts.specs.declared.fact.Fact.TheVariants.{Reading, Transfer, Dip}
@@ -38,13 +38,14 @@ use Rattle.pb_kinds.specs.declared.rows.StoredRow.{StoredRow}
 use Rattle.pb_book.specs.Rows.{declared_of, facts_of}
 use Rattle.pb_period.specs.declared.amount.Amount.{Amount}
 use Rattle.pb_period.specs.declared.days.Days.{Days}
-use Rattle.pb_period.specs.Days.{day_count, each_of}
+use Rattle.pb_period.specs.Days.{day_count}
 use Rattle.pb_period.specs.Facts.{content_of, read_amount, read_on, share_on, total_of, transferred}
 use Rattle.pb_period.specs.Laws.{AreGraphNames}
-use Rattle.pb_period.specs.Measurement.{amount_of, change_of, measured, measurement, read_total, served_days}
-use Rattle.pb_period.specs.PeriodGraph.{base_of, base_of_kind, design_graph, graph_in, graph_with, is_over, measured_served, served_graph, stream_among, stream_with, unless_over, within_limits}
+use Rattle.pb_period.specs.Measurement.{amount_of, change_of, measured, measurement, read_total}
+use Rattle.pb_period.specs.PeriodGraph.{base_of, design_graph, graph_in, graph_with, is_over, served_graph, stream_among, stream_with, unless_over, within_limits, measured_in}
 use Rattle.pb_period.proofs.DayLemmas.{gap_is}
 use Rattle.pb_period.proofs.GraphLemmas.{within}
+use Rattle.pb_periods.specs.Windows.{days_between}
 
 -- ---- facts
 
@@ -156,12 +157,12 @@ change_fair content (Some opening) (Some closing) each before after = let one = 
 
 amount_fair : (declared : List Declared) (facts : List Fact) (days : Days) (service : Option Service) (kind : ArcKind) (name : List ℕ) → All IsFactInRange facts
     → IfSome (amount_of declared facts days service kind name) IsFair
-amount_fair declared facts days service Metered name all = read_total_fair (read_on facts name) (each_of (served_days service days)) (λ day. read_fair facts name day all)
+amount_fair declared facts days service Metered name all = read_total_fair (read_on facts name) (days_between (first_served service days.first) (last_served service days.last)) (λ day. read_fair facts name day all)
 amount_fair declared facts days service Batch name all = total_fair_all (transferred days name) facts (transferred_fair days name) all
 amount_fair declared facts days service Plain name all = tt
 amount_fair declared facts days service Tank name all =
     change_fair (content_of (points_of_tank declared name)) _ _ (content_fair (points_of_tank declared name))
-    (find_has IsFactInRange (is_dip_on name (day_of_opening service days.first)) facts all) (find_has IsFactInRange (is_dip_on name (day_of_closing service days.last)) facts all)
+    (find_has IsFactInRange (is_dip_on name (day_of_opening service days.first)) facts all) (find_has IsFactInRange (is_dip_on name (last_served service days.last)) facts all)
 
 -- ---- streams
 
@@ -185,7 +186,7 @@ measured_least declared facts days service arc all limits = by arc.kind limits (
     by Plain limits fair = tt
     by Tank limits fair = some (amount_of declared facts days service Tank arc.name) limits.0 fair
 
-base_within : (kind : ArcKind) (base : ℤ) → IsArcBase kind base → IfSome (base_of_kind kind base) IsMeasurement
+base_within : (kind : ArcKind) (base : ℤ) → IsArcBase kind base → IfSome (if is_plain kind then None else Some (record { value = pos 0; variance = base })) IsMeasurement
 base_within Metered base limits = record { value = omega arith; least = limits.0; greatest = omega (arith, ints, limits.1) }
 base_within Batch base limits = record { value = omega arith; least = limits.0; greatest = omega (arith, ints, limits.1) }
 base_within Plain base limits = tt
@@ -259,7 +260,7 @@ served_of : (declared : List Declared) (facts : List Fact) (days : Days) → IsD
 served_of declared facts days plant part limits =
     let nodes = nodes_on Two declared days.first days.last in
     let arcs = arcs_on Two declared days.first days.last in
-    let stream = stream_among nodes (measured_served declared facts days) in
+    let stream = stream_among nodes (measured_in Two declared facts days) in
     let many = length-map arcs stream in
     let few = few_pass (is_arc_in_service days.first days.last) (arcs_of declared) in
     record {
@@ -293,7 +294,7 @@ graph_right Two rows days plant part ranges =
     let declared = declared_of rows in
     let nodes = length (node_names declared) in
     within_right (graph_in Two rows days) (served_of declared facts days plant part)
-    (all_map (IsArc nodes) HasLeast (stream_among (nodes_on Two declared days.first days.last) (measured_served declared facts days)) (arcs_on Two declared days.first days.last)
+    (all_map (IsArc nodes) HasLeast (stream_among (nodes_on Two declared days.first days.last) (measured_in Two declared facts days)) (arcs_on Two declared days.first days.last)
     (λ arc right. measured_least declared facts days arc.service arc (live_have IsFactInRange (facts_of rows) ranges) right.limits)
     (all_filter (IsArc nodes) (is_arc_in_service days.first days.last) (arcs_of declared) plant.joined))
 
@@ -317,7 +318,7 @@ names_right Two rows days part =
     let arcs = arcs_on Two declared days.first days.last in
     record {
       each_node = length-map nodes (name_at_node declared);
-      each_stream = length-map arcs (λ (arc : Arc). arc.name) ∙ sym (length-map arcs (stream_among nodes (measured_served declared (live_facts (facts_of rows)) days)));
+      each_stream = length-map arcs (λ (arc : Arc). arc.name) ∙ sym (length-map arcs (stream_among nodes (measured_in Two declared (live_facts (facts_of rows)) days)));
       environment = refl;
       nodes = part.nodes;
       streams = part.streams;

@@ -1,5 +1,5 @@
 -- The periods of a window, and what is measured of its streams.
-use Rattle.std.specs.Prelude.{◌-◌, filter_map, find, map, option_and_then, position, IfOk, IfSome}
+use Rattle.std.specs.Prelude.{◌-◌, filter_map, find, map, option_and_then, position, IfOk, IfSome, if◌then◌else◌}
 use Rattle.std.specs.List.{cons_option}
 use Rattle.std.specs.Option.{option_map}
 use Rattle.std.proofs.Common.{◌≡◌, ◌∙◌, ◌+◌, ◌≤◌, ◌<◌, ℕ, zero, suc, ℤ, pos, ◌≤ℤ◌, List, [], ◌∷◌, length, slice_get, get_or, All, true, false, Option, Some, None, Result, Ok, Err, refl, sym, ap, ap₂, subst, arith, inl, inr}
@@ -15,7 +15,7 @@ use Rattle.pb_window.specs.declared.window.Source.{Source}
 use Rattle.pb_window.specs.declared.window.Source.TheVariants.{Content, Flow}
 use Rattle.pb_window.specs.declared.window.Window.{Window}
 use Rattle.pb_window.specs.declared.window.WindowStream.{WindowStream}
-use Rattle.pb_window.specs.Graph.{IsFirstStreamOutside, graph_stream, graph_streams}
+use Rattle.pb_window.specs.Graph.{IsFirstStreamOutside, graph_stream, graph_streams, window_graph}
 use Rattle.pb_window.specs.Window.{IsWindow, IsWindowStream}
 use Rattle.pb_site.specs.declared.declared.Arc.{Arc}
 use Rattle.pb_site.specs.declared.declared.ArcKind.{ArcKind}
@@ -23,8 +23,8 @@ use Rattle.pb_site.specs.declared.declared.ArcKind.TheVariants.{Metered, Batch, 
 use Rattle.pb_site.specs.declared.declared.Version.{Version}
 use Rattle.pb_site.specs.declared.declared.Version.TheVariants.{One, Two}
 use Rattle.pb_site.specs.Laws.{IsDeclaredPlant}
-use Rattle.pb_site.specs.Row.{IsArcBase}
-use Rattle.pb_site.specs.Site.{IsArc, arcs_of, node_names, points_of_tank, table_of_kind, version_of}
+use Rattle.pb_site.specs.Row.{IsArcBase, is_inventory}
+use Rattle.pb_site.specs.Site.{IsArc, arcs_of, node_names, points_of_tank, version_of}
 use Rattle.pb_facts.specs.declared.fact.Fact.{Fact}
 use Rattle.pb_facts.specs.declared.facts.KeptFact.{KeptFact}
 use Rattle.pb_facts.specs.Fact.{IsFactInRange, is_dip_on}
@@ -38,8 +38,8 @@ use Rattle.pb_period.specs.declared.graph.Assembly.TheVariants.{Over}
 use Rattle.pb_period.specs.Days.{days_of}
 use Rattle.pb_period.specs.Facts.{content_of}
 use Rattle.pb_period.specs.Measurement.{measurement}
-use Rattle.pb_period.specs.PeriodGraph.{is_over, unless_over, within_limits}
-use Rattle.pb_period.specs.WindowGraph.{flow_measured, held_at, measured_in, measured_window, periods_at, source_measured, stream_measured, window_assembly}
+use Rattle.pb_period.specs.PeriodGraph.{is_over, unless_over, within_limits, measured_in}
+use Rattle.pb_period.specs.WindowGraph.{flow_measured, held_at, periods_at, source_measured, stream_measured, window_assembly, window_measured}
 use Rattle.pb_period.proofs.GraphLemmas.{not_over, position_at, within}
 use Rattle.pb_period.proofs.VarianceLemmas.{HasLeast, IsFair, all_map, content_fair, find_has, live_have, measured_least, within_right}
 
@@ -122,7 +122,7 @@ flow_least rows arc (Some period) facts base = by (version_of (declared_of rows)
     by Two = measured_least (declared_of rows) (live_facts (facts_of rows)) (days_of period) arc.service arc facts base
 
 content_least : (rows : List StoredRow) (arc : Arc) (day : ℤ) → All IsFactInRange (live_facts (facts_of rows)) → (kind : ArcKind) → IsArcBase kind arc.base
-    → IsLeast (option_map (measurement arc.base) (option_and_then (held_at (live_facts (facts_of rows)) arc.name day) (table_of_kind (declared_of rows) arc.name kind)))
+    → IsLeast (option_map (measurement arc.base) (option_and_then (held_at (live_facts (facts_of rows)) arc.name day) (if is_inventory kind then Some (points_of_tank (declared_of rows) arc.name) else None)))
 content_least rows arc day facts Metered base = tt
 content_least rows arc day facts Batch base = tt
 content_least rows arc day facts Plain base = tt
@@ -199,7 +199,7 @@ window_right rows periods window plant ranges form =
     let same = streams_are f window.streams in
     let facts = live_have IsFactInRange (facts_of rows) ranges in
     let many = length-map window.streams stream in
-    within_right (measured_window rows periods window)
+    within_right (window_graph window (window_measured rows periods window))
     (λ limits. record {
       env = omega arith;
       few_nodes = form.few_nodes;

@@ -1,5 +1,5 @@
 -- Statement. The days of a period.
-use Rattle.std.specs.Prelude.{ℕ, zero, suc, ℤ, pos, ◌+ℤ◌, ◌-ℤ◌, ◌≤ℤ◌, ◌<ℤ◌, List, [], ◌∷◌}
+use Rattle.std.specs.Prelude.{ℕ, ℤ, pos, ◌+ℤ◌, ◌-ℤ◌, ◌≤ℤ◌, ◌<ℤ◌}
 use Rattle.std.specs.Int.{int_gap}
 use Rattle.pb_rows.specs.Date.{IsDay}
 use Rattle.pb_limits.specs.Limits.{most_days_of_period}
@@ -13,15 +13,6 @@ days_of period = record { first = period.first; last = period.last }
 -- the number of days from `first` to `last`, both included; 0 if `last` comes first
 abbrev pub day_count : ℤ → ℤ → ℕ
 day_count first last = int_gap first (last +ℤ pos 1)
-
--- this many days in a row, beginning with a given one
-abbrev pub days_from : ℤ → ℕ → List ℤ
-days_from day zero = []
-days_from day (suc n) = day ∷ days_from (day +ℤ pos 1) n
-
--- each of the days
-abbrev pub each_of : Days → List ℤ
-each_of days = days_from days.first (day_count days.first days.last)
 
 -- the days are as those of a period
 pub record AreDays (days : Days) : Type 0 where

@@ -55,14 +55,10 @@ share_on first last amount from to =
     then Some (shared amount (day_count first last) (int_gap first from) (day_count first to))
     else None
 
--- the share that falls on the days that a transfer has in common with some days
-abbrev pub common_share : Days → ℤ → ℤ → Amount → Option Amount
-common_share days first last amount = share_on first last amount (int_max days.first first) (int_min days.last last)
-
--- what a fact moved in a stream on some days
+-- what a fact moved in a stream on some days: the share that falls on the days that a transfer has in common with them
 abbrev pub transferred : Days → List ℕ → Fact → Option Amount
 transferred days wanted (Transfer id stream first last grams variance) =
     if same_name stream wanted
-    then common_share days first last (record { grams = grams; variance = variance })
+    then share_on first last (record { grams = grams; variance = variance }) (int_max days.first first) (int_min days.last last)
     else None
 transferred days wanted fact = None

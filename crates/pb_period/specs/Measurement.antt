@@ -7,13 +7,13 @@ use Rattle.pb_site.specs.declared.declared.Arc.{Arc}
 use Rattle.pb_site.specs.declared.declared.ArcKind.{ArcKind}
 use Rattle.pb_site.specs.declared.declared.ArcKind.TheVariants.{Metered, Batch, Plain, Tank}
 use Rattle.pb_site.specs.declared.declared.Service.{Service}
-use Rattle.pb_site.specs.Service.{day_of_closing, day_of_opening, first_served, last_served}
+use Rattle.pb_site.specs.Service.{day_of_opening, first_served, last_served}
 use Rattle.pb_site.specs.Site.{points_of_tank}
 use Rattle.pb_facts.specs.declared.fact.Fact.{Fact}
 use Rattle.pb_facts.specs.Fact.{is_dip_on}
 use Rattle.pb_period.specs.declared.amount.Amount.{Amount}
+use Rattle.pb_periods.specs.Windows.{days_between}
 use Rattle.pb_period.specs.declared.days.Days.{Days}
-use Rattle.pb_period.specs.Days.{each_of}
 use Rattle.pb_period.specs.Facts.{content_of, read_on, total_of, transferred}
 
 -- the total of what a meter read on some days, if it was read on each of them
@@ -31,22 +31,19 @@ abbrev pub change_of : (Fact → Amount) → Option Fact → Option Fact → Opt
 change_of content (Some opening) (Some closing) = Some (closing_less_opening (content opening) (content closing))
 change_of content opening closing = None
 
--- those of some days on which something is in service; if it has no days of service, all of them
-abbrev pub served_days : Option Service → Days → Days
-served_days service days = record { first = first_served service days.first; last = last_served service days.last }
-
 -- What live facts say about an arc on some days. For a metered stream: the total of its readings, if each day on which it is in
 -- service has one. For a batch stream: what its transfers moved. For a plain stream: nothing. For a tank: its content at the end of
 -- its closing day less that at the end of its opening day, if both days have a dip; these are the last day on which it is in
 -- service, and the day before the first.
 abbrev pub amount_of : List Declared → List Fact → Days → Option Service → ArcKind → List ℕ → Option Amount
-amount_of declared facts days service Metered stream = read_total (read_on facts stream) (each_of (served_days service days))
+amount_of declared facts days service Metered stream =
+    read_total (read_on facts stream) (days_between (first_served service days.first) (last_served service days.last))
 amount_of declared facts days service Batch stream = Some (total_of (filter_map (transferred days stream) facts))
 amount_of declared facts days service Plain stream = None
 amount_of declared facts days service Tank tank =
     change_of (content_of (points_of_tank declared tank))
     (find (is_dip_on tank (day_of_opening service days.first)) facts)
-    (find (is_dip_on tank (day_of_closing service days.last)) facts)
+    (find (is_dip_on tank (last_served service days.last)) facts)
 
 -- the measurement of an amount: its grams, and the sum of the base variance and its own
 abbrev pub measurement : ℤ → Amount → Meas

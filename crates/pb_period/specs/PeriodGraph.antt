@@ -1,13 +1,12 @@
 -- Statement. The graph of the declared plant before any reading, and that of the part in service as a period measured it.
-use Rattle.std.specs.Prelude.{ℕ, ◌<◌, ℤ, pos, Bool, false, ◌||◌, nat_lt, int_lt, unsigned_abs, List, length, map, position, Option, Some, None, Result, Ok, Err}
+use Rattle.std.specs.Prelude.{ℕ, ◌<◌, ℤ, pos, Bool, false, ◌||◌, nat_lt, int_lt, unsigned_abs, List, length, map, position, Option, Some, None, Result, Ok, Err, if◌then◌else◌}
 use Rattle.std.specs.Option.{option_map_or}
 use Rattle.pb_limits.specs.Limits.{most_value, most_variance}
 use Rattle.pb_graph.specs.declared.records.Meas.{Meas}
 use Rattle.pb_graph.specs.declared.records.Stream.{Stream}
 use Rattle.pb_graph.specs.ProcessGraph.{ProcessGraph}
 use Rattle.pb_site.specs.declared.declared.Arc.{Arc}
-use Rattle.pb_site.specs.declared.declared.ArcKind.{ArcKind}
-use Rattle.pb_site.specs.declared.declared.ArcKind.TheVariants.{Plain}
+use Rattle.pb_site.specs.Row.{is_plain}
 use Rattle.pb_rows.specs.declared.name.Names.{Names}
 use Rattle.pb_site.specs.declared.declared.Declared.{Declared}
 use Rattle.pb_site.specs.declared.declared.Version.{Version}
@@ -36,12 +35,8 @@ graph_with measure rows = record {
 }
 
 -- before any reading: the value 0 with the base variance, for all streams except plain ones
-abbrev pub base_of_kind : ArcKind → ℤ → Option Meas
-base_of_kind Plain base = None
-base_of_kind kind base = Some (record { value = pos 0; variance = base })
-
 abbrev pub base_of : Arc → Option Meas
-base_of arc = base_of_kind arc.kind arc.base
+base_of arc = if is_plain arc.kind then None else Some (record { value = pos 0; variance = arc.base })
 
 -- The graph of a design.
 abbrev pub design_graph : List StoredRow → ProcessGraph
@@ -55,9 +50,10 @@ stream_among nodes measure arc = record {
   meas = measure arc;
 }
 
--- what is measured of an arc on those of some days on which it is in service
-abbrev pub measured_served : List Declared → List Fact → Days → Arc → Option Meas
-measured_served declared facts days arc = measured declared facts days arc.service arc
+-- what is measured of an arc on some days, in a session of this version: in version 2, on those of them on which it is in service
+abbrev pub measured_in : Version → List Declared → List Fact → Days → Arc → Option Meas
+measured_in One declared facts days arc = measured declared facts days None arc
+measured_in Two declared facts days arc = measured declared facts days arc.service arc
 
 -- the part of the plant that is in service on any of these days: its streams are the declared streams and the inventories of the
 -- tanks that are in service; its nodes are the environment and the ends of these streams; all are in order of declaration
@@ -66,7 +62,7 @@ served_graph declared facts days =
     let nodes = nodes_on Two declared days.first days.last in
     record {
       nodes = length nodes;
-      streams = map (stream_among nodes (measured_served declared facts days)) (arcs_on Two declared days.first days.last);
+      streams = map (stream_among nodes (measured_in Two declared facts days)) (arcs_on Two declared days.first days.last);
     }
 
 -- The graph of the days of a period in a session of this version: in version 1 that of the whole plant, in version 2 that of the
@@ -83,27 +79,21 @@ period_graph rows days = graph_in (version_of (declared_of rows)) rows days
 abbrev pub period_names : List StoredRow → Days → Names
 period_names rows days = let declared = declared_of rows in names_on (version_of declared) declared days.first days.last
 
--- a value above 10^15 grams either way, or a variance above 10^22 squared grams: above the limits of a graph
-abbrev pub is_over_limits : Meas → Bool
-is_over_limits meas = nat_lt most_value (unsigned_abs meas.value) || int_lt (pos most_variance) meas.variance
-
+-- measured as a value above 10^15 grams either way, or with a variance above 10^22 squared grams: above the limits of a graph
 abbrev pub is_over : Stream → Bool
-is_over stream = option_map_or is_over_limits stream.meas false
+is_over stream =
+    option_map_or (λ (meas : Meas). nat_lt most_value (unsigned_abs meas.value) || int_lt (pos most_variance) meas.variance) stream.meas false
 
 abbrev pub unless_over : ProcessGraph → Option ℕ → Result ProcessGraph Assembly
-unless_over graph (Some stream) = Err (Over stream)
-unless_over graph None = Ok graph
+unless_over graph found = option_map_or (λ stream. Err (Over stream)) found (Ok graph)
 
 -- the graph, or its first stream that is over the limits
 abbrev pub within_limits : ProcessGraph → Result ProcessGraph Assembly
 within_limits graph = unless_over graph (position is_over graph.streams)
 
--- The graph of the days of a period, or its first stream that is over the limits, in a session of this version.
-abbrev pub assembly_in : Version → List StoredRow → Days → Result ProcessGraph Assembly
-assembly_in version rows days = within_limits (graph_in version rows days)
-
+-- The graph of the days of a period, or its first stream that is over the limits.
 abbrev pub assembly_of : List StoredRow → Days → Result ProcessGraph Assembly
-assembly_of rows days = assembly_in (version_of (declared_of rows)) rows days
+assembly_of rows days = within_limits (graph_in (version_of (declared_of rows)) rows days)
 
 -- the stream that is over the limits is a stream of this graph
 abbrev pub IsStreamOfGraph : ProcessGraph → Assembly → Type 0

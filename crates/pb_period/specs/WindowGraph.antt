@@ -26,7 +26,7 @@ use Rattle.pb_period.specs.declared.graph.Assembly.TheVariants.{NoMemory, Over}
 use Rattle.pb_period.specs.Days.{days_of}
 use Rattle.pb_period.specs.Facts.{content_of}
 use Rattle.pb_period.specs.Measurement.{measured, measurement}
-use Rattle.pb_period.specs.PeriodGraph.{measured_served, within_limits}
+use Rattle.pb_period.specs.PeriodGraph.{measured_in, within_limits}
 
 -- ---- the periods of a window
 
@@ -35,11 +35,6 @@ abbrev pub periods_at : List StoredRow → List ℕ → List Period
 periods_at rows places = filter_map (slice_get (periods_of rows)) places
 
 -- ---- what is measured of a stream
-
--- what some days measured of an arc, in a session of this version
-abbrev pub measured_in : Version → List Declared → List Fact → Days → Arc → Option Meas
-measured_in One declared facts days arc = measured declared facts days None arc
-measured_in Two declared facts days arc = measured_served declared facts days arc
 
 -- what a period measured of an arc
 abbrev pub flow_measured : List StoredRow → Arc → Period → Option Meas
@@ -71,13 +66,9 @@ window_measured rows periods window = map (stream_measured rows periods) window.
 
 -- ---- the graph
 
--- The graph of a window of these periods.
-abbrev pub measured_window : List StoredRow → List Period → Window → ProcessGraph
-measured_window rows periods window = window_graph window (window_measured rows periods window)
-
--- The graph, or its first stream that is over the limits.
+-- The graph of a window of these periods, or its first stream that is over the limits.
 abbrev pub window_assembly : List StoredRow → List Period → Window → Result ProcessGraph Assembly
-window_assembly rows periods window = within_limits (measured_window rows periods window)
+window_assembly rows periods window = within_limits (window_graph window (window_measured rows periods window))
 
 -- the stream that is over the limits is a stream of this window
 abbrev pub IsStreamOfWindow : Window → Assembly → Type 0

@@ -14,7 +14,7 @@ ghost use Rattle.pb_period.specs.Amounts.{IsAmount};
 ghost use Rattle.pb_period.specs.Days.{AreDays, days_of};
 ghost use Rattle.pb_period.specs.Laws.{AreGraphNames};
 ghost use Rattle.pb_period.specs.Measurement.{amount_of, measured};
-ghost use Rattle.pb_period.specs.PeriodGraph.{IsStreamOfGraph, NamesAStream, assembly_in, assembly_of, base_of, base_of_kind, design_graph, graph_in, is_over, measured_served, period_graph, period_names, stream_among, stream_with};
+ghost use Rattle.pb_period.specs.PeriodGraph.{IsStreamOfGraph, NamesAStream, assembly_of, base_of, design_graph, graph_in, is_over, measured_in, period_graph, period_names, stream_among, stream_with, within_limits};
 
 use crate::amount::Amount;
 use crate::days::Days;
@@ -102,20 +102,20 @@ fn declared_stream(arc: &Arc) -> Stream
     ensures value { result ≡ stream_with base_of arc.now }
     ensures limits { IsWithinLimits result }
 {
-    stream_of(arc, base_of(arc.kind, arc.base))
+    stream_of(arc, base_of(arc))
 }
 
 // The value 0 with the base variance, for all streams except plain ones.
-fn base_of(kind: ArcKind, base: i128) -> Option<Meas>
-    requires { IsArcBase kind base }
-    ensures value { result ≡ base_of_kind kind base }
+fn base_of(arc: &Arc) -> Option<Meas>
+    requires { IsArcBase arc.now.kind arc.now.base }
+    ensures value { result ≡ base_of arc.now }
     ensures limits { IfSome result IsMeasurement }
 {
-    match kind {
+    match arc.kind {
         ArcKind::Plain => None,
         _ => Some(Meas {
             value: 0,
-            variance: base,
+            variance: arc.base,
         }),
     }
 }
@@ -123,7 +123,7 @@ fn base_of(kind: ArcKind, base: i128) -> Option<Meas>
 // The graph of the whole plant, with what some days measured.
 fn measured_graph(alloc: Global, book: &Book, days: Days) -> Result<Graph, Assembly>
     requires { AreDays days }
-    ensures answer { result ≢ Err Assembly.NoMemory → result ≡ assembly_in One book.now days }
+    ensures answer { result ≢ Err Assembly.NoMemory → result ≡ within_limits (graph_in One book.now days) }
     ensures over { IfErr result (IsStreamOfGraph (graph_in One book.now days)) }
 {
     let site = book.site();
@@ -142,7 +142,7 @@ fn measured_graph(alloc: Global, book: &Book, days: Days) -> Result<Graph, Assem
 fn served_graph(alloc: Global, book: &Book, days: Days) -> Result<Graph, Assembly>
     requires days { AreDays days }
     requires version { version_of (declared_of book.now) ≡ Two }
-    ensures answer { result ≢ Err Assembly.NoMemory → result ≡ assembly_in Two book.now days }
+    ensures answer { result ≢ Err Assembly.NoMemory → result ≡ within_limits (graph_in Two book.now days) }
     ensures over { IfErr result (IsStreamOfGraph (graph_in Two book.now days)) }
 {
     let site = book.site();
@@ -194,7 +194,7 @@ fn served_stream(book: &Book, part: &OnDays, days: Days, j: u32, arc: &Arc) -> S
     requires base { IsArcBase arc.now.kind arc.now.base }
     requires joins { JoinsPlaces part.now arc.now }
     ensures value { result ≡ stream_among part.now
-        (measured_served (declared_of book.now) (live_facts (facts_of book.now)) days) arc.now }
+        (measured_in Two (declared_of book.now) (live_facts (facts_of book.now)) days) arc.now }
     ensures joins { IsStream (length part.now) result }
     ensures least { IfSome result.meas (λ meas. pos 1 ≤ℤ meas.variance) }
 {

@@ -2,13 +2,14 @@
 
 ghost use Rattle.std.specs.Prelude.{◌≡◌, find, IfSome, Some};
 ghost use Rattle.pb_limits.specs.Limits.{most_days_of_period};
-ghost use Rattle.pb_site.specs.Service.{day_of_closing, day_of_opening};
+ghost use Rattle.pb_site.specs.Service.{day_of_opening, first_served, last_served};
 ghost use Rattle.pb_facts.specs.Fact.{IsFactInRange, is_dip_on, is_reading_on};
 ghost use Rattle.pb_facts.specs.Facts.{live_facts};
+ghost use Rattle.pb_periods.specs.Windows.{days_between};
 ghost use Rattle.pb_period.specs.Amounts.{IsAmount};
-ghost use Rattle.pb_period.specs.Days.{AreDays, each_of};
+ghost use Rattle.pb_period.specs.Days.{AreDays};
 ghost use Rattle.pb_period.specs.Facts.{content_of, read_amount, read_on};
-ghost use Rattle.pb_period.specs.Measurement.{change_of, closing_less_opening, read_total, served_days};
+ghost use Rattle.pb_period.specs.Measurement.{change_of, closing_less_opening, read_total};
 ghost use Rattle.pb_period.specs.WindowGraph.{held_at};
 
 use crate::amount::Amount;
@@ -71,7 +72,7 @@ pub fn read_total(
 ) -> Option<Amount>
     requires { AreDays days }
     ensures value { result ≡ read_total (read_on (live_facts facts.now) stream.now)
-        (each_of (served_days service days)) }
+        (days_between (first_served service days.first) (last_served service days.last)) }
     ensures within { IfSome result (IsAmount most_days_of_period) }
 {
     let first = first_served(service, days.first);
@@ -124,7 +125,7 @@ pub fn change(
     requires { AreDays days }
     ensures value { result ≡ change_of (content_of strap.now)
         (find (is_dip_on tank.now (day_of_opening service days.first)) (live_facts facts.now))
-        (find (is_dip_on tank.now (day_of_closing service days.last)) (live_facts facts.now)) }
+        (find (is_dip_on tank.now (last_served service days.last)) (live_facts facts.now)) }
     ensures within { IfSome result (IsAmount 2) }
 {
     let opening = dip_on(facts, tank, opening_day(service, days.first))?;

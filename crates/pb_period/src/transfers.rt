@@ -1,13 +1,14 @@
 // What transfers moved.
 
 ghost use Rattle.std.specs.Prelude.{◌≡◌, ◌+◌, ◌<◌, ◌≤ℤ◌, ◌<ℤ◌, ◌-ℤ◌, pos, ℕ, length, false, IfSome, filter_map, option_and_then};
+ghost use Rattle.std.specs.Int.{int_max, int_min};
 ghost use Rattle.pb_rows.specs.Date.{IsDay};
 ghost use Rattle.pb_limits.specs.Limits.{most_days_of_transfer, most_facts};
 ghost use Rattle.pb_facts.specs.Fact.{IsFactInRange, is_too_long};
 ghost use Rattle.pb_facts.specs.Facts.{live_at, live_facts};
 ghost use Rattle.pb_period.specs.Amounts.{IsAmount, IsSmall, IsSpan, with_more};
 ghost use Rattle.pb_period.specs.Days.{AreDays};
-ghost use Rattle.pb_period.specs.Facts.{common_share, share_on, shared, total_of, transferred};
+ghost use Rattle.pb_period.specs.Facts.{share_on, shared, total_of, transferred};
 
 use crate::amount::Amount;
 use crate::days::{Days, days_through, days_until};
@@ -84,7 +85,8 @@ fn common_share(days: Days, first: i32, last: i32, amount: Amount) -> Option<Amo
     requires last { IsDay last }
     requires short { (last -ℤ first) <ℤ pos most_days_of_transfer }
     requires amount { IsAmount 1 amount }
-    ensures value { result ≡ common_share days first last amount }
+    ensures value { result
+        ≡ share_on first last amount (int_max days.first first) (int_min days.last last) }
     ensures within { IfSome result (IsAmount 1) }
 {
     share_on(

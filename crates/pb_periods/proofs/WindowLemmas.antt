@@ -17,7 +17,7 @@ use Rattle.std.proofs.lemmas.Option.{cond_some, get_or_from_slice_get}
 use Rattle.pb_periods.specs.declared.period.Period.{Period}
 use Rattle.pb_periods.specs.Apart.{AreApart, shares_a_day}
 use Rattle.pb_periods.specs.Kept.{AreBegun}
-use Rattle.pb_periods.specs.Windows.{ArePlacesOf, begins_on, days_between, days_in_row, has_gap, is_in_none, periods_between}
+use Rattle.pb_periods.specs.Windows.{ArePlacesOf, begins_on, days_between, days_in_row, has_gap, periods_between}
 use Rattle.pb_periods.specs.Ranges.{IsPeriod}
 
 -- ---- days up to one that isn't counted
@@ -188,6 +188,10 @@ no_place p xs is = list_any_none p xs (λ k d lt. fails_before_first p xs k d (o
 -- the period that begins on a day
 abbrev begun : List Period → ℤ → Option Period
 begun periods day = find (begins_on day) periods
+
+-- a day is in none of these periods
+abbrev is_in_none : List Period → ℤ → Bool
+is_in_none periods day = not (list_any (shares_a_day day day) periods)
 
 -- The way from one period to another, up to a day: these are the places of the periods so far, and a period begins on the day, or
 -- the day is in no period.

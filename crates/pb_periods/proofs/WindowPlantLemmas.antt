@@ -23,10 +23,10 @@ use Rattle.pb_site.specs.declared.declared.Kind.TheVariants.{Metered, Batch, Pla
 use Rattle.pb_site.specs.declared.declared.Version.{Version}
 use Rattle.pb_site.specs.declared.declared.Version.TheVariants.{One, Two}
 use Rattle.pb_site.specs.Laws.{IsDeclaredPlant}
-use Rattle.pb_site.specs.Row.{arc_in, arc_kind}
+use Rattle.pb_site.specs.Row.{arc_in, arc_kind, is_inventory}
 use Rattle.pb_site.specs.Site.{arcs_of, boundary_names, node_names, version_of}
 use Rattle.pb_periods.specs.declared.period.Period.{Period}
-use Rattle.pb_periods.specs.Windows.{begins_on, days_between, fault_between, fault_over, has_gap, is_inventory, keeps_idle_nodes, periods_between, span_of_period, window_arc, window_over, window_plant}
+use Rattle.pb_periods.specs.Windows.{begins_on, days_between, fault_between, fault_over, has_gap, keeps_idle_nodes, periods_between, span_of_period, window_arc, window_over, window_plant}
 use Rattle.pb_periods.specs.declared.windows.BetweenFault.TheVariants as fault
 
 -- ---- the plant, as a window uses it

@@ -11,12 +11,11 @@ use Rattle.pb_window.specs.declared.plant.Span.{Span}
 use Rattle.pb_window.specs.declared.window.Window.{Window}
 use Rattle.pb_window.specs.Window.{is_too_great, window_shape}
 use Rattle.pb_site.specs.declared.declared.Arc.{Arc}
-use Rattle.pb_site.specs.declared.declared.ArcKind.{ArcKind}
-use Rattle.pb_site.specs.declared.declared.ArcKind.TheVariants.{Tank}
 use Rattle.pb_site.specs.declared.declared.Declared.{Declared}
 use Rattle.pb_site.specs.declared.declared.Service.{Service}
 use Rattle.pb_site.specs.declared.declared.Version.{Version}
 use Rattle.pb_site.specs.declared.declared.Version.TheVariants.{One, Two}
+use Rattle.pb_site.specs.Row.{is_inventory}
 use Rattle.pb_site.specs.Site.{arcs_of, node_names, version_of}
 use Rattle.pb_periods.specs.declared.period.Period.{Period}
 use Rattle.pb_periods.specs.declared.windows.BetweenFault.{BetweenFault}
@@ -29,11 +28,6 @@ use Rattle.pb_periods.specs.Apart.{shares_a_day}
 abbrev pub arc_service : Version → Option Service → Option WindowPlant.Service
 arc_service Two (Some service) = Some (record { since = service.since; until = service.until })
 arc_service version service = None
-
--- an arc of this kind is the inventory of a tank
-abbrev pub is_inventory : ArcKind → Bool
-is_inventory Tank = true
-is_inventory kind = false
 
 -- an arc, as a window uses it
 abbrev pub window_arc : Version → Arc → PlantArc
@@ -72,13 +66,9 @@ days_between first last = days_in_row first (int_gap first (last +ℤ pos 1))
 abbrev pub begins_on : ℤ → Period → Bool
 begins_on day period = int_eq day period.first
 
--- a day is in none of these periods
-abbrev pub is_in_none : List Period → ℤ → Bool
-is_in_none periods day = not (list_any (shares_a_day day day) periods)
-
 -- some day from the first day of one period to the last day of another isn't in any period
 unfoldable pub has_gap : List Period → Period → Period → Bool
-has_gap periods first last = list_any (is_in_none periods) (days_between first.first last.last)
+has_gap periods first last = list_any (λ day. not (list_any (shares_a_day day day) periods)) (days_between first.first last.last)
 
 -- The periods from one to another, in order of days: those that begin on a day from the first day of `first` to the first day of
 -- `last`.

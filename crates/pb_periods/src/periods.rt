@@ -10,7 +10,7 @@ ghost use Rattle.pb_periods.specs.Apart.{AreApart, is_named, shares_a_day};
 ghost use Rattle.pb_periods.specs.Kept.{FindsLast, HasBegin, SameBegins};
 ghost use Rattle.pb_periods.specs.Ranges.{IsPeriod};
 ghost use Rattle.pb_periods.specs.Closing.{closed_if_named, is_closed_named, is_unserved_in};
-ghost use Rattle.pb_periods.specs.Touching.{dip_touches_closed, dip_touches_closed_on, has_closed_day, is_closed_in_service, some_closed, touches_closed, touches_period};
+ghost use Rattle.pb_periods.specs.Touching.{dip_touches_closed, dip_touches_closed_on, has_closed_day, is_closed_in_service, some_closed, some_closed_with, touches_period};
 ghost use Rattle.pb_periods.specs.Windows.{begins_on};
 ghost use Rattle.pb_facts.specs.Fact.{IsFactInRange};
 
@@ -148,7 +148,7 @@ impl Periods {
     /// Whether a fact of something that is in service on these days touches a closed period.
     pub fn touches_closed(&self, service: Option<Service>, fact: &Fact) -> bool
         requires { IsFactInRange fact.now }
-        ensures { result ≡ list_any (touches_closed (touches_period service) fact.now) self.now }
+        ensures { result ≡ some_closed_with (touches_period service fact.now) self.now }
     {
         match fact {
             Fact::Reading { day, .. } => self.has_closed_day_within(*day, *day),

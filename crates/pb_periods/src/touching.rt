@@ -1,10 +1,11 @@
 // Which periods a fact touches.
 
 ghost use Rattle.std.specs.Prelude.{◌≡◌};
-ghost use Rattle.pb_site.specs.Site.{version_of};
+ghost use Rattle.pb_site.specs.Site.{service_in, version_of};
+ghost use Rattle.pb_facts.specs.Fact.{named_by};
 ghost use Rattle.pb_periods.specs.Apart.{shares_a_day};
 ghost use Rattle.pb_periods.specs.Ranges.{IsPeriod};
-ghost use Rattle.pb_periods.specs.Touching.{dip_touches, is_boundary_of, service_of, touches_in, touches_period};
+ghost use Rattle.pb_periods.specs.Touching.{dip_touches, is_boundary_of, touches_in, touches_period};
 
 use crate::period::Period;
 use pb_facts::Fact;
@@ -21,7 +22,7 @@ pub fn touches_in(site: &Site, fact: &Fact, period: &Period) -> bool
 /// The days on which the stream or tank that a fact names is in service; `None` in version 1, if its row has no such days, or if there
 /// is no stream or tank of this name.
 pub fn service_of(site: &Site, fact: &Fact) -> Option<Service>
-    ensures { result ≡ service_of (version_of site.now) site.now fact.now }
+    ensures { result ≡ service_in (version_of site.now) site.now (named_by fact.now) }
 {
     match fact {
         Fact::Reading { stream, .. } => site.service_of(stream),

@@ -8,7 +8,8 @@ ghost use Rattle.pb_window.specs.Codes.{AreWindowNames};
 ghost use Rattle.pb_window.specs.Places.{IsNamedBy};
 ghost use Rattle.pb_window.specs.Plant.{IsPlant, IsSpan};
 ghost use Rattle.pb_window.specs.Window.{IsWindow, unless_too_great};
-ghost use Rattle.pb_periods.specs.Windows.{ArePlacesOf, arc_service, fault_between, fault_over, has_gap, is_inventory, span_of_period, window_arc, window_over, window_plant};
+ghost use Rattle.pb_site.specs.Row.{is_inventory};
+ghost use Rattle.pb_periods.specs.Windows.{ArePlacesOf, arc_service, fault_between, fault_over, has_gap, span_of_period, window_arc, window_over, window_plant};
 ghost use Rattle.pb_periods.specs.Ranges.{IsPeriod};
 
 use crate::period::Period;

@@ -1,5 +1,6 @@
 -- The component graph of a period: how many nodes and streams it has, and the last stage of a study.
 use Rattle.std.specs.Prelude.{◌+◌, IfErr, IfOk, IfSome, position}
+use Rattle.std.specs.Option.{option_map_or}
 use Rattle.std.proofs.Common.{◌≡◌, ◌≢◌, ◌∙◌, ◌<◌, ℕ, zero, suc, Bool, List, [], ◌∷◌, length, map, All, Option, Some, None, Result, Ok, Err, slice_get, refl, sym, ap, subst, arith}
 use Rattle.std.proofs.lemmas.List.{length-map}
 use Rattle.std.proofs.lemmas.Option.{get_or_from_slice_get, slice_get_within}
@@ -11,7 +12,9 @@ use Rattle.pb_study.specs.declared.results.Study.{Study}
 use Rattle.pb_graph.specs.ProcessGraph.{ProcessGraph, IsProcessGraph}
 use Rattle.pb_study.specs.WellFormed.{HasShapeOf, IsWellFormed, IsWellFormedStudy}
 use Rattle.pb_facts.specs.declared.grade.Grade.{Grade}
-use Rattle.pb_assay.specs.Component.{component_of, component_overs, component_streams, component_unless_over}
+use Rattle.pb_assay.specs.declared.component.ComponentFault.{ComponentFault}
+use Rattle.pb_assay.specs.declared.component.ComponentFault.TheVariants as fault
+use Rattle.pb_assay.specs.Component.{component_of, component_overs, component_streams}
 use Rattle.pb_elim.specs.Study.{IsStudyOf}
 use Rattle.pb_periods.specs.declared.period.Period.{Period}
 use Rattle.pb_kinds.specs.declared.rows.StoredRow.{StoredRow}
@@ -61,7 +64,11 @@ streams_each (s ∷ streams) (r ∷ printed) [] results graded = absurd (omega (
 streams_each (s ∷ streams) (r ∷ printed) (grade ∷ grades) results graded =
     ap (λ (n : ℕ). suc n) (streams_each streams printed grades (omega (arith, results)) (omega (arith, graded)))
 
-unless_made : (made component : ProcessGraph) (found : Option ℕ) → component_unless_over made found ≡ Ok component → made ≡ component
+-- a graph, unless a stream is over the limits
+abbrev pub component_unless : ProcessGraph → Option ℕ → Result ProcessGraph ComponentFault
+component_unless graph found = option_map_or (λ j. Err (fault.Over j)) found (Ok graph)
+
+unless_made : (made component : ProcessGraph) (found : Option ℕ) → component_unless made found ≡ Ok component → made ≡ component
 unless_made made component (Some j) is = cc is
 unless_made made component None is = cc is
 

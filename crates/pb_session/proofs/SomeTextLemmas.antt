@@ -12,7 +12,7 @@ use Rattle.pb_graph.specs.ProcessGraph.{ProcessGraph, IsProcessGraph}
 use Rattle.pb_assay.specs.declared.component.ComponentFault.{ComponentFault}
 use Rattle.pb_assay.specs.declared.component.ComponentFault.TheVariants as fault
 use Rattle.pb_facts.specs.declared.grade.Grade.{Grade}
-use Rattle.pb_assay.specs.Component.{component_of, component_streams, component_unless_over}
+use Rattle.pb_assay.specs.Component.{component_of, component_streams}
 use Rattle.pb_facts.specs.Grade.{IsGrade}
 use Rattle.pb_assay.specs.Laws.{ComponentFormLaw}
 use Rattle.pb_classify.specs.Laws.{SomeClassificationLaw}
@@ -49,7 +49,7 @@ use Rattle.pb_session.specs.Criticals.{critical_of}
 use Rattle.pb_report.specs.History.{history_rows}
 use Rattle.pb_session.specs.Session.{AddsAccepted, AddsBy, AreNamesOf, Balances, BalancesIn, IsBalanceOf, IsHistoryText, IsReport, Reports, ReportsBy, SessionState, Windows, assembly_between, component_assembly, last_stage, state_after, window_head}
 use Rattle.pb_session.specs.Laws.{SomeTextLaw, SomeSessionTextLaw}
-use Rattle.pb_session.proofs.BalanceLemmas.{counts_of, each_result, last_there, names_as}
+use Rattle.pb_session.proofs.BalanceLemmas.{counts_of, each_result, last_there, names_as, component_unless}
 use Rattle.pb_session.proofs.NamedLemmas.{costs_are, names_are, period_names_are}
 use Rattle.pb_session.proofs.RowLemmas.{AnswersOf, answers, some_period}
 use Rattle.pb_session.proofs.WindowedLemmas.{window_names_are, windows_at}
@@ -112,7 +112,7 @@ all_map : {X Y : Type 0} (P : Y → Type 0) (f : X → Y) (xs : List X) → ((x 
 all_map P f xs holds = All-map P f xs (λ k d lt. holds (get_or xs k d))
 
 -- the only reason for a missing component graph is a stream beyond the limits
-never_fault : (graph : ProcessGraph) (found : Option ℕ) → component_unless_over graph found ≡ Err fault.NoMemory → ⊥
+never_fault : (graph : ProcessGraph) (found : Option ℕ) → component_unless graph found ≡ Err fault.NoMemory → ⊥
 never_fault graph (Some stream) is = cc is
 never_fault graph None is = cc is
 

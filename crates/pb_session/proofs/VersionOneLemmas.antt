@@ -20,7 +20,7 @@ use Rattle.pb_site.specs.declared.declared.Version.{Version}
 use Rattle.pb_site.specs.declared.declared.Version.TheVariants.{One}
 use Rattle.pb_site.specs.OnDays.{names_on}
 use Rattle.pb_site.specs.Row.{arc_in}
-use Rattle.pb_site.specs.Site.{arcs_of, boundary_names, names_of, node_names, version_of}
+use Rattle.pb_site.specs.Site.{arcs_of, boundary_names, names_of, node_names, version_of, service_in}
 use Rattle.pb_facts.specs.declared.fact.Fact.{Fact}
 use Rattle.pb_facts.specs.declared.fact.Fact.TheVariants.{Reading, Transfer, Dip}
 use Rattle.pb_facts.specs.Facts.{live_facts}
@@ -39,7 +39,7 @@ use Rattle.pb_book.specs.Edits.{edit_touches, edits_of, history_of}
 use Rattle.pb_book.specs.Refusals.{is_out_of_service}
 use Rattle.pb_book.specs.Rows.{declaration_in, declared_of, facts_of, periods_of, version_at}
 use Rattle.pb_book.specs.TakenOut.{touching_of}
-use Rattle.pb_periods.specs.Touching.{service_of, touches_in}
+use Rattle.pb_periods.specs.Touching.{touches_in}
 use Rattle.pb_book.specs.VersionOne.{VersionOneLaw, first_answer_of, says_version}
 use Rattle.pb_periods.specs.Windows.{keeps_idle_nodes, window_arc, window_plant}
 use Rattle.pb_period.specs.declared.days.Days.{Days}
@@ -47,8 +47,8 @@ use Rattle.pb_period.specs.declared.graph.Assembly.{Assembly}
 use Rattle.pb_period.specs.Grades.{grades_of}
 use Rattle.pb_period.specs.Days.{days_of}
 use Rattle.pb_period.specs.Measurement.{amount_of, measured, measurement}
-use Rattle.pb_period.specs.PeriodGraph.{assembly_in, assembly_of, graph_in, graph_with, period_names, within_limits}
-use Rattle.pb_period.specs.WindowGraph.{flow_measured, measured_in}
+use Rattle.pb_period.specs.PeriodGraph.{assembly_of, graph_in, graph_with, period_names, within_limits, measured_in}
+use Rattle.pb_period.specs.WindowGraph.{flow_measured}
 use Rattle.pb_report.specs.Component.{component_row}
 use Rattle.pb_report.specs.Form.{text_in}
 use Rattle.pb_report.specs.History.{history_rows}
@@ -56,6 +56,7 @@ use Rattle.pb_report.specs.Row.{OutputRow}
 use Rattle.pb_session.proofs.EditedLemmas.{seam}
 use Rattle.pb_session.specs.Session.{AddsBy, Balances, BalancesIn, IsHistoryText, Reports, ReportsBy, SessionState, state_after}
 use Rattle.pb_session.specs.VersionOne.{FirstAddsBy, FirstBalances, FirstPlantLaw, FirstRefusalLaw, FirstReports, FirstSessionTextLaw, FirstTells, FirstTextLaw, FirstWindowLaw, IsFirstText, accepts_version_2, first_amount, first_assembly, first_grades, first_graph, first_history, first_measured, first_state_after, first_touches, first_window_arc, first_window_plant}
+use Rattle.pb_facts.specs.Fact.{named_by}
 
 -- ---- the graph of a period
 
@@ -73,7 +74,7 @@ graph_one : (rows : List StoredRow) (days : Days) → graph_in One rows days ≡
 graph_one rows days = ap (λ (measure : Arc → Option Meas). graph_with measure rows) (fun_ext (measured_one rows days))
 
 assembly_one : (rows : List StoredRow) (days : Days) → version_of (declared_of rows) ≡ One → assembly_of rows days ≡ first_assembly rows days
-assembly_one rows days one = ap (λ (version : Version). assembly_in version rows days) one ∙ ap within_limits (graph_one rows days)
+assembly_one rows days one = ap (λ (version : Version). within_limits (graph_in version rows days)) one ∙ ap within_limits (graph_one rows days)
 
 names_one : (rows : List StoredRow) (days : Days) → version_of (declared_of rows) ≡ One → period_names rows days ≡ names_of (declared_of rows)
 names_one rows days one = ap (λ (version : Version). names_on version (declared_of rows) days.first days.last) one
@@ -85,7 +86,7 @@ touches_one declared (Reading id stream day grams variance) period = refl
 touches_one declared (Transfer id stream first last grams variance) period = refl
 touches_one declared (Dip id tank day mm density variance) period = refl
 
-served_one : (declared : List Declared) (fact : Fact) → is_out_of_service (service_of One declared fact) fact ≡ false
+served_one : (declared : List Declared) (fact : Fact) → is_out_of_service (service_in One declared (named_by fact)) fact ≡ false
 served_one declared (Reading id stream day grams variance) = refl
 served_one declared (Transfer id stream first last grams variance) = refl
 served_one declared (Dip id tank day mm density variance) = refl

@@ -15,7 +15,7 @@ use Rattle.pb_window.specs.declared.names.WindowPlace.{WindowPlace}
 use Rattle.pb_window.specs.declared.window.Window.{Window}
 use Rattle.pb_window.specs.declared.window.WindowStream.{WindowStream}
 use Rattle.pb_window.specs.Codes.{AreWindowNames, node_code, stream_code, window_names}
-use Rattle.pb_window.specs.Graph.{graph_streams}
+use Rattle.pb_window.specs.Graph.{graph_streams, window_graph}
 use Rattle.pb_window.specs.Places.{HaveNames, window_places}
 use Rattle.pb_window.specs.Window.{IsWindow}
 use Rattle.pb_site.specs.Site.{names_of}
@@ -26,7 +26,7 @@ use Rattle.pb_book.specs.Windows.{ArePlacesBetween, HavePlaceNames, IsWindowAske
 use Rattle.pb_periods.specs.Windows.{names_of_periods, periods_between}
 use Rattle.pb_period.specs.declared.graph.Assembly.{Assembly}
 use Rattle.pb_period.specs.PeriodGraph.{unless_over}
-use Rattle.pb_period.specs.WindowGraph.{measured_window, periods_at, stream_measured, window_assembly}
+use Rattle.pb_period.specs.WindowGraph.{periods_at, stream_measured, window_assembly, window_measured}
 use Rattle.pb_report.specs.Form.{row_text, text_in}
 use Rattle.pb_report.specs.Row.{OutputRow}
 use Rattle.pb_report.specs.Study.{study_rows}
@@ -112,7 +112,7 @@ unless_is made graph None is = cc is
 pub window_names_are : (rows : List StoredRow) (periods : List Period) (window : Window) (graph : ProcessGraph) → AreWindowNames window
     → Ok graph ≡ window_assembly rows periods window → AreNamesOf (window_names window) graph
 window_names_are rows periods window graph codes is =
-    subst (λ (g : ProcessGraph). AreNamesOf (window_names window) g) (unless_is (measured_window rows periods window) graph _ is) (record {
+    subst (λ (g : ProcessGraph). AreNamesOf (window_names window) g) (unless_is (window_graph window (window_measured rows periods window)) graph _ is) (record {
       each = record {
         nodes = omega (arith, length-map window.nodes node_code);
         streams = length-map window.streams stream_code ∙ sym (as_many_streams (stream_measured rows periods) window.streams);

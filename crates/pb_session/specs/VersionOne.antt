@@ -15,7 +15,7 @@ use Rattle.pb_site.specs.Site.{arc_names, arcs_of, boundary_names, names_of, nod
 use Rattle.pb_facts.specs.declared.fact.Fact.{Fact}
 use Rattle.pb_facts.specs.declared.grade.Grade.{Grade}
 use Rattle.pb_facts.specs.declared.fact.Fact.TheVariants.{Reading, Transfer, Dip}
-use Rattle.pb_facts.specs.Fact.{is_dip_on}
+use Rattle.pb_facts.specs.Fact.{is_dip_on, named_by}
 use Rattle.pb_facts.specs.Facts.{live_facts}
 use Rattle.pb_kinds.specs.declared.costs.NamedCost.{NamedCost}
 use Rattle.pb_kinds.specs.Costs.{named_costs}
@@ -32,13 +32,13 @@ use Rattle.pb_book.specs.Edits.{edit_touches, edits_of}
 use Rattle.pb_book.specs.Refusals.{is_of_plant, is_out_of_service, is_sealed_by}
 use Rattle.pb_periods.specs.Closing.{is_unserved_in}
 use Rattle.pb_book.specs.Rows.{declared_of, facts_of, periods_of}
-use Rattle.pb_periods.specs.Touching.{service_of, some_closed, touches_in}
+use Rattle.pb_periods.specs.Touching.{some_closed, touches_in}
 use Rattle.pb_book.specs.VersionOne.{first_answer_of, says_version}
-use Rattle.pb_periods.specs.Windows.{is_inventory, window_plant}
+use Rattle.pb_periods.specs.Windows.{window_plant, days_between}
 use Rattle.pb_period.specs.declared.amount.Amount.{Amount}
 use Rattle.pb_period.specs.declared.days.Days.{Days}
 use Rattle.pb_period.specs.declared.graph.Assembly.{Assembly}
-use Rattle.pb_period.specs.Days.{days_of, each_of}
+use Rattle.pb_period.specs.Days.{days_of}
 use Rattle.pb_period.specs.Facts.{content_of, read_on, total_of, transferred}
 use Rattle.pb_period.specs.Measurement.{change_of, measurement, read_total}
 use Rattle.pb_period.specs.PeriodGraph.{design_graph, graph_with, within_limits}
@@ -47,6 +47,7 @@ use Rattle.pb_report.specs.Component.{component_row}
 use Rattle.pb_report.specs.History.{history_rows}
 use Rattle.pb_report.specs.Refusal.{refused_row}
 use Rattle.pb_session.specs.Session.{Adds, BalancesIn, IsAdviceText, IsDesign, IsSessionText, IsTextOf, ReportsBy, SessionState, Windows, state_after}
+use Rattle.pb_site.specs.Row.{is_inventory}
 
 -- ---- the graph of a period
 
@@ -54,7 +55,7 @@ use Rattle.pb_session.specs.Session.{Adds, BalancesIn, IsAdviceText, IsDesign, I
 -- stream: what its transfers moved. For a plain stream: nothing. For a tank: its content at the end of the last day less that at
 -- the end of the day before the first, if both days have a dip.
 abbrev pub first_amount : List Declared → List Fact → Days → ArcKind → List ℕ → Option Amount
-first_amount declared facts days Metered stream = read_total (read_on facts stream) (each_of days)
+first_amount declared facts days Metered stream = read_total (read_on facts stream) (days_between days.first days.last)
 first_amount declared facts days Batch stream = Some (total_of (filter_map (transferred days stream) facts))
 first_amount declared facts days Plain stream = None
 first_amount declared facts days Tank tank =
@@ -189,7 +190,7 @@ pub record FirstRefusalLaw : Type 0 where
       → is_sealed_by One periods declared ≡ (is_of_plant declared && some_closed periods)
   pub touching : (declared : List Declared) (fact : Fact) (period : Period)
       → touches_in One declared fact period ≡ first_touches fact period
-  pub served : (declared : List Declared) (fact : Fact) → is_out_of_service (service_of One declared fact) fact ≡ false
+  pub served : (declared : List Declared) (fact : Fact) → is_out_of_service (service_in One declared (named_by fact)) fact ≡ false
   pub assayed : (declared : List Declared) (stream name : List ℕ) (period : Period)
       → is_unserved_in (service_in One declared stream) name period ≡ false
   pub most : most_arcs One ≡ 2000

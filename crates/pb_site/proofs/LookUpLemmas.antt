@@ -17,8 +17,8 @@ use Rattle.pb_site.specs.declared.declared.ArcKind.{ArcKind}
 use Rattle.pb_site.specs.declared.declared.Declared.{Declared}
 use Rattle.pb_site.specs.declared.declared.Declared.TheVariants.{Tank, Stream}
 use Rattle.pb_site.specs.declared.index.Index.{Index}
-use Rattle.pb_site.specs.Row.{arc_in, arc_kind, names_include, node_among}
-use Rattle.pb_site.specs.Site.{IsArc, arcs_of, boundary_names, is_tank, node_names, points_of_tank, table_of, table_of_arc, table_of_kind}
+use Rattle.pb_site.specs.Row.{arc_in, arc_kind, is_inventory, names_include, node_among}
+use Rattle.pb_site.specs.Site.{IsArc, arcs_of, boundary_names, is_tank, node_names, points_of_tank, table_of, table_of_arc}
 use Rattle.pb_site.specs.Kept.{IsKept, has_node, node_by, nodes_in}
 use Rattle.pb_site.proofs.FaultLemmas.{same_self}
 
@@ -173,7 +173,7 @@ pub no_table : (declared : List Declared) (j : ℕ) (arc : Arc) → IsAt declare
     → None ≡ option_and_then (table_of_arc declared) (slice_get (arcs_of declared) j)
 no_table declared j arc at other = rw (at.here) (by arc.kind other)
   where
-    by : (kind : ArcKind) → kind ≢ ArcKind.Tank → None ≡ table_of_kind declared arc.name kind
+    by : (kind : ArcKind) → kind ≢ ArcKind.Tank → None ≡ (if is_inventory kind then Some (points_of_tank declared arc.name) else None)
     by ArcKind.Tank other = absurd (other refl)
     by kind other = refl
 

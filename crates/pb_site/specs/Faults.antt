@@ -1,5 +1,5 @@
 -- Statement. The first fault of a new declaration, given the declarations before it.
-use Rattle.std.specs.Prelude.{ℕ, ◌==◌, Bool, true, false, ◌&&◌, ◌||◌, not, nat_le, List, [], ◌∷◌, length, filter_map, Option, Some, None, if◌then◌else◌, is_some}
+use Rattle.std.specs.Prelude.{ℕ, ◌==◌, Bool, true, false, ◌&&◌, ◌||◌, not, nat_le, List, length, filter_map, slice_get, Option, Some, None, if◌then◌else◌, is_some}
 use Rattle.pb_limits.specs.Limits.{most_boundaries, most_streams, most_streams_of_version_1, most_units_and_tanks}
 use Rattle.pb_strap.specs.Table.{is_full, rises}
 use Rattle.pb_site.specs.declared.declared.Declared.{Declared}
@@ -24,18 +24,12 @@ is_taken declared name = is_node declared name || names_include (arc_names decla
 -- a point of a table names a tank that isn't declared, or an end of a stream isn't a node
 abbrev pub refers_to_unknown : List Declared → Declared → Bool
 refers_to_unknown declared (Strap tank mm ml) = not (is_tank declared tank)
-refers_to_unknown declared (Stream name from to kind base service) =
-    not (is_node declared from && is_node declared to)
+refers_to_unknown declared (Stream _ from to _ _ _) = not (is_node declared from && is_node declared to)
 refers_to_unknown declared row = false
-
--- something is declared
-abbrev pub is_begun : List Declared → Bool
-is_begun [] = false
-is_begun (row ∷ declared) = true
 
 -- the name is taken, that critical value is already declared, or the version isn't the first declaration
 abbrev pub is_duplicate_declaration : List Declared → Declared → Bool
-is_duplicate_declaration declared Version2 = is_begun declared
+is_duplicate_declaration declared Version2 = is_some (slice_get declared 0)
 is_duplicate_declaration declared (Declared.Unit name) = is_taken declared name
 is_duplicate_declaration declared (Boundary name) = is_taken declared name
 is_duplicate_declaration declared (Tank name base service) = is_taken declared name
@@ -59,17 +53,12 @@ is_one_node from to = false
 
 -- a stream from a node to itself
 abbrev pub is_mismatched_declaration : List Declared → Declared → Bool
-is_mismatched_declaration declared (Stream name from to kind base service) =
-    is_one_node (node_of declared from) (node_of declared to)
+is_mismatched_declaration declared (Stream _ from to _ _ _) = is_one_node (node_of declared from) (node_of declared to)
 is_mismatched_declaration declared row = false
 
 -- as many units and tanks are declared as are allowed
 abbrev pub has_most_nodes : List Declared → Bool
 has_most_nodes declared = nat_le most_units_and_tanks (length (filter_map node_name declared))
-
--- as many boundaries are declared as are allowed
-abbrev pub has_most_boundaries : List Declared → Bool
-has_most_boundaries declared = nat_le most_boundaries (length (boundary_names declared))
 
 -- the most streams and tanks that a plant can have
 abbrev pub most_arcs : Version → ℕ
@@ -83,9 +72,8 @@ has_most_arcs version declared = nat_le (most_arcs version) (length (arcs_of dec
 -- as many units and tanks, boundaries, streams and tanks, or points of the table are declared as are allowed
 abbrev pub is_plant_full : Version → List Declared → Declared → Bool
 is_plant_full version declared (Declared.Unit name) = has_most_nodes declared
-is_plant_full version declared (Boundary name) = has_most_boundaries declared
-is_plant_full version declared (Tank name base service) =
-    has_most_nodes declared || has_most_arcs version declared
+is_plant_full version declared (Boundary name) = nat_le most_boundaries (length (boundary_names declared))
+is_plant_full version declared (Tank _ _ _) = has_most_nodes declared || has_most_arcs version declared
 is_plant_full version declared (Strap tank mm ml) = is_full (points_of_tank declared tank)
 is_plant_full version declared (Stream name from to kind base service) = has_most_arcs version declared
 is_plant_full version declared row = false

@@ -40,6 +40,16 @@ abbrev pub says_version_2 : Declared → Bool
 says_version_2 Version2 = true
 says_version_2 row = false
 
+-- an arc of this kind is the inventory of a tank
+abbrev pub is_inventory : ArcKind → Bool
+is_inventory ArcKind.Tank = true
+is_inventory kind = false
+
+-- an arc of this kind is a plain stream; only plain streams have no measurements
+abbrev pub is_plain : ArcKind → Bool
+is_plain ArcKind.Plain = true
+is_plain kind = false
+
 -- the name of the unit or tank that a declaration declares
 abbrev pub node_name : Declared → Option (List ℕ)
 node_name (Declared.Unit name) = Some name

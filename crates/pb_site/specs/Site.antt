@@ -7,13 +7,12 @@ use Rattle.pb_rows.specs.declared.name.Names.{Names}
 use Rattle.pb_strap.specs.declared.strap.Point.{Point}
 use Rattle.pb_site.specs.declared.declared.Arc.{Arc}
 use Rattle.pb_site.specs.declared.declared.ArcKind.{ArcKind}
-use Rattle.pb_site.specs.declared.declared.ArcKind.TheVariants.{Tank}
 use Rattle.pb_site.specs.declared.declared.Declared.{Declared}
 use Rattle.pb_site.specs.declared.declared.Declared.TheVariants.{Version2}
 use Rattle.pb_site.specs.declared.declared.Service.{Service}
 use Rattle.pb_site.specs.declared.declared.Version.{Version}
 use Rattle.pb_site.specs.declared.declared.Version.TheVariants.{One, Two}
-use Rattle.pb_site.specs.Row.{IsArcBase, arc_in, boundary_name, declared_name, declares_tank, global_value, measure_value, names_include, nodal_value, node_name, point_of}
+use Rattle.pb_site.specs.Row.{IsArcBase, arc_in, boundary_name, declared_name, declares_tank, global_value, is_inventory, measure_value, names_include, nodal_value, node_name, point_of}
 
 -- the version of the session: 2 if the first declaration says so
 abbrev pub version_of : List Declared → Version
@@ -90,13 +89,9 @@ points_of_tank declared tank = filter_map (point_of tank) declared
 abbrev pub table_of : List Declared → List ℕ → Option (List Point)
 table_of declared tank = if is_tank declared tank then Some (points_of_tank declared tank) else None
 
--- the table of an arc of this name: that of the tank whose inventory the arc is; a stream has no table
-abbrev pub table_of_kind : List Declared → List ℕ → ArcKind → Option (List Point)
-table_of_kind declared name Tank = Some (points_of_tank declared name)
-table_of_kind declared name kind = None
-
+-- the table of an arc: that of the tank whose inventory the arc is; a stream has no table
 abbrev pub table_of_arc : List Declared → Arc → Option (List Point)
-table_of_arc declared arc = table_of_kind declared arc.name arc.kind
+table_of_arc declared arc = if is_inventory arc.kind then Some (points_of_tank declared arc.name) else None
 
 -- the declared critical values
 abbrev pub global_of : List Declared → ℕ → Option ℤ

@@ -2,7 +2,7 @@
 
 ghost use Rattle.std.specs.Prelude.{◌≡◌};
 ghost use Rattle.pb_rows.specs.Date.{IsDay};
-ghost use Rattle.pb_site.specs.Service.{day_of_closing, day_of_opening, first_served, is_eve, is_in_service_on, is_in_service_throughout, is_in_service_within, is_reversed, last_served};
+ghost use Rattle.pb_site.specs.Service.{day_of_opening, first_served, is_eve, is_in_service_throughout, is_in_service_within, is_reversed, last_served};
 
 use crate::declared::Service;
 
@@ -18,7 +18,7 @@ pub fn is_reversed(service: Option<Service>) -> bool
 
 /// Whether a stream or tank is in service on a day.
 pub fn is_in_service_on(service: Option<Service>, day: i32) -> bool
-    ensures { result ≡ is_in_service_on service day }
+    ensures { result ≡ is_in_service_within service day day }
 {
     match service {
         None => true,
@@ -86,7 +86,7 @@ pub fn opening_day(service: Option<Service>, first: i32) -> i32
 
 /// The day at whose end a tank has its closing content: the last day in service up to `last`.
 pub fn closing_day(service: Option<Service>, last: i32) -> i32
-    ensures { result ≡ day_of_closing service last }
+    ensures { result ≡ last_served service last }
 {
     last_served(service, last)
 }

@@ -1,12 +1,12 @@
 // The declared plant.
 
-ghost use Rattle.std.specs.Prelude.{◌≡◌, ◌≤◌, ◌<◌, ◌∷◌, ◌++◌, [], length, Option, Some, None, IfOk, OnOk, OnErr, IsTrue, ◌↔◌, position, slice_get, option_and_then, option_copied};
-ghost use Rattle.pb_limits.specs.Limits.{most_nodes, most_streams};
+ghost use Rattle.std.specs.Prelude.{◌≡◌, ◌≤◌, ◌<◌, ◌∷◌, ◌++◌, [], length, Option, Some, None, IfOk, OnOk, OnErr, IsTrue, ◌↔◌, nat_le, position, slice_get, option_and_then, option_copied};
+ghost use Rattle.pb_limits.specs.Limits.{most_boundaries, most_nodes, most_streams};
 ghost use Rattle.pb_rows.specs.Name.{same_name};
 ghost use Rattle.pb_site.specs.Row.{IsDeclaredInRange};
 ghost use Rattle.pb_site.specs.Laws.{IsDeclaredPlant};
-ghost use Rattle.pb_site.specs.Site.{HasDistinctNames, IsArc, arc_named, arc_names, arcs_of, global_of, is_tank, kind_of, measure_of, names_of, nodal_of, node_names, node_of, service_in, table_of, table_of_arc, version_of};
-ghost use Rattle.pb_site.specs.Faults.{has_most_arcs, has_most_boundaries, has_most_nodes, is_declaration_out_of_order, is_duplicate_declaration, is_mismatched_declaration, is_node, is_one_node, is_plant_full, is_taken, most_arcs, refers_to_unknown, site_fault_of};
+ghost use Rattle.pb_site.specs.Site.{HasDistinctNames, IsArc, arc_named, arc_names, arcs_of, boundary_names, global_of, is_tank, kind_of, measure_of, names_of, nodal_of, node_names, node_of, service_in, table_of, table_of_arc, version_of};
+ghost use Rattle.pb_site.specs.Faults.{has_most_arcs, has_most_nodes, is_declaration_out_of_order, is_duplicate_declaration, is_mismatched_declaration, is_node, is_one_node, is_plant_full, is_taken, most_arcs, refers_to_unknown, site_fault_of};
 
 use crate::declared::{Arc, ArcKind, Declared, Service, SiteFault, Version};
 use crate::index::{Index, env, is_env};
@@ -358,7 +358,7 @@ impl Site {
 
     // Whether there are already as many boundaries as are allowed.
     fn has_most_boundaries(&self) -> bool
-        ensures { result ≡ has_most_boundaries self.now }
+        ensures { result ≡ nat_le most_boundaries (length (boundary_names self.now)) }
     {
         self.index.boundaries.len() >= MOST_BOUNDARIES
     }

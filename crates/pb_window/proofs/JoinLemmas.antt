@@ -1,5 +1,5 @@
 -- Each stream of a window joins two nodes of its graph.
-use Rattle.std.specs.Prelude.{IfSome, slice_get, option_map, nat_lt}
+use Rattle.std.specs.Prelude.{IfSome, slice_get, option_and_then, option_map, nat_lt, if◌then◌else◌}
 use Rattle.std.specs.List.{AllByRecursion, enumerate_from, list_any, range_with_len}
 use Rattle.std.proofs.Common.{◌≡◌, ◌∙◌, ℕ, ◌+◌, ◌-◌, ◌≤◌, ℤ, Bool, true, ◌||◌, ◌&&◌, List, [], length, get_or, Option, None, Some, Ok, inl, inr, refl, sym, ap, subst, arith}
 use Rattle.std.specs.Prelude.{◌==◌}
@@ -17,7 +17,7 @@ use Rattle.pb_window.specs.declared.window.Window.{Window}
 use Rattle.pb_window.specs.declared.window.WindowNode.{WindowNode}
 use Rattle.pb_window.specs.declared.window.WindowStream.{WindowStream}
 use Rattle.pb_window.specs.Plant.{IsPlant, IsPlantArc, NumberedArc, arcs_in, is_end, is_node_in, is_served}
-use Rattle.pb_window.specs.Window.{IsWindow, IsWindowStream, NumberedSpan, content_day, content_end, content_after, contents_of_arc, flow_of, flows_of_period, if_served, is_too_great, stands_for, stay_of, numbered_spans, unless_too_great, window_contents, window_flows, window_nodes, window_shape, window_streams}
+use Rattle.pb_window.specs.Window.{IsWindow, IsWindowStream, NumberedSpan, content_day, content_end, content_after, contents_of_arc, flow_of, flows_of_period, is_too_great, stands_for, stay_of, unless_too_great, window_contents, window_flows, window_nodes, window_shape, window_streams}
 use Rattle.pb_window.specs.Laws.{WindowFormLaw}
 use Rattle.pb_window.proofs.ListLemmas.{all_flat, all_join, all_kept, all_mapped, all_numbered, all_range, or_true}
 use Rattle.pb_window.proofs.NumberLemmas.{HasNodes, nodes_apart, number_small, number_some, periods_apart, periods_have}
@@ -76,7 +76,7 @@ flows_join plant is nodes numbered has =
 -- ---- contents
 
 -- a period that an arc is in service in
-pub stay_parts : (arc : PlantArc) (span : Span) (o : Option Span) → if_served arc o ≡ Some span → (o ≡ Some span) × (is_served span arc ≡ true)
+pub stay_parts : (arc : PlantArc) (span : Span) (o : Option Span) → option_and_then (λ (one : Span). if is_served one arc then Some one else None) o ≡ Some span → (o ≡ Some span) × (is_served span arc ≡ true)
 stay_parts arc span None is = cc is
 stay_parts arc span (Some one) is =
     let parts = cond_some (is_served one arc) one span is in
@@ -84,7 +84,7 @@ stay_parts arc span (Some one) is =
 
 -- a tank in service in a period is a node of it
 stay_there : (plant : Plant) (nodes : List WindowNode) (spans : List Span) (arc : PlantArc) (period : ℕ) (span : Span)
-    → AllByRecursion (HasNodes plant nodes) (numbered_spans spans) → IsArcOf plant arc → arc.is_tank ≡ true → stay_of spans arc period ≡ Some span
+    → AllByRecursion (HasNodes plant nodes) (enumerate_from 1 spans) → IsArcOf plant arc → arc.is_tank ≡ true → stay_of spans arc period ≡ Some span
     → list_any (stands_for period arc.from) nodes ≡ true
 stay_there plant nodes spans arc period span have is tank stay = elim (cases_Bool (period == 0)) [
   | inl none ↦ cc (rw none at stay)
@@ -95,8 +95,8 @@ stay_there plant nodes spans arc period span have is tank stay = elim (cases_Boo
       let d : NumberedSpan = (0, span) in
       let at = get_or-enumerate_from 1 spans (period - 1) d lt in
       let long = length-enumerate_from 1 spans in
-      let here : HasNodes plant nodes (get_or (numbered_spans spans) (period - 1) d) =
-      All-from_recursion (HasNodes plant nodes) (numbered_spans spans) have (period - 1) d (omega (arith, long, lt)) in
+      let here : HasNodes plant nodes (get_or (enumerate_from 1 spans) (period - 1) d) =
+      All-from_recursion (HasNodes plant nodes) (enumerate_from 1 spans) have (period - 1) d (omega (arith, long, lt)) in
       let has : HasNodes plant nodes (1 + (period - 1), get_or spans (period - 1) span) = subst (HasNodes plant nodes) at here in
       let own : get_or spans (period - 1) span ≡ span = get_or_from_slice_get spans (period - 1) span span parts.0 in
       let number : 1 + (period - 1) ≡ period = omega (arith, later) in
@@ -106,7 +106,7 @@ stay_there plant nodes spans arc period span have is tank stay = elim (cases_Boo
       subst (λ (t : ℕ). list_any (stands_for t arc.from) nodes ≡ true) number (has arc.from is_node first is.0.from)
 ]
 
-content_joins : (plant : Plant) (nodes : List WindowNode) (spans : List Span) → AllByRecursion (HasNodes plant nodes) (numbered_spans spans)
+content_joins : (plant : Plant) (nodes : List WindowNode) (spans : List Span) → AllByRecursion (HasNodes plant nodes) (enumerate_from 1 spans)
     → (numbered : NumberedArc) → IsArcOf plant numbered.1 → numbered.1.is_tank ≡ true → (period : ℕ)
     → IfSome (content_after nodes spans numbered period) (IsWindowStream (1 + length nodes))
 content_joins plant nodes spans have numbered is tank period = by (stay_of spans arc period) (stay_of spans arc (period + 1)) refl refl
@@ -141,7 +141,7 @@ content_joins plant nodes spans have numbered is tank period = by (stay_of spans
           apart = periods_apart nodes period (period + 1) arc.from (λ same. absurd (omega (arith, same))) there;
         }
 
-contents_join : (plant : Plant) (nodes : List WindowNode) (spans : List Span) → AllByRecursion (HasNodes plant nodes) (numbered_spans spans)
+contents_join : (plant : Plant) (nodes : List WindowNode) (spans : List Span) → AllByRecursion (HasNodes plant nodes) (enumerate_from 1 spans)
     → (numbered : NumberedArc) → IsArcOf plant numbered.1 → AllByRecursion (IsWindowStream (1 + length nodes)) (contents_of_arc nodes spans numbered)
 contents_join plant nodes spans have numbered is = elim (cases_Bool numbered.1.is_tank) [
   | inl tank ↦ rw tank (all_mapped (λ (period : ℕ). Unit {0}) (IsWindowStream (1 + length nodes)) (content_after nodes spans numbered)
@@ -153,7 +153,7 @@ contents_join plant nodes spans have numbered is = elim (cases_Bool numbered.1.i
 
 streams_join : (plant : Plant) (spans : List Span) → IsPlant plant → AllByRecursion (IsWindowStream (1 + length (window_nodes plant spans))) (window_streams plant spans)
 streams_join plant spans is = all_join joins (window_flows plant.arcs nodes spans) (window_contents plant.arcs nodes spans)
-    (all_flat (HasNodes plant nodes) joins (flows_of_period plant.arcs nodes) (flows_join plant is nodes) (numbered_spans spans) have)
+    (all_flat (HasNodes plant nodes) joins (flows_of_period plant.arcs nodes) (flows_join plant is nodes) (enumerate_from 1 spans) have)
     (all_flat (λ (numbered : NumberedArc). IsArcOf plant numbered.1) joins (contents_of_arc nodes spans) (contents_join plant nodes spans have)
     (enumerate_from 0 plant.arcs) (all_numbered (IsArcOf plant) 0 plant.arcs (arcs_are plant is)))
   where
@@ -163,7 +163,7 @@ streams_join plant spans is = all_join joins (window_flows plant.arcs nodes span
     joins : WindowStream → Type 0
     joins = IsWindowStream (1 + length nodes)
 
-    have : AllByRecursion (HasNodes plant nodes) (numbered_spans spans)
+    have : AllByRecursion (HasNodes plant nodes) (enumerate_from 1 spans)
     have = periods_have plant [] 1 spans
 
 form_by : (shape window : Window) → AllByRecursion (IsWindowStream (1 + length shape.nodes)) shape.streams → unless_too_great shape ≡ Ok window → IsWindow window

@@ -8,8 +8,8 @@ use Rattle.std.proofs.Math.Seq.{take-suc}
 use Rattle.pb_window.specs.declared.plant.PlantArc.{PlantArc}
 use Rattle.pb_window.specs.declared.plant.Plant.{Plant}
 use Rattle.pb_window.specs.declared.plant.Span.{Span}
-use Rattle.pb_window.specs.Joined.{AreJoined, MarksEnds, is_marked}
-use Rattle.pb_window.specs.Plant.{is_end, is_joined, is_node_in, is_served}
+use Rattle.pb_window.specs.Joined.{AreJoined, MarksEnds, is_joined, is_marked}
+use Rattle.pb_window.specs.Plant.{is_end, is_node_in, is_served}
 
 or_false : (b : Bool) → (b || false) ≡ b
 or_false true = refl

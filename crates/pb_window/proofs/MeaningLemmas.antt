@@ -11,7 +11,7 @@ use Rattle.pb_window.specs.declared.window.Window.{Window}
 use Rattle.pb_window.specs.declared.window.WindowNode.{WindowNode}
 use Rattle.pb_window.specs.declared.window.WindowStream.{WindowStream}
 use Rattle.pb_window.specs.Plant.{NumberedArc, arcs_in, is_node_in, is_served, nodes_in}
-use Rattle.pb_window.specs.Window.{NumberedSpan, content_after, content_day, content_end, contents_of_arc, flow_of, flows_of_period, nodes_of_period, numbered_spans, span_of, stay_of, window_contents, window_flows, window_node, window_nodes, window_shape, window_streams}
+use Rattle.pb_window.specs.Window.{NumberedSpan, content_after, content_day, content_end, contents_of_arc, flow_of, flows_of_period, nodes_of_period, span_of, stay_of, window_contents, window_flows, window_node, window_nodes, window_shape, window_streams}
 use Rattle.pb_window.specs.Meaning.{IsNodeOf, IsStreamOf}
 use Rattle.pb_window.specs.Laws.{WindowLaw}
 use Rattle.pb_window.proofs.ListLemmas.{all_flat, all_join, all_kept, all_mapped, all_numbered, all_range}
@@ -57,9 +57,9 @@ range_within a (suc n) e least most = ((least, omega (arith, most)), range_withi
 
 pub window_is : WindowLaw
 window_is plant spans window answer = subst (λ (w : Window). All (IsNodeOf plant spans) w.nodes × All (IsStreamOf plant spans w.nodes) w.streams) (shape_in (window_shape plant spans) window answer) (
-  All-from_recursion (IsNodeOf plant spans) nodes (all_flat (IsSpanAt spans) (IsNodeOf plant spans) (nodes_of_period plant) nodes_of_one (numbered_spans spans) spans_are),
+  All-from_recursion (IsNodeOf plant spans) nodes (all_flat (IsSpanAt spans) (IsNodeOf plant spans) (nodes_of_period plant) nodes_of_one (enumerate_from 1 spans) spans_are),
   All-from_recursion IsOne (window_streams plant spans) (all_join IsOne (window_flows plant.arcs nodes spans) (window_contents plant.arcs nodes spans)
-      (all_flat (IsSpanAt spans) IsOne (flows_of_period plant.arcs nodes) flows_of_one (numbered_spans spans) spans_are)
+      (all_flat (IsSpanAt spans) IsOne (flows_of_period plant.arcs nodes) flows_of_one (enumerate_from 1 spans) spans_are)
       (all_flat (IsAt plant.arcs) IsOne (contents_of_arc nodes spans) contents_of_one (enumerate_from 0 plant.arcs) arcs_are)),
 )
   where
@@ -69,7 +69,7 @@ window_is plant spans window answer = subst (λ (w : Window). All (IsNodeOf plan
     IsOne : WindowStream → Type 0
     IsOne = IsStreamOf plant spans nodes
 
-    spans_are : AllByRecursion (IsSpanAt spans) (numbered_spans spans)
+    spans_are : AllByRecursion (IsSpanAt spans) (enumerate_from 1 spans)
     spans_are = all_spans spans 0 spans (λ k span at. let e : k ≡ 0 + k = omega arith in subst (λ (i : ℕ). slice_get spans i ≡ Some span) e at)
 
     arcs_are : AllByRecursion (IsAt plant.arcs) (enumerate_from 0 plant.arcs)

@@ -18,7 +18,7 @@ use Rattle.pb_window.specs.declared.window.Window.{Window}
 use Rattle.pb_window.specs.declared.window.WindowNode.{WindowNode}
 use Rattle.pb_window.specs.declared.window.WindowStream.{WindowStream}
 use Rattle.pb_window.specs.Plant.{IsPlant, NumberedArc, arcs_in}
-use Rattle.pb_window.specs.Window.{NumberedSpan, content_day, content_end, content_after, contents_of_arc, flow_of, flows_of_period, is_too_great, stay_of, numbered_spans, unless_too_great, window_contents, window_flows, window_nodes, window_shape, window_streams}
+use Rattle.pb_window.specs.Window.{NumberedSpan, content_day, content_end, content_after, contents_of_arc, flow_of, flows_of_period, is_too_great, stay_of, unless_too_great, window_contents, window_flows, window_nodes, window_shape, window_streams}
 use Rattle.pb_window.specs.Codes.{AreDistinctNames, AreWindowNames, code_text, node_code, source_letter, stream_code}
 use Rattle.pb_window.specs.Laws.{WindowNamesLaw}
 use Rattle.pb_window.proofs.CodeLemmas.{coded_name, codes_apart}
@@ -138,7 +138,7 @@ same_codes letter (s ∷ streams) are =
     ap₂ (λ (l : ℕ) (rest : List (List ℕ)). code_text l s.period s.place ∷ rest) are.0 (same_codes letter streams are.1)
 
 flow_letters : (arcs : List PlantArc) (nodes : List WindowNode) (spans : List Span) → AllByRecursion (HasLetter 115) (window_flows arcs nodes spans)
-flow_letters arcs nodes spans = all_flat (λ (numbered : NumberedSpan). Unit {0}) (HasLetter 115) (flows_of_period arcs nodes) (λ numbered _. of_period numbered) (numbered_spans spans) (all_true (numbered_spans spans))
+flow_letters arcs nodes spans = all_flat (λ (numbered : NumberedSpan). Unit {0}) (HasLetter 115) (flows_of_period arcs nodes) (λ numbered _. of_period numbered) (enumerate_from 1 spans) (all_true (enumerate_from 1 spans))
   where
     of_one : (period : ℕ) (placed : ℕ × NumberedArc) → IfSome (flow_of nodes period placed) (HasLetter 115)
     of_one period placed = elim (cases_Bool placed.1.1.is_tank) [ inl tank ↦ rw tank tt | inr flow ↦ rw flow refl ]

@@ -13,7 +13,7 @@ use Rattle.pb_window.specs.declared.window.Source.TheVariants.{Content}
 use Rattle.pb_window.specs.declared.window.WindowNode.{WindowNode}
 use Rattle.pb_window.specs.declared.window.WindowStream.{WindowStream}
 use Rattle.pb_window.specs.Plant.{NumberedArc, arcs_in, is_node_in, is_served, nodes_in}
-use Rattle.pb_window.specs.Window.{NumberedSpan, content_after, content_day, content_end, contents_of_arc, flow_of, flows_of_period, nodes_of_period, numbered_spans, stay_of, window_contents, window_flows, window_node, window_nodes, window_shape, window_streams}
+use Rattle.pb_window.specs.Window.{NumberedSpan, content_after, content_day, content_end, contents_of_arc, flow_of, flows_of_period, nodes_of_period, stay_of, window_contents, window_flows, window_node, window_nodes, window_shape, window_streams}
 use Rattle.pb_window.specs.Places.{HasNodeNames, HasStreamNames, HaveNames}
 use Rattle.pb_window.specs.Laws.{WindowPlacesLaw}
 use Rattle.pb_window.proofs.ListLemmas.{all_flat, all_join, all_kept, all_mapped, all_numbered, all_range}
@@ -81,9 +81,9 @@ content_named names periods nodes spans numbered period long lt = by (stay_of sp
 pub places_are : WindowPlacesLaw
 places_are plant spans window names periods answer few_nodes few_arcs few_periods = subst (HaveNames names periods) (shape_in (window_shape plant spans) window answer) (record {
   nodes = All-from_recursion (HasNodeNames names periods) nodes
-      (all_flat IsThere (HasNodeNames names periods) (nodes_of_period plant) nodes_of_one (numbered_spans spans) spans_there);
+      (all_flat IsThere (HasNodeNames names periods) (nodes_of_period plant) nodes_of_one (enumerate_from 1 spans) spans_there);
   streams = All-from_recursion (HasStreamNames names periods) (window_streams plant spans) (all_join (HasStreamNames names periods) (window_flows plant.arcs nodes spans) (window_contents plant.arcs nodes spans)
-      (all_flat IsThere (HasStreamNames names periods) (flows_of_period plant.arcs nodes) flows_of_one (numbered_spans spans) spans_there)
+      (all_flat IsThere (HasStreamNames names periods) (flows_of_period plant.arcs nodes) flows_of_one (enumerate_from 1 spans) spans_there)
       (all_flat IsNamed (HasStreamNames names periods) (contents_of_arc nodes spans) contents_of_one (enumerate_from 0 plant.arcs) arcs_named));
 })
   where
@@ -96,7 +96,7 @@ places_are plant spans window names periods answer few_nodes few_arcs few_period
     IsNamed : NumberedArc → Type 0
     IsNamed numbered = (0 ≤ numbered.0) × (numbered.0 < length plant.arcs)
 
-    spans_there : AllByRecursion IsThere (numbered_spans spans)
+    spans_there : AllByRecursion IsThere (enumerate_from 1 spans)
     spans_there = all_places 1 1 (1 + length spans) spans (omega arith) (omega arith)
 
     arcs_named : AllByRecursion IsNamed (enumerate_from 0 plant.arcs)

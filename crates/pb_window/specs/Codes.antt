@@ -15,16 +15,14 @@ use Rattle.pb_window.specs.declared.window.WindowStream.{WindowStream}
 abbrev pub code_text : ℕ → ℕ → ℕ → List ℕ
 code_text letter period place = letter ∷ (decimal_text period ++ dot ∷ decimal_text place)
 
--- the letters of nodes, flows and contents: `n`, `s` and `c`
-abbrev pub node_letter : ℕ
-node_letter = 110
-
+-- the letters of flows and contents: `s` and `c`
 abbrev pub source_letter : Source → ℕ
 source_letter Flow = 115
 source_letter (Content day) = 99
 
+-- the name of a node, which has the letter `n`
 abbrev pub node_code : WindowNode → List ℕ
-node_code node = code_text node_letter node.period node.place
+node_code node = code_text 110 node.period node.place
 
 abbrev pub stream_code : WindowStream → List ℕ
 stream_code stream = code_text (source_letter stream.source) stream.period stream.place

@@ -1,5 +1,5 @@
 -- Statement. The graph of a window, with what was measured.
-use Rattle.std.specs.Prelude.{◌≡◌, ℕ, ◌+◌, ◌<◌, List, [], ◌∷◌, length, slice_get, Option, Some}
+use Rattle.std.specs.Prelude.{◌≡◌, ℕ, ◌+◌, ◌<◌, List, length, map, zip, slice_get, Option, Some}
 use Rattle.pb_graph.specs.declared.records.Meas.{Meas}
 use Rattle.pb_graph.specs.declared.records.Stream.{Stream}
 use Rattle.pb_graph.specs.ProcessGraph.{ProcessGraph, IsWithinLimits}
@@ -13,9 +13,7 @@ abbrev pub graph_stream : WindowStream → Option Meas → Stream
 graph_stream stream meas = record { from = stream.from; to = stream.to; meas = meas }
 
 abbrev pub graph_streams : List WindowStream → List (Option Meas) → List Stream
-graph_streams [] measured = []
-graph_streams (stream ∷ streams) [] = []
-graph_streams (stream ∷ streams) (meas ∷ measured) = graph_stream stream meas ∷ graph_streams streams measured
+graph_streams streams measured = map (λ (one : WindowStream × Option Meas). graph_stream one.0 one.1) (zip streams measured)
 
 -- The graph of a window: the environment with its nodes, and its streams with what was measured of them.
 abbrev pub window_graph : Window → List (Option Meas) → ProcessGraph

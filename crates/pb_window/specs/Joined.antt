@@ -1,8 +1,13 @@
 -- Inside. Which nodes the arcs in service in a period join, marked in one pass over the arcs.
-use Rattle.std.specs.Prelude.{◌≡◌, ℕ, ◌<◌, ◌||◌, Bool, false, List, length, slice_index_or}
+use Rattle.std.specs.Prelude.{◌≡◌, ℕ, ◌<◌, ◌&&◌, ◌||◌, Bool, false, List, length, slice_index_or}
+use Rattle.std.specs.List.{list_any}
 use Rattle.pb_window.specs.declared.plant.PlantArc.{PlantArc}
 use Rattle.pb_window.specs.declared.plant.Span.{Span}
-use Rattle.pb_window.specs.Plant.{is_end, is_joined}
+use Rattle.pb_window.specs.Plant.{is_end, is_served}
+
+-- an arc in service joins a node in a period
+abbrev pub is_joined : List PlantArc → Span → ℕ → Bool
+is_joined arcs span node = list_any (λ (arc : PlantArc). is_served span arc && is_end node arc) arcs
 
 -- a node is marked
 abbrev pub is_marked : List Bool → ℕ → Bool

@@ -2,6 +2,7 @@
 use Rattle.std.specs.Prelude.{◌≡◌, ◌≢◌, ℕ, ◌≤◌, ◌==◌, ◌&&◌, ◌||◌, ℤ, pos, ◌-ℤ◌, int_le, Bool, true, List, length, filter, All, Option, Some, None}
 use Rattle.std.specs.Int.{int_max, int_min}
 use Rattle.std.specs.List.{enumerate_from, list_any, range_with_len}
+use Rattle.std.specs.Option.{option_map_or}
 use Rattle.pb_limits.specs.Limits.{most_streams, most_units_and_tanks}
 use Rattle.pb_rows.specs.Date.{IsDay}
 use Rattle.pb_window.specs.declared.plant.Plant.{Plant}
@@ -9,36 +10,25 @@ use Rattle.pb_window.specs.declared.plant.PlantArc.{PlantArc}
 use Rattle.pb_window.specs.declared.plant.Service.{Service}
 use Rattle.pb_window.specs.declared.plant.Span.{Span}
 
--- in service on some day of a period; without days of service, on every day
-abbrev pub is_in_service : Option Service → Span → Bool
-is_in_service None span = true
-is_in_service (Some service) span = int_le service.since span.last && int_le span.first service.until
-
--- an arc that is in service in a period
+-- an arc that is in service on some day of a period; without days of service, it is on every day
 abbrev pub is_served : Span → PlantArc → Bool
-is_served span arc = is_in_service arc.service span
+is_served span arc = option_map_or (λ (s : Service). int_le s.since span.last && int_le span.first s.until) arc.service true
 
 -- the day at whose end the content of a tank opens in a period: the day before its first day of service there
 abbrev pub opening_day : Option Service → Span → ℤ
-opening_day None span = span.first -ℤ pos 1
-opening_day (Some service) span = int_max span.first service.since -ℤ pos 1
+opening_day service span = option_map_or (λ (s : Service). int_max span.first s.since) service span.first -ℤ pos 1
 
 -- and the day at whose end it closes: its last day of service there
 abbrev pub closing_day : Option Service → Span → ℤ
-closing_day None span = span.last
-closing_day (Some service) span = int_min span.last service.until
+closing_day service span = option_map_or (λ (s : Service). int_min span.last s.until) service span.last
 
 -- a node is an end of an arc
 abbrev pub is_end : ℕ → PlantArc → Bool
 is_end node arc = (arc.from == node) || (arc.to == node)
 
--- an arc in service joins a node in a period
-abbrev pub is_joined : List PlantArc → Span → ℕ → Bool
-is_joined arcs span node = list_any (λ (arc : PlantArc). is_served span arc && is_end node arc) arcs
-
 -- A unit or tank is a node of the graph of a period if an arc in service joins it, or if idle ones are kept.
 abbrev pub is_node_in : Plant → Span → ℕ → Bool
-is_node_in plant span node = plant.keeps_idle || is_joined plant.arcs span node
+is_node_in plant span node = plant.keeps_idle || list_any (λ (arc : PlantArc). is_served span arc && is_end node arc) plant.arcs
 
 -- these units and tanks, in order
 abbrev pub nodes_in : Plant → Span → List ℕ

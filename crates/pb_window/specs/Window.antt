@@ -1,6 +1,6 @@
 -- Statement. The nodes and streams of several periods at once, with what tanks hold between two of them as streams.
-use Rattle.std.specs.Prelude.{◌≢◌, ℕ, ◌<◌, ◌≤◌, All, ◌+◌, ◌-◌, ◌==◌, ◌&&◌, ◌||◌, ℤ, nat_lt, Bool, List, [], ◌++◌, length, map, position, slice_get, Option, Some, None, option_map, Result, Ok, Err, if◌then◌else◌}
-use Rattle.std.specs.Option.{option_map_or}
+use Rattle.std.specs.Prelude.{◌≢◌, ℕ, ◌<◌, ◌≤◌, All, ◌+◌, ◌-◌, ◌==◌, ◌&&◌, ◌||◌, ℤ, nat_lt, Bool, List, [], ◌++◌, length, map, position, slice_get, Option, Some, None, option_and_then, option_map, Result, Ok, Err, if◌then◌else◌}
+use Rattle.std.specs.Option.{option_map_or, option_or}
 use Rattle.std.specs.List.{enumerate_from, filter_map, flat_map, range_with_len}
 use Rattle.pb_limits.specs.Limits.{most_nodes, most_streams}
 use Rattle.pb_window.specs.declared.plant.Plant.{Plant}
@@ -18,9 +18,6 @@ use Rattle.pb_window.specs.Plant.{NumberedArc, arcs_in, closing_day, is_served, 
 abbrev pub NumberedSpan : Type 0
 NumberedSpan = ℕ × Span
 
-abbrev pub numbered_spans : List Span → List NumberedSpan
-numbered_spans spans = enumerate_from 1 spans
-
 -- ---- nodes
 
 -- a node of a period, by its place in the graph of the period and its number in the plant
@@ -33,7 +30,7 @@ nodes_of_period plant numbered = map (window_node numbered.0) (enumerate_from 1 
 
 -- The nodes of a window except the environment: those of each period in turn.
 abbrev pub window_nodes : Plant → List Span → List WindowNode
-window_nodes plant spans = flat_map (nodes_of_period plant) (numbered_spans spans)
+window_nodes plant spans = flat_map (nodes_of_period plant) (enumerate_from 1 spans)
 
 -- a node of the window stands for this node of the plant in this period
 abbrev pub stands_for : ℕ → ℕ → WindowNode → Bool
@@ -65,7 +62,7 @@ flows_of_period arcs nodes numbered = filter_map (flow_of nodes numbered.0) (enu
 
 -- The flows of a window: those of each period in turn.
 abbrev pub window_flows : List PlantArc → List WindowNode → List Span → List WindowStream
-window_flows arcs nodes spans = flat_map (flows_of_period arcs nodes) (numbered_spans spans)
+window_flows arcs nodes spans = flat_map (flows_of_period arcs nodes) (enumerate_from 1 spans)
 
 -- ---- contents
 
@@ -73,26 +70,19 @@ window_flows arcs nodes spans = flat_map (flows_of_period arcs nodes) (numbered_
 abbrev pub span_of : List Span → ℕ → Option Span
 span_of spans period = if period == 0 then None else slice_get spans (period - 1)
 
--- a period, if an arc is in service in it
-abbrev pub if_served : PlantArc → Option Span → Option Span
-if_served arc None = None
-if_served arc (Some span) = if is_served span arc then Some span else None
-
 -- the period with a number, if there is one and an arc is in service in it
 abbrev pub stay_of : List Span → PlantArc → ℕ → Option Span
-stay_of spans arc period = if_served arc (span_of spans period)
+stay_of spans arc period =
+    option_and_then (λ (span : Span). if is_served span arc then Some span else None) (span_of spans period)
 
 -- The day at whose end the content between two periods is held: the day at whose end it closes in the period before, or, if the tank isn't
 -- in service then, the day at whose end it opens in the period after. There is no content if the tank is in service in neither.
 abbrev pub content_day : PlantArc → Option Span → Option Span → Option ℤ
-content_day arc (Some before) after = Some (closing_day arc.service before)
-content_day arc None (Some after) = Some (opening_day arc.service after)
-content_day arc None None = None
+content_day arc before after = option_or (option_map (closing_day arc.service) before) (option_map (opening_day arc.service) after)
 
 -- an end of a content: the tank's node in a period in which it is in service, otherwise the environment
 abbrev pub content_end : List WindowNode → ℕ → PlantArc → Option Span → ℕ
-content_end nodes period arc None = 0
-content_end nodes period arc (Some span) = window_number_of nodes period arc.from
+content_end nodes period arc stay = option_map_or (λ _. window_number_of nodes period arc.from) stay 0
 
 -- what a tank holds after the period with a number (0 for the first opening) and before the next one
 abbrev pub content_after : List WindowNode → List Span → NumberedArc → ℕ → Option WindowStream

@@ -3,7 +3,7 @@
 ghost use Rattle.std.specs.Prelude.{◌≡◌, ◌<◌, ◌≤◌, ◌^◌, ◌++◌, length, All, IfSome, OnOk};
 ghost use Rattle.pb_limits.specs.Limits.{most_periods_of_window, most_streams};
 ghost use Rattle.pb_window.specs.Plant.{IsSpan};
-ghost use Rattle.pb_window.specs.Window.{content_after, content_day, content_end, contents_of_arc, if_served, span_of, stay_of, window_contents};
+ghost use Rattle.pb_window.specs.Window.{content_after, content_day, content_end, contents_of_arc, span_of, stay_of, window_contents};
 
 use crate::nodes::number_of;
 use crate::plant::{PlantArc, Span, closing_day, is_served, opening_day};

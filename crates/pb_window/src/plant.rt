@@ -1,7 +1,7 @@
 // A plant with its days of service, and which parts of it are there in a period.
 
 ghost use Rattle.std.specs.Prelude.{◌≡◌, ◌↔◌, IsTrue};
-ghost use Rattle.pb_window.specs.Plant.{IsPlant, IsPlantArc, IsSpan, closing_day, is_in_service, is_served, opening_day};
+ghost use Rattle.pb_window.specs.Plant.{IsPlant, IsPlantArc, IsSpan, closing_day, is_served, opening_day};
 
 use pb_graph::List;
 use pb_limits::{MOST_STREAMS, MOST_UNITS_AND_TANKS};

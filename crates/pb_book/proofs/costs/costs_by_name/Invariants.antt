@@ -4,7 +4,8 @@ use Rattle.std.specs.List.{fold}
 use Rattle.std.proofs.Common.{◌≡◌, ℕ, pos, List, drop}
 use Rattle.pb_rows.specs.Name.{same_name}
 use Rattle.pb_kinds.specs.Costs.{IsMeterCost}
-use Rattle.pb_book.specs.Costs.{cost_after, cost_named}
+use Rattle.pb_book.specs.Costs.{cost_named}
+use Rattle.pb_book.proofs.CostLemmas.{cost_after}
 use Rattle.pb_book.proofs.costs.costs_by_name.Given as goal
 
 -- what was named so far, and then the rest, gives each stream its cost

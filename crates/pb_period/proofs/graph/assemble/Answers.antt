@@ -7,7 +7,7 @@ use Rattle.pb_periods.specs.declared.period.Period.{Period}
 use Rattle.pb_book.specs.Rows.{declared_of}
 use Rattle.pb_period.specs.declared.days.Days.{Days}
 use Rattle.pb_period.specs.Days.{days_of}
-use Rattle.pb_period.specs.PeriodGraph.{IsStreamOfGraph, assembly_in, graph_in}
+use Rattle.pb_period.specs.PeriodGraph.{IsStreamOfGraph, graph_in, within_limits}
 use Rattle.pb_period.proofs.graph.assemble.Goals as goal
 
 -- what holds for the version and the days of a period that is found holds for the period
@@ -21,7 +21,7 @@ pub returns-in-Two-clause-answer : goal.returns-in-Two-clause-answer
 returns-in-Two-clause-answer c = λ sure.
     let rows = c.args.book.now in
     let version_is : version_of (declared_of rows) ≡ Two = sym (c.in-Two.ensures.value ∙ ap version_of c.site.ensures.value) in
-    found_at (λ version days. c.served_graph.result ≡ assembly_in version rows days) Two (version_of (declared_of rows)) c.of-days.result _ c.period.result version_is c.of-days.ensures
+    found_at (λ version days. c.served_graph.result ≡ within_limits (graph_in version rows days)) Two (version_of (declared_of rows)) c.of-days.result _ c.period.result version_is c.of-days.ensures
     c.period.ensures.value (c.served_graph.ensures.answer sure)
 
 pub returns-in-Two-clause-over : goal.returns-in-Two-clause-over

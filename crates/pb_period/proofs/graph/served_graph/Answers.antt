@@ -16,7 +16,7 @@ use Rattle.pb_site.specs.OnDays.{is_arc_in_service, nodes_on}
 use Rattle.pb_site.specs.Site.{arcs_of, version_of}
 use Rattle.pb_facts.specs.Facts.{live_facts}
 use Rattle.pb_book.specs.Rows.{declared_of, facts_of}
-use Rattle.pb_period.specs.PeriodGraph.{graph_in, is_over, measured_served, stream_among}
+use Rattle.pb_period.specs.PeriodGraph.{graph_in, is_over, stream_among, measured_in}
 use Rattle.pb_period.proofs.GraphLemmas.{finished, kept_has, kept_next, left_next, over_at}
 use Rattle.pb_period.proofs.graph.served_graph.Goals.{then-is_in_service_within+else-is_over+in_ok-push, else-is_in_service_within}
 use Rattle.pb_period.proofs.graph.served_graph.Goals as goal
@@ -92,7 +92,7 @@ returns-then-is_over-clause-answer c = λ _.
     let at = rw c.site-site.ensures.value at c.arc-arc.ensures.value in
     let test = is_arc_in_service days.first days.last in
     let serves : test c.arc-arc.result ≡ true = sym serves_is ∙ c.if-is_in_service_within.true in
-    let measure = measured_served declared (live_facts (facts_of rows)) days in
+    let measure = measured_in Two declared (live_facts (facts_of rows)) days in
     let f = stream_among (nodes_on Two declared days.first days.last) measure in
     let made = c.loop-j.graph.streams in
     let stream : Stream = c.served_stream-stream.result in
@@ -115,7 +115,7 @@ returns-then-is_over-clause-over c =
     let at = rw c.site-site.ensures.value at c.arc-arc.ensures.value in
     let test = is_arc_in_service days.first days.last in
     let serves : test c.arc-arc.result ≡ true = sym serves_is ∙ c.if-is_in_service_within.true in
-    let f = stream_among (nodes_on Two declared days.first days.last) (measured_served declared (live_facts (facts_of rows)) days) in
+    let f = stream_among (nodes_on Two declared days.first days.last) (measured_in Two declared (live_facts (facts_of rows)) days) in
     let made = c.loop-j.graph.streams in
     let rest = map f (filter test (drop (c.loop-j.j + 1) (arcs_of declared))) in
     let split : (graph_in Two rows days).streams ≡ made ++ f c.arc-arc.result ∷ rest =
@@ -130,7 +130,7 @@ returns-clause-answer c = λ _.
     let days = c.args.days in
     let declared = declared_of rows in
     let arcs = arcs_of declared in
-    let f = stream_among (nodes_on Two declared days.first days.last) (measured_served declared (live_facts (facts_of rows)) days) in
+    let f = stream_among (nodes_on Two declared days.first days.last) (measured_in Two declared (live_facts (facts_of rows)) days) in
     let past : length arcs ≤ c.loop-j.j = rw (← c.site-site.ensures.value) (omega (arith, c.loop-j-test.false, c.arcs-j-end.ensures.value)) in
     let all = none_left (is_arc_in_service days.first days.last) f (graph_in Two rows days).streams c.loop-j.graph.streams arcs c.loop-j.j past c.loop-j.invariant.so_far in
     finished (graph_in Two rows days) c.loop-j.graph c.loop-j.invariant.nodes all c.loop-j.invariant.within
@@ -147,7 +147,7 @@ loop-j-preserved c =
     let part_is = nodes_at c.site-site.result.now declared days.first days.last c.in_ok-part.part c.site-site.ensures.value c.requires.version is in
     let at = rw c.site-site.ensures.value at c.arc-arc.ensures.value in
     let test = is_arc_in_service days.first days.last in
-    let measure = measured_served declared (live_facts (facts_of rows)) days in
+    let measure = measured_in Two declared (live_facts (facts_of rows)) days in
     let f = stream_among (nodes_on Two declared days.first days.last) measure in
     let made = c.loop-j.graph.streams in
     elim c.if-is_in_service_within.branch [

@@ -6,7 +6,7 @@ use Rattle.pb_site.specs.OnDays.{is_arc_in_service, nodes_on}
 use Rattle.pb_site.specs.Site.{arcs_of}
 use Rattle.pb_book.specs.Rows.{declared_of, facts_of}
 use Rattle.pb_facts.specs.Facts.{live_facts}
-use Rattle.pb_period.specs.PeriodGraph.{graph_in, is_over, measured_served, stream_among}
+use Rattle.pb_period.specs.PeriodGraph.{graph_in, is_over, stream_among, measured_in}
 use Rattle.pb_period.proofs.graph.served_graph.Given as goal
 
 abbrev pub invariant-loop-j : goal.invariant-loop-j
@@ -17,6 +17,6 @@ invariant-loop-j l =
     record {
       nodes : l.graph.nodes ≡ length places;
       counted : length l.graph.streams ≤ l.j;
-      so_far : (graph_in Two l.book l.days).streams ≡ l.graph.streams ++ map (stream_among places (measured_served declared (live_facts (facts_of l.book)) l.days)) left;
+      so_far : (graph_in Two l.book l.days).streams ≡ l.graph.streams ++ map (stream_among places (measured_in Two declared (live_facts (facts_of l.book)) l.days)) left;
       within : All (λ (stream : Stream). is_over stream ≡ false) l.graph.streams;
     }

@@ -5,11 +5,11 @@ use Rattle.std.proofs.lemmas.Int.{ints, to_z-of_z}
 use Rattle.pb_facts.specs.declared.fact.Fact.{Fact}
 use Rattle.pb_facts.specs.Fact.{is_dip_on}
 use Rattle.pb_facts.specs.Facts.{live_facts}
-use Rattle.pb_site.specs.Service.{day_of_closing}
 use Rattle.pb_period.specs.declared.amount.Amount.{Amount}
 use Rattle.pb_period.specs.Facts.{content_of}
 use Rattle.pb_period.specs.Measurement.{change_of, closing_less_opening}
 use Rattle.pb_period.proofs.measured.change.Goals as goal
+use Rattle.pb_site.specs.Service.{last_served}
 
 pub returns-in_err-opening-clause-value : goal.returns-in_err-opening-clause-value
 returns-in_err-opening-clause-value c =
@@ -19,7 +19,7 @@ returns-in_err-opening-clause-value c =
     let opening = rw day_is at (simp to_z-of_z at c.in_err-opening.ensures.found) in
     c.from_residual.ensures
     ∙ ap (λ (o : Option Fact). change_of (content_of c.args.strap.now) o
-    (find (is_dip_on c.args.tank.now (day_of_closing c.args.service c.args.days.last)) (live_facts c.args.facts.now))) opening
+    (find (is_dip_on c.args.tank.now (last_served c.args.service c.args.days.last)) (live_facts c.args.facts.now))) opening
 
 pub returns-in_err-closing-clause-value : goal.returns-in_err-closing-clause-value
 returns-in_err-closing-clause-value c =

@@ -7,12 +7,11 @@ use Rattle.pb_facts.specs.Facts.{live_facts}
 use Rattle.pb_site.specs.Service.{first_served, last_served}
 use Rattle.pb_period.specs.declared.amount.Amount.{Amount}
 use Rattle.pb_period.specs.Amounts.{IsAmount}
-use Rattle.pb_period.specs.Days.{each_of}
 use Rattle.pb_period.specs.Facts.{read_on}
-use Rattle.pb_period.specs.Measurement.{served_days}
 use Rattle.pb_period.proofs.AmountLemmas.{none_is_amount, of_more_facts}
 use Rattle.pb_period.proofs.DayLemmas.{days_until, gap_past, read_end, read_more, read_none, read_start, served_within, step}
 use Rattle.pb_period.proofs.measured.read_total.Goals as goal
+use Rattle.pb_periods.specs.Windows.{days_between}
 
 pub loop-day-init : goal.loop-day-init
 loop-day-init c =
@@ -37,8 +36,8 @@ loop-day-init c =
       from = omega (arith, ints);
       few = omega (arith, none);
       so_far = ap₂ (λ (a b : ℤ). read_more c.zero-total.result read (days_until a b)) start_is end_is
-          ∙ ap (λ (total : Amount). read_more total read (each_of (served_days service days))) c.zero-total.ensures
-          ∙ read_start read (each_of (served_days service days));
+          ∙ ap (λ (total : Amount). read_more total read (days_between (first_served service days.first) (last_served service days.last))) c.zero-total.ensures
+          ∙ read_start read (days_between (first_served service days.first) (last_served service days.last));
       small = of_more_facts 0 (int_gap start start) c.zero-total.result (omega arith) (subst (IsAmount 0) (sym c.zero-total.ensures) none_is_amount);
     }
 

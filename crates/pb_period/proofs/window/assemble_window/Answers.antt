@@ -7,7 +7,7 @@ use Rattle.pb_window.specs.declared.graph.WindowAssembly.{WindowAssembly}
 use Rattle.pb_window.specs.declared.graph.WindowAssembly.TheVariants.{Over}
 use Rattle.pb_window.specs.Graph.{IsFirstOutside, IsFirstStreamOutside, graph_streams, window_graph}
 use Rattle.pb_period.specs.PeriodGraph.{within_limits}
-use Rattle.pb_period.specs.WindowGraph.{measured_window, periods_at, stream_measured, window_measured}
+use Rattle.pb_period.specs.WindowGraph.{periods_at, stream_measured, window_measured}
 use Rattle.pb_period.proofs.GraphLemmas.{finished}
 use Rattle.pb_period.proofs.WindowLemmas.{IsLeast, as_many_streams, none_over_of, outside_over, outside_within, streams_least}
 use Rattle.pb_period.proofs.window.assemble_window.Goals as goal
@@ -26,7 +26,7 @@ window_graph-requires-clause-each c =
 pub returns-in-Ok-clause-answer : goal.returns-in-Ok-clause-answer
 returns-in-Ok-clause-answer c = λ _.
     let window = c.args.window.now in
-    let whole = measured_window c.args.book.now (periods_at c.args.book.now c.args.places.now) window in
+    let whole = window_graph window (window_measured c.args.book.now (periods_at c.args.book.now c.args.places.now) window) in
     let limits : IsProcessGraph c.in-Ok.graph = search rules in
     let same : c.in-Ok.graph ≡ whole = c.in-Ok.ensures.ok ∙ ap (window_graph window) (c.deref.ensures.value ∙ c.in_ok-measured.ensures.value) in
     finished whole c.in-Ok.graph (ap (λ (g : ProcessGraph). g.nodes) same) (sym (ap (λ (g : ProcessGraph). g.streams) same)) (none_over_of c.in-Ok.graph limits)

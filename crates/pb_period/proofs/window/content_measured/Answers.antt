@@ -1,4 +1,4 @@
-use Rattle.std.specs.Prelude.{option_and_then}
+use Rattle.std.specs.Prelude.{option_and_then, if◌then◌else◌}
 use Rattle.std.specs.Option.{option_map}
 use Rattle.std.proofs.Common.{◌≡◌, ◌∙◌, ℕ, List, Option, Some, None, FitsSigned, slice_get, sym, ap, arith}
 use mir.Syntax.{w32, w128}
@@ -10,8 +10,8 @@ use Rattle.pb_site.specs.declared.declared.Arc.{Arc}
 use Rattle.pb_site.specs.declared.declared.ArcKind.{ArcKind}
 use Rattle.pb_site.specs.declared.declared.ArcKind.TheVariants.{Metered, Batch, Plain, Tank}
 use Rattle.pb_site.specs.declared.declared.Declared.{Declared}
-use Rattle.pb_site.specs.Row.{IsArcBase}
-use Rattle.pb_site.specs.Site.{arcs_of, table_of_arc, table_of_kind}
+use Rattle.pb_site.specs.Row.{IsArcBase, is_inventory}
+use Rattle.pb_site.specs.Site.{arcs_of, table_of_arc, points_of_tank}
 use Rattle.pb_facts.specs.Facts.{live_facts}
 use Rattle.pb_book.specs.Rows.{declared_of, facts_of}
 use Rattle.pb_period.specs.declared.amount.Amount.{Amount}
@@ -23,7 +23,7 @@ use Rattle.pb_period.proofs.window.content_measured.Goals as goal
 tank_base : (declared : List Declared) (arc : Arc) (points : List Point) → table_of_arc declared arc ≡ Some points → IsArcBase arc.kind arc.base → IsBaseVariance arc.base
 tank_base declared arc points is base = by arc.kind is base
   where
-    by : (kind : ArcKind) → table_of_kind declared arc.name kind ≡ Some points → IsArcBase kind arc.base → IsBaseVariance arc.base
+    by : (kind : ArcKind) → (if is_inventory kind then Some (points_of_tank declared arc.name) else None) ≡ Some points → IsArcBase kind arc.base → IsBaseVariance arc.base
     by Metered has base = base
     by Batch has base = base
     by Plain has base = cc has
