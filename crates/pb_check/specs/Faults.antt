@@ -54,9 +54,9 @@ IsPriceFault stage fault =
 -- ---- 5: the difference of the prices at the ends of the first measured stream outside its box, and the greatest difference inside the box
 abbrev pub IsBoxFault : Stage → Fault → Type 0
 IsBoxFault stage fault =
-    FirstFails (λ j. IsInBox (printed_price stage)) stage.graph.streams (λ j stream.
-    IsSomeAnd stream.meas (λ meas.
-    fault ≡ fault_at (Place.Stream j) (pos (unsigned_abs (rise_of (printed_price stage) stream)), room_of meas.variance)))
+    let price = printed_price stage in
+    FirstFails (λ j. IsInBox price) stage.graph.streams (λ j stream. IsSomeAnd stream.meas (λ meas.
+    fault ≡ fault_at (Place.Stream j) (pos (unsigned_abs (rise_of price stream)), room_of meas.variance)))
 
 -- ---- 9 and 13: lo of the first stream whose bounds, or least bounds, aren't those of the rule, and that of the rule; if these agree, hi
 abbrev pub IsBoundsFault : Stage → (StreamResult → Option Bounds) → (ℕ → StreamResult → Option Bounds) → Fault → Type 0

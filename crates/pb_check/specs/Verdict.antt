@@ -62,7 +62,8 @@ abbrev pub Fails : Stage → ℕ → ℕ → Test → Fault → Type 0
 Fails stage gap sweeps Class fault =
     FirstFails (HasClassAt stage) stage.streams (λ j r. fault ≡ bare_fault_at (Stream j))
 Fails stage gap sweeps Witness fault =
-    FirstFails (λ j r. IsCertified stage.graph j r.classified) stage.streams (λ j r. fault ≡ bare_fault_at (Stream j))
+    FirstFails (λ j r. IsCertified stage.graph j r.classified) stage.streams
+    (λ j r. fault ≡ bare_fault_at (Stream j))
 Fails stage gap sweeps Balance fault = IsBalanceFault stage fault
 Fails stage gap sweeps Price fault = IsPriceFault stage fault
 Fails stage gap sweeps Box fault = IsBoxFault stage fault
@@ -70,13 +71,15 @@ Fails stage gap sweeps Freedom fault =
     (dof : ℕ) × HasFreedom stage.graph.streams dof × IsWholeFault (stage.dof ≡ dof) (pos stage.dof, pos dof) fault
 Fails stage gap sweeps Gap fault =
     let found = found_gap stage in
-    IsWholeFault (printed_gap stage ≡ found) (first_differing (pos stage.h) (pos found.h) (pos stage.g) (pos found.g)) fault
+    IsWholeFault (Passes stage gap sweeps Gap)
+    (first_differing (pos stage.h) (pos found.h) (pos stage.g) (pos found.g)) fault
 Fails stage gap sweeps State fault =
-    IsWholeFault (IsStateAt gap sweeps (printed_gap stage) stage.solved) (pos (sweeps_of stage.solved), pos sweeps) fault
+    IsWholeFault (Passes stage gap sweeps State) (pos (sweeps_of stage.solved), pos sweeps) fault
 Fails stage gap sweeps Bounds fault = IsBoundsFault stage (λ r. r.bounds) (found_bounds stage) fault
 Fails stage gap sweeps Statistic fault =
-    IsWholeFault ((stage.low ≡ found_low stage) × (stage.high ≡ found_high stage))
-    (first_differing stage.low (found_low stage) (unwrap_or stage.high (negsuc 0)) (unwrap_or (found_high stage) (negsuc 0))) fault
+    IsWholeFault (Passes stage gap sweeps Statistic)
+    (first_differing stage.low (found_low stage)
+    (unwrap_or stage.high (negsuc 0)) (unwrap_or (found_high stage) (negsuc 0))) fault
 Fails stage gap sweeps Nodal fault =
     IsSomeAnd stage.tests (λ tests. (rule : List NodalTest) × AreNodalTests stage.graph None rule
     × AreRowsFault (map unjudged tests.nodal) rule fault)
