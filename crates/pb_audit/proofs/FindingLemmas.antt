@@ -8,9 +8,10 @@ use Rattle.pb_readback.specs.Next.{AreBlocks, Found, IsFound, IsNext, Next, NoBl
 use Rattle.pb_check.specs.declared.faults.Place.{Place}
 use Rattle.pb_check.specs.declared.faults.Test.{Test}
 use Rattle.pb_check.specs.Verdict.{IsFirstFault}
-use Rattle.pb_check.specs.Laws.{SoundLaw}
+use Rattle.pb_check.specs.Laws.{IsSound, SoundLaw}
 use Rattle.pb_check.specs.VerdictLaws.{HasFault, NotBothLaw, OneFaultLaw, SomeVerdictLaw}
-use Rattle.pb_audit.specs.Judgement.{AreFindings, Finding, Finds, IsCertifiedFinding, IsPassedBlock, failed, passed, unreadable}
+use Rattle.pb_audit.specs.Judgement.{AreFindings, Finding, Finds, IsPassedBlock, failed, passed, unreadable}
+use Rattle.pb_audit.specs.Laws.{IsCertifiedFinding}
 
 abbrev Record : Type 0
 Record = List (List ℕ)
@@ -32,20 +33,28 @@ fewer_behind at records behind (failed block test place stated what) found = few
 fewer_behind at records behind (unreadable number fault) found =
     omega (arith, some_refused at records found.0.0 number fault found.0.1, ap (λ (l : List Record). length l) found.1)
 
+-- ---- a block that passes is certified
+
+pub passed_sound : FormedBlockLaw → SoundLaw → (at : ℕ) (records behind : List Record) (block : Block) → IsNext at records (Found block behind) → IsPassedBlock block → IsSound block.stage block.gap
+passed_sound formed sound at records behind block found passes =
+    let fine = formed records behind block found in
+    sound block.stage block.gap block.sweeps fine.graph fine.formed passes
+
 -- ---- something is found
 
 -- what is found in the records after a block, and so with it
-with_block : (at : ℕ) (records rest : List Record) (block : Block) → IsFound records block rest → IsPassedBlock block ⊎ HasFault block.stage block.gap block.sweeps
+with_block : FormedBlockLaw → SoundLaw → (at : ℕ) (records rest : List Record) (block : Block) → IsFound records block rest → IsPassedBlock block ⊎ HasFault block.stage block.gap block.sweeps
     → (findings : List Finding) × AreFindings (at + (length records - length rest)) rest findings → (findings : List Finding) × AreFindings at records findings
-with_block at records rest block found (inl passes) (findings, are) = (passed block ∷ findings, (rest, (found, passes), are))
-with_block at records rest block found (inr fault) (findings, are) =
+with_block formed sound at records rest block found (inl passes) (findings, are) =
+    (passed block ∷ findings, (rest, (found, passes, passed_sound formed sound at records rest block found passes), are))
+with_block formed sound at records rest block found (inr fault) (findings, are) =
     (failed block fault.test fault.place fault.stated fault.found ∷ findings, (rest, (found, fault.is), are))
 
-some_of : NextLaw → FormedBlockLaw → SomeVerdictLaw → (n at : ℕ) (records : List Record) → length records ≤ n → (findings : List Finding) × AreFindings at records findings
-some_of next formed verdict zero at [] le = ([], refl)
-some_of next formed verdict zero at (r ∷ records) le = absurd (omega (arith, le))
-some_of next formed verdict (suc n) at records le =
-    by (next.some at records) (λ rest fewer. some_of next formed verdict n (at + (length records - length rest)) rest (omega (arith, le, fewer)))
+some_of : NextLaw → FormedBlockLaw → SoundLaw → SomeVerdictLaw → (n at : ℕ) (records : List Record) → length records ≤ n → (findings : List Finding) × AreFindings at records findings
+some_of next formed sound verdict zero at [] le = ([], refl)
+some_of next formed sound verdict zero at (r ∷ records) le = absurd (omega (arith, le))
+some_of next formed sound verdict (suc n) at records le =
+    by (next.some at records) (λ rest fewer. some_of next formed sound verdict n (at + (length records - length rest)) rest (omega (arith, le, fewer)))
   where
     by : (next : Next) × IsNext at records next
         → ((rest : List Record) → length rest < length records → (findings : List Finding) × AreFindings (at + (length records - length rest)) rest findings)
@@ -53,11 +62,11 @@ some_of next formed verdict (suc n) at records le =
     by (NoBlock, is) behind = ([], is)
     by (Found block rest, is) behind =
         let fine = formed records rest block is in
-        with_block at records rest block is (verdict block.stage block.gap block.sweeps fine.graph fine.formed) (behind rest (fewer_found records rest block is))
+        with_block formed sound at records rest block is (verdict block.stage block.gap block.sweeps fine.graph fine.formed) (behind rest (fewer_found records rest block is))
     by (Refused number fault left, is) behind = (unreadable number fault ∷ [], ([], ((left, is), refl), refl))
 
-pub some_findings : NextLaw → FormedBlockLaw → SomeVerdictLaw → (at : ℕ) (records : List Record) → (findings : List Finding) × AreFindings at records findings
-some_findings next formed verdict at records = some_of next formed verdict (length records) at records (omega arith)
+pub some_findings : NextLaw → FormedBlockLaw → SoundLaw → SomeVerdictLaw → (at : ℕ) (records : List Record) → (findings : List Finding) × AreFindings at records findings
+some_findings next formed sound verdict at records = some_of next formed sound verdict (length records) at records (omega arith)
 
 -- ---- nothing else is found
 
@@ -139,25 +148,23 @@ one_findings law at records (f ∷ fs) (g ∷ gs) (behind, is, more) (left, has,
 
 -- ---- each block that passes is certified
 
-pub certified_findings : FormedBlockLaw → SoundLaw → (at : ℕ) (records : List Record) (findings : List Finding) → AreFindings at records findings → All IsCertifiedFinding findings
-certified_findings formed sound at records [] are = All-nil IsCertifiedFinding
-certified_findings formed sound at records (passed block ∷ findings) (behind, found, more) =
-    let fine = formed records behind block found.0 in
-    All-cons IsCertifiedFinding (passed block) findings (sound block.stage block.gap block.sweeps fine.graph fine.formed found.1)
-    (certified_findings formed sound (at + (length records - length behind)) behind findings more)
-certified_findings formed sound at records (failed block test place stated what ∷ findings) (behind, found, more) =
-    All-cons IsCertifiedFinding (failed block test place stated what) findings tt
-    (certified_findings formed sound (at + (length records - length behind)) behind findings more)
-certified_findings formed sound at records (unreadable number fault ∷ findings) (behind, found, more) =
-    All-cons IsCertifiedFinding (unreadable number fault) findings tt
-    (certified_findings formed sound (at + (length records - length behind)) behind findings more)
+pub certified_findings : (at : ℕ) (records : List Record) (findings : List Finding) → AreFindings at records findings → All IsCertifiedFinding findings
+certified_findings at records [] are = All-nil IsCertifiedFinding
+certified_findings at records (passed block ∷ findings) (behind, found, more) =
+    All-cons IsCertifiedFinding (passed block) findings found.2 (certified_findings (at + (length records - length behind)) behind findings more)
+certified_findings at records (failed block test place stated what ∷ findings) (behind, found, more) =
+    All-cons IsCertifiedFinding (failed block test place stated what) findings tt (certified_findings (at + (length records - length behind)) behind findings more)
+certified_findings at records (unreadable number fault ∷ findings) (behind, found, more) =
+    All-cons IsCertifiedFinding (unreadable number fault) findings tt (certified_findings (at + (length records - length behind)) behind findings more)
 
 -- ---- records that are blocks which pass
 
-pub passed_findings : (at : ℕ) (records : List Record) (blocks : List Block) → AreBlocks records blocks → All IsPassedBlock blocks → AreFindings at records (map (λ (block : Block). passed block) blocks)
-passed_findings at records [] are pass = are
-passed_findings at records (block ∷ blocks) (rest, found, more) pass = (
-  rest,
-  (found, All-head IsPassedBlock block blocks pass),
-  passed_findings (at + (length records - length rest)) rest blocks more (All-tail IsPassedBlock block blocks pass),
-)
+pub passed_findings : FormedBlockLaw → SoundLaw → (at : ℕ) (records : List Record) (blocks : List Block) → AreBlocks records blocks → All IsPassedBlock blocks
+    → AreFindings at records (map (λ (block : Block). passed block) blocks)
+passed_findings formed sound at records [] are pass = are
+passed_findings formed sound at records (block ∷ blocks) (rest, found, more) pass =
+    let passes = All-head IsPassedBlock block blocks pass in (
+      rest,
+      (found, passes, passed_sound formed sound at records rest block found passes),
+      passed_findings formed sound (at + (length records - length rest)) rest blocks more (All-tail IsPassedBlock block blocks pass),
+    )

@@ -1,5 +1,5 @@
 -- What is found next, by what was read and judged.
-use Rattle.std.proofs.Common.{◌≡◌, ◌∙◌, ℕ, ◌+◌, ◌-◌, List, [], ◌∷◌, ◌++◌, length, Some, ap, sym, refl, subst, arith}
+use Rattle.std.proofs.Common.{◌≡◌, ℕ, ◌+◌, ◌-◌, List, [], ◌∷◌, ◌++◌, length, Some, ap, sym, refl, subst, arith}
 use Rattle.pb_rows.specs.RecordsLeft.{RecordsLeft}
 use Rattle.pb_readback.specs.declared.block.Block.{Block}
 use Rattle.pb_blocks.specs.declared.fault.RowFault.{RowFault}
@@ -7,10 +7,12 @@ use Rattle.pb_readback.specs.Next.{AreCounted, Found, IsNext, Refused}
 use Rattle.pb_check.specs.Verdict.{IsFirstFault}
 use Rattle.pb_audit.specs.declared.judge.Judged.{Judged}
 use Rattle.pb_audit.specs.declared.judge.Judged.TheVariants.{Passed, Failed, Unreadable}
-use Rattle.pb_audit.specs.Judgement.{Finding, Finds, IsPassedBlock, failed, passed, text_of_findings, unreadable}
+use Rattle.pb_audit.specs.Judgement.{Finding, Finds, IsPassedBlock, failed, passed, unreadable}
 use Rattle.pb_audit.specs.Judging.{AppendsVerdict, IsVerdictOn}
-use Rattle.pb_audit.specs.Next.{AppendsFinding, GoesOn, TakesNoMore, judged_of}
-use Rattle.pb_audit.proofs.FindingLemmas.{fewer_behind}
+use Rattle.pb_audit.specs.Next.{AppendsFinding, GoesOn, TakesNoMore, judged_of, text_of_findings}
+use Rattle.pb_check.proofs.CheckLaws.{sound}
+use Rattle.pb_readback.proofs.ReadbackLaws.{formed_holds}
+use Rattle.pb_audit.proofs.FindingLemmas.{fewer_behind, passed_sound}
 
 goes_on : (old new : RecordsLeft) (judged : Judged) (finding : Finding) → judged ≡ judged_of finding → Finds old.taken old.left finding new.left
     → new.taken + length new.left ≡ old.taken + length old.left → GoesOn old new new.left judged
@@ -46,7 +48,9 @@ block_next old new block judged before after next counted verdict = by verdict.f
 
     by : (finding : Finding) → judged ≡ judged_of finding → IsVerdictOn block finding → after ≡ before ++ text_of_findings (finding ∷ []) → AppendsFinding old new (Some judged) before after
     by (passed other) is (same, passes) appended =
-        with (passed other) is (subst (λ (b : Block). IsNext old.taken old.left (Found b new.left)) (sym same) next, subst (λ (b : Block). IsPassedBlock b) (sym same) passes) tt appended
+        let found : IsNext old.taken old.left (Found other new.left) = subst (λ (b : Block). IsNext old.taken old.left (Found b new.left)) (sym same) next in
+        let holds : IsPassedBlock other = subst (λ (b : Block). IsPassedBlock b) (sym same) passes in
+        with (passed other) is (found, holds, passed_sound formed_holds sound old.taken old.left new.left other found holds) tt appended
     by (failed other test place stated found) is (same, first) appended =
         with (failed other test place stated found) is (
           subst (λ (b : Block). IsNext old.taken old.left (Found b new.left)) (sym same) next,

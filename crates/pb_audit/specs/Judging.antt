@@ -6,8 +6,8 @@ use Rattle.pb_check.specs.declared.faults.Place.{Place}
 use Rattle.pb_check.specs.declared.faults.Place.TheVariants.{Node, Stream, Whole}
 use Rattle.pb_check.specs.Verdict.{IsFirstFault}
 use Rattle.pb_audit.specs.declared.judge.Judged.{Judged}
-use Rattle.pb_audit.specs.Judgement.{Finding, IsPassedBlock, failed, passed, text_of_findings, unreadable}
-use Rattle.pb_audit.specs.Next.{judged_of}
+use Rattle.pb_audit.specs.Judgement.{Finding, IsPassedBlock, failed, passed, unreadable}
+use Rattle.pb_audit.specs.Next.{judged_of, text_of_findings}
 
 -- the node or stream at a place has a name
 abbrev pub IsPlaceOf : Names → Place → Type 0

@@ -1,5 +1,4 @@
 -- Statement
-pub mod Rows
 pub mod Judgement
 pub mod Next
 pub mod Laws

@@ -1,10 +1,16 @@
 -- Statement. One finding at a time.
-use Rattle.std.specs.Prelude.{◌≡◌, ℕ, ◌+◌, ◌-◌, List, [], ◌∷◌, ◌++◌, length, Option, Some, None}
+use Rattle.std.specs.Prelude.{◌≡◌, ℕ, ◌+◌, ◌-◌, List, [], ◌∷◌, ◌++◌, length, map, Option, Some, None}
 use Rattle.pb_rows.specs.RecordsLeft.{RecordsLeft}
 use Rattle.pb_readback.specs.Next.{AreCounted, IsNext, Refused}
+use Rattle.pb_report.specs.declared.form.Form.TheVariants.{Csv}
+use Rattle.pb_report.specs.Form.{text_in}
 use Rattle.pb_audit.specs.declared.judge.Judged.{Judged}
 use Rattle.pb_audit.specs.declared.judge.Judged.TheVariants.{Passed, Failed, Unreadable}
-use Rattle.pb_audit.specs.Judgement.{Finding, Finds, FindsNothing, failed, passed, text_of_findings, unreadable}
+use Rattle.pb_audit.specs.Judgement.{Finding, Finds, FindsNothing, failed, finding_row, passed, unreadable}
+
+-- the rows of findings, as `csv` writes them
+abbrev pub text_of_findings : List Finding → List ℕ
+text_of_findings findings = text_in Csv (map finding_row findings)
 
 -- the kind of a finding
 abbrev pub judged_of : Finding → Judged

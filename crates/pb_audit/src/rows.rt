@@ -8,7 +8,7 @@ ghost use Rattle.pb_check.specs.Verdict.{test_code};
 ghost use Rattle.pb_report.specs.Form.{AppendsRows};
 ghost use Rattle.pb_report.specs.Given.{given_row};
 ghost use Rattle.pb_report.specs.declared.form.Form.TheVariants.{Csv};
-ghost use Rattle.pb_audit.specs.Rows.{no_row, place_name, unreadable_row, yes_row};
+ghost use Rattle.pb_audit.specs.Judgement.{failed, finding_row, passed, place_name, unreadable};
 ghost use Rattle.pb_audit.specs.Judging.{IsPlaceOf};
 
 use pb_blocks::RowFault;
@@ -22,7 +22,7 @@ use std::alloc::{AllocError, Global};
 // Appends the row of a block that passes.
 pub(crate) fn write_yes(alloc: Global, block: &Block, out: &mut Vec<u8>) -> Result<(), AllocError>
     ensures ok { OnOk result
-        (AppendsRows Csv out.old.items out.new.items (yes_row block.now ∷ [])) }
+        (AppendsRows Csv out.old.items out.new.items (finding_row (passed block.now) ∷ [])) }
     ensures err { OnErr result (out.new.items ≡ out.old.items) }
 {
     write_row(alloc, OutputKind::Yes, &yes_values(block), Form::Csv, out)
@@ -40,7 +40,7 @@ pub(crate) fn write_no(
 ) -> Result<(), AllocError>
     requires { IsPlaceOf block.now.names place }
     ensures ok { OnOk result (AppendsRows Csv out.old.items out.new.items
-        (no_row block.now test place stated found ∷ [])) }
+        (finding_row (failed block.now test place stated found) ∷ [])) }
     ensures err { OnErr result (out.new.items ≡ out.old.items) }
 {
     let values = no_values(block, test, place, stated, found);
@@ -55,7 +55,7 @@ pub(crate) fn write_unreadable(
     out: &mut Vec<u8>,
 ) -> Result<(), AllocError>
     ensures ok { OnOk result (AppendsRows Csv out.old.items out.new.items
-        (unreadable_row at fault ∷ [])) }
+        (finding_row (unreadable at fault) ∷ [])) }
     ensures err { OnErr result (out.new.items ≡ out.old.items) }
 {
     let values = unreadable_values(at, fault);
@@ -63,7 +63,7 @@ pub(crate) fn write_unreadable(
 }
 
 fn yes_values<'a>(block: &'a Block) -> [Value<'a>; 3]
-    ensures { given_row OutputKind.Yes result ≡ yes_row block.now }
+    ensures { given_row OutputKind.Yes result ≡ finding_row (passed block.now) }
 {
     [
         Value::Word(0),
@@ -80,7 +80,8 @@ fn no_values<'a>(
     found: i128,
 ) -> [Value<'a>; 8]
     requires { IsPlaceOf block.now.names place }
-    ensures { given_row OutputKind.No result ≡ no_row block.now test place stated found }
+    ensures { given_row OutputKind.No result
+        ≡ finding_row (failed block.now test place stated found) }
 {
     [
         Value::Word(0),
@@ -95,7 +96,7 @@ fn no_values<'a>(
 }
 
 fn unreadable_values(at: u32, fault: RowFault) -> [Value<'static>; 4]
-    ensures { given_row OutputKind.Unreadable result ≡ unreadable_row at fault }
+    ensures { given_row OutputKind.Unreadable result ≡ finding_row (unreadable at fault) }
 {
     [
         Value::Word(0),

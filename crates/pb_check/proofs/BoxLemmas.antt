@@ -16,8 +16,9 @@ use Rattle.pb_dual.specs.Candidates.{room_of}
 use Rattle.pb_stage.specs.Printed.{printed_price}
 use Rattle.pb_check.specs.declared.faults.Fault.{Fault}
 use Rattle.pb_check.specs.declared.faults.Place.{Place}
-use Rattle.pb_check.specs.Asked.{IsInBoxAt}
-use Rattle.pb_check.specs.Faults.{IsBoxFault, IsOutOfBox}
+use Rattle.pb_check.specs.Faults.{IsBoxFault}
+use Rattle.pb_check.specs.Places.{IsInBoxAt, IsOutOfBox}
+use Rattle.pb_check.proofs.PlaceLemmas.{fails_here, some_and}
 
 -- the size of a product
 size_times : (v d : ℤ) → pos 1 ≤ℤ v → pos (unsigned_abs d) *ℤ v ≡ pos (unsigned_abs (v *ℤ d))
@@ -97,7 +98,11 @@ pub all_inside : (stage : Stage) → ((k : ℕ) → k < length stage.graph.strea
 all_inside stage each = λ k d lt. each k lt (get_or stage.graph.streams k d) (slice_get-get_or stage.graph.streams k d lt)
 
 pub box_fault_is : (stage : Stage) (j : ℕ) (fault : Fault) → j < length stage.graph.streams → ((k : ℕ) → k < j → IsInBoxAt stage k) → IsOutOfBox stage j fault → IsBoxFault stage fault
-box_fault_is stage j fault lt before out = record { place = j; first = record { within = lt; before = before; without = out.fails }; out = out }
+box_fault_is stage j fault lt before out =
+    let price = printed_price stage in
+    fails_here (λ k. IsInBox price) stage.graph.streams _ j out.stream out.stream_is before
+    (λ inside. out.fails (λ t there. subst (IsInBox price) (some_same (sym out.stream_is ∙ there)) inside))
+    (some_and out.stream.meas _ out.meas out.meas_is out.is)
 
 -- what is measured of a stream is within its limits
 pub measured_of : (graph : ProcessGraph) (j : ℕ) (s : Stream) (m : Meas) → IsProcessGraph graph → slice_get graph.streams j ≡ Some s → s.meas ≡ Some m → IsMeasurement m

@@ -17,8 +17,12 @@ use Rattle.pb_graph.proofs.ReachLemmas.{reach_decided}
 use Rattle.pb_graph.specs.Grouping.{Grouping, AreGroupsOf, IsLeastNode, least_at}
 use Rattle.pb_graph.proofs.GroupLaws.{number_below}
 use Rattle.pb_stage.specs.Printed.{printed_price}
-use Rattle.pb_check.specs.Asked.{IsLeastOfGroup, HasGroupPriceAt, AreGroupPrices}
-use Rattle.pb_check.specs.Faults.{IsOtherPrice}
+use Rattle.pb_check.specs.declared.faults.Fault.{Fault}
+use Rattle.pb_check.specs.declared.faults.Place.TheVariants.{Node}
+use Rattle.pb_check.specs.First.{IsFirstWithout}
+use Rattle.pb_check.specs.Asked.{IsLeastOfGroup, HasGroupPriceAt}
+use Rattle.pb_check.specs.Faults.{IsPriceFault, fault_at, first_differing}
+use Rattle.pb_check.specs.Places.{IsOtherPrice}
 use Rattle.pb_check.proofs.DecideLemmas.{least_with}
 
 -- the least node of a node's group, as the groups have it
@@ -57,6 +61,14 @@ same_least graph a b m same least = record {
   same = reach_both _ b a m (reach_back unmeasured graph.streams a b same) least.same;
   first = λ other way. least.first other (reach_both _ a b other same way);
 }
+
+-- the nodes of a group share a price, and nodes of groups that aren't free have price 0
+pub record AreGroupPrices (stage : Stage) : Type 0 where
+  pub shared :
+      (a b : ℕ) → a < stage.graph.nodes → b < stage.graph.nodes → SameGroup stage.graph.streams a b
+      → printed_price stage a ≡ printed_price stage b
+  pub fixed :
+      (n : ℕ) → n < stage.graph.nodes → (IsFreeGroup stage.graph n → ⊥) → printed_price stage n ≡ pos 0
 
 -- each node has the price of its group exactly when the prices are those of groups
 pub prices_by_nodes : (stage : Stage) → ((n : ℕ) → n < stage.graph.nodes → HasGroupPriceAt stage n) → AreGroupPrices stage
@@ -119,6 +131,20 @@ has_price stage n m least same fixed = record {
   shared = λ other is. same ∙ ap (printed_price stage) (one_least stage.graph n m other least is);
   fixed = fixed;
 }
+
+-- the numbers of a price and of that beside it
+numbers_by : (same : Bool) (price shared : ℤ) → fault_at (Node 0) (price, if same then pos 0 else shared) ≡ fault_at (Node 0) (if same then (price, pos 0) else (price, shared))
+numbers_by true price shared = refl
+numbers_by false price shared = refl
+
+pub price_fails : (stage : Stage) (node : ℕ) (found : ℤ) (fault : Fault) → IsFirstWithout (HasGroupPriceAt stage) stage.graph.nodes node → IsOtherPrice stage node found
+    → fault ≡ fault_at (Node node) (printed_price stage node, found) → IsPriceFault stage fault
+price_fails stage node found fault first other is =
+    let price = printed_price stage node in
+    let shared = printed_price stage other.least in
+    let numbers : fault_at (Node node) (price, found) ≡ fault_at (Node node) (first_differing price shared price (pos 0)) =
+    ap (λ (x : ℤ). fault_at (Node node) (price, x)) other.is ∙ ap (λ (f : Fault). record f { place = Node node }) (numbers_by (int_eq price shared) price shared) in
+    (node, other.least, first, other.is_least, is ∙ numbers)
 
 -- the same by what was looked up
 pub least_here : (graph : ProcessGraph) (groups : Grouping) (n k m : ℕ) → AreGroupsOf graph groups → n < graph.nodes → k ≡ group_at groups.group n

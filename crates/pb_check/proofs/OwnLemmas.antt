@@ -3,7 +3,6 @@ use Rattle.std.proofs.Common.{◌≡◌, ◌∙◌, ◌&&◌, ℕ, ℤ, Bool, Li
 use Rattle.std.specs.Prelude.{IfSome}
 use Rattle.std.proofs.lemmas.Bool.{cases_Bool}
 use Rattle.std.proofs.Math.Bool.{and-false, and-true}
-use Rattle.pb_fixed.proofs.Lists.{some_same}
 use Rattle.pb_graph.specs.declared.records.Stream.{Stream}
 use Rattle.pb_graph.specs.declared.records.Class.{Class}
 use Rattle.pb_graph.specs.declared.records.Class.TheVariants.{Observable, Unobservable, Redundant, Nonredundant}
@@ -26,9 +25,11 @@ use Rattle.pb_stage.specs.Printed.{have_least, printed_flows, printed_gap, print
 use Rattle.pb_stage.specs.Certified.{AreShownTests, IsShownStage, found_least}
 use Rattle.pb_check.specs.declared.faults.Test.TheVariants.{Balance, Price, Box, Freedom, State, Statistic, Nodal, Least}
 use Rattle.pb_check.specs.declared.faults.Test.{Test}
-use Rattle.pb_check.specs.Asked.{AreNodalRows, AreVerdicts, HasClass, IsStateAt, found_gap, is_bounded, is_of_measured}
+use Rattle.pb_check.specs.Asked.{HasClassAt, IsStateAt, found_gap, is_bounded, is_of_measured}
+use Rattle.pb_check.specs.Places.{AreNodalRows, AreVerdicts}
 use Rattle.pb_check.specs.Verdict.{IsPassed}
 use Rattle.pb_check.proofs.FirstLemmas.{each_fails}
+use Rattle.pb_check.proofs.GroupLemmas.{nodes_by_prices}
 
 -- ---- classes
 -- a class that is shown is that of the stream
@@ -72,18 +73,19 @@ least_beside stage j s r numbers there shows bounded = elim (cases_Bool (have_le
       each_fails (λ (r : StreamResult). is_some r.least) stage.streams j r none there ∙ sym (and-false (is_some r.bounds)) ∙ ap (λ (b : Bool). is_some r.bounds && b) (sym none)
 ]
 
-has_class : (stage : Stage) (j : ℕ) (s : Stream) (r : StreamResult) → IsShownStage stage → slice_get stage.graph.streams j ≡ Some s → slice_get stage.streams j ≡ Some r
-    → HasClass (have_least stage.streams) s r
-has_class stage j s r shown at there =
-    let (t, at_t, shows) = shown.shown j r there in
+has_class : (stage : Stage) (j : ℕ) (r : StreamResult) → IsShownStage stage → slice_get stage.streams j ≡ Some r → HasClassAt stage j r
+has_class stage j r shown there =
+    let (s, at, shows) = shown.shown j r there in
     let c = r.classified in
-    let here : Shows stage.graph j s c.class c.witness = subst (λ (u : Stream). Shows stage.graph j u c.class c.witness) (some_same (sym at_t ∙ at)) shows in
-    let bounded = ap is_some (shown.numbers.bounded j r there) ∙ class_bounded stage.graph j s c.class c.witness (printed_price stage) stage.graph.streams (printed_gap stage) here in
-    record {
-      measured = class_measured stage.graph j s c.class c.witness here;
-      bounded = bounded;
-      least_bounded = least_beside stage j s r shown.numbers.least_bounded there here bounded;
-    }
+    let bounded = ap is_some (shown.numbers.bounded j r there) ∙ class_bounded stage.graph j s c.class c.witness (printed_price stage) stage.graph.streams (printed_gap stage) shows in (
+      s,
+      at,
+      record {
+        measured = class_measured stage.graph j s c.class c.witness shows;
+        bounded = bounded;
+        least_bounded = least_beside stage j s r shown.numbers.least_bounded there shows bounded;
+      },
+    )
 
 -- ---- the state
 state_at : OneStateLaw → (g : ProcessGraph) (gap sweeps : ℕ) (solved : Solved) (price : ℕ → ℤ) (flows : List ℤ) (printed : Gap) → IsProcessGraph g → printed ≡ gap_of price g.streams flows
@@ -102,7 +104,7 @@ rows_if stage (Some tests) shown = shown.groups
 
 verdicts_if : (stage : Stage) (o : Option Tests) → IfSome o (AreShownTests stage) → IfSome o (AreVerdicts stage)
 verdicts_if stage None shown = tt
-verdicts_if stage (Some tests) shown = record { overall = shown.overall; nodal = shown.nodal; measure = shown.measure }
+verdicts_if stage (Some tests) shown = (shown.overall, shown.nodal, shown.measure)
 
 -- ---- all tests
 pub shown_passed : AreGaps → OneStateLaw → (stage : Stage) (gap sweeps : ℕ) → IsShownStage stage
@@ -112,16 +114,16 @@ shown_passed gaps one stage gap sweeps shown solution =
     λ test. passes same test
   where
     passes : printed_gap stage ≡ found_gap stage → IsPassed stage gap sweeps
-    passes same Test.Class = λ j s r at there. has_class stage j s r shown at there
+    passes same Test.Class = λ j r there. has_class stage j r shown there
     passes same Test.Witness = shown.shown
     passes same Balance = shown.balanced
-    passes same Price = record { shared = shown.fit.shared; fixed = shown.fit.fixed }
+    passes same Price = nodes_by_prices stage (record { shared = shown.fit.shared; fixed = shown.fit.fixed })
     passes same Box = shown.fit.box
     passes same Freedom = shown.numbers.freedom
     passes same Test.Gap = same
     passes same State = state_at one stage.graph gap sweeps stage.solved (printed_price stage) (printed_flows stage) (printed_gap stage) shown.limits same solution
     passes same Test.Bounds = shown.numbers.bounded
-    passes same Statistic = record { low = shown.numbers.from_below; high = shown.numbers.from_above }
+    passes same Statistic = (shown.numbers.from_below, shown.numbers.from_above)
     passes same Nodal = rows_if stage stage.tests shown.tests
     passes same Test.Verdict = verdicts_if stage stage.tests shown.tests
     passes same Least = shown.numbers.least_bounded

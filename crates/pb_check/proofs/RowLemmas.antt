@@ -1,6 +1,8 @@
 -- Rows and the tests of a graph, and verdicts.
-use Rattle.std.proofs.Common.{◌≡◌, ℕ, zero, suc, ◌<◌, pos, Bool, true, false, List, [], ◌∷◌, length, map, Option, Some, None, slice_get, get_or, All, refl, sym, ap₂, subst, inl, inr, arith}
-use Rattle.std.specs.Prelude.{IfNone, MatchOption, if◌then◌else◌}
+use Rattle.std.proofs.Common.{◌≡◌, ◌≢◌, ◌∙◌, ℕ, zero, suc, ◌<◌, pos, Bool, true, false, List, [], ◌∷◌, length, map, Option, Some, None, slice_get, get_or, All, refl, sym, ap, ap₂, subst, inl, inr, arith}
+use Rattle.std.specs.Prelude.{IfNone, MatchOption, option_map, if◌then◌else◌}
+use Rattle.std.proofs.lemmas.Option.{slice_get-map, slice_get_within}
+use Rattle.pb_fixed.proofs.Lists.{some_same}
 use Rattle.std.proofs.lemmas.List.{length-map}
 use Rattle.std.proofs.lemmas.List.Elements.{All-nil, All-cons, All-append}
 use Rattle.pb_graph.specs.declared.records.Stream.{Stream}
@@ -15,9 +17,11 @@ use Rattle.pb_stage.specs.Nodal.{AreNodalTests, nodal_test, nodal_tests_below, t
 use Rattle.pb_stage.specs.Laws.{IsNodalNumber}
 use Rattle.pb_stage.specs.Certified.{IsMeasureVerdict, IsNodalVerdict, unjudged}
 use Rattle.pb_check.specs.declared.faults.Fault.{Fault}
-use Rattle.pb_check.specs.Asked.{AreVerdicts, IsGlobalVerdict}
-use Rattle.pb_check.specs.First.{IsFirstOf}
-use Rattle.pb_check.specs.Faults.{AreVerdictsFault, IsFirstMeasure, IsFirstNodal, IsRowAt}
+use Rattle.pb_check.specs.declared.faults.Place.TheVariants.{Whole}
+use Rattle.pb_check.specs.Asked.{IsGlobalVerdict}
+use Rattle.pb_check.specs.Faults.{AreRowsFault, AreVerdictsFault, fault_at}
+use Rattle.pb_check.specs.Places.{AreVerdicts, IsFirstMeasure, IsFirstNodal, IsRowAt, IsRowDifference}
+use Rattle.pb_check.proofs.PlaceLemmas.{fails_here, some_and, some_at}
 
 -- ---- rows
 pub rows_same : (rows rule : List NodalTest) → length rows ≡ length rule → ((k : ℕ) → k < length rows → IsRowAt rows rule k) → map unjudged rows ≡ rule
@@ -27,6 +31,34 @@ rows_same (r ∷ rs) [] each at = absurd (omega (arith, each))
 rows_same (r ∷ rs) (t ∷ ts) each at =
     ap₂ (λ (x : NodalTest) (xs : List NodalTest). x ∷ xs) (at 0 (omega arith) r t refl refl)
     (rows_same rs ts (omega (arith, each)) (λ k lt row test here there. at (suc k) (omega (arith, lt)) row test here there))
+
+-- a row without its verdict is one of the rows
+pub row_of : (rows : List NodalTest) (place : ℕ) (row : NodalTest) → slice_get (map unjudged rows) place ≡ Some row
+    → (whole : NodalTest) × (slice_get rows place ≡ Some whole) × (unjudged whole ≡ row)
+row_of [] place row at = cc at
+row_of (r ∷ rows) zero row at = (r, refl, some_same at)
+row_of (r ∷ rows) (suc place) row at = row_of rows place row at
+
+-- the rows are too few or too many
+pub count_fails : (rows rule : List NodalTest) (fault : Fault) → length rows ≢ length rule → fault ≡ fault_at Whole (pos (length rows), pos (length rule))
+    → AreRowsFault (map unjudged rows) rule fault
+count_fails rows rule fault ne is =
+    let each = length-map rows unjudged in
+    inl ((λ same. ne (sym each ∙ same)), is ∙ ap (λ (n : ℕ). fault_at Whole (pos n, pos (length rule))) (sym each))
+
+-- the row at a place is the first that isn't its test
+pub row_fails : (rows rule : List NodalTest) (i : ℕ) (row test : NodalTest) (fault : Fault) → length rows ≡ length rule → slice_get rows i ≡ Some row → slice_get rule i ≡ Some test
+    → ((k : ℕ) → k < i → IsRowAt rows rule k) → IsRowDifference row test fault → AreRowsFault (map unjudged rows) rule fault
+row_fails rows rule i row test fault count at there before differ = inr (
+  length-map rows unjudged ∙ count,
+  fails_here (λ k r. slice_get rule k ≡ Some r) (map unjudged rows) _ i (unjudged row) (slice_get-map unjudged rows i ∙ ap (option_map unjudged) at)
+      (λ k lt other here.
+      let (whole, at_k, same) = row_of rows k other here in
+      let (t, there_k) = some_at rule k (omega (arith, lt, slice_get_within rows i row at, count)) in
+      there_k ∙ ap (λ (x : NodalTest). Some x) (sym (before k lt whole t at_k there_k) ∙ same))
+      (λ same. differ.differ (some_same (sym same ∙ there)))
+      (some_and (slice_get rule i) _ test there differ.is),
+)
 
 -- the tests of a graph without critical values have no verdicts
 bare_if : (b : Bool) (test : NodalTest) → unjudged test ≡ test → All (λ (t : NodalTest). unjudged t ≡ t) (if b then test ∷ [] else [])
@@ -62,13 +94,13 @@ numbers_by rows rule (Some fault) Q all fails = tt
 -- ---- verdicts
 pub nodal_fails : (stage : Stage) (tests : Tests) (fault : Fault) → IsGlobalVerdict stage tests → IsFirstNodal tests.nodal fault → AreVerdictsFault stage tests fault
 nodal_fails stage tests fault overall first =
-    inr (inl (overall, first))
+    inr (overall, inl first)
 
 pub measures_decide : (stage : Stage) (tests : Tests) (o : Option Fault) → IsGlobalVerdict stage tests → All IsNodalVerdict tests.nodal
     → MatchOption o (All IsMeasureVerdict tests.measure) (IsFirstMeasure tests.measure) → MatchOption o (AreVerdicts stage tests) (AreVerdictsFault stage tests)
-measures_decide stage tests None overall nodal measure = record { overall = overall; nodal = nodal; measure = measure }
+measures_decide stage tests None overall nodal measure = (overall, nodal, measure)
 measures_decide stage tests (Some fault) overall nodal first =
-    inr (inr (overall, nodal, first))
+    inr (overall, inr (nodal, first))
 
 -- what is there, and what isn't
 pub some_there : {A : Type 0} (o : Option A) (x : A) (P : Type 0) (Q : A → Type 0) → o ≡ Some x → MatchOption o P Q → Q x
@@ -84,11 +116,3 @@ some_row = record { node = 0; net = pos 0; variance = pos 0; critical = None; ve
 
 abbrev pub some_measure : MeasureTest
 some_measure = record { stream = 0; low = pos 0; high = None; critical = None; verdict = Reject }
-
-pub first_of : {A : Type 0} (P : A → Type 0) (rows : List A) (place : ℕ) (row : A) → place < length rows → slice_get rows place ≡ Some row
-    → ((k : ℕ) → k < place → (other : A) → slice_get rows k ≡ Some other → P other) → (P row → ⊥) → IsFirstOf P rows row
-first_of P rows place row lt at before fails = record {
-  place = place;
-  first = record { within = lt; before = before; without = λ all. fails (all row at) };
-  row_is = at;
-}

@@ -22,9 +22,11 @@ use Rattle.pb_stage.specs.Printed.{have_least, printed_flows, printed_gap, print
 use Rattle.pb_stage.specs.Signs.{AreWitnessSigns}
 use Rattle.pb_stage.specs.Certified.{found_bounds, found_least}
 use Rattle.pb_check.specs.declared.faults.Fault.{Fault}
-use Rattle.pb_check.specs.Asked.{found_gap, is_bounded, AtStream, HasClassAt}
-use Rattle.pb_check.specs.Faults.{DifferAt, IsLeastFault, IsEndsFault}
+use Rattle.pb_check.specs.Asked.{found_gap, is_bounded, HasClassAt}
+use Rattle.pb_check.specs.Faults.{IsBoundsFault}
+use Rattle.pb_check.specs.Places.{AtStream, DifferAt}
 use Rattle.pb_check.specs.Pairs.{IsPairOf}
+use Rattle.pb_check.proofs.PlaceLemmas.{fails_here, some_and}
 use Rattle.pb_check.proofs.OwnLemmas.{class_bounded, class_least_bounded}
 
 -- ---- the gap
@@ -44,18 +46,18 @@ pub result_signs : (stage : Stage) (j : ℕ) (r : StreamResult) → IsWellFormed
 result_signs stage j r formed at = signs_within stage.graph r.classified.witness (all_each (IsResultWithin stage.graph) stage.streams formed.results j r at).witness
 
 -- a stream has bounds exactly when the rule gives it some
-pub result_bounded : (stage : Stage) (j : ℕ) (r : StreamResult) → ((j : ℕ) → HasClassAt stage j) → EachStream stage (λ j r. IsCertified stage.graph j r.classified) → slice_get stage.streams j ≡ Some r
+pub result_bounded : (stage : Stage) (j : ℕ) (r : StreamResult) → EachStream stage (HasClassAt stage) → EachStream stage (λ j r. IsCertified stage.graph j r.classified) → slice_get stage.streams j ≡ Some r
     → is_some r.bounds ≡ is_some (stream_bounds (printed_price stage) stage.graph.streams (printed_gap stage) j r.classified)
 result_bounded stage j r classes shown at =
     let (s, there, shows) = shown j r at in
-    (classes j s r there at).bounded ∙ sym (class_bounded stage.graph j s r.classified.class r.classified.witness (printed_price stage) stage.graph.streams (printed_gap stage) shows)
+    (classes j r at).2.bounded ∙ sym (class_bounded stage.graph j s r.classified.class r.classified.witness (printed_price stage) stage.graph.streams (printed_gap stage) shows)
 
 -- and, if the stage has any, least bounds exactly when the rule gives it some
-pub result_least_bounded : (stage : Stage) (j : ℕ) (r : StreamResult) → HasLeastBounds stage → ((j : ℕ) → HasClassAt stage j) → EachStream stage (λ j r. IsCertified stage.graph j r.classified) → slice_get stage.streams j ≡ Some r
+pub result_least_bounded : (stage : Stage) (j : ℕ) (r : StreamResult) → HasLeastBounds stage → EachStream stage (HasClassAt stage) → EachStream stage (λ j r. IsCertified stage.graph j r.classified) → slice_get stage.streams j ≡ Some r
     → is_some r.least ≡ is_some (stream_least_bounds (printed_price stage) stage.graph.streams (printed_flows stage) (printed_gap stage) j r.classified)
 result_least_bounded stage j r have classes shown at =
     let (s, there, shows) = shown j r at in
-    let has = classes j s r there at in
+    let (t, here, has) = classes j r at in
     has.least_bounded ∙ ap₂ (λ (a b : Bool). a && b) has.bounded have ∙ and-true (is_bounded r.classified.class)
     ∙ sym (class_least_bounded stage.graph j s r.classified.class r.classified.witness (printed_price stage) stage.graph.streams (printed_flows stage) (printed_gap stage) shows)
 
@@ -83,20 +85,18 @@ measured stage roots flows limits formed rooted printed = record {
 
 -- ---- the streams of a stage, one by one
 -- the first stream that has other bounds than the rule gives
-pub bounds_fail : (stage : Stage) (j : ℕ) (r : StreamResult) (found : Option Bounds) (fault : Fault) → IsWellFormed stage → slice_get stage.streams j ≡ Some r
+ends_fail : (stage : Stage) (stated : StreamResult → Option Bounds) (rule : ℕ → StreamResult → Option Bounds) (j : ℕ) (r : StreamResult) (found : Option Bounds) (fault : Fault)
+    → slice_get stage.streams j ≡ Some r → found ≡ rule j r → ((k : ℕ) → k < j → AtStream stage (λ j r. stated r ≡ rule j r) k) → DifferAt j (stated r) found fault
+    → IsBoundsFault stage stated rule fault
+ends_fail stage stated rule j r found fault at found_is before differ =
+    fails_here (λ j r. stated r ≡ rule j r) stage.streams _ j r at before
+    (λ same. differ.differ (some_same (sym differ.stated_is ∙ same ∙ sym found_is ∙ differ.found_is)))
+    (some_and (stated r) _ differ.here differ.stated_is (some_and (rule j r) _ differ.there (sym found_is ∙ differ.found_is) differ.is))
+
+pub bounds_fail : (stage : Stage) (j : ℕ) (r : StreamResult) (found : Option Bounds) (fault : Fault) → slice_get stage.streams j ≡ Some r
     → found ≡ stream_bounds (printed_price stage) stage.graph.streams (printed_gap stage) j r.classified → ((k : ℕ) → k < j → AtStream stage (λ j r. r.bounds ≡ found_bounds stage j r) k) → DifferAt j r.bounds found fault
-    → IsEndsFault stage (λ r. r.bounds) (found_bounds stage) fault
-bounds_fail stage j r found fault formed at found_is before differ = record {
-  stream = j;
-  result = r;
-  first = record {
-    within = omega (arith, slice_get_within stage.streams j r at, formed.each_stream);
-    before = before;
-    without = λ all. differ.differ (some_same (sym differ.stated_is ∙ all r at ∙ sym found_is ∙ differ.found_is));
-  };
-  result_is = at;
-  differs = subst (λ (o : Option Bounds). DifferAt j r.bounds o fault) found_is differ;
-}
+    → IsBoundsFault stage (λ r. r.bounds) (found_bounds stage) fault
+bounds_fail stage j r found fault at found_is before differ = ends_fail stage (λ r. r.bounds) (found_bounds stage) j r found fault at found_is before differ
 
 -- the stream at a place has the bounds that the rule gives
 pub bounds_here : (stage : Stage) (j : ℕ) (r : StreamResult) (found : Option Bounds) → slice_get stage.streams j ≡ Some r
@@ -108,24 +108,11 @@ pub all_bounds : (stage : Stage) (n : ℕ) → length stage.streams ≤ n → ((
 all_bounds stage n end each j r at = each j (omega (arith, slice_get_within stage.streams j r at, end)) r at
 
 -- the first stream that has other least bounds than the rule gives
-pub least_fail : (stage : Stage) (j : ℕ) (r : StreamResult) (found : Option Bounds) (fault : Fault) → HasLeastBounds stage → IsWellFormed stage → slice_get stage.streams j ≡ Some r
+pub least_fail : (stage : Stage) (j : ℕ) (r : StreamResult) (found : Option Bounds) (fault : Fault) → HasLeastBounds stage → slice_get stage.streams j ≡ Some r
     → found ≡ stream_least_bounds (printed_price stage) stage.graph.streams (printed_flows stage) (printed_gap stage) j r.classified
     → ((k : ℕ) → k < j → AtStream stage (λ j r. r.least ≡ found_least stage j r) k) → DifferAt j r.least found fault
-    → IsLeastFault stage fault
-least_fail stage j r found fault have formed at found_is before differ = (
-  have,
-  record {
-    stream = j;
-    result = r;
-    first = record {
-      within = omega (arith, slice_get_within stage.streams j r at, formed.each_stream);
-      before = before;
-      without = λ all. differ.differ (some_same (sym differ.stated_is ∙ all r at ∙ sym found_is ∙ differ.found_is));
-    };
-    result_is = at;
-    differs = subst (λ (o : Option Bounds). DifferAt j r.least o fault) found_is differ;
-  },
-)
+    → HasLeastBounds stage × IsBoundsFault stage (λ r. r.least) (found_least stage) fault
+least_fail stage j r found fault have at found_is before differ = (have, ends_fail stage (λ r. r.least) (found_least stage) j r found fault at found_is before differ)
 
 -- the stream at a place has the least bounds that the rule gives
 pub least_here : (stage : Stage) (j : ℕ) (r : StreamResult) (found : Option Bounds) → slice_get stage.streams j ≡ Some r

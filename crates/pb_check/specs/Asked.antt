@@ -1,5 +1,5 @@
 -- Statement. What the tests ask of a stage, and of each of its nodes and streams.
-use Rattle.std.specs.Prelude.{◌≡◌, ◌≤◌, ◌<◌, ◌&&◌, ℕ, ℤ, pos, Bool, true, false, map, None, Some, All, is_some, slice_get}
+use Rattle.std.specs.Prelude.{◌≡◌, ◌≤◌, ◌&&◌, ℕ, ℤ, pos, Bool, true, false, Option, Some, is_some, slice_get}
 use Rattle.pb_graph.specs.declared.records.Stream.{Stream}
 use Rattle.pb_graph.specs.declared.records.Class.{Class}
 use Rattle.pb_graph.specs.declared.records.Class.TheVariants.{Unobservable, Redundant, Nonredundant}
@@ -9,16 +9,12 @@ use Rattle.pb_study.specs.declared.results.Solved.TheVariants.{Converged, Unconv
 use Rattle.pb_study.specs.declared.results.Tests.{Tests}
 use Rattle.pb_study.specs.declared.results.Stage.{Stage}
 use Rattle.pb_graph.specs.ProcessGraph.{ProcessGraph, is_measured}
-use Rattle.pb_graph.specs.Balance.{net_of}
 use Rattle.pb_graph.specs.Groups.{SameGroup, IsFreeGroup}
-use Rattle.pb_graph.specs.Prices.{IsInBox}
 use Rattle.pb_gap.specs.declared.gap.Gap.{Gap}
 use Rattle.pb_gap.specs.Gap.{MeetsGap, gap_of}
 use Rattle.pb_gap.specs.Statistic.{low_of, high_of}
-use Rattle.pb_stage.specs.Nodal.{AreNodalTests}
 use Rattle.pb_stage.specs.Verdicts.{global_verdict}
 use Rattle.pb_stage.specs.Printed.{printed_price, printed_flows, printed_gap, have_least}
-use Rattle.pb_stage.specs.Certified.{IsMeasureVerdict, IsNodalVerdict, unjudged}
 
 -- ---- 1. class
 -- whether a class is one of those of measured streams
@@ -39,21 +35,11 @@ pub record HasClass (in_stage : Bool) (stream : Stream) (result : StreamResult) 
   pub bounded : is_some result.bounds ≡ is_bounded result.classified.class
   pub least_bounded : is_some result.least ≡ (is_some result.bounds && in_stage)
 
--- this holds of the stream at a place
-abbrev pub HasClassAt : Stage → ℕ → Type 0
-HasClassAt stage j =
-    (stream : Stream) (result : StreamResult) → slice_get stage.graph.streams j ≡ Some stream
-    → slice_get stage.streams j ≡ Some result → HasClass (have_least stage.streams) stream result
-
--- ---- 2, 9 and 13. witness, bounds and least bounds
--- what holds for the stream at a place and its result
-abbrev pub AtStream : Stage → (ℕ → StreamResult → Type 0) → ℕ → Type 0
-AtStream stage Holds j = (result : StreamResult) → slice_get stage.streams j ≡ Some result → Holds j result
-
--- ---- 3. balance
--- the flows balance at a node
-abbrev pub IsEvenAt : Stage → ℕ → Type 0
-IsEvenAt stage n = net_of n stage.graph.streams (printed_flows stage) ≡ pos 0
+-- this holds of the stream at a place and its result
+abbrev pub HasClassAt : Stage → ℕ → StreamResult → Type 0
+HasClassAt stage j result =
+    (stream : Stream) × (slice_get stage.graph.streams j ≡ Some stream)
+    × HasClass (have_least stage.streams) stream result
 
 -- ---- 4. price
 -- the least node of the group of a node
@@ -66,21 +52,6 @@ pub record HasGroupPriceAt (stage : Stage) (node : ℕ) : Type 0 where
   pub shared : (least : ℕ) → IsLeastOfGroup stage.graph node least → printed_price stage node ≡ printed_price stage least
   pub fixed : (IsFreeGroup stage.graph node → ⊥) → printed_price stage node ≡ pos 0
 
--- the nodes of a group share a price, and nodes of groups that aren't free have price 0
-pub record AreGroupPrices (stage : Stage) : Type 0 where
-  pub shared :
-      (a b : ℕ) → a < stage.graph.nodes → b < stage.graph.nodes → SameGroup stage.graph.streams a b
-      → printed_price stage a ≡ printed_price stage b
-  pub fixed :
-      (n : ℕ) → n < stage.graph.nodes → (IsFreeGroup stage.graph n → ⊥) → printed_price stage n ≡ pos 0
-
--- ---- 5. box
--- the adjustment of the measured flow at a place is within its limit
-abbrev pub IsInBoxAt : Stage → ℕ → Type 0
-IsInBoxAt stage j =
-    (stream : Stream) → slice_get stage.graph.streams j ≡ Some stream
-    → IsInBox (printed_price stage) stream
-
 -- ---- 7. gap
 -- the gap of the printed flows and prices
 abbrev pub found_gap : Stage → Gap
@@ -92,32 +63,16 @@ abbrev pub IsStateAt : ℕ → ℕ → Gap → Solved → Type 0
 IsStateAt gap sweeps printed (Converged k) = MeetsGap gap printed × (k ≤ sweeps)
 IsStateAt gap sweeps printed (Unconverged k) = (MeetsGap gap printed → ⊥) × (k ≡ sweeps)
 
-abbrev pub IsStateOfGap : Stage → ℕ → ℕ → Type 0
-IsStateOfGap stage gap sweeps = IsStateAt gap sweeps (printed_gap stage) stage.solved
-
 -- ---- 10. statistic
--- its low end by the printed flows and gap
+-- its ends by the printed flows and gap
 abbrev pub found_low : Stage → ℤ
 found_low stage = low_of stage.graph.streams (printed_flows stage) (printed_gap stage)
 
--- the printed ends are those of the printed flows and gap
-pub record IsStatistic (stage : Stage) : Type 0 where
-  pub low : stage.low ≡ found_low stage
-  pub high : stage.high ≡ high_of stage.graph.streams (printed_flows stage)
-
--- ---- 11. nodal tests
--- except for critical values and verdicts, the nodal tests are those of the graph
-abbrev pub AreNodalRows : Stage → Tests → Type 0
-AreNodalRows stage tests = AreNodalTests stage.graph None (map unjudged tests.nodal)
+abbrev pub found_high : Stage → Option ℤ
+found_high stage = high_of stage.graph.streams (printed_flows stage)
 
 -- ---- 12. verdicts
 -- the global verdict follows from the printed numbers
 abbrev pub IsGlobalVerdict : Stage → Tests → Type 0
 IsGlobalVerdict stage tests =
     tests.global.verdict ≡ global_verdict stage.low stage.high stage.dof tests.global.critical
-
--- and so does each other verdict
-pub record AreVerdicts (stage : Stage) (tests : Tests) : Type 0 where
-  pub overall : IsGlobalVerdict stage tests
-  pub nodal : All IsNodalVerdict tests.nodal
-  pub measure : All IsMeasureVerdict tests.measure

@@ -7,8 +7,10 @@ pub record IsFirstWithout (P : ℕ → Type 0) (count first : ℕ) : Type 0 wher
   pub before : (k : ℕ) → k < first → P k
   pub without : P first → ⊥
 
--- the first item of a list for which a fact doesn't hold
-pub record IsFirstOf {A : Type 0} (P : A → Type 0) (rows : List A) (row : A) : Type 0 where
+-- what is reported of the first item of a list that doesn't have what each should have at its place
+pub record FirstFails {A : Type 0} (P : ℕ → A → Type 0) (items : List A) (Reports : ℕ → A → Type 0) : Type 0 where
   pub place : ℕ
-  pub first : IsFirstWithout (λ i. (other : A) → slice_get rows i ≡ Some other → P other) (length rows) place
-  pub row_is : slice_get rows place ≡ Some row
+  pub item : A
+  pub first : IsFirstWithout (λ k. (other : A) → slice_get items k ≡ Some other → P k other) (length items) place
+  pub item_is : slice_get items place ≡ Some item
+  pub reported : Reports place item

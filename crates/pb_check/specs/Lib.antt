@@ -9,3 +9,4 @@ pub mod Laws
 pub mod Among
 pub mod Others
 pub mod Pairs
+pub mod Places

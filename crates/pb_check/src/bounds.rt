@@ -1,6 +1,6 @@
 // Test 9: the bounds of each stream.
 
-ghost use Rattle.std.specs.Prelude.{◌≡◌, is_some, IfOk, MatchOption, ℕ};
+ghost use Rattle.std.specs.Prelude.{◌≡◌, is_some, IfOk, MatchOption};
 ghost use Rattle.pb_graph.specs.Certificates.{IsCertified};
 ghost use Rattle.pb_study.specs.WellFormed.{IsWellFormed};
 ghost use Rattle.pb_gap.specs.GapRange.{IsGapInRange};
@@ -8,7 +8,8 @@ ghost use Rattle.pb_gap.specs.StreamBounds.{stream_bounds};
 ghost use Rattle.pb_stage.specs.Printed.{printed_gap, printed_price, EachStream};
 ghost use Rattle.pb_stage.specs.Signs.{AreWitnessSigns};
 ghost use Rattle.pb_stage.specs.Certified.{found_bounds};
-ghost use Rattle.pb_check.specs.Faults.{DifferAt, IsEndsFault};
+ghost use Rattle.pb_check.specs.Faults.{IsBoundsFault};
+ghost use Rattle.pb_check.specs.Places.{DifferAt};
 ghost use Rattle.pb_check.specs.Pairs.{IsPairOf};
 ghost use Rattle.pb_check.specs.Asked.{HasClassAt};
 
@@ -86,12 +87,12 @@ pub fn bounds_fault(
     requires pair { IsPairOf stage.now pair.now }
     requires gap { gap ≡ printed_gap stage.now }
     requires range { IsGapInRange gap }
-    requires classes { (j : ℕ) → HasClassAt stage.now j }
+    requires classes { EachStream stage.now (HasClassAt stage.now) }
     requires shown { EachStream stage.now (λ j r. IsCertified stage.now.graph j r.classified) }
     ensures { IfOk result
         (λ found. MatchOption found
         (EachStream stage.now (λ j r. r.bounds ≡ found_bounds stage.now j r))
-        (IsEndsFault stage.now (λ r. r.bounds) (found_bounds stage.now))) }
+        (IsBoundsFault stage.now (λ r. r.bounds) (found_bounds stage.now))) }
 {
     for j in 0..stage.graph.len() {
         let printed = stage.streams.at(j as usize);

@@ -7,8 +7,8 @@ ghost use Rattle.pb_graph.specs.Prices.{IsInBox};
 ghost use Rattle.pb_study.specs.WellFormed.{IsWellFormed};
 ghost use Rattle.pb_dual.specs.Candidates.{room_of};
 ghost use Rattle.pb_stage.specs.Printed.{printed_price};
-ghost use Rattle.pb_check.specs.Asked.{IsInBoxAt};
-ghost use Rattle.pb_check.specs.Faults.{IsBoxFault, IsOutOfBox};
+ghost use Rattle.pb_check.specs.Faults.{IsBoxFault};
+ghost use Rattle.pb_check.specs.Places.{IsInBoxAt, IsOutOfBox};
 
 use crate::faults::{Fault, Place};
 use pb_fixed::div_floor;

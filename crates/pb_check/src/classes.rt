@@ -1,6 +1,6 @@
 // Tests 1 and 2: the class of each stream, and the cut or cycle that shows it.
 
-ghost use Rattle.std.specs.Prelude.{◌≡◌, ◌↔◌, ◌==◌, ◌<◌, Some, None, length, slice_get, IfSome, IsSome, All, IsTrue, MatchOption, ℕ};
+ghost use Rattle.std.specs.Prelude.{◌≡◌, ◌↔◌, ◌==◌, ◌<◌, Some, None, length, slice_get, IfSome, IsSome, All, IsTrue, MatchOption};
 ghost use Rattle.std.specs.List.{list_any};
 ghost use Rattle.pb_graph.specs.declared.records.Member.{Member};
 ghost use Rattle.pb_graph.specs.declared.records.Step.{Step};
@@ -10,8 +10,8 @@ ghost use Rattle.pb_graph.specs.Certificates.{CutsOff, GoesRound, Shows, IsCerti
 ghost use Rattle.pb_study.specs.WellFormed.{IsWellFormed};
 ghost use Rattle.pb_stage.specs.Printed.{have_least, EachStream};
 ghost use Rattle.pb_check.specs.Others.{IsOtherMeasured, IsOtherUnmeasured};
-ghost use Rattle.pb_check.specs.Asked.{is_of_measured, is_bounded, HasClass, HasClassAt, AtStream};
-ghost use Rattle.pb_check.specs.Faults.{IsStreamFault};
+ghost use Rattle.pb_check.specs.Asked.{is_of_measured, is_bounded, HasClass, HasClassAt};
+ghost use Rattle.pb_check.specs.Places.{AtStream, IsStreamFault};
 
 use crate::faults::{Fault, at_stream};
 use crate::least::have_least;
@@ -49,7 +49,7 @@ fn has_class_at(stage: &Stage, in_stage: bool, j: u32) -> bool
     requires formed { IsWellFormed stage.now }
     requires in_stage { in_stage ≡ have_least stage.now.streams }
     requires place { j < length stage.now.graph.streams }
-    ensures { IsTrue result ↔ HasClassAt stage.now j }
+    ensures { IsTrue result ↔ AtStream stage.now (HasClassAt stage.now) j }
 {
     has_class(
         in_stage,
@@ -62,7 +62,7 @@ fn has_class_at(stage: &Stage, in_stage: bool, j: u32) -> bool
 /// bounds exactly when it has bounds and some stream has least bounds.
 pub fn class_fault(stage: &Stage) -> Option<Fault>
     requires { IsWellFormed stage.now }
-    ensures { MatchOption result ((j : ℕ) → HasClassAt stage.now j)
+    ensures { MatchOption result (EachStream stage.now (HasClassAt stage.now))
         (IsStreamFault stage.now (HasClassAt stage.now)) }
 {
     let in_stage = have_least(stage.streams.as_slice());
@@ -243,8 +243,7 @@ pub fn witness_fault(stage: &Stage) -> Option<Fault>
     requires { IsWellFormed stage.now }
     ensures { MatchOption result
         (EachStream stage.now (λ j r. IsCertified stage.now.graph j r.classified))
-        (IsStreamFault stage.now
-        (AtStream stage.now (λ j r. IsCertified stage.now.graph j r.classified))) }
+        (IsStreamFault stage.now (λ j r. IsCertified stage.now.graph j r.classified)) }
 {
     let mut known = None;
     for j in 0..stage.graph.len() {

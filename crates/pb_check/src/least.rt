@@ -1,6 +1,6 @@
 // Test 13: the least bounds of each stream, if the stage has any.
 
-ghost use Rattle.std.specs.Prelude.{◌≡◌, IfOk, MatchOption, ℕ};
+ghost use Rattle.std.specs.Prelude.{◌≡◌, IfOk, MatchOption};
 ghost use Rattle.pb_graph.specs.Certificates.{IsCertified};
 ghost use Rattle.pb_study.specs.WellFormed.{IsWellFormed};
 ghost use Rattle.pb_gap.specs.GapRange.{IsGapInRange};
@@ -8,7 +8,7 @@ ghost use Rattle.pb_gap.specs.LeastBounds.{stream_least_bounds};
 ghost use Rattle.pb_stage.specs.Printed.{have_least, printed_flows, printed_gap, printed_price, EachStream, HasLeastBounds};
 ghost use Rattle.pb_stage.specs.Signs.{AreWitnessSigns};
 ghost use Rattle.pb_stage.specs.Certified.{found_least};
-ghost use Rattle.pb_check.specs.Faults.{IsLeastFault};
+ghost use Rattle.pb_check.specs.Places.{IsLeastFault};
 ghost use Rattle.pb_check.specs.Pairs.{IsPairOf};
 ghost use Rattle.pb_check.specs.Asked.{HasClassAt};
 
@@ -62,7 +62,7 @@ pub fn least_fault(
     requires pair { IsPairOf stage.now pair.now }
     requires gap { gap ≡ printed_gap stage.now }
     requires range { IsGapInRange gap }
-    requires classes { (j : ℕ) → HasClassAt stage.now j }
+    requires classes { EachStream stage.now (HasClassAt stage.now) }
     requires shown { EachStream stage.now (λ j r. IsCertified stage.now.graph j r.classified) }
     ensures { IfOk result
         (λ found. MatchOption found

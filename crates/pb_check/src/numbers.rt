@@ -1,14 +1,14 @@
 // Tests 7 to 10: the numbers that follow from the flows and the prices.
 
-ghost use Rattle.std.specs.Prelude.{◌≡◌, ◌↔◌, ℕ, ◌<◌, length, IfOk, IsTrue, MatchOption};
+ghost use Rattle.std.specs.Prelude.{◌≡◌, ◌↔◌, ℕ, ◌<◌, pos, negsuc, length, IfOk, IsTrue, MatchOption, unwrap_or};
 ghost use Rattle.pb_study.specs.WellFormed.{IsWellFormed, sweeps_of};
 ghost use Rattle.pb_gap.specs.declared.gap.Gap.{Gap as GapValue};
 ghost use Rattle.pb_gap.specs.Gap.{MeetsGap};
 ghost use Rattle.pb_gap.specs.GapRange.{IsGapInRange};
 ghost use Rattle.pb_stage.specs.Printed.{printed_gap};
 ghost use Rattle.pb_check.specs.declared.faults.Test.{Test as TestValue};
-ghost use Rattle.pb_check.specs.Asked.{IsStateAt, IsStateOfGap, IsStatistic, found_gap};
-ghost use Rattle.pb_check.specs.Faults.{EndsDiffer, GapsDiffer, IsStateFault, IsStatisticFault, high_or_none};
+ghost use Rattle.pb_check.specs.Asked.{IsStateAt, found_gap, found_high, found_low};
+ghost use Rattle.pb_check.specs.Faults.{IsWholeFault, first_differing};
 ghost use Rattle.pb_check.specs.Verdict.{Passes, test_code};
 ghost use Rattle.pb_check.specs.Among.{IsAmong};
 ghost use Rattle.pb_check.specs.Pairs.{IsPairOf};
@@ -21,7 +21,8 @@ use std::alloc::{AllocError, Global};
 
 // If two gaps differ, the first number that does: h, and then g.
 fn gap_difference(stated: Gap, found: Gap) -> Option<Fault>
-    ensures { MatchOption result (stated ≡ found) (GapsDiffer stated found) }
+    ensures { MatchOption result (stated ≡ found) (IsWholeFault (stated ≡ found)
+        (first_differing (pos stated.h) (pos found.h) (pos stated.g) (pos found.g))) }
 {
     if stated.h != found.h {
         return Some(whole(i128::from(stated.h), i128::from(found.h)));
@@ -50,7 +51,9 @@ fn gap_fault(stage: &Stage, pair: &FlowPair, deviations: &mut [i128]) -> Option<
     requires pair { IsPairOf stage.now pair.now }
     requires room { length deviations.old ≡ length pair.now.graph.streams }
     ensures { MatchOption result (printed_gap stage.now ≡ found_gap stage.now)
-        (GapsDiffer (printed_gap stage.now) (found_gap stage.now)) }
+        (IsWholeFault (printed_gap stage.now ≡ found_gap stage.now)
+        (first_differing (pos stage.now.h) (pos (found_gap stage.now).h)
+        (pos stage.now.g) (pos (found_gap stage.now).g))) }
 {
     gap_difference(printed_gap(stage), pair.gap(deviations))
 }
@@ -87,8 +90,9 @@ fn state_fault(
     requires pair { IsPairOf stage.now pair.now }
     requires room { length deviations.old ≡ length pair.now.graph.streams }
     requires gap_is { printed_gap stage.now ≡ found_gap stage.now }
-    ensures { MatchOption result (IsStateOfGap stage.now gap sweeps)
-        (IsStateFault stage.now gap sweeps) }
+    ensures { MatchOption result (IsStateAt gap sweeps (printed_gap stage.now) stage.now.solved)
+        (IsWholeFault (IsStateAt gap sweeps (printed_gap stage.now) stage.now.solved)
+        (pos (sweeps_of stage.now.solved), pos sweeps)) }
 {
     let met = pair.is_met(gap, deviations);
     if is_state(stage.solved, met, sweeps) {
@@ -96,16 +100,6 @@ fn state_fault(
     }
     let done = sweeps_of(stage.solved);
     Some(whole(i128::from(done), i128::from(sweeps)))
-}
-
-// A high end, or -1 if there is none.
-fn high_or_none(high: Option<i128>) -> i128
-    ensures { result ≡ high_or_none high }
-{
-    match high {
-        None => -1,
-        Some(high) => high,
-    }
 }
 
 // Whether two high ends are the same, or neither is there.
@@ -129,13 +123,14 @@ fn ends_difference(
     found_high: Option<i128>,
 ) -> Option<Fault>
     ensures { MatchOption result ((low ≡ found_low) × (high ≡ found_high))
-        (EndsDiffer low high found_low found_high) }
+        (IsWholeFault ((low ≡ found_low) × (high ≡ found_high)) (first_differing low found_low
+        (unwrap_or high (negsuc 0)) (unwrap_or found_high (negsuc 0)))) }
 {
     if low != found_low {
         return Some(whole(low, found_low));
     }
     if !same_high(high, found_high) {
-        return Some(whole(high_or_none(high), high_or_none(found_high)));
+        return Some(whole(high.unwrap_or(-1), found_high.unwrap_or(-1)));
     }
     None
 }
@@ -144,7 +139,12 @@ fn ends_difference(
 fn statistic_fault(stage: &Stage, pair: &FlowPair) -> Option<Fault>
     requires formed { IsWellFormed stage.now }
     requires pair { IsPairOf stage.now pair.now }
-    ensures { MatchOption result (IsStatistic stage.now) (IsStatisticFault stage.now) }
+    ensures { MatchOption result
+        ((stage.now.low ≡ found_low stage.now) × (stage.now.high ≡ found_high stage.now))
+        (IsWholeFault
+        ((stage.now.low ≡ found_low stage.now) × (stage.now.high ≡ found_high stage.now))
+        (first_differing stage.now.low (found_low stage.now)
+        (unwrap_or stage.now.high (negsuc 0)) (unwrap_or (found_high stage.now) (negsuc 0)))) }
 {
     let (low, high) = pair.statistic(printed_gap(stage));
     ends_difference(stage.low, stage.high, low, high)

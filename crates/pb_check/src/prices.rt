@@ -6,8 +6,9 @@ ghost use Rattle.pb_graph.specs.ProcessGraph.{IsProcessGraph};
 ghost use Rattle.pb_study.specs.WellFormed.{IsWellFormed};
 ghost use Rattle.pb_graph.specs.Grouping.{AreGroupsOf};
 ghost use Rattle.pb_stage.specs.Printed.{printed_price};
-ghost use Rattle.pb_check.specs.Asked.{HasGroupPriceAt, AreGroupPrices};
-ghost use Rattle.pb_check.specs.Faults.{IsOtherPrice, IsPriceFault};
+ghost use Rattle.pb_check.specs.Asked.{HasGroupPriceAt};
+ghost use Rattle.pb_check.specs.Faults.{IsPriceFault};
+ghost use Rattle.pb_check.specs.Places.{IsOtherPrice};
 
 use crate::faults::{Fault, Place};
 use pb_graph::Groups;
@@ -39,7 +40,9 @@ fn other_price(stage: &Stage, groups: &Groups, node: u32) -> Option<i128>
 fn first_mispriced(stage: &Stage, groups: &Groups) -> Option<Fault>
     requires formed { IsWellFormed stage.now }
     requires groups { AreGroupsOf stage.now.graph groups.now }
-    ensures { MatchOption result (AreGroupPrices stage.now) (IsPriceFault stage.now) }
+    ensures { MatchOption result
+        ((n : ℕ) → n < stage.now.graph.nodes → HasGroupPriceAt stage.now n)
+        (IsPriceFault stage.now) }
 {
     for node in 0..stage.graph.nodes() {
         if let Some(found) = other_price(stage, groups, node) {
@@ -57,7 +60,9 @@ fn first_mispriced(stage: &Stage, groups: &Groups) -> Option<Fault>
 pub fn price_fault(alloc: Global, stage: &Stage) -> Result<Option<Fault>, AllocError>
     requires { IsWellFormed stage.now }
     ensures { IfOk result
-        (λ fault. MatchOption fault (AreGroupPrices stage.now) (IsPriceFault stage.now)) }
+        (λ fault. MatchOption fault
+        ((n : ℕ) → n < stage.now.graph.nodes → HasGroupPriceAt stage.now n)
+        (IsPriceFault stage.now)) }
 {
     let groups = Groups::of(alloc, &stage.graph)?;
     Ok(first_mispriced(stage, &groups))

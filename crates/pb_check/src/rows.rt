@@ -6,8 +6,9 @@ ghost use Rattle.pb_study.specs.WellFormed.{AreTestsWithin, IsWellFormed};
 ghost use Rattle.pb_stage.specs.Laws.{IsNodalNumber};
 ghost use Rattle.pb_stage.specs.Certified.{IsMeasureVerdict, IsNodalVerdict, unjudged};
 ghost use Rattle.pb_check.specs.declared.faults.Test.{Test as TestValue};
-ghost use Rattle.pb_check.specs.Asked.{AreNodalRows, AreVerdicts, IsGlobalVerdict};
-ghost use Rattle.pb_check.specs.Faults.{AreVerdictsFault, IsFirstMeasure, IsFirstNodal, IsNodalRowsFault, IsRowDifference, IsRowsFault};
+ghost use Rattle.pb_check.specs.Asked.{IsGlobalVerdict};
+ghost use Rattle.pb_check.specs.Faults.{AreRowsFault, AreVerdictsFault};
+ghost use Rattle.pb_check.specs.Places.{AreNodalRows, AreVerdicts, IsFirstMeasure, IsFirstNodal, IsNodalRowsFault, IsRowDifference};
 ghost use Rattle.pb_check.specs.Verdict.{Passes, test_code};
 ghost use Rattle.pb_check.specs.Among.{IsAmong};
 
@@ -37,7 +38,7 @@ fn row_difference(row: &NodalTest, test: &NodalTest) -> Option<Fault>
 fn rows_fault(rows: &[NodalTest], rule: &[NodalTest]) -> Option<Fault>
     requires { All (λ test. unjudged test ≡ test) rule.now }
     ensures { MatchOption result (map unjudged rows.now ≡ rule.now)
-        (IsRowsFault rows.now rule.now) }
+        (AreRowsFault (map unjudged rows.now) rule.now) }
 {
     if rows.len() != rule.len() {
         return Some(whole(rows.len() as i128, rule.len() as i128));

@@ -1,7 +1,7 @@
 -- The findings so far, and one more.
-use Rattle.std.proofs.Common.{◌≡◌, ◌∙◌, ℕ, suc, ◌+◌, ◌-◌, ◌<◌, ◌≤◌, Bool, true, false, ◌||◌, List, [], ◌∷◌, ◌++◌, length, map, take, Option, Some, None, All, ap, ap₂, sym, refl, subst, arith, append_assoc, append-nil, length-append}
-use Rattle.std.proofs.lemmas.List.{map-append, take-append-le, take_all}
-use Rattle.std.proofs.lemmas.List.Elements.{All-take}
+use Rattle.std.proofs.Common.{◌≡◌, ◌∙◌, ℕ, suc, ◌+◌, ◌-◌, ◌<◌, Bool, true, false, ◌||◌, List, [], ◌∷◌, ◌++◌, length, map, take, Option, Some, None, ap, ap₂, sym, refl, subst, arith, append_assoc, append-nil, length-append}
+use Rattle.std.specs.List.{list_any}
+use Rattle.std.proofs.lemmas.List.{map-append, take-append-le}
 use Rattle.std.proofs.lemmas.List.Folds.{list_any-append}
 use Rattle.std.proofs.lemmas.Grind.{flat_map-append}
 use Rattle.pb_io.specs.Sink.{Puts, PutsPrefix, PutsSuch, SinkSeen}
@@ -11,9 +11,9 @@ use Rattle.pb_report.specs.Row.{OutputRow}
 use Rattle.pb_rows.specs.RecordsLeft.{RecordsLeft}
 use Rattle.pb_audit.specs.declared.judge.Judged.{Judged}
 use Rattle.pb_audit.specs.declared.judge.Judged.TheVariants.{Passed, Failed, Unreadable}
-use Rattle.pb_audit.specs.Judgement.{AreFindings, Finding, Finds, FindsNothing, IsCertifiedFinding, IsJudgement, IsJudgementPart, IsJudgementText, failed, finding_row, finds_wrong, is_wrong, passed, text_of_findings, unreadable}
-use Rattle.pb_audit.specs.Next.{AppendsFinding, FindsNext, GoesOn, IsNextFinding, judged_of}
-use Rattle.pb_audit.specs.Laws.{CertifiedFindingsLaw, FewerLaw, NothingLaw, SomeFindingsLaw}
+use Rattle.pb_audit.specs.Judgement.{AreFindings, Finding, Finds, FindsNothing, IsJudgement, IsJudgementPart, failed, finding_row, is_wrong, passed, unreadable}
+use Rattle.pb_audit.specs.Next.{AppendsFinding, FindsNext, IsNextFinding, judged_of, text_of_findings}
+use Rattle.pb_audit.specs.Laws.{FewerLaw, IsJudgementText, NothingLaw, SomeFindingsLaw}
 use Rattle.pb_cli.specs.Judging.{TellsFinding}
 use Rattle.pb_cli.specs.Prefix.{IsBeginningOf}
 
@@ -62,8 +62,8 @@ wrong_by (passed block) = refl
 wrong_by (failed block test place stated found) = refl
 wrong_by (unreadable number fault) = refl
 
-wrong-more : (front : List Finding) (finding : Finding) (wrong : Bool) (judged : Judged) → wrong ≡ finds_wrong front → judged ≡ judged_of finding
-    → (wrong || wrong_of judged) ≡ finds_wrong (front ++ finding ∷ [])
+wrong-more : (front : List Finding) (finding : Finding) (wrong : Bool) (judged : Judged) → wrong ≡ list_any is_wrong front → judged ≡ judged_of finding
+    → (wrong || wrong_of judged) ≡ list_any is_wrong (front ++ finding ∷ [])
 wrong-more front finding wrong judged so_far is =
     ap₂ (λ (a b : Bool). a || b) so_far (ap wrong_of is ∙ sym (wrong_by finding) ∙ sym (or-false (is_wrong finding))) ∙ sym (list_any-append is_wrong front (finding ∷ []))
 
@@ -71,7 +71,7 @@ wrong-more front finding wrong judged so_far is =
 pub record Found (start : List Record) (now : RecordsLeft) (wrong : Bool) (text : List ℕ) : Type 0 where
   pub findings : List Finding
   pub first : AreFirst 0 start findings now.taken now.left
-  pub wrong_is : wrong ≡ finds_wrong findings
+  pub wrong_is : wrong ≡ list_any is_wrong findings
   pub text_is : text ≡ text_of_findings findings
 
 -- at first nothing
@@ -110,13 +110,12 @@ found_failed start old new wrong text piece so_far next =
     (subst (λ (n : RecordsLeft). Found start n (wrong || true) (text ++ piece)) (sym next.goes_on) more)
 
 -- nothing more is found
-pub found_all : CertifiedFindingsLaw → (start : List Record) (now : RecordsLeft) (wrong : Bool) (text : List ℕ) → Found start now wrong text → FindsNothing now.taken now.left → IsJudgement wrong start text
-found_all certified start now wrong text so_far nothing =
+pub found_all : (start : List Record) (now : RecordsLeft) (wrong : Bool) (text : List ℕ) → Found start now wrong text → FindsNothing now.taken now.left → IsJudgement wrong start text
+found_all start now wrong text so_far nothing =
     let are = subst (λ (fs : List Finding). AreFindings 0 start fs) (append-nil so_far.findings) (all_of 0 start so_far.findings [] now.taken now.left so_far.first nothing) in
     record {
       findings = so_far.findings;
       are = are;
-      certified = certified 0 start so_far.findings are;
       wrong_is = so_far.wrong_is;
       text_is = so_far.text_is;
     }
@@ -127,31 +126,24 @@ nothing_behind at records (failed block test place stated what) behind is found 
 nothing_behind at records (unreadable number fault) behind is found = found.1
 
 -- a record that can't be read
-pub found_unreadable : NothingLaw → CertifiedFindingsLaw → (start : List Record) (old new : RecordsLeft) (wrong : Bool) (text piece : List ℕ) → Found start old wrong text → IsNextFinding old new Unreadable piece
+pub found_unreadable : NothingLaw → (start : List Record) (old new : RecordsLeft) (wrong : Bool) (text piece : List ℕ) → Found start old wrong text → IsNextFinding old new Unreadable piece
     → IsJudgement true start (text ++ piece)
-found_unreadable law certified start old new wrong text piece so_far next =
+found_unreadable law start old new wrong text piece so_far next =
     let more = found_more start old wrong text piece next.finding Unreadable next.behind so_far next.found next.is next.text_is in
     let none : next.behind ≡ [] = nothing_behind old.taken old.left next.finding next.behind (sym next.is) next.found in
     let there = old.taken + (length old.left - length next.behind) in
     subst (λ (b : Bool). IsJudgement b start (text ++ piece)) (or-true wrong)
-    (found_all certified start (record { taken = there; left = next.behind }) (wrong || true) (text ++ piece) more (subst (λ (rs : List Record). FindsNothing there rs) (sym none) (law there)))
-
-all_front : (front rest : List Finding) → All IsCertifiedFinding (front ++ rest) → All IsCertifiedFinding front
-all_front front rest all =
-    let whole : take (length front) (front ++ rest) ≡ front =
-    take-append-le (length front) front rest (omega arith) ∙ take_all (length front) front (omega arith) in
-    subst (λ (fs : List Finding). All IsCertifiedFinding fs) whole (All-take IsCertifiedFinding (length front) (front ++ rest) all)
+    (found_all start (record { taken = there; left = next.behind }) (wrong || true) (text ++ piece) more (subst (λ (rs : List Record). FindsNothing there rs) (sym none) (law there)))
 
 -- the judgement stops before the next finding
-pub found_some : SomeFindingsLaw → CertifiedFindingsLaw → (start : List Record) (now : RecordsLeft) (wrong : Bool) (text : List ℕ) → Found start now wrong text → IsJudgementPart start text
-found_some law certified start now wrong text so_far =
+pub found_some : SomeFindingsLaw → (start : List Record) (now : RecordsLeft) (wrong : Bool) (text : List ℕ) → Found start now wrong text → IsJudgementPart start text
+found_some law start now wrong text so_far =
     let (rest, are) = law now.taken now.left in
     let all = all_of 0 start so_far.findings rest now.taken now.left so_far.first are in
     record {
       front = so_far.findings;
       rest = rest;
       are = all;
-      certified = all_front so_far.findings rest (certified 0 start (so_far.findings ++ rest) all);
       text_is = so_far.text_is;
     }
 
@@ -164,9 +156,9 @@ take-both (x ∷ a) b n =
     ap (λ (k : ℕ). take k (x ∷ (a ++ b))) size ∙ ap (λ (l : List ℕ). x ∷ l) (take-both a b n)
 
 -- or within its row
-pub found_cut : SomeFindingsLaw → CertifiedFindingsLaw → (start : List Record) (old : RecordsLeft) (wrong : Bool) (text piece : List ℕ) → Found start old wrong text → IsBeginningOf (TellsFinding old) piece
+pub found_cut : SomeFindingsLaw → (start : List Record) (old : RecordsLeft) (wrong : Bool) (text piece : List ℕ) → Found start old wrong text → IsBeginningOf (TellsFinding old) piece
     → IsBeginningOf (IsJudgementText start) (text ++ piece)
-found_cut law certified start old wrong text piece so_far begun =
+found_cut law start old wrong text piece so_far begun =
     let (new, judged, next) = begun.holds in
     let more = found_more start old wrong text begun.whole next.finding judged next.behind so_far next.found next.is next.text_is in
     let there = old.taken + (length old.left - length next.behind) in
@@ -176,11 +168,10 @@ found_cut law certified start old wrong text piece so_far begun =
     record {
       whole = (text ++ begun.whole) ++ behind;
       holds = (
-        finds_wrong (more.findings ++ rest),
+        list_any is_wrong (more.findings ++ rest),
         record {
           findings = more.findings ++ rest;
           are = all;
-          certified = certified 0 start (more.findings ++ rest) all;
           wrong_is = refl;
           text_is = ap (λ (t : List ℕ). t ++ behind) more.text_is ∙ sym (text-append more.findings rest);
         },

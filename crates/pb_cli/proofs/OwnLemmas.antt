@@ -1,8 +1,8 @@
 -- The reports of a run read back as the stages of their studies, each of which passes.
-use Rattle.std.proofs.Common.{◌≡◌, ◌∙◌, ◌&&◌, ℕ, ◌+◌, ◌≤◌, Bool, true, false, List, [], ◌∷◌, ◌++◌, length, map, All, Option, Some, None, Result, Ok, Err, ap, ap₂, sym, refl, subst, arith, slice_get, get_or, codes}
+use Rattle.std.proofs.Common.{◌≡◌, ◌∙◌, ◌&&◌, ℕ, ◌+◌, Bool, true, false, List, [], ◌∷◌, ◌++◌, length, map, All, Option, Some, None, Result, Ok, Err, ap, ap₂, sym, refl, subst, arith, slice_get, get_or, codes}
 use Rattle.std.specs.Prelude.{is_some, slice_index_or}
 use Rattle.std.proofs.lemmas.Option.{get_or_from_slice_get, slice_get-get_or, slice_get_within}
-use Rattle.std.specs.List.{flat_map, list_all, list_any}
+use Rattle.std.specs.List.{list_all, list_any}
 use Rattle.std.proofs.lemmas.List.{map-append}
 use Rattle.std.proofs.lemmas.List.Elements.{All-append, All-cons, All-head, All-nil, All-tail, All-weaker}
 use Rattle.std.proofs.lemmas.List.Folds.{list_all-append}
@@ -15,9 +15,7 @@ use Rattle.pb_window.specs.Codes.{window_names}
 use Rattle.pb_window.specs.Places.{window_places}
 use Rattle.pb_study.specs.declared.results.Options.{Options}
 use Rattle.pb_study.specs.declared.results.Bounds.{Bounds}
-use Rattle.pb_study.specs.declared.results.StreamResult.{StreamResult}
 use Rattle.pb_study.specs.declared.results.Stage.{Stage}
-use Rattle.pb_study.specs.declared.results.Study.{Study}
 use Rattle.pb_graph.specs.ProcessGraph.{IsProcessGraph, ProcessGraph}
 use Rattle.pb_graph.specs.declared.records.Classified.{Classified}
 use Rattle.pb_graph.specs.declared.records.Stream.{Stream}
@@ -64,8 +62,8 @@ use Rattle.pb_report.specs.Over.{over_row}
 use Rattle.pb_report.specs.Refusal.{refused_row}
 use Rattle.pb_report.specs.Window.{place_row, window_row}
 use Rattle.pb_site.specs.Site.{names_of, version_of}
-use Rattle.pb_session.specs.Session.{Adds, AddsAccepted, AddsBy, AreNamesOf, Balances, IsHistoryText, IsReport, IsSessionText, IsTextOf, Reports, ReportsBy, SessionState, Windows, assembly_between, state_after, window_head}
-use Rattle.pb_audit.specs.Judgement.{AreFindings, Finding, IsJudgement, IsPassedBlock, finds_wrong, passed}
+use Rattle.pb_session.specs.Session.{Adds, AddsAccepted, AddsBy, Balances, IsHistoryText, IsReport, IsSessionText, IsTextOf, Reports, ReportsBy, SessionState, Windows, assembly_between, state_after, window_head}
+use Rattle.pb_audit.specs.Judgement.{AreFindings, Finding, IsJudgement, IsPassedBlock, passed, is_wrong}
 use Rattle.pb_audit.specs.Laws.{OneFindingsLaw, PassedLaw}
 use Rattle.pb_readback.proofs.ReadbackLaws.{list_passed, one_passed, only_passed}
 use Rattle.pb_cli.proofs.ServedLemmas.{days_named}
@@ -346,7 +344,7 @@ session_read known windows law accepted state at (fields ∷ records) text sound
 
 -- ---- the check of this text
 
-nothing_wrong : (blocks : List Block) → finds_wrong (map (λ (block : Block). passed block) blocks) ≡ false
+nothing_wrong : (blocks : List Block) → list_any is_wrong (map (λ (block : Block). passed block) blocks) ≡ false
 nothing_wrong [] = refl
 nothing_wrong (block ∷ blocks) = nothing_wrong blocks
 
@@ -356,4 +354,4 @@ reads_right written passes one text reads wrong judgement judged =
     let records : records_of text ≡ records_in reads.rows = ap records_of reads.text_is ∙ written reads.rows reads.words in
     let here = subst (λ (rs : List (List (List ℕ))). AreFindings 0 rs judged.findings) records judged.are in
     let same = one 0 (records_in reads.rows) judged.findings _ here (passes 0 (records_in reads.rows) reads.blocks reads.are reads.pass) in
-    judged.wrong_is ∙ ap (λ (fs : List Finding). finds_wrong fs) same ∙ nothing_wrong reads.blocks
+    judged.wrong_is ∙ ap (λ (fs : List Finding). list_any is_wrong fs) same ∙ nothing_wrong reads.blocks

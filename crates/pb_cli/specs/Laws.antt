@@ -13,7 +13,8 @@ use Rattle.pb_check.specs.Verdict.{IsPassed}
 use Rattle.pb_report.specs.declared.form.Form.{Form}
 use Rattle.pb_report.specs.declared.form.Form.TheVariants.{Csv}
 use Rattle.pb_make.specs.Plant.{least_streams}
-use Rattle.pb_audit.specs.Judgement.{IsJudgement, IsJudgementText}
+use Rattle.pb_audit.specs.Judgement.{IsJudgement}
+use Rattle.pb_audit.specs.Laws.{IsJudgementText}
 use Rattle.pb_cli.specs.Run.{IsTextOfRun}
 use Rattle.pb_cli.specs.Summary.{IsSummaryText, made_options}
 

@@ -1,5 +1,6 @@
 -- Statement. What a run did: the command that its words give, the bytes that it took, and the bytes that it put.
 use Rattle.std.specs.Prelude.{◌≡◌, ℕ, ◌≤◌, Bool, true, false, List, [], length, Some}
+use Rattle.std.specs.List.{list_any}
 use Rattle.std.specs.Io.KnownBytes.{IsAtEnd}
 use Rattle.pb_io.specs.Counts.{Rose}
 use Rattle.pb_io.specs.Source.{SourceSeen, TakesInTurns}
@@ -13,7 +14,7 @@ use Rattle.pb_make.specs.Rows.{session_text}
 use Rattle.pb_words.specs.declared.command.Command.{Command}
 use Rattle.pb_words.specs.declared.command.Command.TheVariants.{Run, Check, Make}
 use Rattle.pb_words.specs.Command.{IsCommandOf}
-use Rattle.pb_audit.specs.Judgement.{IsJudgement, IsJudgementPart, IsJudgementText, Judges}
+use Rattle.pb_audit.specs.Judgement.{AreFindings, Finding, IsJudgement, IsJudgementPart, is_wrong}
 use Rattle.pb_cli.specs.declared.status.Status.{Status}
 use Rattle.pb_cli.specs.declared.status.Status.TheVariants.{Done}
 use Rattle.pb_cli.specs.Status.{done_status}
@@ -58,7 +59,7 @@ IsWhole wrong (Make number streams summary gap sweeps) input output = (wrong ≡
 -- a proper beginning of the output; for a run, the texts of the first records and a proper beginning of the next one's
 abbrev pub IsCutShort : Command → List ℕ → List ℕ → Type 0
 IsCutShort (Run options form) input bytes = AreTextsCutShort (new_session options form) (records_of input) bytes
-IsCutShort Check input bytes = IsBeginningOf (IsJudgementText (records_of input)) bytes
+IsCutShort Check input bytes = IsBeginningOf (λ output. (wrong : Bool) × IsJudgement wrong (records_of input) output) bytes
 IsCutShort (Make number streams summary gap sweeps) input bytes = IsBeginningOf (IsMade number streams summary gap sweeps) bytes
 
 -- the texts of the first records of a run, or the first rows of a check, whole
@@ -99,5 +100,6 @@ IsGiven command source_old source_new input = ShowsInput source_old source_new i
 -- how a command ends if it reads and writes everything
 abbrev pub EndsAs : Command → List ℕ → Status → Type 0
 EndsAs (Run options form) input status = status ≡ done_status (refuses options form input)
-EndsAs Check input status = (wrong : Bool) × Judges wrong (records_of input) × (status ≡ done_status wrong)
+EndsAs Check input status =
+    (findings : List Finding) × AreFindings 0 (records_of input) findings × (status ≡ done_status (list_any is_wrong findings))
 EndsAs (Make number streams summary gap sweeps) input status = status ≡ Done

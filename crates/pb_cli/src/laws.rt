@@ -2,7 +2,7 @@
 
 ghost use Rattle.pb_cli.specs.Laws.{OneCheckTextLaw, OneRunTextLaw, OneSummaryLaw, OwnLaw, OwnReportsLaw, SomeCheckTextLaw, SomeRunTextLaw, SomeSummaryLaw};
 
-use pb_audit::{certified_law, findings_law, passed_law};
+use pb_audit::{findings_law, passed_law};
 use pb_book::{accepted_law, asked_window_law, book_windows_law, named_law};
 use pb_check::solved_law;
 use pb_elim::{formed_law, one_study_law, solution_law, some_study_law};
@@ -28,7 +28,6 @@ pub fn check_text_law()
     ensures one { OneCheckTextLaw }
 {
     findings_law();
-    certified_law();
 }
 
 /// The law that each stage of a study passes at the gap and the sweeps of the study.

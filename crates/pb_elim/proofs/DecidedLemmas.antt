@@ -15,7 +15,8 @@ use Rattle.pb_stage.specs.Drop.{IsMeasureTestOf, without_measurement}
 use Rattle.pb_stage.specs.Laws.{MeasureAcceptLaw, MeasureRejectLaw}
 use Rattle.pb_study.specs.Criticals.{AreCritical}
 use Rattle.pb_stage.specs.StageTests.{AreTestsOf, redundant_streams}
-use Rattle.pb_elim.specs.Stage.{IsReconciliationOf, IsStageOf}
+use Rattle.pb_elim.specs.Reconciled.{IsReconciled}
+use Rattle.pb_elim.specs.Stage.{IsStageOf}
 use Rattle.pb_elim.specs.Study.{without_taken}
 use Rattle.pb_stage.specs.Certified.{IsUndecided}
 use Rattle.pb_elim.specs.Decided.{AreMeasuresRight, IsDropRight, IsMeasureRight}
@@ -24,10 +25,11 @@ use Rattle.pb_elim.proofs.ListLemmas.{some_at}
 use Rattle.pb_elim.proofs.SolutionLemmas.{state_of}
 use Rattle.pb_elim.proofs.StageLemmas.{solved_statistic}
 use Rattle.pb_elim.proofs.TakenLemmas.{without_limits}
+use Rattle.pb_elim.proofs.ReconciledLemmas.{parts_of}
 
 -- a test by a critical value, in the graph of its stage
 drop_right : MeasureRejectLaw → MeasureAcceptLaw → (options : Options) (stage : Stage) (critical : ℤ) (stream : ℕ) (test : MeasureTest) (v : Verdict) → IsProcessGraph stage.graph
-    → IsReconciliationOf stage.graph options stage → pos 0 ≤ℤ critical → IsMeasureTestOf stage.graph options.gap options.sweeps stage.low stage.high (Some critical) stream test → test.verdict ≡ v
+    → IsReconciled stage.graph options stage → pos 0 ≤ℤ critical → IsMeasureTestOf stage.graph options.gap options.sweeps stage.low stage.high (Some critical) stream test → test.verdict ≡ v
     → IsDropRight stage stream critical v
 drop_right rejects accepts options stage critical stream test Reject limits is least of verdict =
     let solved = solved_statistic stage.graph options stage is in
@@ -41,7 +43,7 @@ drop_right rejects accepts options stage critical stream test NoCritical limits 
 drop_right rejects accepts options stage critical stream test NoTest limits is least of verdict = tt
 
 measure_right : MeasureRejectLaw → MeasureAcceptLaw → (options : Options) (stage : Stage) (critical : Option ℤ) (stream : ℕ) (test : MeasureTest) → IsProcessGraph stage.graph
-    → IsReconciliationOf stage.graph options stage → IfSome critical IsCriticalValue → IsMeasureTestOf stage.graph options.gap options.sweeps stage.low stage.high critical stream test
+    → IsReconciled stage.graph options stage → IfSome critical IsCriticalValue → IsMeasureTestOf stage.graph options.gap options.sweeps stage.low stage.high critical stream test
     → IsMeasureRight stage test
 measure_right rejects accepts options stage None stream test limits is least of =
     subst (λ (o : Option ℤ). MatchOption o (IsUndecided test.verdict) (λ critical. IsDropRight stage test.stream critical test.verdict)) (sym of.critical_is)
@@ -52,7 +54,7 @@ measure_right rejects accepts options stage (Some critical) stream test limits i
 
 -- ---- the tests of a stage
 measures_right : MeasureRejectLaw → MeasureAcceptLaw → (options : Options) (critical : Critical) (stage : Stage) (o : Option Tests) → IsProcessGraph stage.graph
-    → IsReconciliationOf stage.graph options stage → AreCritical critical → IfSome o (AreTestsOf stage.graph options critical stage) → IfSome o (λ tests. All (IsMeasureRight stage) tests.measure)
+    → IsReconciled stage.graph options stage → AreCritical critical → IfSome o (AreTestsOf stage.graph options critical stage) → IfSome o (λ tests. All (IsMeasureRight stage) tests.measure)
 measures_right rejects accepts options critical stage None limits is within are = tt
 measures_right rejects accepts options critical stage (Some tests) limits is within are = λ k d lt.
     let test = get_or tests.measure k d in
@@ -64,7 +66,7 @@ stage_right : MeasureRejectLaw → MeasureAcceptLaw → (g : ProcessGraph) (opti
 stage_right rejects accepts g options critical stage limits within is =
     let same = is.reconciled.graph_is in
     measures_right rejects accepts options critical stage stage.tests (subst IsProcessGraph (sym same) limits)
-    (subst (λ (h : ProcessGraph). IsReconciliationOf h options stage) (sym same) is.reconciled) within
+    (subst (λ (h : ProcessGraph). IsReconciled h options stage) (sym same) (parts_of g options stage is.reconciled)) within
     (subst (λ (h : ProcessGraph). IfSome stage.tests (AreTestsOf h options critical stage)) (sym same) is.tests)
 
 pub decided_by : MeasureRejectLaw → MeasureAcceptLaw → DecidedLaw

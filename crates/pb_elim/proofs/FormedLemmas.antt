@@ -15,9 +15,9 @@ use Rattle.pb_graph.specs.ProcessGraph.{ProcessGraph, IsProcessGraph, unmeasured
 use Rattle.pb_graph.proofs.WalkLemmas.{some_same}
 use Rattle.pb_study.specs.WellFormed.{AreTestsWithin, HasShapeOf, IsMeasureWithin, IsTakenWithin, IsWellFormed, IsWide}
 use Rattle.pb_elim.specs.Stage.{IsStageOf}
-use Rattle.pb_elim.specs.Elimination.{IsStop, IsTakenAfter}
+use Rattle.pb_elim.specs.Elimination.{IsStop}
 use Rattle.pb_elim.specs.Study.{IsStudyOf}
-use Rattle.pb_elim.specs.Rounds.{AreAllRoundsOf, AreRoundsOf, stop_at}
+use Rattle.pb_elim.specs.Rounds.{IsTakenAfter, AreAllRoundsOf, AreRoundsOf, stop_at}
 use Rattle.pb_elim.proofs.NextLemmas.{stop_is}
 use Rattle.pb_elim.proofs.RoundLemmas.{last_graph, more_rounds, one_round}
 use Rattle.pb_elim.proofs.TakenLemmas.{length-unmeasured, without_nodes, without_streams}
@@ -47,7 +47,7 @@ pub taken_within : (g : ProcessGraph) (options : Options) (critical : Critical) 
     → IsSomeAnd o (IsTakenAfter options critical count t) → IsTakenWithin g t
 taken_within g options critical count None t within is = absurd is
 taken_within g options critical count (Some tests) t within is =
-    let s = is.suspect in
+    let s = is.1 in
     let test = s.test in
     let test_within : IsMeasureWithin g test =
     subst (IsMeasureWithin g) (get_or_from_slice_get tests.measure s.place test test s.there) (within.measure s.place test (slice_get_within tests.measure s.place test s.there)) in

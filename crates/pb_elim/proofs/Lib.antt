@@ -6,6 +6,7 @@ mod NextLemmas
 mod FormedLemmas
 mod TestLemmas
 mod DecidedLemmas
+mod ReconciledLemmas
 mod SolutionLemmas
 mod UniqueLemmas
 mod StageLemmas

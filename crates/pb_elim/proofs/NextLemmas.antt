@@ -13,8 +13,8 @@ use Rattle.pb_study.specs.declared.results.Stage.{Stage}
 use Rattle.pb_study.specs.declared.results.Taken.{Taken}
 use Rattle.pb_study.specs.declared.results.Options.{Options}
 use Rattle.pb_study.specs.declared.results.Critical.{Critical}
-use Rattle.pb_elim.specs.Elimination.{IsStop, IsTakenAfter, is_suspect, stop_after, stop_by, stop_of_measures}
-use Rattle.pb_elim.specs.Rounds.{IsDone, IsWorst, next_at, reason_at, stop_at, worst_from}
+use Rattle.pb_elim.specs.Elimination.{IsStop, stop_after, stop_by, stop_of_measures}
+use Rattle.pb_elim.specs.Rounds.{IsTakenAfter, is_suspect, IsDone, IsWorst, next_at, reason_at, stop_at, worst_from}
 use Rattle.pb_elim.proofs.ListLemmas.{some_and, the_some}
 use Rattle.pb_elim.proofs.SuspectLemmas.{pick, worst_is}
 
@@ -43,7 +43,7 @@ suspected Reject options critical count measures none =
 taken_of : (options : Options) (critical : Critical) (count : ℕ) (tests : Tests) (worst : Option Taken) → IsWorst tests.measure worst → stop_after options critical count tests ≡ None
     → IsSomeAnd worst (λ t. IsTakenAfter options critical count t tests)
 taken_of options critical count tests None is none = cc (sym is ∙ suspected tests.global.verdict options critical count tests.measure none)
-taken_of options critical count tests (Some t) is none = record { goes_on = none; suspect = is }
+taken_of options critical count tests (Some t) is none = (none, is)
 
 -- ---- what the code takes
 none_or : (b : Bool) (o : Option Taken) (t : Taken) → (if b then None else o) ≡ Some t → (b ≡ false) × (o ≡ Some t)
@@ -59,10 +59,7 @@ pub taken_next : (options : Options) (critical : Critical) (count : ℕ) (o : Op
 taken_next options critical count None t is = cc is
 taken_next options critical count (Some tests) t is =
     let (none, worst) = none_or (is_some (stop_after options critical count tests)) (worst_from None tests.measure) t is in
-    record {
-      goes_on = no_reason (stop_after options critical count tests) none;
-      suspect = subst (IsWorst tests.measure) worst (worst_is tests.measure);
-    }
+    (no_reason (stop_after options critical count tests) none, subst (IsWorst tests.measure) worst (worst_is tests.measure))
 
 -- if no stream is taken, the rule gives a reason to stop
 reason_there : (o : Option Stop) (worst : Option Taken) → (o ≡ None → IsSome worst) → (if is_some o then None else worst) ≡ None → IsSome o
@@ -107,7 +104,7 @@ reason_of options critical count (Some tests) some = the_some (stop_after option
 take_worst : (options : Options) (critical : Critical) (count : ℕ) (tests : Tests) (worst : Option Taken) → IsWorst tests.measure worst → stop_after options critical count tests ≡ None
     → (t : Taken) × IsTakenAfter options critical count t tests
 take_worst options critical count tests None is none = absurd (taken_of options critical count tests None is none)
-take_worst options critical count tests (Some t) is none = (t, record { goes_on = none; suspect = is })
+take_worst options critical count tests (Some t) is none = (t, (none, is))
 
 decided_by : (options : Options) (critical : Critical) (count : ℕ) (tests : Tests) (o : Option Stop) → stop_after options critical count tests ≡ o
     → ((reason : Stop) × (stop_after options critical count tests ≡ Some reason)) ⊎ ((t : Taken) × IsTakenAfter options critical count t tests)

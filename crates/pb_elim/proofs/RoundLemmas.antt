@@ -16,9 +16,9 @@ use Rattle.pb_graph.specs.ProcessGraph.{ProcessGraph, unmeasured_at}
 use Rattle.pb_graph.proofs.WalkLemmas.{some_same}
 use Rattle.pb_study.specs.Options.{AreOptions}
 use Rattle.pb_elim.specs.Stage.{IsStageOf}
-use Rattle.pb_elim.specs.Elimination.{IsTakenAfter, stop_after, stop_by, stop_of_measures}
+use Rattle.pb_elim.specs.Elimination.{stop_after, stop_by, stop_of_measures}
 use Rattle.pb_elim.specs.Study.{AreRounds, without_taken}
-use Rattle.pb_elim.specs.Rounds.{IsDone}
+use Rattle.pb_elim.specs.Rounds.{IsTakenAfter, IsDone}
 use Rattle.pb_elim.proofs.ListLemmas.{each_push, get_push, some_and, the_some}
 use Rattle.pb_elim.proofs.TakenLemmas.{without_push}
 

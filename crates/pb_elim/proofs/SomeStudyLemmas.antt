@@ -31,8 +31,10 @@ use Rattle.pb_stage.specs.Laws.{SomeNodalTestsLaw, SomeMeasureTestsLaw}
 use Rattle.pb_study.specs.Options.{AreOptions}
 use Rattle.pb_stage.specs.Printed.{printed_price, printed_flows, printed_classes}
 use Rattle.pb_stage.specs.StageTests.{AreTestsOf, redundant_streams}
-use Rattle.pb_elim.specs.Stage.{IsReconciliationOf, IsStageOf}
-use Rattle.pb_elim.specs.Elimination.{IsStop, IsTakenAfter, stop_after}
+use Rattle.pb_elim.specs.Reconciled.{IsReconciled}
+use Rattle.pb_elim.specs.Stage.{IsStageOf}
+use Rattle.pb_elim.specs.Elimination.{IsStop, stop_after}
+use Rattle.pb_elim.specs.Rounds.{IsTakenAfter}
 use Rattle.pb_elim.specs.Study.{AreRounds, IsStudyOf}
 use Rattle.pb_elim.specs.Laws.{SomeStudyLaw}
 use Rattle.pb_elim.proofs.ListLemmas.{get_last, some_and, the_some}
@@ -121,7 +123,7 @@ stage_by g classes solved price flows dof = record {
   tests = None;
 }
 
-some_reconciliation : Laws → (g : ProcessGraph) (options : Options) → IsProcessGraph g → (stage : Stage) × IsReconciliationOf g options stage
+some_reconciliation : Laws → (g : ProcessGraph) (options : Options) → IsProcessGraph g → (stage : Stage) × IsReconciled g options stage
 some_reconciliation laws g options limits =
     let ss = g.streams in
     let (classes, classified) = laws.classification g limits in
@@ -162,7 +164,7 @@ some_tests laws g options critical stage limits =
       record { overall = refl; nodal = are_nodal; measure = are_measure },
     )
 
-tested : Laws → (g : ProcessGraph) (options : Options) (critical : Critical) (stage : Stage) (asked : Bool) → asked ≡ options.tests → IsProcessGraph g → IsReconciliationOf g options stage
+tested : Laws → (g : ProcessGraph) (options : Options) (critical : Critical) (stage : Stage) (asked : Bool) → asked ≡ options.tests → IsProcessGraph g → IsReconciled g options stage
     → (stage : Stage) × IsStageOf g options critical stage
 tested laws g options critical stage false asked limits is = (record stage { tests = None }, stage_tested g options critical stage None is asked tt)
 tested laws g options critical stage true asked limits is =

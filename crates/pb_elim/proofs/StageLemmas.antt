@@ -37,13 +37,15 @@ use Rattle.pb_study.specs.Options.{AreOptions}
 use Rattle.pb_study.specs.Criticals.{AreCritical, IsCriticalRow}
 use Rattle.pb_stage.specs.Printed.{printed_price, printed_flows, printed_classes, printed_gap}
 use Rattle.pb_stage.specs.StageTests.{AreTestsOf, is_redundant, redundant_from, redundant_streams}
-use Rattle.pb_elim.specs.Stage.{IsReconciliationOf, IsStageOf}
+use Rattle.pb_elim.specs.Reconciled.{IsReconciled}
+use Rattle.pb_elim.specs.Stage.{IsStageOf}
 use Rattle.pb_study.specs.WellFormed.{sweeps_of, IsWide, IsResultWithin, AreTestsWithin, IsWellFormed}
 use Rattle.pb_graph.specs.WellFormed.{IsPrice, IsWitnessWithin}
 use Rattle.pb_stage.specs.Signs.{AreWitnessSigns}
 use Rattle.pb_elim.specs.Results.{IsResultOf, AreResultsOf}
 use Rattle.pb_elim.proofs.ListLemmas.{from_map, same_items, some_at}
 use Rattle.pb_graph.proofs.CertificateLemmas.{witness_within}
+use Rattle.pb_elim.proofs.ReconciledLemmas.{whole_of}
 
 -- members within the graph have signs
 signs_of : (g : ProcessGraph) (w : Witness) → IsWitnessWithin g w → AreWitnessSigns w
@@ -117,7 +119,7 @@ flows_same s classes results are each =
     let (c, classed) = some_at classes k within in
     sym is ∙ some_same (sym (are.right k c r classed here).flow ∙ there))
 
-pub stage_is : (options : Options) (s : State) (classes : List Classified) (stage : Stage) → AreParts options s classes stage → IsReconciliationOf s.graph options stage
+pub stage_is : (options : Options) (s : State) (classes : List Classified) (stage : Stage) → AreParts options s classes stage → IsReconciled s.graph options stage
 stage_is options s classes stage parts =
     let ss = s.graph.streams in
     let each : length s.flows ≡ length classes = parts.state.rounded.balanced.each ∙ sym parts.classified.each in
@@ -190,7 +192,7 @@ stage_formed options s classes stage limits parts narrow = record {
 }
 
 -- the reconciliation of a graph with other tests
-pub retested : (g : ProcessGraph) (options : Options) (stage : Stage) (tests : Option Tests) → IsReconciliationOf g options stage → IsReconciliationOf g options (record stage { tests = tests })
+pub retested : (g : ProcessGraph) (options : Options) (stage : Stage) (tests : Option Tests) → IsReconciled g options stage → IsReconciled g options (record stage { tests = tests })
 retested g options stage tests is = record {
   graph_is = is.graph_is;
   classes = is.classes;
@@ -205,7 +207,7 @@ retested g options stage tests is = record {
 }
 
 -- its statistic is the statistic of the solved graph
-abbrev pub solved_statistic : (g : ProcessGraph) (options : Options) (stage : Stage) → IsReconciliationOf g options stage → IsSolvedStatistic g options.gap options.sweeps stage.low stage.high
+abbrev pub solved_statistic : (g : ProcessGraph) (options : Options) (stage : Stage) → IsReconciled g options stage → IsSolvedStatistic g options.gap options.sweeps stage.low stage.high
 solved_statistic g options stage is = record {
   solved = stage.solved;
   price = printed_price stage;
@@ -222,10 +224,10 @@ same_tests g options critical stage o None are = tt
 same_tests g options critical stage o (Some tests) are = record { overall = are.overall; nodal = are.nodal; measure = are.measure }
 
 -- with the tests that are asked for it is a stage
-pub stage_tested : (g : ProcessGraph) (options : Options) (critical : Critical) (stage : Stage) (tests : Option Tests) → IsReconciliationOf g options stage → is_some tests ≡ options.tests
+pub stage_tested : (g : ProcessGraph) (options : Options) (critical : Critical) (stage : Stage) (tests : Option Tests) → IsReconciled g options stage → is_some tests ≡ options.tests
     → IfSome tests (AreTestsOf g options critical stage) → IsStageOf g options critical (record stage { tests = tests })
 stage_tested g options critical stage tests is asked are =
-    record { reconciled = retested g options stage tests is; asked = asked; tests = same_tests g options critical stage tests tests are }
+    record { reconciled = whole_of g options (record stage { tests = tests }) (retested g options stage tests is); asked = asked; tests = same_tests g options critical stage tests tests are }
 
 pub tested_formed : (g : ProcessGraph) (stage : Stage) (tests : Option Tests) → stage.graph ≡ g → IsWellFormed stage → IfSome tests (AreTestsWithin g) → IsWellFormed (record stage { tests = tests })
 tested_formed g stage tests graph_is formed within = record {

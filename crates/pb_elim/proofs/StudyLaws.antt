@@ -1,6 +1,5 @@
 -- What crates above may cite of stages and studies: the laws.
 use Rattle.pb_dual.proofs.SweepLaws.{ascent_law}
-use Rattle.pb_gap.proofs.GapLaws.{gaps}
 use Rattle.pb_stage.proofs.StageLaws.{shown}
 use Rattle.pb_stage.proofs.TestLaws.{measure_accept, measure_reject}
 use Rattle.pb_elim.specs.Laws.{CertifiedLaw, DecidedLaw}
@@ -10,7 +9,7 @@ pub use Rattle.pb_elim.proofs.TestLemmas.{tested}
 pub use Rattle.pb_elim.proofs.ThroughoutLemmas.{least_throughout}
 
 pub certified : CertifiedLaw
-certified = certified_by ascent_law gaps shown
+certified = certified_by ascent_law shown
 
 pub decided : DecidedLaw
 decided = decided_by measure_reject measure_accept

@@ -10,8 +10,8 @@ use Rattle.pb_study.specs.declared.results.Verdict.TheVariants.{Reject, Accept, 
 use Rattle.pb_study.specs.declared.results.MeasureTest.{MeasureTest}
 use Rattle.pb_study.specs.declared.results.Taken.{Taken}
 use Rattle.pb_graph.proofs.WalkLemmas.{some_same}
-use Rattle.pb_elim.specs.Elimination.{IsSuspect, is_reject, is_suspect}
-use Rattle.pb_elim.specs.Rounds.{IsWorst, worse, worse_of, worst_from}
+use Rattle.pb_elim.specs.Elimination.{IsSuspect, is_reject}
+use Rattle.pb_elim.specs.Rounds.{is_suspect, IsWorst, worse, worse_of, worst_from}
 use Rattle.pb_elim.proofs.ListLemmas.{each_push, get_last, get_push}
 
 -- ---- verdicts

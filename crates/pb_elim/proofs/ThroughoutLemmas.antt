@@ -11,16 +11,17 @@ use Rattle.pb_gap.specs.Bounds.{bounds_of}
 use Rattle.pb_gap.specs.StreamBounds.{sum_for}
 use Rattle.pb_gap.specs.LeastBounds.{least_bounds_of}
 use Rattle.pb_stage.specs.Printed.{printed_price, printed_flows, printed_gap}
-use Rattle.pb_elim.specs.Stage.{IsReconciliationOf}
+use Rattle.pb_elim.specs.Reconciled.{IsReconciled}
 use Rattle.pb_elim.specs.Study.{without_taken}
 use Rattle.pb_stage.specs.Certified.{HasLeastThroughout}
 use Rattle.pb_elim.specs.Laws.{LeastThroughoutLaw}
+use Rattle.pb_elim.proofs.ReconciledLemmas.{parts_of}
 
 both_or_none : (f g : List Member → Bounds) (o : Option (List Member)) → is_some (option_map f o) ≡ is_some (option_map g o)
 both_or_none f g None = refl
 both_or_none f g (Some members) = refl
 
-stage_throughout : (g : ProcessGraph) (options : Options) (stage : Stage) → IsReconciliationOf g options stage → HasLeastThroughout stage
+stage_throughout : (g : ProcessGraph) (options : Options) (stage : Stage) → IsReconciled g options stage → HasLeastThroughout stage
 stage_throughout g options stage is = λ j r at.
     let price = printed_price stage in
     let gap = printed_gap stage in
@@ -30,4 +31,5 @@ stage_throughout g options stage is = λ j r at.
 pub least_throughout : LeastThroughoutLaw
 least_throughout graph options critical study is = λ k d lt.
     let stage = get_or study.stages k d in
-    stage_throughout (without_taken graph (take k study.taken)) options stage (is.rounds.each k stage (slice_get-get_or study.stages k d lt)).reconciled
+    let g = without_taken graph (take k study.taken) in
+    stage_throughout g options stage (parts_of g options stage (is.rounds.each k stage (slice_get-get_or study.stages k d lt)).reconciled)

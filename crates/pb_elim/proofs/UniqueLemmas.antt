@@ -31,13 +31,16 @@ use Rattle.pb_stage.specs.Laws.{OneMeasureTestsLaw, OneNodalTestsLaw}
 use Rattle.pb_stage.specs.Printed.{printed_price, printed_flows, printed_classes, printed_gap}
 use Rattle.pb_stage.specs.StageTests.{AreTestsOf, redundant_streams}
 use Rattle.pb_stage.specs.Freedom.{HasFreedom}
-use Rattle.pb_elim.specs.Stage.{IsReconciliationOf, IsStageOf}
-use Rattle.pb_elim.specs.Elimination.{IsStop, IsTakenAfter, stop_after}
+use Rattle.pb_elim.specs.Reconciled.{IsReconciled}
+use Rattle.pb_elim.specs.Stage.{IsStageOf}
+use Rattle.pb_elim.specs.Elimination.{IsStop, stop_after}
+use Rattle.pb_elim.specs.Rounds.{IsTakenAfter}
 use Rattle.pb_elim.specs.Study.{IsStudyOf, without_taken}
 use Rattle.pb_elim.specs.Laws.{OneStudyLaw}
 use Rattle.pb_elim.proofs.ListLemmas.{at_map, same_items, some_at}
 use Rattle.pb_elim.proofs.SuspectLemmas.{one_suspect}
 use Rattle.pb_elim.proofs.TakenLemmas.{without_limits}
+use Rattle.pb_elim.proofs.ReconciledLemmas.{parts_of}
 
 -- what the laws below give
 pub record Laws : Type 0 where
@@ -62,7 +65,7 @@ record IsSame (one other : Stage) : Type 0 where
   classes : printed_classes one ≡ printed_classes other
   gap : printed_gap one ≡ printed_gap other
 
-same : Laws → (g : ProcessGraph) (options : Options) (one other : Stage) → IsProcessGraph g → IsReconciliationOf g options one → IsReconciliationOf g options other → IsSame one other
+same : Laws → (g : ProcessGraph) (options : Options) (one other : Stage) → IsProcessGraph g → IsReconciled g options one → IsReconciled g options other → IsSame one other
 same laws g options one other limits x y =
     let s = laws.solution g options.gap options.sweeps one.solved other.solved (printed_price one) (printed_price other) (printed_flows one) (printed_flows other) limits x.solution y.solution in
     record {
@@ -73,7 +76,7 @@ same laws g options one other limits x y =
       gap = x.gap ∙ ap₂ (λ (price : ℕ → ℤ) (flows : List ℤ). gap_of price g.streams flows) s.1.price s.1.flows ∙ sym y.gap;
     }
 
-one_result : (g : ProcessGraph) (options : Options) (one other : Stage) → IsReconciliationOf g options one → IsReconciliationOf g options other → IsSame one other → (k : ℕ) (r q : StreamResult)
+one_result : (g : ProcessGraph) (options : Options) (one other : Stage) → IsReconciled g options one → IsReconciled g options other → IsSame one other → (k : ℕ) (r q : StreamResult)
     → slice_get one.streams k ≡ Some r → slice_get other.streams k ≡ Some q → r ≡ q
 one_result g options one other x y s k r q at there =
     let class : r.classified ≡ q.classified = one_image (λ (r : StreamResult). r.classified) one.streams other.streams k r q s.classes at there in
@@ -119,7 +122,7 @@ same_if laws g options critical one other (Some tests) None limits s both x y = 
 same_if laws g options critical one other (Some tests) (Some others) limits s both x y = ap Some (same_tests laws g options critical one other tests others limits s x y)
 
 -- ---- stages
-same_but : Laws → (g : ProcessGraph) (options : Options) (one other : Stage) → IsProcessGraph g → IsReconciliationOf g options one → IsReconciliationOf g options other → IsSameBut one other
+same_but : Laws → (g : ProcessGraph) (options : Options) (one other : Stage) → IsProcessGraph g → IsReconciled g options one → IsReconciled g options other → IsSameBut one other
 same_but laws g options one other limits x y =
     let s = same laws g options one other limits x y in
     let classified : StreamResult → Classified = λ r. r.classified in
@@ -139,7 +142,7 @@ same_but laws g options one other limits x y =
 same_stage : Laws → (g : ProcessGraph) (options : Options) (critical : Critical) (one other : Stage) → IsProcessGraph g → IsStageOf g options critical one → IsStageOf g options critical other
     → one ≡ other
 same_stage laws g options critical one other limits x y =
-    let s = same_but laws g options one other limits x.reconciled y.reconciled in
+    let s = same_but laws g options one other limits (parts_of g options one x.reconciled) (parts_of g options other y.reconciled) in
     let tests = same_if laws g options critical one other one.tests other.tests limits s (x.asked ∙ sym y.asked) x.tests y.tests in
     λ i. record {
       graph = s.graph i;
@@ -167,7 +170,7 @@ same_at laws g options critical one other n x y limits a b front at there =
 same_taken : (options : Options) (critical : Critical) (n : ℕ) (o : Option Tests) (t u : Taken) → IsSomeAnd o (IsTakenAfter options critical n t) → IsSomeAnd o (IsTakenAfter options critical n u)
     → t ≡ u
 same_taken options critical n None t u a b = absurd a
-same_taken options critical n (Some tests) t u a b = one_suspect tests.measure t u a.suspect b.suspect
+same_taken options critical n (Some tests) t u a b = one_suspect tests.measure t u a.1 b.1
 
 -- the first streams taken are the same
 same_front : Laws → (g : ProcessGraph) (options : Options) (critical : Critical) (one other : Study) (n : ℕ) → IsProcessGraph g → IsStudyOf g options critical one → IsStudyOf g options critical other
@@ -190,7 +193,7 @@ same_front laws g options critical one other (suc n) limits a b few too =
 apart : (options : Options) (critical : Critical) (n : ℕ) (o : Option Tests) (reason : Stop) (t : Taken) → IsSomeAnd o (λ tests. stop_after options critical n tests ≡ Some reason)
     → IsSomeAnd o (IsTakenAfter options critical n t) → ⊥
 apart options critical n None reason t stops goes = absurd stops
-apart options critical n (Some tests) reason t stops goes = cc (sym stops ∙ goes.goes_on)
+apart options critical n (Some tests) reason t stops goes = cc (sym stops ∙ goes.0)
 
 -- a study that stops takes no more
 goes_or_stops : (options : Options) (critical : Critical) (n : ℕ) (stage : Stage) (stop : Option Stop) (t : Taken) → options.eliminate ≢ 0 → IsStop options critical n stage stop

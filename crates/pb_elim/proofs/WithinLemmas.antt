@@ -46,7 +46,8 @@ use Rattle.pb_study.specs.Options.{AreOptions}
 use Rattle.pb_study.specs.Criticals.{AreCritical}
 use Rattle.pb_stage.specs.Printed.{printed_price, printed_flows}
 use Rattle.pb_stage.specs.StageTests.{AreTestsOf, redundant_streams}
-use Rattle.pb_elim.specs.Stage.{IsReconciliationOf, IsStageOf}
+use Rattle.pb_elim.specs.Reconciled.{IsReconciled}
+use Rattle.pb_elim.specs.Stage.{IsStageOf}
 use Rattle.pb_elim.specs.Study.{without_taken}
 use Rattle.pb_elim.specs.Laws.{FormedLaw}
 use Rattle.pb_elim.proofs.ListLemmas.{at_map, some_at}
@@ -54,6 +55,7 @@ use Rattle.pb_elim.proofs.TakenLemmas.{unmeasured_limits, without_limits, withou
 use Rattle.pb_elim.proofs.FormedLemmas.{taken_within}
 use Rattle.pb_elim.proofs.SolutionLemmas.{own_stage, state_fits, state_of}
 use Rattle.pb_elim.proofs.StageLemmas.{global_within, redundant_within, sweeps_within}
+use Rattle.pb_elim.proofs.ReconciledLemmas.{parts_of}
 
 -- what the laws below give
 pub record RangeLaws : Type 0 where
@@ -72,7 +74,7 @@ record IsFitted (g : ProcessGraph) (price : ℕ → ℤ) (flows : List ℤ) : Ty
   rounded : AreRoundedFlows g price flows
   within : AreNumbersWithin g price flows
 
-fitted : RangeLaws → (options : Options) (stage : Stage) → IsProcessGraph stage.graph → IsReconciliationOf stage.graph options stage
+fitted : RangeLaws → (options : Options) (stage : Stage) → IsProcessGraph stage.graph → IsReconciled stage.graph options stage
     → IsFitted stage.graph (printed_price stage) (printed_flows stage)
 fitted laws options stage limits is =
     let g = stage.graph in
@@ -95,7 +97,7 @@ least_if : RangeLaws → (g : ProcessGraph) (price : ℕ → ℤ) (flows : List 
 least_if laws g price flows j None fitted sums = tt
 least_if laws g price flows j (Some members) fitted sums = laws.least_range g price flows members fitted.limits fitted.fit fitted.rounded sums.signed
 
-result_within : RangeLaws → (options : Options) (stage : Stage) (j : ℕ) (r : StreamResult) → IsReconciliationOf stage.graph options stage
+result_within : RangeLaws → (options : Options) (stage : Stage) (j : ℕ) (r : StreamResult) → IsReconciled stage.graph options stage
     → IsFitted stage.graph (printed_price stage) (printed_flows stage) → slice_get stage.streams j ≡ Some r → IsResultWithin stage.graph r
 result_within laws options stage j r is fitted at =
     let g = stage.graph in
@@ -203,7 +205,7 @@ stage_within : RangeLaws → (h : ProcessGraph) (options : Options) (critical : 
 stage_within laws h options critical stage limits asked values whole =
     let g = stage.graph in
     let graph_is = whole.reconciled.graph_is in
-    let is = own_stage h options stage whole.reconciled in
+    let is = own_stage h options stage (parts_of h options stage whole.reconciled) in
     let here : IsProcessGraph g = subst IsProcessGraph (sym graph_is) limits in
     let of = fitted laws options stage here is in
     let within = of.within in

@@ -18,15 +18,12 @@ abbrev pub is_reject : Verdict → Bool
 is_reject Reject = true
 is_reject verdict = false
 
--- whether a measurement is suspected by its test
-abbrev pub is_suspect : MeasureTest → Bool
-is_suspect test = is_reject test.verdict
-
 -- the reason to stop after a rejected stage while rounds are left: there is no critical value for its measurements, or no suspect
 -- among them; none if there is a suspect
 abbrev pub stop_of_measures : Option ℤ → List MeasureTest → Option Stop
 stop_of_measures None measures = Some Stop.NoCritical
-stop_of_measures (Some value) measures = if list_any is_suspect measures then None else Some NoSuspect
+stop_of_measures (Some value) measures =
+    if list_any (λ (test : MeasureTest). is_reject test.verdict) measures then None else Some NoSuspect
 
 -- the reason to stop after a stage for which this many streams were taken, by its global test: a rejected stage goes on to its
 -- measurements, unless as many streams were taken as rounds are asked for
@@ -57,13 +54,6 @@ pub record IsSuspect (measures : List MeasureTest) (taken : Taken) : Type 0 wher
   pub earliest :
       (k : ℕ) (other : MeasureTest) → k < place → slice_get measures k ≡ Some other
       → other.verdict ≡ Reject → other.low <ℤ test.low
-
--- after a stage with these tests, for which this many streams were taken, one more is taken: the rule gives no reason to stop, and
--- the stream is the suspect
-pub record IsTakenAfter (options : Options) (critical : Critical) (count : ℕ) (taken : Taken)
-    (tests : Tests) : Type 0 where
-  pub goes_on : stop_after options critical count tests ≡ None
-  pub suspect : IsSuspect tests.measure taken
 
 -- the reason to stop after the last stage, for which this many streams were taken; none exactly when no elimination is asked for
 abbrev pub IsStop : Options → Critical → ℕ → Stage → Option Stop → Type 0

@@ -5,5 +5,6 @@ pub mod Study
 pub mod Decided
 pub mod Laws
 -- Inside
+pub mod Reconciled
 pub mod Results
 pub mod Rounds

@@ -1,5 +1,5 @@
 -- Inside. How streams are taken, round by round.
-use Rattle.std.specs.Prelude.{◌≡◌, ◌≢◌, ◌==◌, ℕ, int_lt, false, List, [], ◌∷◌, Option, None, Some, length, slice_get, is_some, IsSome, IsSomeAnd, MatchOption, if◌then◌else◌}
+use Rattle.std.specs.Prelude.{◌≡◌, ◌≢◌, ◌==◌, ℕ, int_lt, Bool, false, List, [], ◌∷◌, Option, None, Some, length, slice_get, is_some, IsSome, IsSomeAnd, MatchOption, if◌then◌else◌}
 use Rattle.std.specs.List.{list_any}
 use Rattle.pb_study.specs.declared.results.MeasureTest.{MeasureTest}
 use Rattle.pb_study.specs.declared.results.Tests.{Tests}
@@ -11,8 +11,18 @@ use Rattle.pb_study.specs.declared.results.Options.{Options}
 use Rattle.pb_study.specs.declared.results.Critical.{Critical}
 use Rattle.pb_graph.specs.ProcessGraph.{ProcessGraph, IsProcessGraph}
 use Rattle.pb_study.specs.WellFormed.{IsWellFormedStudy}
-use Rattle.pb_elim.specs.Elimination.{IsSuspect, is_suspect, stop_after}
+use Rattle.pb_elim.specs.Elimination.{IsSuspect, is_reject, stop_after}
 use Rattle.pb_elim.specs.Study.{AreRounds}
+
+-- whether a measurement is suspected by its test
+abbrev pub is_suspect : MeasureTest → Bool
+is_suspect test = is_reject test.verdict
+
+-- after a stage with these tests, for which this many streams were taken, one more is taken: the rule gives no reason to stop, and
+-- the stream is the suspect
+abbrev pub IsTakenAfter : Options → Critical → ℕ → Taken → Tests → Type 0
+IsTakenAfter options critical count taken tests =
+    (stop_after options critical count tests ≡ None) × IsSuspect tests.measure taken
 
 -- the worst suspect so far, or one more if its drop has a greater low end
 abbrev pub worse_of : Option Taken → Taken → Taken

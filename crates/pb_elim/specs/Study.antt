@@ -1,5 +1,5 @@
 -- Statement. The study of a graph: its stages, and the streams whose measurements were taken between them.
-use Rattle.std.specs.Prelude.{◌≡◌, ℕ, ◌+◌, ◌≤◌, List, [], ◌∷◌, length, take, Some, slice_get, IsSomeAnd}
+use Rattle.std.specs.Prelude.{◌≡◌, ℕ, ◌+◌, ◌≤◌, List, [], ◌∷◌, length, take, None, Some, slice_get, IsSomeAnd}
 use Rattle.pb_study.specs.declared.results.Stage.{Stage}
 use Rattle.pb_study.specs.declared.results.Taken.{Taken}
 use Rattle.pb_study.specs.declared.results.Study.{Study}
@@ -7,7 +7,7 @@ use Rattle.pb_study.specs.declared.results.Options.{Options}
 use Rattle.pb_study.specs.declared.results.Critical.{Critical}
 use Rattle.pb_graph.specs.ProcessGraph.{ProcessGraph, unmeasured_at}
 use Rattle.pb_elim.specs.Stage.{IsStageOf}
-use Rattle.pb_elim.specs.Elimination.{IsStop, IsTakenAfter}
+use Rattle.pb_elim.specs.Elimination.{IsStop, IsSuspect, stop_after}
 
 -- the graph without the measurements of the streams that were taken
 abbrev pub without_taken : ProcessGraph → List Taken → ProcessGraph
@@ -28,7 +28,7 @@ pub record AreRounds (graph : ProcessGraph) (options : Options) (critical : Crit
   -- that stream is the suspect of the stage before it, after which the rule doesn't stop
   pub suspects :
       (i : ℕ) (stage : Stage) (t : Taken) → slice_get stages i ≡ Some stage → slice_get taken i ≡ Some t
-      → IsSomeAnd stage.tests (IsTakenAfter options critical i t)
+      → IsSomeAnd stage.tests (λ tests. (stop_after options critical i tests ≡ None) × IsSuspect tests.measure t)
 
 -- The study of a graph: the stages of the graph and the streams taken between them, until the rule of elimination says to stop, or one
 -- stage if no elimination is asked for.

@@ -2,8 +2,8 @@
 
 ghost use Rattle.std.specs.Prelude.{◌≡◌, None};
 ghost use Rattle.std.specs.List.{list_any};
-ghost use Rattle.pb_elim.specs.Elimination.{is_suspect, stop_after, stop_of_measures};
-ghost use Rattle.pb_elim.specs.Rounds.{next_at, stop_at, worse, worse_of, worst_from};
+ghost use Rattle.pb_elim.specs.Elimination.{stop_after, stop_of_measures};
+ghost use Rattle.pb_elim.specs.Rounds.{is_suspect, next_at, stop_at, worse, worse_of, worst_from};
 
 use pb_study::{Critical, MeasureTest, Options, Stop, Taken, Tests, Verdict};
 

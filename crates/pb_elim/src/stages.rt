@@ -14,7 +14,8 @@ ghost use Rattle.pb_gap.specs.Solution.{IsSolution};
 ghost use Rattle.pb_study.specs.Options.{AreOptions};
 ghost use Rattle.pb_elim.specs.Results.{IsResultOf, AreResultsOf};
 ghost use Rattle.pb_study.specs.Criticals.{AreCritical};
-ghost use Rattle.pb_elim.specs.Stage.{IsReconciliationOf, IsStageOf};
+ghost use Rattle.pb_elim.specs.Reconciled.{IsReconciled};
+ghost use Rattle.pb_elim.specs.Stage.{IsStageOf};
 
 use crate::testing::asked_tests;
 use pb_classify::classify_in;
@@ -133,7 +134,7 @@ fn collected(
     requires state { IsState solver.now }
     requires solution { IsSolution graph.now options.now.gap options.now.sweeps solved
         (price_in solver.now) solver.now.flows }
-    ensures stage { IfOk result (IsReconciliationOf graph.now options.now) }
+    ensures stage { IfOk result (IsReconciled graph.now options.now) }
     ensures graph { IfOk result (λ stage. IsProcessGraph stage.graph) }
     ensures untested { IfOk result (λ stage. stage.tests ≡ None) }
     ensures formed { IfOk result IsWellFormed }
@@ -164,7 +165,7 @@ fn reconciled<'a>(
     requires limits { AreOptions options.now }
     requires forest { IsForestOf graph.now forest }
     requires classes { IsClassification graph.now classes }
-    ensures stage { IfOk result (IsReconciliationOf graph.now options.now) }
+    ensures stage { IfOk result (IsReconciled graph.now options.now) }
     ensures graph { IfOk result (λ stage. IsProcessGraph stage.graph) }
     ensures untested { IfOk result (λ stage. stage.tests ≡ None) }
     ensures formed { IfOk result IsWellFormed }

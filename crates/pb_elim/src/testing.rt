@@ -7,7 +7,7 @@ ghost use Rattle.pb_study.specs.WellFormed.{AreTestsWithin, IsWellFormed};
 ghost use Rattle.pb_study.specs.Options.{AreOptions};
 ghost use Rattle.pb_study.specs.Criticals.{AreCritical};
 ghost use Rattle.pb_stage.specs.StageTests.{AreTestsOf, redundant_streams};
-ghost use Rattle.pb_elim.specs.Stage.{IsReconciliationOf};
+ghost use Rattle.pb_elim.specs.Reconciled.{IsReconciled};
 
 use pb_graph::{Class, Graph, List};
 use pb_stage::{global_test, measure_tests, nodal_tests};
@@ -38,7 +38,7 @@ fn tests_of(
 ) -> Result<Tests, AllocError>
     requires limits { AreOptions options.now }
     requires critical { AreCritical critical.now }
-    requires stage { IsReconciliationOf graph.now options.now stage.now }
+    requires stage { IsReconciled graph.now options.now stage.now }
     requires graph { IsProcessGraph stage.now.graph }
     requires formed { IsWellFormed stage.now }
     ensures tests { IfOk result (AreTestsOf graph.now options.now critical.now stage.now) }
@@ -77,7 +77,7 @@ pub fn asked_tests(
 ) -> Result<Option<Tests>, AllocError>
     requires limits { AreOptions options.now }
     requires critical { AreCritical critical.now }
-    requires stage { IsReconciliationOf graph.now options.now stage.now }
+    requires stage { IsReconciled graph.now options.now stage.now }
     requires graph { IsProcessGraph stage.now.graph }
     requires formed { IsWellFormed stage.now }
     ensures asked { IfOk result (λ tests. is_some tests ≡ options.now.tests) }

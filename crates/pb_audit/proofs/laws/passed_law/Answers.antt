@@ -1,5 +1,5 @@
-use Rattle.pb_audit.proofs.FindingLemmas.{passed_findings}
+use Rattle.pb_audit.proofs.AuditLaws.{passed_found}
 use Rattle.pb_audit.proofs.laws.passed_law.Goals as goal
 
 pub returns : goal.returns
-returns c = passed_findings
+returns c = passed_found

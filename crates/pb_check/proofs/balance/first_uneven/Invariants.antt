@@ -1,5 +1,5 @@
 use Rattle.std.proofs.Common.{ℕ, ◌<◌}
-use Rattle.pb_check.specs.Asked.{IsEvenAt}
+use Rattle.pb_check.specs.Places.{IsEvenAt}
 use Rattle.pb_check.proofs.balance.first_uneven.Given as goal
 
 -- the nodes so far balance

@@ -1,11 +1,11 @@
 use Rattle.std.proofs.Common.{◌≡◌, ◌∙◌, is_some, sym, ap, arith}
 use Rattle.pb_stage.specs.Certified.{found_bounds}
-use Rattle.pb_check.specs.Faults.{DifferAt}
+use Rattle.pb_check.specs.Places.{DifferAt}
 use Rattle.pb_check.proofs.FirstLemmas.{place_more}
 use Rattle.pb_check.proofs.RowLemmas.{none_there, some_there}
 use Rattle.pb_check.proofs.StateLemmas.{all_bounds, bounds_fail, bounds_here, result_bounded, result_signs}
 use Rattle.pb_check.proofs.bounds.bounds_fault.Goals as goal
-use Rattle.pb_check.specs.Asked.{AtStream}
+use Rattle.pb_check.specs.Places.{AtStream}
 
 pub found_bounds-requires-clause-signs : goal.found_bounds-requires-clause-signs
 found_bounds-requires-clause-signs c = result_signs c.args.stage.now c.loop-j.j c.at-printed.result.now c.requires.formed c.at-printed.ensures
@@ -21,7 +21,7 @@ bounds_difference-requires c =
 pub returns-in-Some : goal.returns-in-Some
 returns-in-Some c =
     let r = c.at-printed.result.now in
-    bounds_fail c.args.stage.now c.loop-j.j r c.in_ok-found.found c.in-Some.fault c.requires.formed c.at-printed.ensures c.in_ok-found.ensures c.loop-j.invariant
+    bounds_fail c.args.stage.now c.loop-j.j r c.in_ok-found.found c.in-Some.fault c.at-printed.ensures c.in_ok-found.ensures c.loop-j.invariant
     (some_there c.bounds_difference.result c.in-Some.fault (r.bounds ≡ c.in_ok-found.found) (DifferAt c.loop-j.j r.bounds c.in_ok-found.found) c.in-Some.is c.bounds_difference.ensures)
 
 -- one more stream

@@ -1,5 +1,5 @@
 use Rattle.std.proofs.Common.{ℕ, ◌<◌}
-use Rattle.pb_check.specs.Asked.{IsInBoxAt}
+use Rattle.pb_check.specs.Places.{IsInBoxAt}
 use Rattle.pb_check.proofs.boxes.box_fault.Given as goal
 
 -- the measured flows so far are in the box

@@ -4,13 +4,13 @@ use Rattle.pb_graph.specs.Certificates.{IsCertified}
 use Rattle.pb_check.proofs.DecideLemmas.{one_more, fails_by}
 use Rattle.pb_check.proofs.PlaceLemmas.{stream_fault}
 use Rattle.pb_check.proofs.classes.witness_fault.Goals as goal
-use Rattle.pb_check.specs.Asked.{AtStream}
+use Rattle.pb_check.specs.Places.{AtStream}
 
 pub returns-then-not-is_shown_at : goal.returns-then-not-is_shown_at
 returns-then-not-is_shown_at c =
     let stage = c.args.stage.now in
     let j = c.loop-j.j in
-    stream_fault stage (AtStream stage (λ j r. IsCertified stage.graph j r.classified)) j c.at_stream.result (omega (arith, c.loop-j-test.true, c.len-j-end.ensures.value)) c.loop-j.invariant.each
+    stream_fault stage (λ j r. IsCertified stage.graph j r.classified) j c.at_stream.result (omega (arith, c.loop-j-test.true, c.len-j-end.ensures.value, c.requires.each_stream)) c.loop-j.invariant.each
     (fails_by (AtStream stage (λ j r. IsCertified stage.graph j r.classified) j) c.is_shown_at.result c.is_shown_at.ensures c.if-not-is_shown_at.true) c.at_stream.ensures
 
 pub loop-j-preserved : goal.loop-j-preserved

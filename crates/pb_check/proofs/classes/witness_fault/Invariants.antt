@@ -2,7 +2,7 @@ use Rattle.std.proofs.Common.{ℕ, ◌<◌, IfSome}
 use Rattle.pb_graph.specs.Certificates.{IsCertified}
 use Rattle.pb_graph.specs.Cycle.{IsCycle}
 use Rattle.pb_check.proofs.classes.witness_fault.Given as goal
-use Rattle.pb_check.specs.Asked.{AtStream}
+use Rattle.pb_check.specs.Places.{AtStream}
 
 -- the classes so far are shown, and the cycle that was shown last is one
 abbrev pub invariant-loop-j : goal.invariant-loop-j

@@ -4,7 +4,7 @@ use Rattle.std.proofs.lemmas.Bool.{cases_lt}
 use Rattle.pb_stage.specs.Printed.{EachStream, HasLeastBounds}
 use Rattle.pb_stage.specs.Certified.{found_least}
 use Rattle.pb_check.specs.declared.faults.Fault.{Fault}
-use Rattle.pb_check.specs.Faults.{IsLeastFault}
+use Rattle.pb_check.specs.Places.{IsLeastFault}
 use Rattle.pb_check.specs.Verdict.{test_code}
 use Rattle.pb_check.specs.Among.{IsAmong}
 use Rattle.pb_check.specs.declared.faults.Test.TheVariants.{Class, Witness, Least}

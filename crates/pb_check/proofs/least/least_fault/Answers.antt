@@ -1,11 +1,11 @@
 use Rattle.std.proofs.Common.{◌≡◌, ◌∙◌, is_some, sym, ap, arith}
 use Rattle.pb_stage.specs.Certified.{found_least}
-use Rattle.pb_check.specs.Faults.{DifferAt}
+use Rattle.pb_check.specs.Places.{DifferAt}
 use Rattle.pb_check.proofs.FirstLemmas.{place_more}
 use Rattle.pb_check.proofs.RowLemmas.{none_there, some_there}
 use Rattle.pb_check.proofs.StateLemmas.{all_least, have_by, least_fail, least_here, none_by, result_least_bounded, result_signs}
 use Rattle.pb_check.proofs.least.least_fault.Goals as goal
-use Rattle.pb_check.specs.Asked.{AtStream}
+use Rattle.pb_check.specs.Places.{AtStream}
 
 -- no stream has least bounds
 pub returns-then-not-have_least : goal.returns-then-not-have_least
@@ -29,7 +29,7 @@ returns-in-Some c =
     let stage = c.args.stage.now in
     let r = c.at-printed.result.now in
     let have = have_by stage c.as_slice.result.now c.have_least.result c.as_slice.ensures c.have_least.ensures c.if-not-have_least.false in
-    least_fail stage c.loop-j.j r c.in_ok-found.found c.in-Some.fault have c.requires.formed c.at-printed.ensures c.in_ok-found.ensures c.loop-j.invariant
+    least_fail stage c.loop-j.j r c.in_ok-found.found c.in-Some.fault have c.at-printed.ensures c.in_ok-found.ensures c.loop-j.invariant
     (some_there c.bounds_difference.result c.in-Some.fault (r.least ≡ c.in_ok-found.found) (DifferAt c.loop-j.j r.least c.in_ok-found.found) c.in-Some.is c.bounds_difference.ensures)
 
 -- one more stream

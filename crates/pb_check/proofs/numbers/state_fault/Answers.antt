@@ -18,4 +18,4 @@ returns c =
     let met : IsTrue c.is_met-met.result ↔ MeetsGap c.args.gap (printed_gap stage) =
     met_printed stage c.args.pair.now c.args.gap (IsTrue c.is_met-met.result) c.requires.pair c.requires.gap_is (c.is_met-met.ensures.met (printed_price stage) c.requires.pair.prices) in
     let said = c.is_state.ensures c.args.gap (printed_gap stage) met in
-    record { differs = λ is. let yes_ = said.1 is in cc (yes_, c.if-is_state.false); is = search rules }
+    (λ is. let yes_ = said.1 is in cc (yes_, c.if-is_state.false), search rules)

@@ -3,7 +3,8 @@ use Rattle.std.proofs.lemmas.Option.{slice_get-get_or}
 use Rattle.pb_study.specs.declared.results.MeasureTest.{MeasureTest}
 use Rattle.pb_stage.specs.Certified.{IsMeasureVerdict}
 use Rattle.pb_check.proofs.FirstLemmas.{all_places, at_place, place_more}
-use Rattle.pb_check.proofs.RowLemmas.{first_of, some_measure}
+use Rattle.pb_check.proofs.PlaceLemmas.{fails_here}
+use Rattle.pb_check.proofs.RowLemmas.{some_measure}
 use Rattle.pb_check.proofs.rows.measure_verdict_fault.Goals as goal
 
 -- the first verdict that doesn't follow
@@ -12,12 +13,8 @@ returns-then-not-is_measure_verdict c =
     let rows = c.args.rows.now in
     let i = c.loop-row.row-index in
     let row = get_or rows i some_measure in
-    record {
-      row = row;
-      first = first_of IsMeasureVerdict rows i row c.loop-row-test.true (slice_get-get_or rows i some_measure c.loop-row-test.true) c.loop-row.invariant
-          (λ is. let yes_ = c.is_measure_verdict.ensures.1 is in cc (yes_, c.if-not-is_measure_verdict.true));
-      is = c.at_stream.ensures;
-    }
+    fails_here (λ k. IsMeasureVerdict) rows _ i row (slice_get-get_or rows i some_measure c.loop-row-test.true) c.loop-row.invariant
+    (λ is. let yes_ = c.is_measure_verdict.ensures.1 is in cc (yes_, c.if-not-is_measure_verdict.true)) c.at_stream.ensures
 
 -- one more verdict
 pub loop-row-preserved : goal.loop-row-preserved

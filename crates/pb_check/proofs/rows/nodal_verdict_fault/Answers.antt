@@ -3,7 +3,8 @@ use Rattle.std.proofs.lemmas.Option.{slice_get-get_or}
 use Rattle.pb_study.specs.declared.results.NodalTest.{NodalTest}
 use Rattle.pb_stage.specs.Certified.{IsNodalVerdict}
 use Rattle.pb_check.proofs.FirstLemmas.{all_places, at_place, place_more}
-use Rattle.pb_check.proofs.RowLemmas.{first_of, some_row}
+use Rattle.pb_check.proofs.PlaceLemmas.{fails_here}
+use Rattle.pb_check.proofs.RowLemmas.{some_row}
 use Rattle.pb_check.proofs.rows.nodal_verdict_fault.Goals as goal
 
 -- the first verdict that doesn't follow
@@ -12,12 +13,8 @@ returns-then-not-is_nodal_verdict c =
     let rows = c.args.rows.now in
     let i = c.loop-row.row-index in
     let row = get_or rows i some_row in
-    record {
-      row = row;
-      first = first_of IsNodalVerdict rows i row c.loop-row-test.true (slice_get-get_or rows i some_row c.loop-row-test.true) c.loop-row.invariant
-          (λ is. let yes_ = c.is_nodal_verdict.ensures.1 is in cc (yes_, c.if-not-is_nodal_verdict.true));
-      is = c.at_node.ensures;
-    }
+    fails_here (λ k. IsNodalVerdict) rows _ i row (slice_get-get_or rows i some_row c.loop-row-test.true) c.loop-row.invariant
+    (λ is. let yes_ = c.is_nodal_verdict.ensures.1 is in cc (yes_, c.if-not-is_nodal_verdict.true)) c.at_node.ensures
 
 -- one more verdict
 pub loop-row-preserved : goal.loop-row-preserved

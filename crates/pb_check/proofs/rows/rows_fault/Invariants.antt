@@ -1,5 +1,5 @@
 use Rattle.std.proofs.Common.{ℕ, ◌<◌}
-use Rattle.pb_check.specs.Faults.{IsRowAt}
+use Rattle.pb_check.specs.Places.{IsRowAt}
 use Rattle.pb_check.proofs.rows.rows_fault.Given as goal
 
 -- the rows so far are their tests

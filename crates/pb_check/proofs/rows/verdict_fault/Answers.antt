@@ -5,7 +5,7 @@ use Rattle.pb_study.specs.declared.results.MeasureTest.{MeasureTest}
 use Rattle.pb_stage.specs.Laws.{IsNodalNumber}
 use Rattle.pb_stage.specs.Certified.{IsMeasureVerdict, IsNodalVerdict}
 use Rattle.pb_check.specs.Asked.{IsGlobalVerdict}
-use Rattle.pb_check.specs.Faults.{IsFirstMeasure, IsFirstNodal}
+use Rattle.pb_check.specs.Places.{IsFirstMeasure, IsFirstNodal}
 use Rattle.pb_check.proofs.RowLemmas.{measures_decide, nodal_fails, none_there, some_there}
 use Rattle.pb_check.proofs.rows.verdict_fault.Goals as goal
 

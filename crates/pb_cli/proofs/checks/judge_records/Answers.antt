@@ -2,7 +2,7 @@ use Rattle.std.proofs.Common.{◌≡◌, ◌∙◌, List, ℕ, ◌++◌, ap, sub
 use Rattle.std.proofs.lemmas.Result.{err_from_is_err_and}
 use Rattle.pb_io.specs.Sink.{Puts}
 use Rattle.pb_io.proofs.PieceLemmas.{puts_more}
-use Rattle.pb_audit.proofs.AuditLaws.{certified_found, fewer_behind, nothing_left, some_found}
+use Rattle.pb_audit.proofs.AuditLaws.{fewer_behind, nothing_left, some_found}
 use Rattle.pb_cli.proofs.FindingLemmas.{fewer_failed, fewer_passed, found_all, found_cut, found_failed, found_passed, found_some, found_unreadable}
 use Rattle.pb_cli.proofs.checks.judge_records.Goals as goal
 
@@ -14,7 +14,7 @@ returns-in_err-judge_block-clause-cut g c =
     rw (p.1, p.2) (λ e.
     let (piece, begun, more) = c.in_err-judge_block.ensures.cut e in (
       text ++ piece,
-      found_cut some_found certified_found c.args.records.now.left c.turns.records c.turns.some_wrong text piece a begun,
+      found_cut some_found c.args.records.now.left c.turns.records c.turns.some_wrong text piece a begun,
       puts_more _ _ _ text piece puts more,
     ))
 
@@ -24,7 +24,7 @@ returns-in_err-judge_block-clause-some g c =
     let (text, a, puts) = c.turns.invariant.so_far in
     let p = err_from_is_err_and c.from_residual.result c.from_residual.ensures.1 in
     rw (p.1, p.2) (λ e.
-    (text, found_some some_found certified_found c.args.records.now.left c.turns.records c.turns.some_wrong text a, rw (c.in_err-judge_block.ensures.no_memory e) puts))
+    (text, found_some some_found c.args.records.now.left c.turns.records c.turns.some_wrong text a, rw (c.in_err-judge_block.ensures.no_memory e) puts))
 
 -- a row can't be read
 pub returns-in-Some-Unreadable-clause-whole : goal.returns-in-Some-Unreadable-clause-whole
@@ -33,7 +33,7 @@ returns-in-Some-Unreadable-clause-whole g c =
     let whole = rw (c.in-Some-Unreadable.is, c.in-Some-Unreadable.field-0-is) at c.in_ok-judge_block.ensures.whole in
     let (piece, next, more) = whole in (
       text ++ piece,
-      found_unreadable nothing_left certified_found c.args.records.now.left c.turns.records c.judge_block.new.records c.turns.some_wrong text piece a next,
+      found_unreadable nothing_left c.args.records.now.left c.turns.records c.judge_block.new.records c.turns.some_wrong text piece a next,
       puts_more _ _ _ text piece puts more,
     )
 
@@ -45,7 +45,7 @@ returns-in-None-clause-whole g c =
     let (piece, (nothing, empty), more) = whole in
     let same : text ++ piece ≡ text = ap (λ (t : List ℕ). text ++ t) empty ∙ append-nil text in (
       text,
-      found_all certified_found c.args.records.now.left c.turns.records c.turns.some_wrong text a nothing,
+      found_all c.args.records.now.left c.turns.records c.turns.some_wrong text a nothing,
       subst (λ (t : List ℕ). Puts (g.W.Sink.seen c.args.sink.now) (g.W.Sink.seen c.judge_block.new.sink) t) same (puts_more _ _ _ text piece puts more),
     )
 

@@ -1,6 +1,8 @@
-use Rattle.std.proofs.Common.{◌≡◌, ◌∙◌, List, ap, sym, refl}
+use Rattle.std.proofs.Common.{◌∙◌, List, ap, sym, refl}
 use Rattle.pb_rows.specs.Records.{records_of}
-use Rattle.pb_audit.specs.Judgement.{Finding, finds_wrong, text_of_findings}
+use Rattle.std.specs.List.{list_any}
+use Rattle.pb_audit.specs.Judgement.{Finding, is_wrong}
+use Rattle.pb_audit.specs.Next.{text_of_findings}
 use Rattle.pb_cli.proofs.laws.check_text_law.Goals as goal
 
 pub returns-clause-some : goal.returns-clause-some
@@ -8,11 +10,10 @@ returns-clause-some c = λ input.
     let (findings, are) = c.findings_law.ensures.some 0 (records_of input) in (
       text_of_findings findings,
       (
-        finds_wrong findings,
+        list_any is_wrong findings,
         record {
           findings = findings;
           are = are;
-          certified = c.certified_law.ensures 0 (records_of input) findings are;
           wrong_is = refl;
           text_is = refl;
         },

@@ -1,6 +1,6 @@
 use Rattle.std.proofs.Common.{◌≡◌, drop}
 use Rattle.std.specs.List.{list_any}
-use Rattle.pb_elim.specs.Elimination.{is_suspect}
+use Rattle.pb_elim.specs.Rounds.{is_suspect}
 use Rattle.pb_elim.proofs.elimination.has_suspect.Given as goal
 
 abbrev pub invariant-loop-test : goal.invariant-loop-test

@@ -6,7 +6,7 @@ use Rattle.pb_graph.specs.ProcessGraph.{ProcessGraph, IsProcessGraph}
 use Rattle.pb_classify.specs.Classification.{IsClassification}
 use Rattle.pb_gap.specs.State.{price_in}
 use Rattle.pb_gap.specs.Solution.{IsSolution}
-use Rattle.pb_elim.specs.Stage.{IsReconciliationOf}
+use Rattle.pb_elim.specs.Reconciled.{IsReconciled}
 use Rattle.pb_elim.proofs.StageLemmas.{AreParts, stage_is, stage_formed}
 use Rattle.pb_elim.proofs.stages.collected.Goals as goal
 
@@ -47,7 +47,7 @@ parts c =
 
 pub returns-clause-stage : goal.returns-clause-stage
 returns-clause-stage c =
-    subst (λ (g : ProcessGraph). IsReconciliationOf g c.args.options.now (made c)) c.requires.graph (stage_is c.args.options.now c.args.solver.now c.args.classes (made c) (parts c))
+    subst (λ (g : ProcessGraph). IsReconciled g c.args.options.now (made c)) c.requires.graph (stage_is c.args.options.now c.args.solver.now c.args.classes (made c) (parts c))
 
 pub returns-clause-graph : goal.returns-clause-graph
 returns-clause-graph c = subst IsProcessGraph (c.requires.graph ∙ sym c.in_ok-copy.ensures) c.requires.state.limits

@@ -4,8 +4,7 @@ use Rattle.std.proofs.lemmas.List.{length_push}
 use Rattle.pb_study.specs.declared.results.Stage.{Stage}
 use Rattle.pb_study.specs.declared.results.Taken.{Taken}
 use Rattle.pb_graph.proofs.WalkLemmas.{some_same}
-use Rattle.pb_elim.specs.Elimination.{IsTakenAfter}
-use Rattle.pb_elim.specs.Rounds.{AreRoundsOf, IsDone}
+use Rattle.pb_elim.specs.Rounds.{IsTakenAfter, AreRoundsOf, IsDone}
 use Rattle.pb_elim.proofs.FormedLemmas.{formed_at, more, taken_within, unfinished}
 use Rattle.pb_elim.proofs.NextLemmas.{done_next, taken_next}
 use Rattle.pb_elim.proofs.RoundLemmas.{has_tests, spent_done}
