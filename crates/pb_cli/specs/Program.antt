@@ -1,17 +1,18 @@
 -- Statement. What the program does, from its arguments to its exit status: all that is stated about its run, and the line of its
 -- status.
-use Rattle.std.specs.Prelude.{◌≡◌, ◌≢◌, ◌⊎◌, ◌+◌, ◌≤◌, ℕ, true, false, List, [], ◌∷◌, ◌++◌, take, Result, Ok, Err}
+use Rattle.std.specs.Prelude.{◌≡◌, ◌≢◌, ◌⊎◌, ◌+◌, ◌≤◌, ℕ, Bool, true, false, List, [], ◌∷◌, ◌++◌, take, Result, Ok, Err}
 use Rattle.pb_io.specs.Counts.{Rose}
 use Rattle.pb_io.specs.Source.{SourceSeen, TakesExactly, TakesAtMost}
 use Rattle.pb_io.specs.Sink.{SinkSeen, Puts}
 use Rattle.pb_limits.specs.Limits.{most_bytes}
 use Rattle.pb_words.specs.declared.command.Command.{Command}
+use Rattle.pb_words.specs.declared.command.Command.TheVariants.{Make}
 use Rattle.pb_words.specs.declared.command.WordsRefused.{WordsRefused}
 use Rattle.pb_words.specs.Command.{IsCommandOf}
 use Rattle.pb_cli.specs.declared.status.Status.{Status}
 use Rattle.pb_cli.specs.declared.status.Status.TheVariants.{Done, DoneRefused, Usage, ReadFault, WriteFault, TooLarge, NoMemory}
 use Rattle.pb_cli.specs.Status.{status_name, status_of}
-use Rattle.pb_cli.specs.Run.{AskToMake, Does, EndsAs, GiveCommand, IsCutShort, IsFront, IsGiven, IsWhole}
+use Rattle.pb_cli.specs.Run.{Does, EndsAs, GiveCommand, IsCutShort, IsFront, IsGiven, IsWhole}
 
 -- the byte that ends a line
 abbrev pub line_feed : ℕ
@@ -62,7 +63,8 @@ pub record Runs {R W : Type 0} (seen_read : R → SourceSeen) (seen_written : W 
   -- it doesn't need them, and nothing is read. The only other possible status is NoMemory.
   pub complete : (command : Command) (input : List ℕ) → IsCommandOf words command → IsGiven command (seen_read source_old) (seen_read source_new) input
       → (Rose (seen_written sink_old).faults (seen_written sink_new).faults → ⊥) → EndsAs command input status ⊎ (status ≡ NoMemory)
-  pub make_unread : AskToMake words → source_new ≡ source_old
+  pub make_unread : (number streams : ℕ) (summary : Bool) (gap sweeps : ℕ) → IsCommandOf words (Make number streams summary gap sweeps)
+      → source_new ≡ source_old
   -- No empty piece was put.
   pub idle : (seen_written sink_new).idle ≡ (seen_written sink_old).idle
   pub source_faults_stay : (seen_read source_old).faults ≤ (seen_read source_new).faults

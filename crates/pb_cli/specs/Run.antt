@@ -44,10 +44,6 @@ abbrev pub is_making : Command → Bool
 is_making (Make number streams summary gap sweeps) = true
 is_making command = false
 
--- the words give a command that makes a session or its summary
-abbrev pub AskToMake : List (List ℕ) → Type 0
-AskToMake words = (command : Command) × IsCommandOf words command × (is_making command ≡ true)
-
 -- The whole output of a command for this input, and whether it shows that something is wrong: that a record of a run was refused,
 -- or that a block of a check fails or one of its records can't be read.
 abbrev pub IsWhole : Bool → Command → List ℕ → List ℕ → Type 0

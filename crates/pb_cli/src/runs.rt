@@ -1,13 +1,14 @@
 // A run of the command that the words give.
-ghost use Rattle.std.specs.Prelude.{◌≡◌, ◌≢◌, ◌⊎◌, ◌+◌, ◌≤◌, ℕ, List, Err, true, false, length, IfOk, IfErr, OnErr};
+ghost use Rattle.std.specs.Prelude.{◌≡◌, ◌≢◌, ◌⊎◌, ◌+◌, ◌≤◌, ℕ, Bool, List, Err, true, false, length, IfOk, IfErr, OnErr};
 ghost use Rattle.pb_io.specs.Counts.{Rose};
 ghost use Rattle.pb_io.specs.Source.{TakesExactly, TakesAtMost};
 ghost use Rattle.pb_limits.specs.Limits.{most_bytes};
 ghost use Rattle.pb_cli.specs.declared.status.Status.TheVariants.{Done, DoneRefused, Usage, ReadFault, WriteFault, TooLarge, NoMemory};
 ghost use Rattle.pb_words.specs.declared.command.Command.{Command};
+ghost use Rattle.pb_words.specs.declared.command.Command.TheVariants.{Make};
 ghost use Rattle.pb_words.specs.Command.{IsCommandInRange, IsCommandOf};
 ghost use Rattle.pb_words.specs.Line.{are_plain_or_named};
-ghost use Rattle.pb_cli.specs.Run.{AskToMake, Does, EndsAs, GiveCommand, IsCutShort, IsFront, IsGiven, IsWhole, Reads, is_making};
+ghost use Rattle.pb_cli.specs.Run.{Does, EndsAs, GiveCommand, IsCutShort, IsFront, IsGiven, IsWhole, Reads, is_making};
 
 use crate::answers::answer;
 use crate::checks::judge;
@@ -83,7 +84,9 @@ pub fn run<R: Source, W: Sink>(alloc: Global, words: &Words, source: &mut R, sin
         → IsGiven command (R.seen source.old) (R.seen source.new) input →
         ¬ Rose (W.seen sink.old).faults (W.seen sink.new).faults →
         EndsAs command input result ⊎ (result ≡ NoMemory) }
-    ensures make_unread { AskToMake words.now → source.new ≡ source.old }
+    ensures make_unread { (number streams : ℕ) (summary : Bool) (gap sweeps : ℕ)
+        → IsCommandOf words.now (Make number streams summary gap sweeps)
+        → source.new ≡ source.old }
 
     // No empty piece was put.
     ensures idle { (W.seen sink.new).idle ≡ (W.seen sink.old).idle }
