@@ -1,5 +1,5 @@
 -- The findings so far, and one more.
-use Rattle.std.proofs.Common.{◌≡◌, ◌∙◌, ℕ, suc, ◌+◌, ◌-◌, ◌<◌, Bool, true, false, ◌||◌, List, [], ◌∷◌, ◌++◌, length, map, take, Option, Some, None, All, ap, ap₂, sym, refl, subst, arith, append_assoc, append-nil, length-append}
+use Rattle.std.proofs.Common.{◌≡◌, ◌∙◌, ℕ, suc, ◌+◌, ◌-◌, ◌<◌, ◌≤◌, Bool, true, false, ◌||◌, List, [], ◌∷◌, ◌++◌, length, map, take, Option, Some, None, All, ap, ap₂, sym, refl, subst, arith, append_assoc, append-nil, length-append}
 use Rattle.std.proofs.lemmas.List.{map-append, take-append-le, take_all}
 use Rattle.std.proofs.lemmas.List.Elements.{All-take}
 use Rattle.std.proofs.lemmas.List.Folds.{list_any-append}
@@ -12,7 +12,7 @@ use Rattle.pb_rows.specs.RecordsLeft.{RecordsLeft}
 use Rattle.pb_audit.specs.declared.judge.Judged.{Judged}
 use Rattle.pb_audit.specs.declared.judge.Judged.TheVariants.{Passed, Failed, Unreadable}
 use Rattle.pb_audit.specs.Judgement.{AreFindings, Finding, Finds, FindsNothing, IsCertifiedFinding, IsJudgement, IsJudgementPart, IsJudgementText, failed, finding_row, finds_wrong, is_wrong, passed, text_of_findings, unreadable}
-use Rattle.pb_audit.specs.Next.{AppendsFinding, FindsNext, IsNextFinding, judged_of}
+use Rattle.pb_audit.specs.Next.{AppendsFinding, FindsNext, GoesOn, IsNextFinding, judged_of}
 use Rattle.pb_audit.specs.Laws.{CertifiedFindingsLaw, FewerLaw, NothingLaw, SomeFindingsLaw}
 use Rattle.pb_cli.specs.Judging.{TellsFinding}
 use Rattle.pb_cli.specs.Prefix.{IsBeginningOf}

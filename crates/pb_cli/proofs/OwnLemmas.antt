@@ -1,8 +1,8 @@
 -- The reports of a run read back as the stages of their studies, each of which passes.
-use Rattle.std.proofs.Common.{◌≡◌, ◌∙◌, ◌&&◌, ℕ, ◌+◌, Bool, true, false, List, [], ◌∷◌, ◌++◌, length, map, All, Option, Some, None, Result, Ok, Err, ap, ap₂, sym, refl, subst, arith, slice_get, get_or, codes}
+use Rattle.std.proofs.Common.{◌≡◌, ◌∙◌, ◌&&◌, ℕ, ◌+◌, ◌≤◌, Bool, true, false, List, [], ◌∷◌, ◌++◌, length, map, All, Option, Some, None, Result, Ok, Err, ap, ap₂, sym, refl, subst, arith, slice_get, get_or, codes}
 use Rattle.std.specs.Prelude.{filter_map, is_some, slice_index_or}
 use Rattle.std.proofs.lemmas.Option.{get_or_from_slice_get, slice_get-get_or, slice_get_within}
-use Rattle.std.specs.List.{list_all}
+use Rattle.std.specs.List.{flat_map, list_all, list_any}
 use Rattle.std.proofs.lemmas.List.{map-append}
 use Rattle.std.proofs.lemmas.List.Elements.{All-append, All-cons, All-head, All-nil, All-tail, All-weaker}
 use Rattle.std.proofs.lemmas.List.Folds.{list_all-append}
@@ -15,7 +15,9 @@ use Rattle.pb_window.specs.Codes.{window_names}
 use Rattle.pb_window.specs.Places.{window_places}
 use Rattle.pb_study.specs.declared.results.Options.{Options}
 use Rattle.pb_study.specs.declared.results.Bounds.{Bounds}
+use Rattle.pb_study.specs.declared.results.StreamResult.{StreamResult}
 use Rattle.pb_study.specs.declared.results.Stage.{Stage}
+use Rattle.pb_study.specs.declared.results.Study.{Study}
 use Rattle.pb_graph.specs.ProcessGraph.{IsProcessGraph, ProcessGraph}
 use Rattle.pb_stage.specs.Certified.{HasLeastThroughout, IsCertifiedStage}
 use Rattle.pb_study.specs.Criticals.{AreCritical}
@@ -58,7 +60,7 @@ use Rattle.pb_report.specs.Over.{over_row}
 use Rattle.pb_report.specs.Refusal.{refused_row}
 use Rattle.pb_site.specs.Site.{names_of, version_of}
 use Rattle.pb_session.specs.History.{told, told_history, told_period}
-use Rattle.pb_session.specs.Session.{Adds, AddsAccepted, AddsBy, Balances, IsHistoryText, IsReport, IsSessionText, IsTextOf, Reports, ReportsBy, SessionState, Windows, assembly_between, state_after, window_head}
+use Rattle.pb_session.specs.Session.{Adds, AddsAccepted, AddsBy, AreNamesOf, Balances, IsHistoryText, IsReport, IsSessionText, IsTextOf, Reports, ReportsBy, SessionState, Windows, assembly_between, state_after, window_head}
 use Rattle.pb_audit.specs.Judgement.{AreFindings, Finding, IsJudgement, IsPassedBlock, finds_wrong, passed}
 use Rattle.pb_audit.specs.Laws.{OneFindingsLaw, PassedLaw}
 use Rattle.pb_cli.proofs.ServedLemmas.{days_named}

@@ -1,5 +1,5 @@
 -- The names of the part of a plant that is in service on some days are names, if those of the plant are.
-use Rattle.std.specs.Prelude.{codes, filter, map, slice_index_or, if◌then◌else◌}
+use Rattle.std.specs.Prelude.{◌&&◌, codes, filter, map, slice_index_or, if◌then◌else◌}
 use Rattle.std.specs.List.{list_all}
 use Rattle.std.proofs.Common.{◌≡◌, ℕ, zero, suc, ℤ, Bool, true, false, List, [], ◌∷◌, refl}
 use Rattle.std.proofs.lemmas.Bool.{and_from, and_parts}

@@ -1,4 +1,4 @@
-use Rattle.std.proofs.Common.{◌≡◌, drop, length}
+use Rattle.std.proofs.Common.{ℕ, ◌≡◌, List, drop, length}
 use Rattle.pb_io.specs.Sink.{PutsSuch}
 use Rattle.pb_cli.proofs.TextLemmas.{Answered}
 use Rattle.pb_cli.proofs.answers.answer_in.Given as goal

@@ -1,4 +1,4 @@
-use Rattle.std.proofs.Common.{◌≡◌, ◌+◌, length}
+use Rattle.std.proofs.Common.{◌≡◌, ◌+◌, List, length}
 use Rattle.pb_io.specs.Sink.{PutsSuch}
 use Rattle.pb_cli.proofs.FindingLemmas.{Found}
 use Rattle.pb_cli.proofs.checks.judge_records.Given as goal

@@ -1,4 +1,4 @@
-use Rattle.std.proofs.Common.{◌∙◌, List, ap, sym, refl}
+use Rattle.std.proofs.Common.{◌≡◌, ◌∙◌, List, ap, sym, refl}
 use Rattle.pb_rows.specs.Records.{records_of}
 use Rattle.pb_audit.specs.Judgement.{Finding, finds_wrong, text_of_findings}
 use Rattle.pb_cli.proofs.laws.check_text_law.Goals as goal

@@ -1,4 +1,4 @@
-use Rattle.std.proofs.Common.{rules, ◌≡◌, IfOk}
+use Rattle.std.proofs.Common.{rules, ◌≡◌, IfOk, List, ℕ}
 use Rattle.std.proofs.lemmas.Result.{IfOk-weaker}
 use Rattle.pb_make.specs.Rows.{session_text}
 use Rattle.pb_cli.proofs.making.made.Goals as goal
