@@ -1,5 +1,5 @@
 -- What the proofs call parts of a made plant, of its readings and of its rows.
-use Rattle.std.specs.Prelude.{ℕ, ◌+◌, ◌*◌, ◌==◌, ℤ, pos, ◌+ℤ◌, List, [], ◌∷◌, ◌++◌, map, codes, if◌then◌else◌}
+use Rattle.std.specs.Prelude.{ℕ, ◌+◌, ◌*◌, ◌/◌, ◌^◌, ◌==◌, ℤ, pos, ◌+ℤ◌, List, [], ◌∷◌, ◌++◌, map, codes, if◌then◌else◌}
 use Rattle.std.specs.Int.{int_div_euclid}
 use Rattle.std.specs.List.{range_with_len}
 use Rattle.pb_fixed.specs.Sums.{sum_over}
@@ -10,6 +10,10 @@ use Rattle.pb_make.specs.Draws.{draw_at}
 use Rattle.pb_make.specs.Plant.{added_to, line_grams, line_stream, made_streams, side_at, sides_of, units_of}
 use Rattle.pb_make.specs.Readings.{readings_of}
 use Rattle.pb_make.specs.Rows.{made_critical_row, made_period_row, reading_row_at, unit_row}
+
+-- what a state gives: its upper 31 bits
+abbrev pub upper_bits : ℕ → ℕ
+upper_bits state = state / 2 ^ 33
 
 -- the node that a side stream leads to
 abbrev pub end_from : ℕ → ℕ → ℕ

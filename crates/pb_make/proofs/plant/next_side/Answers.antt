@@ -1,5 +1,6 @@
 use Rattle.std.proofs.Common.{◌≡◌, ◌∙◌, ℕ, ◌*◌, ap, sym}
-use Rattle.pb_make.specs.Draws.{state_after_draws, upper_bits}
+use Rattle.pb_make.specs.Draws.{state_after_draws}
+use Rattle.pb_make.proofs.Abbreviations.{upper_bits}
 use Rattle.pb_make.proofs.DrawLemmas.{AreThree, side_is, three_draws}
 use Rattle.pb_make.proofs.plant.next_side.Goals as goal
 
