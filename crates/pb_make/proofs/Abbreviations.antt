@@ -1,7 +1,7 @@
 -- What the proofs call parts of a made plant, of its readings and of its rows.
 use Rattle.std.specs.Prelude.{ℕ, ◌+◌, ◌*◌, ◌/◌, ◌^◌, ◌==◌, ℤ, pos, ◌+ℤ◌, List, [], ◌∷◌, ◌++◌, map, codes, if◌then◌else◌}
 use Rattle.std.specs.Int.{int_div_euclid}
-use Rattle.std.specs.List.{range_with_len}
+use Rattle.std.specs.List.{enumerate_from, range_with_len}
 use Rattle.pb_fixed.specs.Sums.{sum_over}
 use Rattle.pb_rows.specs.Number.{decimal_text}
 use Rattle.pb_form.specs.declared.session.SessionKind.TheVariants as kind
@@ -9,7 +9,7 @@ use Rattle.pb_make.specs.declared.plant.MadeStream.{MadeStream}
 use Rattle.pb_make.specs.Draws.{draw_at}
 use Rattle.pb_make.specs.Plant.{added_to, line_grams, line_stream, made_streams, side_at, sides_of, units_of}
 use Rattle.pb_make.specs.Readings.{readings_of}
-use Rattle.pb_make.specs.Rows.{made_critical_row, made_period_row, reading_row_at, unit_row}
+use Rattle.pb_make.specs.Rows.{made_critical_row, made_period_row, made_stream_row, reading_row_at, unit_row}
 
 -- what a state gives: its upper 31 bits
 abbrev pub upper_bits : ℕ → ℕ
@@ -46,6 +46,10 @@ reading_id place = codes "r" ++ decimal_text (place + 1)
 -- the rows of the units
 abbrev pub unit_rows : ℕ → List (List (List ℕ))
 unit_rows units = map unit_row (range_with_len 1 units)
+
+-- the rows of streams, which are numbered from i
+abbrev pub stream_rows : ℕ → List MadeStream → List (List (List ℕ))
+stream_rows i streams = map (λ (s : ℕ × MadeStream). made_stream_row s.0 s.1) (enumerate_from i streams)
 
 -- the rows between the plant and its readings
 abbrev pub middle_rows : List (List (List ℕ))

@@ -1,6 +1,6 @@
 -- Statement. The rows of a made session, and its text.
 use Rattle.std.specs.Prelude.{ℕ, ◌+◌, ◌*◌, ◌==◌, ℤ, pos, List, [], ◌∷◌, ◌++◌, map, codes, if◌then◌else◌}
-use Rattle.std.specs.List.{range_with_len}
+use Rattle.std.specs.List.{enumerate_from, range_with_len}
 use Rattle.jiff_core.specs.Calendar.{days_from_civil}
 use Rattle.pb_rows.specs.Number.{decimal_text}
 use Rattle.pb_rows.specs.Written.{text_of_rows}
@@ -67,21 +67,17 @@ reading_row place truth draw =
 abbrev pub made_report_row : List (List ℕ)
 made_report_row = made_row kind.Report (Name made_period ∷ [])
 
--- the rows of streams, which are numbered from i
-abbrev pub stream_rows : ℕ → List MadeStream → List (List (List ℕ))
-stream_rows i [] = []
-stream_rows i (stream ∷ streams) = made_stream_row i stream ∷ stream_rows (i + 1) streams
-
 -- the row of the reading at a place, in a plant of these streams, this many of which are side streams, which take three draws each
 abbrev pub reading_row_at : ℕ → ℕ → List MadeStream → ℕ → List (List ℕ)
 reading_row_at number sides streams place =
     reading_row place (truth_at streams (stream_read place)) (draw_at number (3 * sides + place))
 
--- the rows that are stored: units, streams, the period, its critical values, and the readings
+-- the rows that are stored: units, streams, which are numbered from 1, the period, its critical values, and the readings
 abbrev pub stored_rows : ℕ → ℕ → List (List (List ℕ))
 stored_rows number streams =
     let plant = made_streams number streams in
-    map unit_row (range_with_len 1 (units_of streams)) ++ (stream_rows 1 plant
+    map unit_row (range_with_len 1 (units_of streams))
+    ++ (map (λ (s : ℕ × MadeStream). made_stream_row s.0 s.1) (enumerate_from 1 plant)
     ++ (made_period_row ∷ made_critical_row kind.CriticalNodal ∷ made_critical_row kind.CriticalMeasure
     ∷ map (reading_row_at number (sides_of streams) plant) (range_with_len 0 (readings_of streams))))
 

@@ -1,7 +1,7 @@
 // The text of a made session.
 
 ghost use Rattle.std.specs.Prelude.{◌≡◌, ◌≤◌, ◌≤ℤ◌, ◌*◌, [], ◌∷◌, ◌++◌, ℕ, pos, length, All, map, IfOk, OnOk};
-ghost use Rattle.std.specs.List.{range_with_len};
+ghost use Rattle.std.specs.List.{enumerate_from, range_with_len};
 ghost use Rattle.pb_limits.specs.Limits.{most_made_streams};
 ghost use Rattle.pb_rows.specs.Written.{text_of_rows};
 ghost use Rattle.pb_form.specs.declared.session.SessionKind.TheVariants as kinds;
@@ -9,7 +9,7 @@ ghost use Rattle.pb_make.specs.Bounds.{IsMade};
 ghost use Rattle.pb_make.specs.Draws.{state_after_draws};
 ghost use Rattle.pb_make.specs.Plant.{least_streams};
 ghost use Rattle.pb_make.specs.Readings.{readings_of, truth_at};
-ghost use Rattle.pb_make.specs.Rows.{made_critical_row, made_period_row, reading_row_at, session_text, stream_rows, unit_row};
+ghost use Rattle.pb_make.specs.Rows.{made_critical_row, made_period_row, made_stream_row, reading_row_at, session_text, unit_row};
 
 use crate::draws::Draws;
 use crate::plant::{MadeStream, made_plant, units_of};
@@ -54,8 +54,8 @@ fn write_units(text: &mut Vec<u8>, units: u32) -> Result<(), AllocError>
 // Appends the rows of the streams.
 fn write_streams(text: &mut Vec<u8>, plant: &[MadeStream]) -> Result<(), AllocError>
     requires { length plant.now ≤ most_made_streams }
-    ensures { OnOk result
-        (text.new.items ≡ text.old.items ++ text_of_rows (stream_rows 1 plant.now)) }
+    ensures { OnOk result (text.new.items ≡ text.old.items ++ text_of_rows
+        (map (λ s. made_stream_row s.0 s.1) (enumerate_from 1 plant.now))) }
 {
     for (k, stream) in plant.iter().enumerate() {
         write_stream(text, k as u32 + 1, stream)?;
