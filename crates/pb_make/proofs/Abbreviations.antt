@@ -1,5 +1,5 @@
 -- What the proofs call parts of a made plant, of its readings and of its rows.
-use Rattle.std.specs.Prelude.{ℕ, ◌+◌, ◌*◌, ◌/◌, ◌^◌, ◌==◌, ℤ, pos, ◌+ℤ◌, List, [], ◌∷◌, ◌++◌, map, codes, if◌then◌else◌}
+use Rattle.std.specs.Prelude.{ℕ, ◌+◌, ◌*◌, ◌/◌, ◌%◌, ◌^◌, ◌==◌, ℤ, pos, ◌+ℤ◌, List, [], ◌∷◌, ◌++◌, map, codes, if◌then◌else◌}
 use Rattle.std.specs.Int.{int_div_euclid}
 use Rattle.std.specs.List.{enumerate_from, range_with_len}
 use Rattle.pb_fixed.specs.Sums.{sum_over}
@@ -14,6 +14,14 @@ use Rattle.pb_make.specs.Rows.{made_critical_row, made_period_row, made_stream_r
 -- what a state gives: its upper 31 bits
 abbrev pub upper_bits : ℕ → ℕ
 upper_bits state = state / 2 ^ 33
+
+-- the side stream of three draws
+abbrev pub side_by : ℕ → ℕ → ℕ → ℕ → MadeStream
+side_by units first second third = record {
+  from = first % units + 1;
+  to = if second % (units + 1) == first % units + 1 then 0 else second % (units + 1);
+  truth = pos (1000000 + third % 9000000);
+}
 
 -- the node that a side stream leads to
 abbrev pub end_from : ℕ → ℕ → ℕ

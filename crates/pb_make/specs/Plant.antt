@@ -22,20 +22,14 @@ sides_of streams = streams - (units_of streams + 1)
 abbrev pub line_grams : ℤ
 line_grams = pos 50000000000
 
--- The side stream of three draws: the node where it begins, the node that it leads to, and its true flow in grams per day. One that
--- would lead back to the node where it begins leads out of the plant instead.
-abbrev pub side_by : ℕ → ℕ → ℕ → ℕ → MadeStream
-side_by units first second third = record {
-  from = first % units + 1;
-  to = if second % (units + 1) == first % units + 1 then 0 else second % (units + 1);
-  truth = pos (1000000 + third % 9000000);
-}
-
--- the side stream at a place, counted from 0: each takes the next three draws
+-- The side stream at a place, counted from 0, which takes the next three draws: the node where it begins, the node that it leads to,
+-- and its true flow in grams per day. One that would lead back to the node where it begins leads out of the plant instead.
 abbrev pub side_at : ℕ → ℕ → ℕ → MadeStream
 side_at number units place =
-    side_by units (draw_at number (3 * place)) (draw_at number (3 * place + 1))
-    (draw_at number (3 * place + 2))
+    let begins = draw_at number (3 * place) % units + 1 in
+    let ends = draw_at number (3 * place + 1) % (units + 1) in
+    let grams = 1000000 + draw_at number (3 * place + 2) % 9000000 in
+    record { from = begins; to = if ends == begins then 0 else ends; truth = pos grams }
 
 -- a side stream passes by a stream of the line, which carries that much less: it leads forward, or out of the plant
 abbrev pub passes_by : MadeStream → ℕ → Bool
