@@ -1,12 +1,13 @@
 -- The command that the words give, and how it ends.
-use Rattle.std.proofs.Common.{◌≡◌, ◌⊎◌, inl, inr, ℕ, true, List, sym, subst}
+use Rattle.std.proofs.Common.{◌≡◌, ◌⊎◌, inl, inr, ℕ, Bool, true, List, refl, sym, subst}
 use Rattle.pb_io.specs.Source.{SourceSeen}
 use Rattle.pb_words.specs.declared.command.Command.{Command}
+use Rattle.pb_words.specs.declared.command.Command.TheVariants.{Make}
 use Rattle.pb_words.specs.Command.{IsCommandOf}
 use Rattle.pb_words.specs.Laws.{OneCommandLaw}
 use Rattle.pb_cli.specs.declared.status.Status.{Status}
 use Rattle.pb_cli.specs.declared.status.Status.TheVariants.{NoMemory}
-use Rattle.pb_cli.specs.Run.{AskToMake, EndsAs, IsGiven, is_making}
+use Rattle.pb_cli.specs.Run.{EndsAs, IsGiven, is_making}
 
 -- if the bytes decide and no fault was counted, a command ends as they say, or else with NoMemory
 abbrev pub Completes : List (List ℕ) → SourceSeen → SourceSeen → Type 0 → Status → Type 0
@@ -38,5 +39,7 @@ unless_failed Ends Failed Wants Fault (inr (inl failed)) cause none = absurd (no
 unless_failed Ends Failed Wants Fault (inr (inr wants)) cause none = inr wants
 
 -- the command that was read makes a session, if the words give a command that does
-pub making_here : OneCommandLaw → (words : List (List ℕ)) (here : Command) → IsCommandOf words here → AskToMake words → is_making here ≡ true
-making_here law words here is (command, of, making) = subst (λ (c : Command). is_making c ≡ true) (law words command here of is) making
+pub making_here : OneCommandLaw → (words : List (List ℕ)) (here : Command) → IsCommandOf words here
+    → (number streams : ℕ) (summary : Bool) (gap sweeps : ℕ) → IsCommandOf words (Make number streams summary gap sweeps) → is_making here ≡ true
+making_here law words here is number streams summary gap sweeps of =
+    subst (λ (c : Command). is_making c ≡ true) (law words (Make number streams summary gap sweeps) here of is) refl

@@ -5,7 +5,7 @@ use Rattle.std.proofs.KnownBytes.{Consumes-nil}
 use Rattle.std.proofs.lemmas.List.{take_all, take-append-le}
 use Rattle.std.proofs.Math.Seq.{take-append-add}
 use Rattle.pb_io.specs.Counts.{Rose}
-use Rattle.pb_io.specs.Source.{SourceSeen, TakesAtMost}
+use Rattle.pb_io.specs.Source.{SourceSeen, TakesSuch}
 use Rattle.pb_io.specs.Sink.{SinkSeen, Puts, PutsPrefix}
 use Rattle.pb_io.proofs.PieceLemmas.{puts_more}
 use Rattle.pb_limits.specs.Limits.{most_bytes}
@@ -72,7 +72,7 @@ pub ran : {R W : Type 0} (seen_read : R → SourceSeen) (seen_written : W → Si
 ran seen_read seen_written given words a b c d status is runs = subst (λ g. RunsGiven seen_read seen_written g a b c d status) (sym is) runs
 
 -- nothing was taken
-none_taken : (a : SourceSeen) → TakesAtMost a a most_bytes
+none_taken : (a : SourceSeen) → TakesSuch (λ bytes. length bytes ≤ most_bytes) a a
 none_taken a = ([], record { takes = record { front = Consumes-nil a.remaining; count = omega arith }; idle = omega arith; turns = omega arith }, omega arith)
 
 -- nothing was read or written, since there was no memory for the words
@@ -95,7 +95,7 @@ nothing_done seen_read seen_written words a c = record {
   not_too_large = λ _. none_taken (seen_read a);
   no_memory = λ _. inl refl;
   complete = λ command input of told none. inr refl;
-  make_unread = λ _. refl;
+  make_unread = λ number streams summary gap sweeps made. refl;
   idle = refl;
   source_faults_stay = omega arith;
   sink_faults_stay = omega arith;

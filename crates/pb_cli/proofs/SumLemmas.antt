@@ -1,6 +1,6 @@
 -- A text that sums up a study.
 use Rattle.std.proofs.Common.{◌≡◌, ◌≢◌, ◌∙◌, ◌<◌, ℕ, zero, suc, List, [], ◌∷◌, length, take, Option, Some, None, Result, Ok, Err, IfOk, Vec, Global, slice_get, ap, refl, sym, subst, arith}
-use Rattle.std.specs.Prelude.{IfErr, IfSome}
+use Rattle.std.specs.Prelude.{IfErr, IfSome, IsSomeAnd}
 use Rattle.std.specs.declared.alloc.AllocError.{AllocError}
 use Rattle.pb_study.specs.declared.results.Critical.{Critical}
 use Rattle.pb_study.specs.declared.results.Options.{Options}
@@ -22,11 +22,28 @@ use Rattle.pb_period.specs.Laws.{AreGraphNames}
 use Rattle.pb_period.specs.PeriodGraph.{NamesAStream, assembly_of, period_graph, period_names, unless_over}
 use Rattle.pb_report.specs.declared.form.Form.TheVariants.{Csv}
 use Rattle.pb_report.specs.Form.{text_in}
+use Rattle.pb_report.specs.Names.{name_at}
+use Rattle.pb_report.specs.Over.{over_row}
+use Rattle.pb_report.specs.Row.{OutputRow}
 use Rattle.pb_report.specs.Summary.{summary_row}
+use Rattle.pb_make.specs.Rows.{stored_rows}
 use Rattle.pb_session.specs.Criticals.{critical_of}
 use Rattle.pb_session.specs.FirstStage.{Begins, BeginsBy, IsFirstStage, TellsAStream}
-use Rattle.pb_session.specs.Session.{SessionState}
-use Rattle.pb_cli.specs.Summary.{SumsUp, SumsUpBy, stream_row}
+use Rattle.pb_session.specs.Session.{SessionState, new_session, state_after_all}
+use Rattle.pb_cli.specs.Summary.{SumsUpBy, made_options}
+
+-- the row that names a stream of a period that is over the limits
+abbrev pub stream_row : List StoredRow → Period → ℕ → OutputRow
+stream_row rows period j = over_row period.name (name_at (period_names rows (days_of period)).streams j)
+
+-- the study of the period at a place
+abbrev pub SumsUp : ℕ → ℕ → ℕ → SessionState → Option Period → List ℕ → Type 0
+SumsUp number streams rows state found text =
+    IsSomeAnd found (λ period. SumsUpBy number streams rows state period (assembly_of state.rows (days_of period)) text)
+
+-- the session made from a number, when it is asked for its report
+abbrev pub made_state : ℕ → ℕ → ℕ → ℕ → SessionState
+made_state number streams gap sweeps = state_after_all (new_session (made_options gap sweeps) Csv) 1 (stored_rows number streams)
 
 -- ---- by the first stage, or by a stream over the limits
 

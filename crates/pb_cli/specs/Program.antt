@@ -1,17 +1,18 @@
 -- Statement. What the program does, from its arguments to its exit status: all that is stated about its run, and the line of its
 -- status.
-use Rattle.std.specs.Prelude.{◌≡◌, ◌≢◌, ◌⊎◌, ◌+◌, ◌≤◌, ℕ, true, false, List, [], ◌∷◌, ◌++◌, take, Result, Ok, Err}
+use Rattle.std.specs.Prelude.{◌≡◌, ◌≢◌, ◌⊎◌, ◌+◌, ◌≤◌, ℕ, Bool, true, false, List, [], ◌∷◌, ◌++◌, length, take, Result, Ok, Err}
 use Rattle.pb_io.specs.Counts.{Rose}
-use Rattle.pb_io.specs.Source.{SourceSeen, TakesExactly, TakesAtMost}
+use Rattle.pb_io.specs.Source.{SourceSeen, TakesSuch}
 use Rattle.pb_io.specs.Sink.{SinkSeen, Puts}
 use Rattle.pb_limits.specs.Limits.{most_bytes}
 use Rattle.pb_words.specs.declared.command.Command.{Command}
+use Rattle.pb_words.specs.declared.command.Command.TheVariants.{Make}
 use Rattle.pb_words.specs.declared.command.WordsRefused.{WordsRefused}
 use Rattle.pb_words.specs.Command.{IsCommandOf}
 use Rattle.pb_cli.specs.declared.status.Status.{Status}
 use Rattle.pb_cli.specs.declared.status.Status.TheVariants.{Done, DoneRefused, Usage, ReadFault, WriteFault, TooLarge, NoMemory}
 use Rattle.pb_cli.specs.Status.{status_name, status_of}
-use Rattle.pb_cli.specs.Run.{AskToMake, Does, EndsAs, GiveCommand, IsCutShort, IsFront, IsGiven, IsWhole}
+use Rattle.pb_cli.specs.Run.{Does, EndsAs, GiveCommand, IsCutShort, IsFront, IsGiven, IsWhole}
 
 -- the byte that ends a line
 abbrev pub line_feed : ℕ
@@ -53,16 +54,17 @@ pub record Runs {R W : Type 0} (seen_read : R → SourceSeen) (seen_written : W 
   pub no_write_fault : status ≢ WriteFault → (seen_written sink_new).faults ≡ (seen_written sink_old).faults
   pub write_fault_cut : status ≡ WriteFault → Does IsCutShort words (seen_read source_old) (seen_read source_new) (seen_written sink_old) (seen_written sink_new)
   -- TooLarge is the status iff one byte more than the limit was taken. Then nothing is written.
-  pub too_large : status ≡ TooLarge → TakesExactly (seen_read source_old) (seen_read source_new) (most_bytes + 1)
+  pub too_large : status ≡ TooLarge → TakesSuch (λ bytes. length bytes ≡ most_bytes + 1) (seen_read source_old) (seen_read source_new)
   pub too_large_unwritten : status ≡ TooLarge → sink_new ≡ sink_old
-  pub not_too_large : status ≢ TooLarge → TakesAtMost (seen_read source_old) (seen_read source_new) most_bytes
+  pub not_too_large : status ≢ TooLarge → TakesSuch (λ bytes. length bytes ≤ most_bytes) (seen_read source_old) (seen_read source_new)
   -- If memory ran out, nothing was written, or the texts of the first rows or of the first blocks, whole.
   pub no_memory : status ≡ NoMemory → (sink_new ≡ sink_old) ⊎ Does IsFront words (seen_read source_old) (seen_read source_new) (seen_written sink_old) (seen_written sink_new)
   -- If the source shows its bytes and no fault was counted, the bytes decide how the command ends; if the command makes a session,
   -- it doesn't need them, and nothing is read. The only other possible status is NoMemory.
   pub complete : (command : Command) (input : List ℕ) → IsCommandOf words command → IsGiven command (seen_read source_old) (seen_read source_new) input
       → (Rose (seen_written sink_old).faults (seen_written sink_new).faults → ⊥) → EndsAs command input status ⊎ (status ≡ NoMemory)
-  pub make_unread : AskToMake words → source_new ≡ source_old
+  pub make_unread : (number streams : ℕ) (summary : Bool) (gap sweeps : ℕ) → IsCommandOf words (Make number streams summary gap sweeps)
+      → source_new ≡ source_old
   -- No empty piece was put.
   pub idle : (seen_written sink_new).idle ≡ (seen_written sink_old).idle
   pub source_faults_stay : (seen_read source_old).faults ≤ (seen_read source_new).faults

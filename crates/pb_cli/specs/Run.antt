@@ -45,10 +45,6 @@ abbrev pub is_making : Command → Bool
 is_making (Make number streams summary gap sweeps) = true
 is_making command = false
 
--- the words give a command that makes a session or its summary
-abbrev pub AskToMake : List (List ℕ) → Type 0
-AskToMake words = (command : Command) × IsCommandOf words command × (is_making command ≡ true)
-
 -- The whole output of a command for this input, and whether it shows that something is wrong: that a record of a run was refused,
 -- or that a block of a check fails or one of its records can't be read.
 abbrev pub IsWhole : Bool → Command → List ℕ → List ℕ → Type 0
@@ -68,15 +64,10 @@ IsFront (Run options form) input bytes = AreTextsOfSome (new_session options for
 IsFront Check input bytes = IsJudgementPart (records_of input) bytes
 IsFront (Make number streams summary gap sweeps) input bytes = ⊥
 
--- A source was read to its end.
-pub record IsReadWhole (source_old source_new : SourceSeen) (input : List ℕ) : Type 0 where
-  pub taken_all : TakesInTurns source_old source_new input
-  pub end : IsAtEnd source_new.remaining
-
 -- a command reads its input to the end; one that makes a session reads nothing
 abbrev pub Reads : Command → SourceSeen → SourceSeen → List ℕ → Type 0
 Reads (Make number streams summary gap sweeps) source_old source_new input = (source_new ≡ source_old) × (input ≡ [])
-Reads command source_old source_new input = IsReadWhole source_old source_new input
+Reads command source_old source_new input = TakesInTurns source_old source_new input × IsAtEnd source_new.remaining
 
 -- The words give a command, its input was read, and bytes with this property were put.
 pub record Does (Wrote : Command → List ℕ → List ℕ → Type 0) (words : List (List ℕ)) (source_old source_new : SourceSeen) (sink_old sink_new : SinkSeen) : Type 0 where
@@ -86,16 +77,12 @@ pub record Does (Wrote : Command → List ℕ → List ℕ → Type 0) (words : 
   pub read : Reads command source_old source_new input
   pub put : PutsSuch (Wrote command input) sink_old sink_new
 
--- The source shows an input within the limit, and counted no fault.
-pub record ShowsInput (source_old source_new : SourceSeen) (input : List ℕ) : Type 0 where
-  pub remaining : source_old.remaining ≡ Some input
-  pub within : length input ≤ most_bytes
-  pub no_fault : Rose source_old.faults source_new.faults → ⊥
-
--- what a command needs from its source to end normally: that it shows this input; the making of a session needs nothing
+-- what a command needs from its source to end normally: that it shows this input, which is within the limit, and counts no fault; the
+-- making of a session needs nothing
 abbrev pub IsGiven : Command → SourceSeen → SourceSeen → List ℕ → Type 0
 IsGiven (Make number streams summary gap sweeps) source_old source_new input = input ≡ []
-IsGiven command source_old source_new input = ShowsInput source_old source_new input
+IsGiven command source_old source_new input =
+    (source_old.remaining ≡ Some input) × (length input ≤ most_bytes) × (Rose source_old.faults source_new.faults → ⊥)
 
 -- how a command ends if it reads and writes everything
 abbrev pub EndsAs : Command → List ℕ → Status → Type 0

@@ -1,13 +1,14 @@
 // A run of the command that the words give.
-ghost use Rattle.std.specs.Prelude.{◌≡◌, ◌≢◌, ◌⊎◌, ◌+◌, ◌≤◌, ℕ, List, Err, true, false, length, IfOk, IfErr, OnErr};
+ghost use Rattle.std.specs.Prelude.{◌≡◌, ◌≢◌, ◌⊎◌, ◌+◌, ◌≤◌, ℕ, Bool, List, Err, true, false, length, IfOk, IfErr, OnErr};
 ghost use Rattle.pb_io.specs.Counts.{Rose};
-ghost use Rattle.pb_io.specs.Source.{TakesExactly, TakesAtMost};
+ghost use Rattle.pb_io.specs.Source.{TakesSuch};
 ghost use Rattle.pb_limits.specs.Limits.{most_bytes};
 ghost use Rattle.pb_cli.specs.declared.status.Status.TheVariants.{Done, DoneRefused, Usage, ReadFault, WriteFault, TooLarge, NoMemory};
 ghost use Rattle.pb_words.specs.declared.command.Command.{Command};
+ghost use Rattle.pb_words.specs.declared.command.Command.TheVariants.{Make};
 ghost use Rattle.pb_words.specs.Command.{IsCommandInRange, IsCommandOf};
 ghost use Rattle.pb_words.specs.Line.{are_plain_or_named};
-ghost use Rattle.pb_cli.specs.Run.{AskToMake, Does, EndsAs, GiveCommand, IsCutShort, IsFront, IsGiven, IsWhole, Reads, is_making};
+ghost use Rattle.pb_cli.specs.Run.{Does, EndsAs, GiveCommand, IsCutShort, IsFront, IsGiven, IsWhole, Reads, is_making};
 
 use crate::answers::answer;
 use crate::checks::judge;
@@ -67,10 +68,10 @@ pub fn run<R: Source, W: Sink>(alloc: Global, words: &Words, source: &mut R, sin
 
     // TooLarge is the answer iff one byte more than the limit was taken. Then nothing is written.
     ensures too_large { result ≡ TooLarge →
-        TakesExactly (R.seen source.old) (R.seen source.new) (most_bytes + 1) }
+        TakesSuch (λ bytes. length bytes ≡ most_bytes + 1) (R.seen source.old) (R.seen source.new) }
     ensures too_large_unwritten { result ≡ TooLarge → sink.new ≡ sink.old }
     ensures not_too_large { result ≢ TooLarge →
-        TakesAtMost (R.seen source.old) (R.seen source.new) most_bytes }
+        TakesSuch (λ bytes. length bytes ≤ most_bytes) (R.seen source.old) (R.seen source.new) }
 
     // If memory ran out, nothing was written, or the texts of the first rows or of the first blocks, whole.
     ensures no_memory { result ≡ NoMemory → (sink.new ≡ sink.old) ⊎ Does IsFront words.now
@@ -83,7 +84,9 @@ pub fn run<R: Source, W: Sink>(alloc: Global, words: &Words, source: &mut R, sin
         → IsGiven command (R.seen source.old) (R.seen source.new) input →
         ¬ Rose (W.seen sink.old).faults (W.seen sink.new).faults →
         EndsAs command input result ⊎ (result ≡ NoMemory) }
-    ensures make_unread { AskToMake words.now → source.new ≡ source.old }
+    ensures make_unread { (number streams : ℕ) (summary : Bool) (gap sweeps : ℕ)
+        → IsCommandOf words.now (Make number streams summary gap sweeps)
+        → source.new ≡ source.old }
 
     // No empty piece was put.
     ensures idle { (W.seen sink.new).idle ≡ (W.seen sink.old).idle }
@@ -129,9 +132,10 @@ fn read_input<R: Source>(alloc: Global, command: Command, source: &mut R) -> Res
     ensures no_read_fault { result ≢ Err ReadFault →
         (R.seen source.new).faults ≡ (R.seen source.old).faults }
     ensures too_large { IfErr result (λ status. status ≡ TooLarge →
-        TakesExactly (R.seen source.old) (R.seen source.new) (most_bytes + 1)) }
+        TakesSuch (λ bytes. length bytes ≡ most_bytes + 1)
+        (R.seen source.old) (R.seen source.new)) }
     ensures not_too_large { result ≢ Err TooLarge →
-        TakesAtMost (R.seen source.old) (R.seen source.new) most_bytes }
+        TakesSuch (λ bytes. length bytes ≤ most_bytes) (R.seen source.old) (R.seen source.new) }
     ensures answers { IfErr result (λ status.
         (status ≡ ReadFault) ⊎ ((status ≡ TooLarge) ⊎ (status ≡ NoMemory))) }
     ensures faults_stay { (R.seen source.old).faults ≤ (R.seen source.new).faults }

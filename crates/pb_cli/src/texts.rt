@@ -1,17 +1,19 @@
 // The text of a summary.
 
-ghost use Rattle.std.specs.Prelude.{◌≡◌, ◌<◌, ◌≤◌, ◌-◌, ◌^◌, length, slice_get, take, ◌∷◌, [], IfOk, IfSome, OnOk};
+ghost use Rattle.std.specs.Prelude.{◌≡◌, ◌<◌, ◌≤◌, ◌-◌, ◌^◌, length, slice_get, take, ◌∷◌, [], IfOk, IfSome, IsSomeAnd, OnOk};
 ghost use Rattle.pb_limits.specs.Limits.{most_gap, most_made_streams, most_sweeps};
 ghost use Rattle.pb_study.specs.Options.{AreOptions};
 ghost use Rattle.pb_book.specs.Rows.{periods_of};
 ghost use Rattle.pb_period.specs.Days.{days_of};
-ghost use Rattle.pb_period.specs.PeriodGraph.{period_graph};
+ghost use Rattle.pb_period.specs.PeriodGraph.{assembly_of, period_graph, period_names};
 ghost use Rattle.pb_report.specs.Form.{text_in};
+ghost use Rattle.pb_report.specs.Names.{name_at};
+ghost use Rattle.pb_report.specs.Over.{over_row};
 ghost use Rattle.pb_report.specs.Summary.{summary_row};
 ghost use Rattle.pb_report.specs.declared.form.Form.TheVariants.{Csv};
 ghost use Rattle.pb_make.specs.Plant.{least_streams};
 ghost use Rattle.pb_session.specs.Session.{new_session, state_after_all};
-ghost use Rattle.pb_cli.specs.Summary.{IsSummaryText, SumsUp, made_options, stream_row};
+ghost use Rattle.pb_cli.specs.Summary.{IsSummaryText, SumsUpBy, made_options};
 
 use pb_book::Book;
 use pb_make::make;
@@ -81,8 +83,9 @@ fn summed(
     session: &Session,
 ) -> Result<Vec<u8>, AllocError>
     requires { 0 < length (periods_of session.now.state.rows) }
-    ensures { IfOk result (λ text. SumsUp number streams rows session.now.state
-        (slice_get (periods_of session.now.state.rows) 0) text.items) }
+    ensures { IfOk result (λ text. IsSomeAnd (slice_get (periods_of session.now.state.rows) 0)
+        (λ period. SumsUpBy number streams rows session.now.state period
+        (assembly_of session.now.state.rows (days_of period)) text.items)) }
 {
     match session.first_stage(0) {
         Ok(stage) => stage_text(alloc, number, streams, rows, &stage),
@@ -113,7 +116,8 @@ fn stream_text(alloc: Global, book: &Book, j: u32) -> Result<Vec<u8>, AllocError
     requires stream { IfSome (slice_get (periods_of book.now) 0)
         (λ period. j < length (period_graph book.now (days_of period)).streams) }
     ensures { IfOk result (λ text. IfSome (slice_get (periods_of book.now) 0) (λ period.
-        text.items ≡ text_in Csv (stream_row book.now period j ∷ []))) }
+        text.items ≡ text_in Csv (over_row period.name
+        (name_at (period_names book.now (days_of period)).streams j) ∷ []))) }
 {
     let names = pb_period::names(alloc, book, 0)?;
     let period = book.period(0).name;

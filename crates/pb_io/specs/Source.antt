@@ -23,10 +23,6 @@ pub record TakesInTurns (old new : SourceSeen) (bytes : List ℕ) : Type 0 where
   pub idle : new.idle ≤ counted old.idle 1
   pub turns : new.calls ≤ counted old.calls (length bytes + 1)
 
--- n bytes were taken in such turns
-abbrev pub TakesExactly : SourceSeen → SourceSeen → ℕ → Type 0
-TakesExactly old new n = (bytes : List ℕ) × TakesInTurns old new bytes × (length bytes ≡ n)
-
--- at most n bytes were taken in such turns
-abbrev pub TakesAtMost : SourceSeen → SourceSeen → ℕ → Type 0
-TakesAtMost old new n = (bytes : List ℕ) × TakesInTurns old new bytes × (length bytes ≤ n)
+-- some bytes with this property were taken in such turns
+abbrev pub TakesSuch : (List ℕ → Type 0) → SourceSeen → SourceSeen → Type 0
+TakesSuch Holds old new = (bytes : List ℕ) × TakesInTurns old new bytes × Holds bytes

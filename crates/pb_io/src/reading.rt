@@ -2,7 +2,7 @@
 ghost use Rattle.std.specs.Prelude.{◌≡◌, ◌≢◌, ◌+◌, ◌-◌, ◌^◌, ◌<◌, ◌≤◌, ◌⊎◌, [], length, take, Some, Err, vec_len, IfSome, IfOk, OnOk, OnErr, IsErrOf, IsOkUnless};
 ghost use Rattle.std.specs.Io.KnownBytes.{IsAtEnd};
 ghost use Rattle.pb_io.specs.Counts.{counted, Rose};
-ghost use Rattle.pb_io.specs.Source.{SourceSeen, Takes, TakesInTurns, TakesExactly, TakesAtMost};
+ghost use Rattle.pb_io.specs.Source.{SourceSeen, Takes, TakesInTurns, TakesSuch};
 ghost use Rattle.pb_io.specs.declared.reading.ReadEnd.TheVariants.{Fault, NoMemory};
 
 use std::alloc::{AllocError, Global};
@@ -103,9 +103,9 @@ pub fn read_all<S: Source>(alloc: Global, source: &mut S, limit: usize) -> Resul
 
     // `TooLarge` is the answer exactly when one more byte than the limit was taken.
     ensures too_large { IsErrOf result ReadEnd.TooLarge →
-        TakesExactly (S.seen source.old) (S.seen source.new) (limit + 1) }
+        TakesSuch (λ bytes. length bytes ≡ limit + 1) (S.seen source.old) (S.seen source.new) }
     ensures not_too_large { result ≢ Err ReadEnd.TooLarge →
-        TakesAtMost (S.seen source.old) (S.seen source.new) limit }
+        TakesSuch (λ bytes. length bytes ≤ limit) (S.seen source.old) (S.seen source.new) }
 
     // `Fault` is the answer exactly when the source counted a fault.
     ensures cause { IsErrOf result ReadEnd.Fault →

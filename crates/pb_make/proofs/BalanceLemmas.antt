@@ -11,7 +11,8 @@ use Rattle.pb_limits.specs.Limits.{most_made_streams}
 use Rattle.pb_make.specs.declared.plant.MadeStream.{MadeStream}
 use Rattle.pb_make.specs.Bounds.{IsSide}
 use Rattle.pb_make.specs.Laws.{truth_brought_to}
-use Rattle.pb_make.specs.Plant.{added_to, least_streams, line_grams, line_stream, line_streams, line_truth, made_streams, side_streams, sides_of, units_of}
+use Rattle.pb_make.specs.Plant.{added_to, least_streams, line_grams, line_stream, made_streams, sides_of, units_of}
+use Rattle.pb_make.proofs.Abbreviations.{line_streams, line_truth, side_streams}
 use Rattle.pb_make.proofs.PlantLemmas.{AreSides, plant_sides}
 
 -- ---- tests of numbers

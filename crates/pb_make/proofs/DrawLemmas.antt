@@ -1,7 +1,8 @@
 -- Three draws give a side stream.
 use Rattle.std.proofs.Common.{◌≡◌, ◌∙◌, ℕ, suc, ◌+◌, ◌*◌, ap, arith, refl}
-use Rattle.pb_make.specs.Draws.{draw_at, next_state, state_after_draws, upper_bits}
-use Rattle.pb_make.specs.Plant.{side_at, side_by}
+use Rattle.pb_make.specs.Draws.{draw_at, next_state, state_after_draws}
+use Rattle.pb_make.specs.Plant.{side_at}
+use Rattle.pb_make.proofs.Abbreviations.{side_by, upper_bits}
 
 -- the state after one more draw
 next_draw : (number draws more s t : ℕ) → s ≡ state_after_draws number draws → t ≡ next_state s → more ≡ suc draws → t ≡ state_after_draws number more

@@ -1,3 +1,4 @@
+mod Abbreviations
 mod BalanceLemmas
 mod DeclaredLemmas
 mod DrawLemmas

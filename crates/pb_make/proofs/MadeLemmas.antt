@@ -22,7 +22,8 @@ use Rattle.pb_kinds.specs.declared.rows.StoredRow.{StoredRow}
 use Rattle.pb_make.specs.declared.plant.MadeStream.{MadeStream}
 use Rattle.pb_make.specs.Bounds.{IsMade}
 use Rattle.pb_make.specs.Laws.{AreTaken}
-use Rattle.pb_make.specs.Rows.{january, made_critical_row, made_node_name, made_period, made_period_row, made_stream_row, middle_rows, stream_name, stream_rows, unit_row}
+use Rattle.pb_make.specs.Rows.{january, made_critical_row, made_node_name, made_period, made_period_row, made_stream_row, stream_name, unit_row}
+use Rattle.pb_make.proofs.Abbreviations.{middle_rows, stream_rows}
 use Rattle.pb_make.proofs.DeclaredLemmas.{AreOther, arcs_are, count_arcs, declared_stream, declared_unit, names_are, no_arc_named, no_boundaries, node_there, none_any, plant_of, plant_push, skip, stream_not_there, streams_from, two_nodes, unit_arcs, unit_boundaries, units}
 use Rattle.pb_make.proofs.NameLemmas.{is_node_name, is_stream_name, nodes_apart, streams_apart}
 use Rattle.pb_make.proofs.RequestLemmas.{Asks, measure_asks, nodal_asks, period_asks, stream_asks, unit_asks}

@@ -5,7 +5,8 @@ use Rattle.std.proofs.lemmas.Bool.{ne_eqb}
 use Rattle.pb_rows.specs.Name.{is_name, same_name}
 use Rattle.pb_rows.specs.Number.{decimal_text}
 use Rattle.pb_rows.proofs.TextLaws.{decimal_one, names_apart, numbered_name}
-use Rattle.pb_make.specs.Rows.{made_node_name, reading_id, stream_name}
+use Rattle.pb_make.specs.Rows.{made_node_name, stream_name}
+use Rattle.pb_make.proofs.Abbreviations.{reading_id}
 
 pub unit_is : (i : ℕ) → 1 ≤ i → made_node_name i ≡ 117 ∷ decimal_text i
 unit_is i some = rw (ne_eqb i 0 (λ e. absurd (omega (arith, e, some)))) refl

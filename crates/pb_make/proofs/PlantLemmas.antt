@@ -11,7 +11,8 @@ use Rattle.pb_fixed.specs.Sums.{sum_over}
 use Rattle.pb_fixed.proofs.Sums.{sum_over-bound, sum_over-take_more}
 use Rattle.pb_make.specs.declared.plant.MadeStream.{MadeStream}
 use Rattle.pb_make.specs.Bounds.{IsMade, IsSide, most_side_grams}
-use Rattle.pb_make.specs.Plant.{added_to, end_from, leads_back, least_streams, line_grams, line_stream, line_streams, line_truth, made_streams, passes_by, side_at, side_by, side_streams, sides_of, units_of}
+use Rattle.pb_make.specs.Plant.{added_to, leads_back, least_streams, line_grams, line_stream, made_streams, passes_by, side_at, sides_of, units_of}
+use Rattle.pb_make.proofs.Abbreviations.{side_by, end_from, line_streams, line_truth, side_streams}
 
 -- ---- side streams
 

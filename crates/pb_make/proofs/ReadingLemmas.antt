@@ -34,8 +34,9 @@ use Rattle.pb_kinds.specs.declared.rows.StoredRow.{StoredRow}
 use Rattle.pb_make.specs.declared.plant.MadeStream.{MadeStream}
 use Rattle.pb_make.specs.Bounds.{IsMade}
 use Rattle.pb_make.specs.Laws.{Anything}
-use Rattle.pb_make.specs.Readings.{day_read, error_of_draw, is_plain_stream, meter_deviation, meter_variance, metered_at, metered_of, reading_draw, readings_of, shown_grams, stream_read, truth_at}
-use Rattle.pb_make.specs.Rows.{january, made_period, made_report_row, reading_id, reading_row_at, stream_name}
+use Rattle.pb_make.specs.Readings.{day_read, error_of_draw, is_plain_stream, meter_variance, metered_at, metered_of, readings_of, shown_grams, stream_read, truth_at}
+use Rattle.pb_make.specs.Rows.{january, made_period, made_report_row, reading_row_at, stream_name}
+use Rattle.pb_make.proofs.Abbreviations.{meter_deviation, reading_draw, reading_id}
 use Rattle.pb_make.proofs.DeclaredLemmas.{AreOther, arcs_are, kind_found, none_any, plant_of}
 use Rattle.pb_make.proofs.MadeLemmas.{Rest, measure, nodal, the_period}
 use Rattle.pb_make.proofs.NameLemmas.{ids_apart, is_reading_id, is_stream_name, streams_apart}

@@ -7,8 +7,9 @@ use Rattle.std.proofs.lemmas.List.FromFn.{map-range_with_len_more}
 use Rattle.pb_fixed.proofs.Lists.{drop_next}
 use Rattle.pb_rows.specs.Written.{AddsLine, line_of, text_of_rows}
 use Rattle.pb_make.specs.declared.plant.MadeStream.{MadeStream}
-use Rattle.pb_make.specs.Rows.{made_stream_row, reading_row, reading_row_at, stream_rows}
-use Rattle.pb_make.specs.Readings.{reading_draw, stream_read, truth_at}
+use Rattle.pb_make.specs.Rows.{made_stream_row, reading_row, reading_row_at}
+use Rattle.pb_make.specs.Readings.{stream_read, truth_at}
+use Rattle.pb_make.proofs.Abbreviations.{reading_draw, stream_rows}
 
 -- one more row at the end
 pub row_more : (front text : List ℕ) (rows : List (List (List ℕ))) (row : List (List ℕ)) → text ≡ front ++ text_of_rows rows → text ++ line_of row ≡ front ++ text_of_rows (rows ++ row ∷ [])

@@ -13,10 +13,11 @@ use Rattle.pb_kinds.specs.declared.rows.StoredRow.{StoredRow}
 use Rattle.pb_make.specs.declared.plant.MadeStream.{MadeStream}
 use Rattle.pb_make.specs.Bounds.{IsMade}
 use Rattle.pb_make.specs.Laws.{Anything, AreTaken, HasMadePeriod}
-use Rattle.pb_make.specs.Plant.{least_streams, made_streams, side_streams, sides_of, units_of}
+use Rattle.pb_make.specs.Plant.{least_streams, made_streams, sides_of, units_of}
 use Rattle.pb_form.specs.declared.session.SessionKind.TheVariants as kind
 use Rattle.pb_make.specs.Readings.{is_plain_stream, readings_of}
-use Rattle.pb_make.specs.Rows.{made_report_row, made_row, middle_rows, reading_row_at, reading_rows, session_rows, stored_rows, stream_rows, stream_values, unit_row, unit_rows}
+use Rattle.pb_make.specs.Rows.{made_report_row, made_row, reading_row_at, session_rows, stored_rows, stream_values, unit_row}
+use Rattle.pb_make.proofs.Abbreviations.{middle_rows, reading_rows, side_streams, stream_rows, unit_rows}
 use Rattle.pb_make.proofs.DeclaredLemmas.{plant_of, units}
 use Rattle.pb_make.proofs.MadeLemmas.{Rest, measure, middle_taken, nodal, streams_taken, the_period, units_taken}
 use Rattle.pb_make.proofs.PlantLemmas.{AreSides, IsPlant, plant_sides, plant_whole}

@@ -10,10 +10,6 @@ abbrev pub state_after_draws : ℕ → ℕ → ℕ
 state_after_draws number zero = number
 state_after_draws number (suc draws) = next_state (state_after_draws number draws)
 
--- what a state gives: its upper 31 bits
-abbrev pub upper_bits : ℕ → ℕ
-upper_bits state = state / 2 ^ 33
-
--- the draw at a place, counted from 0
+-- the draw at a place, counted from 0: the upper 31 bits of the state after it
 abbrev pub draw_at : ℕ → ℕ → ℕ
-draw_at number place = upper_bits (state_after_draws number (suc place))
+draw_at number place = state_after_draws number (suc place) / 2 ^ 33

@@ -22,28 +22,14 @@ sides_of streams = streams - (units_of streams + 1)
 abbrev pub line_grams : ℤ
 line_grams = pos 50000000000
 
--- a side stream that would lead back to the node where it begins leads out of the plant instead
-abbrev pub end_from : ℕ → ℕ → ℕ
-end_from from to = if to == from then 0 else to
-
--- the side stream of three draws: the node where it begins, the node that it leads to, and its true flow in grams per day
-abbrev pub side_by : ℕ → ℕ → ℕ → ℕ → MadeStream
-side_by units first second third = record {
-  from = first % units + 1;
-  to = end_from (first % units + 1) (second % (units + 1));
-  truth = pos (1000000 + third % 9000000);
-}
-
--- the side stream at a place, counted from 0: each takes the next three draws
+-- The side stream at a place, counted from 0, which takes the next three draws: the node where it begins, the node that it leads to,
+-- and its true flow in grams per day. One that would lead back to the node where it begins leads out of the plant instead.
 abbrev pub side_at : ℕ → ℕ → ℕ → MadeStream
 side_at number units place =
-    side_by units (draw_at number (3 * place)) (draw_at number (3 * place + 1))
-    (draw_at number (3 * place + 2))
-
--- The side streams.
-abbrev pub side_streams : ℕ → ℕ → List MadeStream
-side_streams number streams =
-    map (side_at number (units_of streams)) (range_with_len 0 (sides_of streams))
+    let begins = draw_at number (3 * place) % units + 1 in
+    let ends = draw_at number (3 * place + 1) % (units + 1) in
+    let grams = 1000000 + draw_at number (3 * place + 2) % 9000000 in
+    record { from = begins; to = if ends == begins then 0 else ends; truth = pos grams }
 
 -- a side stream passes by a stream of the line, which carries that much less: it leads forward, or out of the plant
 abbrev pub passes_by : MadeStream → ℕ → Bool
@@ -60,23 +46,18 @@ added_to i side =
     else if leads_back side i then side.truth
     else pos 0
 
--- the true flow of the stream of the line with this number, in grams per day
-abbrev pub line_truth : List MadeStream → ℕ → ℤ
-line_truth sides i = line_grams +ℤ sum_over (added_to i) sides
-
--- the stream of the line with this number: from the unit before to the unit of its number; the last one leads out of the plant
+-- The stream of the line with this number: from the unit before to the unit of its number, and the last one leads out of the plant,
+-- with its true flow in grams per day.
 abbrev pub line_stream : ℕ → List MadeStream → ℕ → MadeStream
 line_stream units sides i = record {
   from = i - 1;
   to = if i == units + 1 then 0 else i;
-  truth = line_truth sides i;
+  truth = line_grams +ℤ sum_over (added_to i) sides;
 }
 
--- the streams of the line, in order
-abbrev pub line_streams : ℕ → List MadeStream → List MadeStream
-line_streams units sides = map (line_stream units sides) (range_with_len 1 (units + 1))
-
--- The streams: those of the line come first, followed by the side streams.
+-- The streams: those of the line come first, in order, followed by the side streams.
 abbrev pub made_streams : ℕ → ℕ → List MadeStream
 made_streams number streams =
-    line_streams (units_of streams) (side_streams number streams) ++ side_streams number streams
+    let units = units_of streams in
+    let sides = map (side_at number units) (range_with_len 0 (sides_of streams)) in
+    map (line_stream units sides) (range_with_len 1 (units + 1)) ++ sides

@@ -2,7 +2,6 @@
 use Rattle.std.specs.Prelude.{ℕ, ◌+◌, ◌*◌, ◌-◌, ◌/◌, ◌%◌, ◌==◌, Bool, ℤ, pos, ◌+ℤ◌, ◌-ℤ◌, ◌*ℤ◌, List, slice_index_or}
 use Rattle.std.specs.Int.{int_div_euclid}
 use Rattle.pb_make.specs.declared.plant.MadeStream.{MadeStream}
-use Rattle.pb_make.specs.Draws.{draw_at}
 
 -- every seventh stream is plain, and the others are metered
 abbrev pub is_plain_stream : ℕ → Bool
@@ -45,14 +44,6 @@ error_of_draw draw = pos (draw % 2001) -ℤ pos 1000
 abbrev pub shown_grams : ℤ → ℤ → ℤ
 shown_grams truth error = truth +ℤ int_div_euclid (truth *ℤ error) (pos 100000)
 
--- the standard deviation of a meter: half a percent of the true flow, rounded down, in grams
-abbrev pub meter_deviation : ℤ → ℤ
-meter_deviation truth = int_div_euclid truth (pos 200)
-
--- its variance, in squared grams
+-- the variance of a meter, in squared grams: its standard deviation is half a percent of the true flow, rounded down, in grams
 abbrev pub meter_variance : ℤ → ℤ
-meter_variance truth = meter_deviation truth *ℤ meter_deviation truth
-
--- the draw of the reading at a place: the side streams have taken three each before
-abbrev pub reading_draw : ℕ → ℕ → ℕ → ℕ
-reading_draw number sides place = draw_at number (3 * sides + place)
+meter_variance truth = let deviation = int_div_euclid truth (pos 200) in deviation *ℤ deviation

@@ -1,6 +1,6 @@
 -- Statement. The rows of a made session, and its text.
-use Rattle.std.specs.Prelude.{ℕ, ◌+◌, ◌==◌, ℤ, pos, List, [], ◌∷◌, ◌++◌, map, codes, if◌then◌else◌}
-use Rattle.std.specs.List.{range_with_len}
+use Rattle.std.specs.Prelude.{ℕ, ◌+◌, ◌*◌, ◌==◌, ℤ, pos, List, [], ◌∷◌, ◌++◌, map, codes, if◌then◌else◌}
+use Rattle.std.specs.List.{enumerate_from, range_with_len}
 use Rattle.jiff_core.specs.Calendar.{days_from_civil}
 use Rattle.pb_rows.specs.Number.{decimal_text}
 use Rattle.pb_rows.specs.Written.{text_of_rows}
@@ -10,8 +10,9 @@ use Rattle.pb_form.specs.Value.{Value, Word, Name, Number, Date}
 use Rattle.pb_form.specs.declared.session.SessionKind.{SessionKind}
 use Rattle.pb_form.specs.declared.session.SessionKind.TheVariants as kind
 use Rattle.pb_make.specs.declared.plant.MadeStream.{MadeStream}
+use Rattle.pb_make.specs.Draws.{draw_at}
 use Rattle.pb_make.specs.Plant.{made_streams, sides_of, units_of}
-use Rattle.pb_make.specs.Readings.{day_read, error_of_draw, is_plain_stream, meter_variance, reading_draw, readings_of, shown_grams, stream_read, truth_at}
+use Rattle.pb_make.specs.Readings.{day_read, error_of_draw, is_plain_stream, meter_variance, readings_of, shown_grams, stream_read, truth_at}
 
 -- the name of a node: `env`, or `u` and the number of the unit
 abbrev pub made_node_name : ℕ → List ℕ
@@ -20,10 +21,6 @@ made_node_name node = if node == 0 then codes "env" else codes "u" ++ decimal_te
 -- the name of a stream: `s` and its number
 abbrev pub stream_name : ℕ → List ℕ
 stream_name i = codes "s" ++ decimal_text i
-
--- the id of the reading at a place: `r` and its number, counted from 1
-abbrev pub reading_id : ℕ → List ℕ
-reading_id place = codes "r" ++ decimal_text (place + 1)
 
 -- the name of the period
 abbrev pub made_period : List ℕ
@@ -60,45 +57,29 @@ made_period_row = made_row kind.Period (Name made_period ∷ Date (january 1) �
 abbrev pub made_critical_row : SessionKind → List (List ℕ)
 made_critical_row kind = made_row kind (Word 0 ∷ Number (pos 3841) ∷ [])
 
--- the row of the reading at a place, of a stream with this true flow, with this draw
+-- the row of the reading at a place, of a stream with this true flow, with this draw; its id is `r` and its number, counted from 1
 abbrev pub reading_row : ℕ → ℤ → ℕ → List (List ℕ)
 reading_row place truth draw =
-    made_row kind.Reading (Name (reading_id place) ∷ Name (stream_name (stream_read place)) ∷ Date (january (day_read place))
-    ∷ Number (shown_grams truth (error_of_draw draw)) ∷ Number (meter_variance truth) ∷ [])
+    made_row kind.Reading (Name (codes "r" ++ decimal_text (place + 1)) ∷ Name (stream_name (stream_read place))
+    ∷ Date (january (day_read place)) ∷ Number (shown_grams truth (error_of_draw draw)) ∷ Number (meter_variance truth) ∷ [])
 
 -- the row that asks for the report
 abbrev pub made_report_row : List (List ℕ)
 made_report_row = made_row kind.Report (Name made_period ∷ [])
 
--- the rows of the units
-abbrev pub unit_rows : ℕ → List (List (List ℕ))
-unit_rows units = map unit_row (range_with_len 1 units)
-
--- the rows of streams, which are numbered from i
-abbrev pub stream_rows : ℕ → List MadeStream → List (List (List ℕ))
-stream_rows i [] = []
-stream_rows i (stream ∷ streams) = made_stream_row i stream ∷ stream_rows (i + 1) streams
-
--- the rows between the plant and its readings
-abbrev pub middle_rows : List (List (List ℕ))
-middle_rows = made_period_row ∷ made_critical_row kind.CriticalNodal ∷ made_critical_row kind.CriticalMeasure ∷ []
-
--- the row of the reading at a place, in a plant of these streams, this many of which are side streams
+-- the row of the reading at a place, in a plant of these streams, this many of which are side streams, which take three draws each
 abbrev pub reading_row_at : ℕ → ℕ → List MadeStream → ℕ → List (List ℕ)
 reading_row_at number sides streams place =
-    reading_row place (truth_at streams (stream_read place)) (reading_draw number sides place)
+    reading_row place (truth_at streams (stream_read place)) (draw_at number (3 * sides + place))
 
--- the rows of the readings
-abbrev pub reading_rows : ℕ → ℕ → List (List (List ℕ))
-reading_rows number streams =
-    map (reading_row_at number (sides_of streams) (made_streams number streams))
-    (range_with_len 0 (readings_of streams))
-
--- the rows that are stored: the plant, its period and its critical values, and the readings
+-- the rows that are stored: units, streams, which are numbered from 1, the period, its critical values, and the readings
 abbrev pub stored_rows : ℕ → ℕ → List (List (List ℕ))
 stored_rows number streams =
-    unit_rows (units_of streams) ++ (stream_rows 1 (made_streams number streams)
-    ++ (middle_rows ++ reading_rows number streams))
+    let plant = made_streams number streams in
+    map unit_row (range_with_len 1 (units_of streams))
+    ++ (map (λ (s : ℕ × MadeStream). made_stream_row s.0 s.1) (enumerate_from 1 plant)
+    ++ (made_period_row ∷ made_critical_row kind.CriticalNodal ∷ made_critical_row kind.CriticalMeasure
+    ∷ map (reading_row_at number (sides_of streams) plant) (range_with_len 0 (readings_of streams))))
 
 -- The rows of the session made from a number, with this many streams: those that are stored, and the row that asks for the report.
 abbrev pub session_rows : ℕ → ℕ → List (List (List ℕ))

@@ -1,7 +1,7 @@
 // Draws: a linear congruential generator.
 
-ghost use Rattle.std.specs.Prelude.{◌≡◌, ◌<◌, ◌^◌};
-ghost use Rattle.pb_make.specs.Draws.{next_state, upper_bits};
+ghost use Rattle.std.specs.Prelude.{◌≡◌, ◌<◌, ◌^◌, ◌/◌};
+ghost use Rattle.pb_make.specs.Draws.{next_state};
 
 /// A linear congruential generator modulo 2^64, with the constants of MMIX (Knuth).
 #[derive(Clone, Copy, Debug)]
@@ -12,7 +12,7 @@ pub struct Draws {
 impl Draws {
     /// The next draw, below 2^31.
     pub fn draw(&mut self) -> u32
-        ensures value { result ≡ upper_bits (next_state self.old.state) }
+        ensures value { result ≡ next_state self.old.state / 2 ^ 33 }
         ensures state { self.new.state ≡ next_state self.old.state }
     {
         self.state = next_state(self.state);
@@ -30,7 +30,7 @@ fn next_state(state: u64) -> u64
 
 // The upper 31 bits of a state.
 fn upper_bits(state: u64) -> u32
-    ensures { result ≡ upper_bits state }
+    ensures { result ≡ state / 2 ^ 33 }
 {
     (state / (1 << 33)) as u32
 }

@@ -1,10 +1,11 @@
 // The plant of a made session.
 
-ghost use Rattle.std.specs.Prelude.{◌≡◌, ◌≤◌, ◌+◌, ◌*◌, ◌++◌, ℕ, length, unsigned_abs, All, IfOk, OnOk, map};
+ghost use Rattle.std.specs.Prelude.{◌≡◌, ◌≤◌, ◌+◌, ◌*◌, ◌%◌, ◌==◌, ◌+ℤ◌, ◌++◌, ℕ, pos, if◌then◌else◌, length, unsigned_abs, All, IfOk, OnOk, map};
 ghost use Rattle.std.specs.List.{range_with_len};
 ghost use Rattle.pb_limits.specs.Limits.{most_made_streams};
+ghost use Rattle.pb_fixed.specs.Sums.{sum_over};
 ghost use Rattle.pb_make.specs.Draws.{state_after_draws};
-ghost use Rattle.pb_make.specs.Plant.{added_to, leads_back, least_streams, line_stream, line_streams, line_truth, made_streams, passes_by, side_at, side_by, sides_of, units_of};
+ghost use Rattle.pb_make.specs.Plant.{added_to, leads_back, least_streams, line_grams, line_stream, made_streams, passes_by, side_at, sides_of, units_of};
 ghost use Rattle.pb_make.specs.Bounds.{IsMade, IsSide, most_side_grams};
 
 use crate::draws::Draws;
@@ -34,7 +35,10 @@ pub fn units_of(streams: u32) -> u32
 fn side_by(units: u32, first: u32, second: u32, third: u32) -> MadeStream
     requires some { 1 ≤ units }
     requires few { units ≤ most_made_streams }
-    ensures value { result ≡ side_by units first second third }
+    ensures from { result.from ≡ first % units + 1 }
+    ensures to { result.to ≡ (if second % (units + 1) == first % units + 1 then 0
+        else second % (units + 1)) }
+    ensures truth { result.truth ≡ pos (1000000 + third % 9000000) }
 {
     let from = first % units + 1;
     let to = second % (units + 1);
@@ -113,7 +117,7 @@ fn change_of(side: &MadeStream, i: u32) -> i128
 fn line_truth(sides: &[MadeStream], i: u32) -> i128
     requires few { length sides.now ≤ most_made_streams }
     requires each { All (IsSide most_made_streams) sides.now }
-    ensures value { result ≡ line_truth sides.now i }
+    ensures value { result ≡ line_grams +ℤ sum_over (added_to i) sides.now }
 {
     let mut truth = LINE_GRAMS;
     for side in sides {
@@ -146,7 +150,8 @@ fn made_streams(
     requires few { length sides.now ≤ most_made_streams }
     requires each { All (IsSide most_made_streams) sides.now }
     requires units { units ≤ most_made_streams }
-    ensures { IfOk result (λ streams. streams.items ≡ line_streams units sides.now ++ sides.now) }
+    ensures { IfOk result (λ streams. streams.items
+        ≡ map (line_stream units sides.now) (range_with_len 1 (units + 1)) ++ sides.now) }
 {
     let mut streams = Vec::new(alloc);
     for k in 0..units + 1 {

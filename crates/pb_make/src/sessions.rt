@@ -1,14 +1,15 @@
 // The text of a made session.
 
-ghost use Rattle.std.specs.Prelude.{◌≡◌, ◌≤◌, ◌≤ℤ◌, ◌*◌, ◌++◌, ℕ, pos, length, All, map, IfOk, OnOk};
-ghost use Rattle.std.specs.List.{range_with_len};
+ghost use Rattle.std.specs.Prelude.{◌≡◌, ◌≤◌, ◌≤ℤ◌, ◌*◌, [], ◌∷◌, ◌++◌, ℕ, pos, length, All, map, IfOk, OnOk};
+ghost use Rattle.std.specs.List.{enumerate_from, range_with_len};
 ghost use Rattle.pb_limits.specs.Limits.{most_made_streams};
 ghost use Rattle.pb_rows.specs.Written.{text_of_rows};
+ghost use Rattle.pb_form.specs.declared.session.SessionKind.TheVariants as kinds;
 ghost use Rattle.pb_make.specs.Bounds.{IsMade};
 ghost use Rattle.pb_make.specs.Draws.{state_after_draws};
 ghost use Rattle.pb_make.specs.Plant.{least_streams};
 ghost use Rattle.pb_make.specs.Readings.{readings_of, truth_at};
-ghost use Rattle.pb_make.specs.Rows.{middle_rows, reading_row_at, session_text, stream_rows, unit_rows};
+ghost use Rattle.pb_make.specs.Rows.{made_critical_row, made_period_row, made_stream_row, reading_row_at, session_text, unit_row};
 
 use crate::draws::Draws;
 use crate::plant::{MadeStream, made_plant, units_of};
@@ -41,7 +42,8 @@ pub fn make(alloc: Global, number: u32, streams: u32) -> Result<Vec<u8>, AllocEr
 // Appends the rows of the units.
 fn write_units(text: &mut Vec<u8>, units: u32) -> Result<(), AllocError>
     requires { units ≤ most_made_streams }
-    ensures { OnOk result (text.new.items ≡ text.old.items ++ text_of_rows (unit_rows units)) }
+    ensures { OnOk result (text.new.items
+        ≡ text.old.items ++ text_of_rows (map unit_row (range_with_len 1 units))) }
 {
     for k in 0..units {
         write_unit(text, k + 1)?;
@@ -52,8 +54,8 @@ fn write_units(text: &mut Vec<u8>, units: u32) -> Result<(), AllocError>
 // Appends the rows of the streams.
 fn write_streams(text: &mut Vec<u8>, plant: &[MadeStream]) -> Result<(), AllocError>
     requires { length plant.now ≤ most_made_streams }
-    ensures { OnOk result
-        (text.new.items ≡ text.old.items ++ text_of_rows (stream_rows 1 plant.now)) }
+    ensures { OnOk result (text.new.items ≡ text.old.items ++ text_of_rows
+        (map (λ s. made_stream_row s.0 s.1) (enumerate_from 1 plant.now))) }
 {
     for (k, stream) in plant.iter().enumerate() {
         write_stream(text, k as u32 + 1, stream)?;
@@ -63,7 +65,8 @@ fn write_streams(text: &mut Vec<u8>, plant: &[MadeStream]) -> Result<(), AllocEr
 
 // Appends the rows between the plant and its readings.
 fn write_middle(text: &mut Vec<u8>) -> Result<(), AllocError>
-    ensures { OnOk result (text.new.items ≡ text.old.items ++ text_of_rows middle_rows) }
+    ensures { OnOk result (text.new.items ≡ text.old.items ++ text_of_rows (made_period_row
+        ∷ made_critical_row kinds.CriticalNodal ∷ made_critical_row kinds.CriticalMeasure ∷ [])) }
 {
     write_period(text)?;
     write_nodal(text)?;

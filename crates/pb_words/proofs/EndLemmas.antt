@@ -16,9 +16,10 @@ use Rattle.clap.proofs.FaultLemmas.{leaf_fault}
 use Rattle.clap.proofs.WalkLemmas.{both, first_value-rows}
 use Rattle.clap.specs.Matches.{first_value}
 use Rattle.clap.specs.declared.parser.matches.Found.{Found}
-use Rattle.pb_words.specs.Parts.{Part, mode, flag, apart, joined, ArePartsOf, EachOnce, IsKnownPart, has_hyphen, is_one_of, words_of_parts, option_names, flag_names, words_of}
+use Rattle.pb_words.specs.Parts.{Part, mode, flag, apart, joined, ArePartsOf, IsKnownPart, has_hyphen, is_one_of, option_names, flag_names, words_of}
 use Rattle.pb_words.specs.Given.{Given, given_by, given_of, is_true}
 use Rattle.pb_words.specs.Line.{IsGivenByClap, given_in, is_plain_or_named, line}
+use Rattle.pb_words.proofs.OnceLemmas.{EachOnce, distinct_names, each_once, words_of_parts}
 use Rattle.pb_words.proofs.RowLemmas.{find_last, find_none, find_past, new_values, row_of, said_row}
 use Rattle.pb_words.proofs.StepLemmas.{IsFresh, IsKnownLast, Last, nothing, all_parts, both_empty, built_flag, built_mode, built_option, first_empty, one_of, rules_in, settle_first, settle_passes, settled_rows_are, shape, walk_at}
 use Rattle.pb_words.proofs.WalkLemmas.{Standing, all_line, known_all, never_empty, once_all, walk_back}
@@ -193,7 +194,7 @@ parts_of_taken words given taken =
       record {
         are = s.words ∙ sym (all_line s.front s.last fresh);
         known = known_all s.front s.last fresh s.known_last s.known;
-        once = once_all s.front s.last fresh s.once;
+        once = distinct_names (all_parts s.front s.last) (once_all s.front s.last fresh s.once);
       },
       taken.is ∙ given_at s.front s.last s.position (end_of words) s.is s.known_last fresh,
     )
@@ -227,7 +228,7 @@ taken_of_line parts known once =
 
 -- and clap accepts the line of each list of known parts that say each thing once
 pub taken_of_parts : (parts : List Part) (words : List Text) → ArePartsOf parts words → IsGivenByClap words (given_by parts)
-taken_of_parts parts words are = subst (λ (ws : List Text). IsGivenByClap ws (given_by parts)) (sym are.are) (taken_of_line parts are.known are.once)
+taken_of_parts parts words are = subst (λ (ws : List Text). IsGivenByClap ws (given_by parts)) (sym are.are) (taken_of_line parts are.known (each_once parts are.once))
 
 -- ---- in the words of the code
 

@@ -1,3 +1,4 @@
+mod OnceLemmas
 mod RowLemmas
 mod StepLemmas
 mod WalkLemmas

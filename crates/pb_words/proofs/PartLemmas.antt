@@ -5,8 +5,8 @@ use Rattle.clap.specs.Lexer.{name_and_value}
 use Rattle.clap.specs.Kinds.{or_else}
 use Rattle.clap.specs.Walk.{Row, Rule, Text, Walk, idle, option, arg_by_index, next_position, reacted, to_positional, value, walked}
 use Rattle.clap.specs.Faults.{react_fault, step_fault, turn_fault, walk_fault}
-use Rattle.pb_words.specs.Parts.{Part, mode, flag, apart, joined, EachOnce, IsKnownPart, has_hyphen, is_one_of, is_mentioned, words_of_parts, name_of, option_names, flag_names, words_of}
-use Rattle.pb_words.proofs.RowLemmas.{neither}
+use Rattle.pb_words.specs.Parts.{Part, mode, flag, apart, joined, IsKnownPart, has_hyphen, is_one_of, name_of, option_names, flag_names, words_of}
+use Rattle.pb_words.proofs.OnceLemmas.{EachOnce, is_mentioned, neither, words_of_parts}
 use Rattle.pb_words.proofs.StepLemmas.{Last, nothing, mode_word, waits_for, has_value, IsFresh, IsKnownLast, all_parts, at, both_empty, built_flag, built_mode, built_option, flag_by_long, held_at, one_of, option_by_long, rules_in, settle_passes, settled_rows_are, shape, step_of, turn_of, waiting_of, walk_at}
 use Rattle.pb_words.proofs.WalkLemmas.{IsUseOf, flag_use, idle_walk, index_there, mode_fault, mode_walk, option_use, plain_idle, plain_waits, use_passes_here, use_walk, value_walk}
 

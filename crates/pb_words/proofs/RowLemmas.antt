@@ -1,5 +1,5 @@
 -- The rows of `clap`'s matches, one for each part.
-use Rattle.std.proofs.Common.{◌≡◌, ◌∙◌, ◌||◌, Bool, cond, true, false, refl, sym, ap, List, [], ◌∷◌, ◌++◌, map, Option, Some, None, option_map, option_and_then, append-nil, true≢false}
+use Rattle.std.proofs.Common.{◌≡◌, ◌∙◌, Bool, cond, true, false, refl, sym, ap, List, [], ◌∷◌, ◌++◌, map, Option, Some, None, option_map, option_and_then, append-nil}
 use Rattle.std.specs.List.{find, list_any}
 use Rattle.std.specs.Str.{bytes_eq}
 use Rattle.std.specs.Prelude.{slice_get}
@@ -9,8 +9,8 @@ use Rattle.clap.specs.declared.builder.value_parser.Reading.TheVariants.{AsWritt
 use Rattle.clap.specs.declared.parser.matches.ValueSource.{ValueSource}
 use Rattle.clap.specs.declared.parser.matches.ValueSource.TheVariants.{CommandLine}
 use Rattle.clap.proofs.WalkLemmas.{find-map, list_any-map}
-use Rattle.pb_words.specs.Parts.{Part, is_mentioned, name_of, text_of}
-use Rattle.pb_words.specs.Given.{said_about}
+use Rattle.pb_words.specs.Parts.{Part, name_of, said_by, text_of}
+use Rattle.pb_words.proofs.OnceLemmas.{is_mentioned, neither}
 
 -- the row of a text that the words give for an id
 abbrev pub row_with : Text → Text → Row
@@ -19,10 +19,6 @@ row_with id text = record { id = id; values = text ∷ []; count = None; source 
 -- the row of a part
 abbrev pub row_of : Part → Row
 row_of part = row_with (name_of part) (text_of part)
-
-pub neither : (a b : Bool) → (a || b) ≡ false → (a ≡ false) × (b ≡ false)
-neither true b e = absurd (true≢false e)
-neither false b e = (refl, e)
 
 -- a row of an id that has no row yet is added at the end
 pub at_new_row : (id : Text) (change : Row → List Row) (missing rows : List Row) → has_row id rows ≡ false → at_row id change missing rows ≡ rows ++ missing
@@ -48,7 +44,7 @@ pub named_row : (id : Text) (parts : List Part) → has_row id (map row_of parts
 named_row id parts = sym (list_any-map (λ (r : Row). bytes_eq r.id id) row_of parts)
 
 -- and their texts are what the parts say
-pub said_row : (id : Text) (parts : List Part) → first_of id (map row_of parts) ≡ said_about id parts
+pub said_row : (id : Text) (parts : List Part) → first_of id (map row_of parts) ≡ said_by parts id
 said_row id parts = ap (option_and_then (λ (r : Row). slice_get r.values 0)) (sym (find-map (λ (r : Row). bytes_eq r.id id) row_of parts)) ∙ go (find (λ part. bytes_eq (name_of part) id) parts)
   where
     go : (o : Option Part) → option_and_then (λ (r : Row). slice_get r.values 0) (option_map row_of o) ≡ option_map text_of o

@@ -13,9 +13,10 @@ use Rattle.std.proofs.lemmas.List.{map-append}
 use Rattle.clap.specs.Walk.{Held, Row, Rule, Step, Text, Waiting, Walk, idle, option, positional, after_flag, after_step, arg_by_id, arg_by_long, has_row, long_met, settled, used_by_id, walked}
 use Rattle.clap.specs.Simple.{Shape, built, filled}
 use Rattle.clap.specs.Faults.{long_fault, settle_fault, step_fault, turn_fault, use_fault}
-use Rattle.pb_words.specs.Parts.{Part, mode, apart, option_names, flag_names, has_hyphen, is_one_of, is_mentioned}
+use Rattle.pb_words.specs.Parts.{Part, mode, apart, option_names, flag_names, has_hyphen, is_one_of}
 use Rattle.pb_words.specs.Line.{is_plain_or_named, line, flag_rule, mode_rule, option_rule}
-use Rattle.pb_words.proofs.RowLemmas.{named_row, neither, row_of, used_values}
+use Rattle.pb_words.proofs.OnceLemmas.{is_mentioned, neither}
+use Rattle.pb_words.proofs.RowLemmas.{named_row, row_of, used_values}
 
 abbrev pub shape : Shape
 shape = (built line).top

@@ -11,8 +11,9 @@ use Rattle.clap.specs.Faults.{positional_fault, react_fault, settle_fault, step_
 use Rattle.clap.specs.declared.error.kind.ErrorKind.TheVariants.{TooManyValues, UnknownArgument}
 use Rattle.std.specs.Option.{option_map_or}
 use Rattle.clap.proofs.WalkLemmas.{both}
-use Rattle.pb_words.specs.Parts.{Part, mode, flag, apart, joined, EachOnce, IsKnownPart, has_hyphen, is_one_of, is_mentioned, words_of_parts, name_of, option_names, flag_names, words_of}
+use Rattle.pb_words.specs.Parts.{Part, mode, flag, apart, joined, IsKnownPart, has_hyphen, is_one_of, name_of, option_names, flag_names, words_of}
 use Rattle.pb_words.specs.Line.{is_plain_or_named}
+use Rattle.pb_words.proofs.OnceLemmas.{EachOnce, is_mentioned, words_of_parts}
 use Rattle.pb_words.proofs.RowLemmas.{named_row, row_of, used_values}
 use Rattle.pb_words.proofs.StepLemmas.{Last, nothing, mode_word, waits_for, has_value, IsFresh, IsKnownLast, all_parts, and_false, at, both_empty, built_flag, built_mode, built_option, first_empty, flag_by_long, flag_first, flag_passes, held_at, last_parts, last_words, name_alone, option_by_id, option_by_long, option_first, option_passes, pending_of, plain_dashes, plain_long, plain_short, rules_in, settle_first, settle_passes, settled_rows_are, shape, some_fault, step_of, turn_of, unknown_by_long, value_behind, waiting_of, walk_at, word_kinds}
 

@@ -1,5 +1,6 @@
 -- Statement. The words that the system's arguments give, or why they give no words.
-use Rattle.std.specs.Prelude.{ℕ, List, drop, map, Result, Ok, Err, String, string_bytes}
+use Rattle.std.specs.Prelude.{ℕ, List, drop, map, Result, String, string_bytes}
+use Rattle.std.specs.Result.{result_map_both}
 use Rattle.std.specs.IoError.{error_kind}
 use Rattle.std.specs.Vec.Iter.{into_iter_items}
 use Rattle.std.specs.declared.alloc.Global.{Global}
@@ -21,5 +22,4 @@ words_after_name args = map string_bytes (drop 1 (into_iter_items args))
 
 -- the words that the arguments give, or why they give no words
 abbrev pub words_given : Result (IntoIter (String Global) Global) Error → Result (List (List ℕ)) WordsRefused
-words_given (Ok args) = Ok (words_after_name args)
-words_given (Err error) = Err (refused_by (error_kind error))
+words_given = result_map_both words_after_name (λ error. refused_by (error_kind error))

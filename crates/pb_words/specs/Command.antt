@@ -1,5 +1,6 @@
 -- Statement. The commands, and the words that give each.
-use Rattle.std.specs.Prelude.{◌≡◌, ◌≤◌, ◌⊎◌, ℕ, pos, Bool, false, ◌||◌, List, Option, Some, None, is_some, option_map, unsigned_abs, codes, ⊤}
+use Rattle.std.specs.Prelude.{◌≡◌, ◌≤◌, ◌⊎◌, ℕ, pos, Bool, false, ◌||◌, List, [], ◌∷◌, ◌++◌, Option, Some, None, is_some, option_map, unsigned_abs, codes, ⊤}
+use Rattle.std.specs.List.{list_any}
 use Rattle.pb_rows.specs.Number.{number, within}
 use Rattle.pb_limits.specs.Limits.{default_gap, default_number, default_streams, default_sweeps, most_gap, most_made_streams, most_rounds, most_sweeps}
 use Rattle.pb_study.specs.declared.results.Options.{Options}
@@ -7,8 +8,7 @@ use Rattle.pb_study.specs.Options.{AreOptions}
 use Rattle.pb_report.specs.declared.form.Form.{Form}
 use Rattle.pb_report.specs.declared.form.Form.TheVariants.{Csv, Json}
 use Rattle.pb_make.specs.Plant.{least_streams}
-use Rattle.pb_words.specs.Parts.{Part, ArePartsOf}
-use Rattle.pb_words.specs.Given.{Given, given_by}
+use Rattle.pb_words.specs.Parts.{Part, ArePartsOf, flag_names, option_names, said_by}
 use Rattle.pb_words.specs.declared.command.Command.{Command}
 use Rattle.pb_words.specs.declared.command.Command.TheVariants.{Run, Check, Make}
 
@@ -26,54 +26,41 @@ abbrev pub IsFormOf : Option (List ℕ) → Form → Type 0
 IsFormOf None form = form ≡ Csv
 IsFormOf (Some text) form = ((text ≡ codes "csv") × (form ≡ Csv)) ⊎ ((text ≡ codes "json") × (form ≡ Json))
 
--- What was given asks for a run with these options in this form. Rounds of elimination also ask for tests.
-pub record AsksRun (given : Given) (options : Options) (asked : Form) : Type 0 where
-  pub mode : given.mode ≡ Some (codes "run")
-  pub gap : number_or 1 most_gap default_gap given.gap ≡ Some options.gap
-  pub sweeps : number_or 0 most_sweeps default_sweeps given.sweeps ≡ Some options.sweeps
-  pub eliminate : number_or 1 most_rounds 0 given.eliminate ≡ Some options.eliminate
-  pub tests : options.tests ≡ (given.tests || is_some given.eliminate)
-  pub form : IsFormOf given.format asked
-  pub no_number : given.number ≡ None
-  pub no_streams : given.streams ≡ None
-  pub no_summary : given.summary ≡ false
+-- whether something is said about one of these names
+abbrev pub says_any : (List ℕ → Option (List ℕ)) → List (List ℕ) → Bool
+says_any said names = list_any (λ name. is_some (said name)) names
 
--- What was given asks for a check: its mode, and nothing else.
-pub record AsksCheck (given : Given) : Type 0 where
-  pub mode : given.mode ≡ Some (codes "check")
-  pub no_gap : given.gap ≡ None
-  pub no_sweeps : given.sweeps ≡ None
-  pub no_eliminate : given.eliminate ≡ None
-  pub no_format : given.format ≡ None
-  pub no_number : given.number ≡ None
-  pub no_streams : given.streams ≡ None
-  pub no_tests : given.tests ≡ false
-  pub no_summary : given.summary ≡ false
+-- What is said about each name asks for a run with these options in this form. Rounds of elimination also ask for tests.
+pub record AsksRun (said : List ℕ → Option (List ℕ)) (options : Options) (asked : Form) : Type 0 where
+  pub mode : said (codes "mode") ≡ Some (codes "run")
+  pub gap : number_or 1 most_gap default_gap (said (codes "gap")) ≡ Some options.gap
+  pub sweeps : number_or 0 most_sweeps default_sweeps (said (codes "sweeps")) ≡ Some options.sweeps
+  pub eliminate : number_or 1 most_rounds 0 (said (codes "eliminate")) ≡ Some options.eliminate
+  pub tests : options.tests ≡ (is_some (said (codes "tests")) || is_some (said (codes "eliminate")))
+  pub form : IsFormOf (said (codes "format")) asked
+  pub others : says_any said (codes "number" ∷ codes "streams" ∷ codes "summary" ∷ []) ≡ false
 
--- What was given asks for a session made from this number with this many streams, or for its summary with this gap and this many
--- sweeps.
-pub record AsksMake (given : Given) (from count : ℕ) (summed : Bool) (within_gap within_sweeps : ℕ) : Type 0 where
-  pub mode : given.mode ≡ Some (codes "make")
-  pub number : number_or 0 greatest_number default_number given.number ≡ Some from
-  pub streams : number_or least_streams most_made_streams default_streams given.streams ≡ Some count
-  pub summary : summed ≡ given.summary
-  pub gap : number_or 1 most_gap default_gap given.gap ≡ Some within_gap
-  pub sweeps : number_or 0 most_sweeps default_sweeps given.sweeps ≡ Some within_sweeps
-  pub no_eliminate : given.eliminate ≡ None
-  pub no_format : given.format ≡ None
-  pub no_tests : given.tests ≡ false
+-- It asks for a session made from this number with this many streams, or for its summary with this gap and this many sweeps.
+pub record AsksMake (said : List ℕ → Option (List ℕ)) (from count : ℕ) (summed : Bool) (within_gap within_sweeps : ℕ) : Type 0 where
+  pub mode : said (codes "mode") ≡ Some (codes "make")
+  pub number : number_or 0 greatest_number default_number (said (codes "number")) ≡ Some from
+  pub streams : number_or least_streams most_made_streams default_streams (said (codes "streams")) ≡ Some count
+  pub summary : summed ≡ is_some (said (codes "summary"))
+  pub gap : number_or 1 most_gap default_gap (said (codes "gap")) ≡ Some within_gap
+  pub sweeps : number_or 0 most_sweeps default_sweeps (said (codes "sweeps")) ≡ Some within_sweeps
+  pub others : says_any said (codes "eliminate" ∷ codes "format" ∷ codes "tests" ∷ []) ≡ false
 
--- what was given asks for the command
-abbrev pub Asks : Given → Command → Type 0
-Asks given (Run options form) = AsksRun given options form
-Asks given Check = AsksCheck given
-Asks given (Make number streams summary gap sweeps) = AsksMake given number streams summary gap sweeps
+-- What is said about each name asks for the command. A check takes no options.
+abbrev pub Asks : (List ℕ → Option (List ℕ)) → Command → Type 0
+Asks said (Run options form) = AsksRun said options form
+Asks said Check = (said (codes "mode") ≡ Some (codes "check")) × (says_any said (option_names ++ flag_names) ≡ false)
+Asks said (Make number streams summary gap sweeps) = AsksMake said number streams summary gap sweeps
 
--- The words give the command: they are the words of parts, each option at most once, and what the parts give asks for it.
+-- The words give the command: they are the words of parts, each option at most once, and what the parts say asks for it.
 pub record IsCommandOf (words : List (List ℕ)) (command : Command) : Type 0 where
   pub parts : List Part
   pub read : ArePartsOf parts words
-  pub asks : Asks (given_by parts) command
+  pub asks : Asks (said_by parts) command
 
 -- A session to be made is within the limits: its number is one of 32 bits, and the number of streams, and the gap and number of
 -- sweeps for its summary, lie in their ranges.

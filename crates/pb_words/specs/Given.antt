@@ -1,8 +1,8 @@
--- Statement. What the parts of a command line give: a text for the mode and for each option, and whether each flag is there.
-use Rattle.std.specs.Prelude.{ℕ, Bool, false, List, Option, codes, find, option_map}
+-- Statement. What `clap` and the parts of a command line give: a text for the mode and for each option, and whether each flag is there.
+use Rattle.std.specs.Prelude.{ℕ, Bool, false, List, Option, codes}
 use Rattle.std.specs.Option.{option_map_or}
 use Rattle.std.specs.Str.{bytes_eq}
-use Rattle.pb_words.specs.Parts.{Part, name_of, text_of}
+use Rattle.pb_words.specs.Parts.{Part, said_by}
 
 -- What was given: a text for the mode and for each option that takes a value, if it is in the line, and for each flag whether it is
 -- in the line.
@@ -16,10 +16,6 @@ pub record Given : Type 0 where
   pub streams : Option (List ℕ)
   pub tests : Bool
   pub summary : Bool
-
--- what the parts say about a name, if one of them does
-abbrev pub said_about : List ℕ → List Part → Option (List ℕ)
-said_about name parts = option_map text_of (find (λ part. bytes_eq (name_of part) name) parts)
 
 -- whether the text is `true`, which is the text of a flag
 abbrev pub is_true : Option (List ℕ) → Bool
@@ -41,4 +37,4 @@ given_of said = record {
 
 -- what the parts give
 abbrev pub given_by : List Part → Given
-given_by parts = given_of (λ name. said_about name parts)
+given_by parts = given_of (said_by parts)

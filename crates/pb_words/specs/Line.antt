@@ -1,12 +1,13 @@
 -- Statement. The command that is handed to `clap`, and what its matches give.
-use Rattle.std.specs.Prelude.{◌≡◌, ◌==◌, ◌||◌, not, Bool, true, IsTrue, List, [], ◌∷◌, Some, codes}
+use Rattle.std.specs.Prelude.{◌≡◌, ◌==◌, ◌||◌, not, Bool, true, IsTrue, List, [], ◌∷◌, Option, Some, None, codes, if◌then◌else◌}
 use Rattle.std.specs.List.{list_all}
 use Rattle.clap.specs.Walk.{Row, Rule, Text, first_of}
 use Rattle.clap.specs.Simple.{App, matches_of, new_app, new_rule, on_top, with_rule}
 use Rattle.clap.specs.Faults.{fault_of}
 use Rattle.clap.specs.declared.builder.action.ArgAction.TheVariants.{Set, SetTrue}
 use Rattle.pb_rows.specs.Bytes.{dash}
-use Rattle.pb_words.specs.Given.{Given, given_of}
+use Rattle.pb_words.specs.Parts.{flag_names, has_hyphen, is_one_of}
+use Rattle.pb_words.specs.Given.{Given, given_of, is_true}
 
 abbrev pub mode_rule : Rule
 mode_rule = record (new_rule (codes "mode")) { action = Some Set }
@@ -37,10 +38,8 @@ line = with_make (with_run (with_mode bare))
 
 -- a word that doesn't begin with a hyphen, or two hyphens and a name
 abbrev pub is_plain_or_named : Text → Bool
-is_plain_or_named [] = true
-is_plain_or_named (first ∷ []) = not (first == dash)
-is_plain_or_named (first ∷ second ∷ []) = not (first == dash)
 is_plain_or_named (first ∷ second ∷ third ∷ rest) = not (first == dash) || (second == dash)
+is_plain_or_named word = not (has_hyphen word)
 
 -- whether each word is plain or named
 abbrev pub are_plain_or_named : List Text → Bool
@@ -55,3 +54,11 @@ pub record IsGivenByClap (words : List Text) (given : Given) : Type 0 where
   pub formed : IsTrue (are_plain_or_named words)
   pub taken : fault_of line words ≡ []
   pub is : given ≡ given_in (matches_of line words)
+
+-- a flag's text, if the flag is in the line: `clap` returns the text `false` for one that isn't
+abbrev pub flag_in : Option Text → Option Text
+flag_in said = if is_true said then said else None
+
+-- what a line says about a name, by the texts that `clap` returns
+abbrev pub said_in : (Text → Option Text) → Text → Option Text
+said_in said name = if is_one_of name flag_names then flag_in (said name) else said name

@@ -1,6 +1,6 @@
 -- Statement. The parts of a command line: the word of a mode, flags, and options with their values.
-use Rattle.std.specs.Prelude.{◌≡◌, ℕ, ◌==◌, Bool, false, IsTrue, List, [], ◌∷◌, ◌++◌, codes, flat_map}
-use Rattle.std.specs.List.{list_any, All}
+use Rattle.std.specs.Prelude.{◌≡◌, ℕ, ◌==◌, Bool, false, IsTrue, List, [], ◌∷◌, ◌++◌, Option, codes, find, flat_map, map, option_map}
+use Rattle.std.specs.List.{list_any, All, IsDistinct}
 use Rattle.std.specs.Str.{bytes_eq}
 use Rattle.pb_rows.specs.Bytes.{dash}
 
@@ -29,10 +29,6 @@ words_of (mode word) = word ∷ []
 words_of (flag name) = (codes "--" ++ name) ∷ []
 words_of (apart name value) = (codes "--" ++ name) ∷ value ∷ []
 words_of (joined name value) = (codes "--" ++ (name ++ equals_sign ∷ value)) ∷ []
-
--- the words of the parts, in order
-abbrev pub words_of_parts : List Part → List (List ℕ)
-words_of_parts parts = flat_map words_of parts
 
 -- what a part is about: the mode, or the option by its name
 abbrev pub name_of : Part → List ℕ
@@ -65,16 +61,12 @@ IsKnownPart (flag name) = IsTrue (is_one_of name flag_names)
 IsKnownPart (apart name value) = IsTrue (is_one_of name option_names) × (has_hyphen value ≡ false)
 IsKnownPart (joined name value) = IsTrue (is_one_of name option_names)
 
--- whether one of the parts is about this name
-abbrev pub is_mentioned : List ℕ → List Part → Bool
-is_mentioned name parts = list_any (λ part. bytes_eq (name_of part) name) parts
-
--- no part is about what an earlier part was about
-abbrev pub EachOnce : List Part → Type 0
-EachOnce parts = (before after : List Part) (part : Part) → parts ≡ before ++ part ∷ after → is_mentioned (name_of part) before ≡ false
-
--- The words are those of known parts, with at most one mode and each option at most once.
+-- The words are those of known parts in order, with at most one mode and each option at most once: no two parts are about the same.
 pub record ArePartsOf (parts : List Part) (words : List (List ℕ)) : Type 0 where
-  pub are : words ≡ words_of_parts parts
+  pub are : words ≡ flat_map words_of parts
   pub known : All IsKnownPart parts
-  pub once : EachOnce parts
+  pub once : IsDistinct bytes_eq (map name_of parts)
+
+-- what the parts say about a name, if one of them does
+abbrev pub said_by : List Part → List ℕ → Option (List ℕ)
+said_by parts name = option_map text_of (find (λ part. bytes_eq (name_of part) name) parts)

@@ -3,9 +3,9 @@ ghost use Rattle.std.specs.Prelude.{◌≡◌, ◌↔◌, ◌||◌, ◌≤ℤ◌
 ghost use Rattle.std.specs.List.{All};
 ghost use Rattle.pb_rows.specs.Number.{number, within};
 ghost use Rattle.clap.specs.Matches.{found_of, first_value};
-ghost use Rattle.pb_words.specs.Given.{given_of, is_true};
-ghost use Rattle.pb_words.specs.Command.{Asks, AsksCheck, AsksMake, AsksRun, IsCommandInRange, IsCommandOf, IsFormOf, number_or};
-ghost use Rattle.pb_words.specs.Line.{are_plain_or_named, is_plain_or_named};
+ghost use Rattle.pb_words.specs.Command.{Asks, AsksMake, AsksRun, IsCommandInRange, IsCommandOf, IsFormOf, number_or};
+ghost use Rattle.pb_words.specs.Line.{are_plain_or_named, flag_in, is_plain_or_named, said_in};
+ghost use Rattle.pb_words.specs.declared.command.Command.TheVariants.{Check};
 ghost use Rattle.pb_words.specs.declared.command.WordsRefused.TheVariants.{Usage, NoMemory};
 
 use crate::line::taken_apart;
@@ -101,9 +101,9 @@ fn is_plain_or_named(word: &[u8]) -> bool
 // The command that the matches ask for.
 fn asked(matches: &ArgMatches) -> Option<Command>
     ensures some { IfSome result (λ command.
-        Asks (given_of (first_value (found_of matches.now))) command) }
+        Asks (said_in (first_value (found_of matches.now))) command) }
     ensures none { IsNone result → (command : Command)
-        → Asks (given_of (first_value (found_of matches.now))) command → ⊥ }
+        → Asks (said_in (first_value (found_of matches.now))) command → ⊥ }
 {
     match matches.get_str("mode") {
         Some("run") => run_asked(matches),
@@ -116,9 +116,9 @@ fn asked(matches: &ArgMatches) -> Option<Command>
 // The run that the matches ask for.
 fn run_asked(matches: &ArgMatches) -> Option<Command>
     requires mode { first_value (found_of matches.now) (codes "mode") ≡ Some (codes "run") }
-    ensures some { IfSome result (Asks (given_of (first_value (found_of matches.now)))) }
+    ensures some { IfSome result (Asks (said_in (first_value (found_of matches.now)))) }
     ensures none { IsNone result → (options : Options) (form : Form)
-        → AsksRun (given_of (first_value (found_of matches.now))) options form → ⊥ }
+        → AsksRun (said_in (first_value (found_of matches.now))) options form → ⊥ }
 {
     if is_there(matches, "number") || is_there(matches, "streams") || is_set(matches, "summary") {
         return None;
@@ -137,9 +137,9 @@ fn run_asked(matches: &ArgMatches) -> Option<Command>
 // The check that the matches ask for; it takes no options.
 fn check_asked(matches: &ArgMatches) -> Option<Command>
     requires mode { first_value (found_of matches.now) (codes "mode") ≡ Some (codes "check") }
-    ensures some { IfSome result (Asks (given_of (first_value (found_of matches.now)))) }
+    ensures some { IfSome result (Asks (said_in (first_value (found_of matches.now)))) }
     ensures none { IsNone result
-        → AsksCheck (given_of (first_value (found_of matches.now))) → ⊥ }
+        → Asks (said_in (first_value (found_of matches.now))) Check → ⊥ }
 {
     if is_there(matches, "gap")
         || is_there(matches, "sweeps")
@@ -158,9 +158,9 @@ fn check_asked(matches: &ArgMatches) -> Option<Command>
 // The making of a session that the matches ask for.
 fn make_asked(matches: &ArgMatches) -> Option<Command>
     requires mode { first_value (found_of matches.now) (codes "mode") ≡ Some (codes "make") }
-    ensures some { IfSome result (Asks (given_of (first_value (found_of matches.now)))) }
+    ensures some { IfSome result (Asks (said_in (first_value (found_of matches.now)))) }
     ensures none { IsNone result → (number streams : ℕ) (summary : Bool) (gap sweeps : ℕ)
-        → AsksMake (given_of (first_value (found_of matches.now))) number streams summary
+        → AsksMake (said_in (first_value (found_of matches.now))) number streams summary
         gap sweeps → ⊥ }
 {
     if is_there(matches, "eliminate") || is_there(matches, "format") || is_set(matches, "tests") {
@@ -190,7 +190,7 @@ fn is_there(matches: &ArgMatches, name: &str) -> bool
 
 // Whether a flag was given.
 fn is_set(matches: &ArgMatches, name: &str) -> bool
-    ensures { result ≡ is_true (first_value (found_of matches.now) name.now) }
+    ensures { result ≡ is_some (flag_in (first_value (found_of matches.now) name.now)) }
 {
     match matches.get_str(name) {
         Some(text) => text == "true",
@@ -200,7 +200,7 @@ fn is_set(matches: &ArgMatches, name: &str) -> bool
 
 // Whether tests are asked for: by their flag, or with rounds of elimination.
 fn are_tests_asked(matches: &ArgMatches) -> bool
-    ensures { result ≡ (is_true (first_value (found_of matches.now) (codes "tests"))
+    ensures { result ≡ (is_some (flag_in (first_value (found_of matches.now) (codes "tests")))
         || is_some (first_value (found_of matches.now) (codes "eliminate"))) }
 {
     is_set(matches, "tests") || is_there(matches, "eliminate")

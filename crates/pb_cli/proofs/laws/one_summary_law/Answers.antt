@@ -3,11 +3,11 @@ use Rattle.pb_book.specs.Rows.{periods_of}
 use Rattle.pb_make.specs.Rows.{session_rows, stored_rows}
 use Rattle.pb_report.specs.declared.form.Form.TheVariants.{Csv}
 use Rattle.pb_session.specs.Session.{new_session}
-use Rattle.pb_cli.specs.Summary.{made_options, made_state}
+use Rattle.pb_cli.specs.Summary.{made_options}
 use Rattle.std.proofs.Common.{ap}
 use Rattle.pb_study.specs.declared.results.Options.{Options}
 use Rattle.pb_cli.proofs.StateLemmas.{options_stay}
-use Rattle.pb_cli.proofs.SumLemmas.{one_sum}
+use Rattle.pb_cli.proofs.SumLemmas.{made_state, one_sum}
 use Rattle.pb_cli.proofs.laws.one_summary_law.Goals as goal
 
 pub returns : goal.returns

@@ -5,9 +5,9 @@ use Rattle.pb_make.specs.Laws.{HasMadePeriod}
 use Rattle.pb_make.specs.Rows.{session_rows, stored_rows}
 use Rattle.pb_report.specs.declared.form.Form.TheVariants.{Csv}
 use Rattle.pb_session.specs.Session.{new_session}
-use Rattle.pb_cli.specs.Summary.{SumsUp, made_options, made_state}
+use Rattle.pb_cli.specs.Summary.{made_options}
 use Rattle.pb_cli.proofs.StateLemmas.{accepted_after, holds_after, made_period_at, options_stay}
-use Rattle.pb_cli.proofs.SumLemmas.{some_sum}
+use Rattle.pb_cli.proofs.SumLemmas.{SumsUp, made_state, some_sum}
 use Rattle.pb_cli.proofs.laws.some_summary_law.Goals as goal
 
 pub returns : goal.returns

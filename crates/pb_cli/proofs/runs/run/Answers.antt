@@ -27,7 +27,7 @@ returns-in-Err-clause-complete g c =
     (Rose (g.W.Sink.seen c.args.sink.now).faults (g.W.Sink.seen c.args.sink.now).faults) c.in-Err.status c.in-Ok.ensures.ok c.in-Err.ensures.complete
 
 pub returns-in-Err-clause-make_unread : goal.returns-in-Err-clause-make_unread
-returns-in-Err-clause-make_unread g c = λ m. c.read_input.ensures.unread (making_here one_command c.args.words.now c.in-Ok.command c.in-Ok.ensures.ok m)
+returns-in-Err-clause-make_unread g c = λ number streams summary gap sweeps made. c.read_input.ensures.unread (making_here one_command c.args.words.now c.in-Ok.command c.in-Ok.ensures.ok number streams summary gap sweeps made)
 
 pub returns-in-Run-clause-complete : goal.returns-in-Run-clause-complete
 returns-in-Run-clause-complete g c =
@@ -43,7 +43,7 @@ returns-in-Run-clause-complete g c =
     (Rose (g.W.Sink.seen c.args.sink.now).faults (g.W.Sink.seen c.answer.new.sink).faults) c.answer.ensures.answers c.answer.ensures.write_fault)
 
 pub returns-in-Run-clause-make_unread : goal.returns-in-Run-clause-make_unread
-returns-in-Run-clause-make_unread g c = λ m. c.read_input.ensures.unread (making_here one_command c.args.words.now c.in-Ok.command c.in-Ok.ensures.ok m)
+returns-in-Run-clause-make_unread g c = λ number streams summary gap sweeps made. c.read_input.ensures.unread (making_here one_command c.args.words.now c.in-Ok.command c.in-Ok.ensures.ok number streams summary gap sweeps made)
 
 pub returns-in-Check-clause-complete : goal.returns-in-Check-clause-complete
 returns-in-Check-clause-complete g c =
@@ -58,7 +58,7 @@ returns-in-Check-clause-complete g c =
     (Rose (g.W.Sink.seen c.args.sink.now).faults (g.W.Sink.seen c.judge.new.sink).faults) c.judge.ensures.answers c.judge.ensures.write_fault)
 
 pub returns-in-Check-clause-make_unread : goal.returns-in-Check-clause-make_unread
-returns-in-Check-clause-make_unread g c = λ m. c.read_input.ensures.unread (making_here one_command c.args.words.now c.in-Ok.command c.in-Ok.ensures.ok m)
+returns-in-Check-clause-make_unread g c = λ number streams summary gap sweeps made. c.read_input.ensures.unread (making_here one_command c.args.words.now c.in-Ok.command c.in-Ok.ensures.ok number streams summary gap sweeps made)
 
 pub returns-clause-complete : goal.returns-clause-complete
 returns-clause-complete g c =

@@ -9,8 +9,7 @@ use Rattle.pb_report.specs.declared.form.Form.TheVariants.{Csv}
 use Rattle.pb_report.specs.Form.{text_in}
 use Rattle.pb_report.specs.Names.{name_at}
 use Rattle.pb_report.specs.Over.{over_row}
-use Rattle.pb_cli.specs.Summary.{stream_row}
-use Rattle.pb_cli.proofs.SumLemmas.{at_found, stream_named}
+use Rattle.pb_cli.proofs.SumLemmas.{at_found, stream_named, stream_row}
 use Rattle.pb_cli.proofs.texts.stream_text.Goals as goal
 
 pub at-requires : goal.at-requires

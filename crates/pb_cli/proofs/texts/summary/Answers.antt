@@ -8,8 +8,9 @@ use Rattle.pb_make.specs.Laws.{HasMadePeriod}
 use Rattle.pb_make.specs.Rows.{made_report_row, session_rows, stored_rows}
 use Rattle.pb_report.specs.declared.form.Form.TheVariants.{Csv}
 use Rattle.pb_session.specs.Session.{SessionState, new_session, state_after_all}
-use Rattle.pb_cli.specs.Summary.{SumsUp, made_options, made_state}
+use Rattle.pb_cli.specs.Summary.{made_options}
 use Rattle.pb_cli.proofs.StateLemmas.{all_but_last, holds_after, some_period}
+use Rattle.pb_cli.proofs.SumLemmas.{SumsUp, made_state}
 use Rattle.pb_cli.proofs.texts.summary.Goals as goal
 
 -- the records are the rows of the session

@@ -1,7 +1,8 @@
 use Rattle.std.proofs.Common.{◌≡◌, ◌*◌, pos, take}
 use Rattle.std.specs.Prelude.{◌+ℤ◌, ◌≤ℤ◌}
 use Rattle.pb_make.specs.Bounds.{most_side_grams}
-use Rattle.pb_make.specs.Plant.{line_grams, line_truth}
+use Rattle.pb_make.specs.Plant.{line_grams}
+use Rattle.pb_make.proofs.Abbreviations.{line_truth}
 use Rattle.pb_make.proofs.plant.line_truth.Given as goal
 
 -- the side streams so far are counted

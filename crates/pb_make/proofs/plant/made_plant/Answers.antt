@@ -4,7 +4,8 @@ use Rattle.pb_limits.specs.Limits.{most_made_streams}
 use Rattle.pb_make.specs.declared.plant.MadeStream.{MadeStream}
 use Rattle.pb_make.specs.Bounds.{IsMade}
 use Rattle.pb_make.specs.Draws.{state_after_draws}
-use Rattle.pb_make.specs.Plant.{line_streams, made_streams, sides_of}
+use Rattle.pb_make.specs.Plant.{made_streams, sides_of}
+use Rattle.pb_make.proofs.Abbreviations.{line_streams}
 use Rattle.pb_make.proofs.PlantLemmas.{AreSides, plant_sides, plant_whole}
 use Rattle.pb_make.proofs.plant.made_plant.Goals as goal
 

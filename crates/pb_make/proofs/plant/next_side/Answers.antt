@@ -1,5 +1,6 @@
 use Rattle.std.proofs.Common.{◌≡◌, ◌∙◌, ℕ, ◌*◌, ap, sym}
-use Rattle.pb_make.specs.Draws.{state_after_draws, upper_bits}
+use Rattle.pb_make.specs.Draws.{state_after_draws}
+use Rattle.pb_make.proofs.Abbreviations.{side_by, upper_bits}
 use Rattle.pb_make.proofs.DrawLemmas.{AreThree, side_is, three_draws}
 use Rattle.pb_make.proofs.plant.next_side.Goals as goal
 
@@ -14,7 +15,10 @@ three c number place begins =
     up e = ap upper_bits (sym e)
 
 pub returns-clause-value : goal.returns-clause-value
-returns-clause-value c = λ number place begins. c.side_by.ensures.value ∙ side_is number c.args.units place _ _ _ _ (three c number place begins)
+returns-clause-value c = λ number place begins.
+    let is : c.side_by.result ≡ side_by c.args.units c.draw-first.result c.draw-second.result c.draw-third.result =
+    λ i. record { from = c.side_by.ensures.from i; to = c.side_by.ensures.to i; truth = c.side_by.ensures.truth i } in
+    is ∙ side_is number c.args.units place _ _ _ _ (three c number place begins)
 
 pub returns-clause-state : goal.returns-clause-state
 returns-clause-state c = λ number place begins. (three c number place begins).state_is

@@ -6,7 +6,8 @@ use Rattle.pb_make.specs.declared.plant.MadeStream.{MadeStream}
 use Rattle.pb_make.specs.Draws.{state_after_draws}
 use Rattle.pb_make.specs.Plant.{made_streams, sides_of, units_of}
 use Rattle.pb_make.specs.Readings.{readings_of}
-use Rattle.pb_make.specs.Rows.{made_report_row, middle_rows, reading_row_at, reading_rows, stream_rows, unit_rows}
+use Rattle.pb_make.specs.Rows.{made_report_row, reading_row_at}
+use Rattle.pb_make.proofs.Abbreviations.{middle_rows, reading_rows, stream_rows, unit_rows}
 use Rattle.pb_make.proofs.RowsLemmas.{joined}
 use Rattle.pb_make.proofs.sessions.make.Goals as goal
 

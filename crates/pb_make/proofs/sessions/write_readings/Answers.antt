@@ -4,9 +4,9 @@ use Rattle.std.proofs.Math.Facts.{to_z-of_z}
 use Rattle.std.specs.Prelude.{map}
 use Rattle.std.specs.List.{range_with_len}
 use Rattle.pb_rows.specs.Written.{text_of_rows}
-use Rattle.pb_make.specs.Draws.{upper_bits}
-use Rattle.pb_make.specs.Readings.{reading_draw, truth_at}
+use Rattle.pb_make.specs.Readings.{truth_at}
 use Rattle.pb_make.specs.Rows.{reading_row_at}
+use Rattle.pb_make.proofs.Abbreviations.{reading_draw, upper_bits}
 use Rattle.pb_make.proofs.DrawLemmas.{draw_is, one_draw}
 use Rattle.pb_make.proofs.RowsLemmas.{made_more, reading_is}
 use Rattle.pb_make.proofs.sessions.write_readings.Goals as goal

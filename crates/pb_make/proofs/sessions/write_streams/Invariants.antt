@@ -1,6 +1,6 @@
 use Rattle.std.proofs.Common.{◌≡◌, ◌+◌, ◌++◌, drop}
 use Rattle.pb_rows.specs.Written.{text_of_rows}
-use Rattle.pb_make.specs.Rows.{stream_rows}
+use Rattle.pb_make.proofs.Abbreviations.{stream_rows}
 use Rattle.pb_make.proofs.sessions.write_streams.Given as goal
 
 -- the rows so far and the remaining ones are all the rows

@@ -1,6 +1,6 @@
 use Rattle.std.proofs.Common.{◌≡◌, ◌++◌}
 use Rattle.pb_rows.specs.Written.{text_of_rows}
-use Rattle.pb_make.specs.Rows.{unit_rows}
+use Rattle.pb_make.proofs.Abbreviations.{unit_rows}
 use Rattle.pb_make.proofs.sessions.write_units.Given as goal
 
 -- the rows so far

@@ -3,7 +3,7 @@ use Rattle.std.specs.List.{list_all}
 use Rattle.std.specs.declared.alloc.Global.{Global}
 use Rattle.clap.specs.Matches.{found_of, first_value}
 use Rattle.pb_words.specs.Given.{given_of}
-use Rattle.pb_words.specs.Line.{IsGivenByClap, is_plain_or_named}
+use Rattle.pb_words.specs.Line.{IsGivenByClap, is_plain_or_named, said_in}
 use Rattle.pb_words.proofs.CommandLemmas.{asked_here, command_here, in_range}
 use Rattle.pb_words.proofs.EndLemmas.{all_formed, each_formed, found_given, taken_of_parts}
 use Rattle.pb_words.proofs.command.read_words.Goals as goal
@@ -29,10 +29,10 @@ returns-in-Some-clause-ok c =
     let words = c.args.words.now in
     let yes : c.are_plain_or_named.result ≡ true = search rules in
     let formed = formed_words words c.as_slice.result.now c.as_slice.ensures (c.are_plain_or_named.ensures.0 yes) in
-    let given = given_of (first_value (found_of c.in-Ok.matches)) in
-    let taken : IsGivenByClap words given =
+    let said = first_value (found_of c.in-Ok.matches) in
+    let taken : IsGivenByClap words (given_of said) =
     record { formed = formed; taken = c.in-Ok.ensures.taken; is = found_given (found_of c.in-Ok.matches) words c.in-Ok.ensures.rows } in
-    command_here words given c.in-Some.command taken c.in-Some.ensures.some
+    command_here words said c.in-Some.command taken c.in-Some.ensures.some
 
 -- and if they ask for no command, there is none
 pub returns-in-Ok-clause-usage : goal.returns-in-Ok-clause-usage
@@ -40,17 +40,17 @@ returns-in-Ok-clause-usage c = λ e command of.
     let words = c.args.words.now in
     let yes : c.are_plain_or_named.result ≡ true = search rules in
     let formed = formed_words words c.as_slice.result.now c.as_slice.ensures (c.are_plain_or_named.ensures.0 yes) in
-    let given = given_of (first_value (found_of c.in-Ok.matches)) in
-    let taken : IsGivenByClap words given =
+    let said = first_value (found_of c.in-Ok.matches) in
+    let taken : IsGivenByClap words (given_of said) =
     record { formed = formed; taken = c.in-Ok.ensures.taken; is = found_given (found_of c.in-Ok.matches) words c.in-Ok.ensures.rows } in
-    c.in-None.ensures.none refl command (asked_here words given command taken of)
+    c.in-None.ensures.none refl command (asked_here words said command taken of)
 
 -- words that clap refuses belong to no known parts
 pub returns-clause-usage : goal.returns-clause-usage
 returns-clause-usage c = λ e command of. c.in-Err.ensures.refused e (taken_of_parts of.parts c.args.words.now of.read).taken
 
 pub returns-in-Some-clause-within : goal.returns-in-Some-clause-within
-returns-in-Some-clause-within c = in_range (given_of (first_value (found_of c.in-Ok.matches))) c.in-Some.command c.in-Some.ensures.some
+returns-in-Some-clause-within c = in_range (said_in (first_value (found_of c.in-Ok.matches))) c.in-Some.command c.in-Some.ensures.some
 
 -- after the first test each word is plain or named
 pub returns-in-Some-clause-malformed : goal.returns-in-Some-clause-malformed
