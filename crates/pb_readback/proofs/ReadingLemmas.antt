@@ -16,7 +16,8 @@ use Rattle.pb_blocks.specs.declared.fault.RowFault.TheVariants.{Unknown, Ended}
 use Rattle.pb_blocks.specs.declared.rows.Heading.{Heading}
 use Rattle.pb_blocks.specs.Counts.{IsHeading}
 use Rattle.pb_blocks.specs.Beside.{fault_as, heading_fault}
-use Rattle.pb_blocks.specs.Kinds.{has_word_of, is_passed_over, kind_among}
+use Rattle.pb_blocks.specs.Held.{has_word_of}
+use Rattle.pb_blocks.specs.Kinds.{is_passed_over, kind_among}
 use Rattle.pb_blocks.specs.Texts.{name_field}
 use Rattle.pb_blocks.specs.Values.{said_arc, said_stream, values_in}
 use Rattle.pb_readback.specs.declared.block.Block.{Block}

@@ -11,7 +11,8 @@ use Rattle.pb_study.specs.declared.results.Tests.{Tests}
 use Rattle.pb_blocks.specs.declared.rows.Heading.{Heading}
 use Rattle.pb_blocks.specs.Kinds.{kind_among}
 use Rattle.pb_blocks.specs.Texts.{name_field}
-use Rattle.pb_blocks.specs.Values.{number_at, said_arc, said_global, said_measure, said_nodal, said_solution, said_stream, values_in}
+use Rattle.pb_blocks.specs.Values.{said_arc, said_global, said_measure, said_nodal, said_solution, said_stream, values_in}
+use Rattle.pb_form.specs.Values.{number_at}
 use Rattle.pb_readback.specs.declared.draft.Draft.{Draft}
 
 -- what a heading says: no nodes and no streams yet, and nothing about the solution
