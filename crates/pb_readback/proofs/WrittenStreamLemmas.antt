@@ -19,7 +19,7 @@ use Rattle.pb_study.specs.declared.results.StreamResult.{StreamResult}
 use Rattle.pb_graph.specs.ProcessGraph.{ProcessGraph, IsMeasurement, IsStream, IsWithinLimits}
 use Rattle.pb_study.specs.WellFormed.{AreBoundsWithin, IsResultWithin}
 use Rattle.pb_graph.specs.WellFormed.{IsWitnessWithin}
-use Rattle.pb_report.specs.Block.{high_end, low_end, result_row, written_least}
+use Rattle.pb_report.specs.Block.{high_end, low_end, result_row}
 use Rattle.pb_report.specs.Certificate.{parts_text, side_text}
 use Rattle.pb_report.specs.Names.{name_at}
 use Rattle.pb_report.specs.Row.{fields_of, value_or_none}
@@ -87,7 +87,7 @@ high_fits None h = refl
 high_fits (Some bounds) h = abs_between most_wide bounds.hi h.hi
 
 -- the least bounds that are written are within the limits
-least_within : (result : StreamResult) → IfSome result.least AreBoundsWithin → IfSome (written_least result) AreBoundsWithin
+least_within : (result : StreamResult) → IfSome result.least AreBoundsWithin → IfSome (option_and result.bounds result.least) AreBoundsWithin
 least_within result h = by result.bounds
   where
     by : (bounds : Option Bounds) → IfSome (option_and bounds result.least) AreBoundsWithin
@@ -95,7 +95,7 @@ least_within result h = by result.bounds
     by (Some bounds) = h
 
 -- and they are the least bounds of the stream, if it has none without bounds
-least_back : (result : StreamResult) → HasBoundsForLeast result → written_least result ≡ result.least
+least_back : (result : StreamResult) → HasBoundsForLeast result → option_and result.bounds result.least ≡ result.least
 least_back result whole = by result.bounds whole
   where
     by : (bounds : Option Bounds) → (bounds ≡ None → result.least ≡ None) → option_and bounds result.least ≡ result.least
@@ -142,7 +142,7 @@ told_of names result = record {
   class = result.classified.class;
   flow = result.flow;
   bounds = result.bounds;
-  least = written_least result;
+  least = option_and result.bounds result.least;
   shape = witness_shape result.classified.witness;
   side = side_in names.nodes result.classified.witness;
   parts = parts_text names.streams result.classified.witness;
@@ -160,7 +160,7 @@ result_told written names graph i stream result known within =
     rw (
       written.classes.there result.classified.class,
       bounds_back result.bounds,
-      bounds_back (written_least result),
+      bounds_back (option_and result.bounds result.least),
       written.shapes.there (witness_shape result.classified.witness),
       side_told names graph result.classified.witness known within.witness,
     ) refl
@@ -242,9 +242,9 @@ stream_fits written names graph i stream result known joins limits within lt =
                       (
                         high_fits result.bounds within.bounds,
                         (
-                          low_fits (written_least result) least,
+                          low_fits (option_and result.bounds result.least) least,
                           (
-                            high_fits (written_least result) least,
+                            high_fits (option_and result.bounds result.least) least,
                             (word_fits shape_words shape_place placed_shape written.shapes (witness_shape result.classified.witness), (refl, (refl, tt))),
                           ),
                         ),
@@ -278,7 +278,7 @@ stream_fine written draft names graph i stream result known joins limits within 
       beside = stream_beside draft row (record {
         whole = or_from _ _ (whole_meas written.numbers (either_way most_value) (from_one most_variance) stream.meas)
             (or_from _ _ (whole_bounds written.numbers wide_range wide_range result.bounds)
-            (or_from _ _ (whole_bounds written.numbers wide_range wide_range (written_least result)) refl));
+            (or_from _ _ (whole_bounds written.numbers wide_range wide_range (option_and result.bounds result.least)) refl));
         known = of_nodes (λ nodes. has_unknown_node nodes OutputKind.Stream row ≡ false) ends;
         new = at.new;
         good = of_nodes (λ nodes. has_bad_list nodes OutputKind.Stream row ≡ false) lists;
@@ -307,7 +307,7 @@ result_back names graph result known within whole =
           class = result.classified.class;
           flow = result.flow;
           bounds = result.bounds;
-          least = written_least result;
+          least = option_and result.bounds result.least;
           shape = witness_shape witness;
           side = side_in names.nodes witness;
           parts = parts_text names.streams witness;
