@@ -2,6 +2,7 @@
 use Rattle.std.specs.Prelude.{ℕ, pos, nat_lt, List, [], ◌∷◌, ◌++◌, length, Some, None, if◌then◌else◌}
 use Rattle.std.specs.Option.{option_map, option_map_or}
 use Rattle.std.specs.Result.{result_ok}
+use Rattle.std.specs.List.{fold}
 use Rattle.pb_form.specs.declared.output.OutputKind.{OutputKind}
 use Rattle.pb_form.specs.declared.output.OutputKind.TheVariants.{Report, Node, Stream, StreamBefore, Solved, Global, Nodal, Measure, End}
 use Rattle.pb_study.specs.declared.results.MeasureTest.{MeasureTest}
@@ -91,5 +92,4 @@ draft_with_row draft row =
 
 -- the draft after several more rows
 abbrev pub with_rows : Draft → List (List (List ℕ)) → Draft
-with_rows draft [] = draft
-with_rows draft (row ∷ rows) = with_rows (draft_with_row draft row) rows
+with_rows draft rows = fold draft_with_row draft rows
