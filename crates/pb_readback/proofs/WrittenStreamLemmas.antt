@@ -2,7 +2,7 @@
 use Rattle.std.specs.Prelude.{◌&&◌, not, ◌^◌, codes, bytes_eq, IfSome}
 use Rattle.std.specs.List.{list_all, list_any}
 use Rattle.std.specs.Option.{option_and}
-use Rattle.std.proofs.Common.{◌≡◌, ◌∙◌, ℕ, ◌<◌, List, [], length, Bool, true, false, Option, None, Some, refl, sym, ap, ap₂, subst, arith, inl, inr}
+use Rattle.std.proofs.Common.{◌≡◌, ◌∙◌, ◌++◌, ℕ, ◌<◌, List, [], length, take, Bool, true, false, Option, None, Some, refl, sym, ap, ap₂, subst, arith, inl, inr}
 use Rattle.std.proofs.lemmas.Bool.{and_from, cases_Bool, or_from}
 use Rattle.std.specs.Cmp.Lexicographic.{bytes_decides}
 use Rattle.pb_limits.specs.Limits.{most_value, most_variance, most_wide}
@@ -20,9 +20,9 @@ use Rattle.pb_graph.specs.ProcessGraph.{ProcessGraph, IsMeasurement, IsStream, I
 use Rattle.pb_study.specs.WellFormed.{AreBoundsWithin, IsResultWithin}
 use Rattle.pb_graph.specs.WellFormed.{IsWitnessWithin}
 use Rattle.pb_report.specs.Block.{high_end, low_end, result_row}
-use Rattle.pb_report.specs.Certificate.{parts_text, side_text}
+use Rattle.pb_report.specs.Certificate.{certificate_values}
 use Rattle.pb_report.specs.Names.{name_at}
-use Rattle.pb_report.specs.Row.{fields_of, value_or_none}
+use Rattle.pb_report.specs.Row.{fields_of, value_or_none, OutputRow}
 use Rattle.pb_form.specs.Holds.{Holds, either_way, from_one}
 use Rattle.pb_form.specs.OutputRows.{output_columns, wide_range}
 use Rattle.pb_form.specs.Texts.{value_text}
@@ -45,6 +45,7 @@ use Rattle.pb_readback.proofs.WrittenFieldLemmas.{is_empty, AreApart, AreWritten
 use Rattle.pb_readback.proofs.WrittenListLemmas.{AreNamed, in_known, in_named, in_order, named_at, side_back, side_items}
 use Rattle.pb_readback.proofs.WrittenPartLemmas.{AreStreamNames, members_back, steps_back}
 use Rattle.pb_readback.proofs.WrittenRowLemmas.{IsSoundRow, row_back, stream_beside, takes_least, told_stream}
+use Rattle.pb_report.specs.Pieces.{certificate_parts, parts_text, side_text}
 
 -- ---- measurements and bounds
 
@@ -112,12 +113,27 @@ pub record AreKnownNames (names : Names) (graph : ProcessGraph) : Type 0 where
   pub each_node : length names.nodes ≡ graph.nodes
   pub each_stream : length names.streams ≡ length graph.streams
 
+-- the values of a certificate
+as_parts : (names : Names) (witness : Witness) → certificate_values names witness ≡ certificate_parts names witness
+as_parts names (Witness.Cut side members) = refl
+as_parts names (Witness.Cycle steps) = refl
+
+-- the row of a stream with each value of its certificate by the certificate
+abbrev row_with : Names → ℕ → Stream → StreamResult → List Value → OutputRow
+row_with names i stream result values = record { kind = OutputKind.Stream; values = take 12 (result_row names i stream result).values ++ values }
+
+abbrev parts_row : Names → ℕ → Stream → StreamResult → OutputRow
+parts_row names i stream result = row_with names i stream result (certificate_parts names result.classified.witness)
+
 -- the fields of the row of a stream, and its values
 abbrev pub stream_fields : Names → ℕ → Stream → StreamResult → List (List ℕ)
-stream_fields names i stream result = fields_of (result_row names i stream result)
+stream_fields names i stream result = fields_of (parts_row names i stream result)
+
+pub fields_are : (names : Names) (i : ℕ) (stream : Stream) (result : StreamResult) → stream_fields names i stream result ≡ fields_of (result_row names i stream result)
+fields_are names i stream result = ap (λ (values : List Value). fields_of (row_with names i stream result values)) (sym (as_parts names result.classified.witness))
 
 abbrev pub stream_values : Names → ℕ → Stream → StreamResult → List Value
-stream_values names i stream result = (result_row names i stream result).values
+stream_values names i stream result = (parts_row names i stream result).values
 
 -- what the row says about a stream
 pub stream_back : (names : Names) (graph : ProcessGraph) (i : ℕ) (stream : Stream) (result : StreamResult) → AreKnownNames names graph → IsStream graph.nodes stream
@@ -274,7 +290,7 @@ stream_fine written draft names graph i stream result known joins limits within 
     let lists : has_bad_list names.nodes OutputKind.Stream row ≡ false = rw (side.form, side.of_cut, parts.forms) refl in
     record {
       told = told_stream draft row at.awaits at.with_least refl;
-      read = row_back written.texts (result_row names i stream result) (stream_fits written names graph i stream result known joins limits within lt);
+      read = row_back written.texts (parts_row names i stream result) (stream_fits written names graph i stream result known joins limits within lt);
       beside = stream_beside draft row (record {
         whole = or_from _ _ (whole_meas written.numbers (either_way most_value) (from_one most_variance) stream.meas)
             (or_from _ _ (whole_bounds written.numbers wide_range wide_range result.bounds)

@@ -47,7 +47,8 @@ fault_beside kind draft row = None
 
 -- The lowest fault of a row of a kind that may come next.
 abbrev pub row_fault_of : OutputKind → Draft → List (List ℕ) → Option RowFault
-row_fault_of kind draft row = lowest (option_map fault_by (result_err (row_read (output_schema kind) row))) (fault_beside kind draft row)
+row_fault_of kind draft row =
+    lowest (option_map fault_by (result_err (row_read (output_schema kind) row))) (fault_beside kind draft row)
 
 -- The lowest fault of a row after the heading and the rows of a draft.
 abbrev pub fault_behind : Draft → List (List ℕ) → Option RowFault
