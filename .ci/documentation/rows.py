@@ -151,7 +151,7 @@ def limits(sources: Sources) -> dict[str, int]:
     form = sources.spec("pb_form.specs.OutputRows")
     found["most_round"] = values.of(form, "round_range").parts[1]
     name_form = sources.spec("pb_rows.specs.Name")
-    most = re.search(r"nat_le \(length field\) (\d+)$", name_form.names["has_name_length"].code)
+    most = re.search(r"nat_le \(length field\) (\d+) &&", name_form.names["is_name"].code)
     if not most:
         raise Unknown(f"{name_form.path}: how long may a name be?")
     found["most_name"] = int(most[1])

@@ -9,13 +9,13 @@ use Rattle.pb_form.specs.Columns.{Column}
 use Rattle.pb_form.specs.Holds.{Number as NumberColumn}
 use Rattle.pb_form.specs.OutputRows.{output_columns}
 use Rattle.pb_form.specs.Value.{Value, Missing, Word, Name, Reason, Number, Date, Items}
-use Rattle.pb_form.specs.Values.{number_in}
+use Rattle.pb_form.specs.Values.{number_in, value_at}
 use Rattle.pb_form.specs.Writing.{FitEach, FitsColumn, FitsIn}
 use Rattle.pb_form.specs.declared.output.OutputKind.{OutputKind}
 use Rattle.pb_form.specs.declared.output.OutputKind.TheVariants.{Stream, StreamBefore}
 use Rattle.pb_blocks.specs.Counts.{AreCounts, IsCountAt, IsStreamKind}
 use Rattle.pb_blocks.specs.Laws.{LiesWithin}
-use Rattle.pb_blocks.specs.Values.{both_meas, optional_at}
+use Rattle.pb_blocks.specs.Values.{both_meas}
 
 -- each column has a value that fits it
 fit_at : (columns : List Column) (values : List Value) (place : ℕ) (column : Column) → FitEach columns values → slice_get columns place ≡ Some column
@@ -39,7 +39,7 @@ number_fits lo hi optional (Items text) fits = absurd fits
 
 -- so the number at the place of a column of numbers does
 pub number_between : (columns : List Column) (values : List Value) (place : ℕ) (key : List ℕ) (lo hi : ℤ) (optional : Bool) → FitEach columns values
-    → slice_get columns place ≡ Some (record { key = key; holds = NumberColumn lo hi; optional = optional }) → IfSome (optional_at values place) (LiesWithin lo hi)
+    → slice_get columns place ≡ Some (record { key = key; holds = NumberColumn lo hi; optional = optional }) → IfSome (value_at number_in values place) (LiesWithin lo hi)
 number_between columns values place key lo hi optional fit at =
     let found = fit_at columns values place (record { key = key; holds = NumberColumn lo hi; optional = optional }) fit at in
     rw (found.1) (number_fits lo hi optional found.0 found.2)
@@ -52,7 +52,7 @@ within_more lo hi bound (Some z) le h = (omega (arith, ints, h.0), omega (arith,
 pub count_at : (columns : List Column) (values : List Value) (place : ℕ) (key : List ℕ) (lo hi bound : ℕ) (optional : Bool) → FitEach columns values
     → slice_get columns place ≡ Some (record { key = key; holds = NumberColumn (pos lo) (pos hi); optional = optional }) → hi ≤ bound → IsCountAt bound values place
 count_at columns values place key lo hi bound optional fit at le =
-    within_more lo hi bound (optional_at values place) le (number_between columns values place key (pos lo) (pos hi) optional fit at)
+    within_more lo hi bound (value_at number_in values place) le (number_between columns values place key (pos lo) (pos hi) optional fit at)
 
 -- the same for a number whose range was checked separately
 pub counted : (lo hi bound : ℕ) (number : Option ℤ) → pos lo ≤ℤ unwrap_or number (pos 0) → unwrap_or number (pos 0) ≤ℤ pos hi → hi ≤ bound
@@ -80,13 +80,13 @@ meas_within (Some value) (Some variance) h k = record { value = abs_within most_
 
 -- what was measured of a stream is a measurement
 pub measured : (kind : OutputKind) (values : List Value) → IsStreamKind kind → FitEach (output_columns kind) values
-    → IfSome (both_meas (optional_at values 4) (optional_at values 5)) IsMeasurement
+    → IfSome (both_meas (value_at number_in values 4) (value_at number_in values 5)) IsMeasurement
 measured Stream values is fit =
-    meas_within (optional_at values 4) (optional_at values 5)
+    meas_within (value_at number_in values 4) (value_at number_in values 5)
     (number_between (output_columns Stream) values 4 (codes "value") (neg_ℤ (pos most_value)) (pos most_value) true fit refl)
     (number_between (output_columns Stream) values 5 (codes "variance") (pos 1) (pos most_variance) true fit refl)
 measured StreamBefore values is fit =
-    meas_within (optional_at values 4) (optional_at values 5)
+    meas_within (value_at number_in values 4) (value_at number_in values 5)
     (number_between (output_columns StreamBefore) values 4 (codes "value") (neg_ℤ (pos most_value)) (pos most_value) true fit refl)
     (number_between (output_columns StreamBefore) values 5 (codes "variance") (pos 1) (pos most_variance) true fit refl)
 measured kind values is fit = absurd is

@@ -6,9 +6,10 @@ use Rattle.std.proofs.lemmas.Bool.{and_from, and_parts, cases_Bool}
 use Rattle.std.proofs.lemmas.List.{length-take-le, take_all}
 use Rattle.std.proofs.lemmas.List.Splits.{slice_split-cons_no, slice_split_first}
 use Rattle.std.proofs.lemmas.List.Sums.{prefix_len-le-length}
-use Rattle.pb_rows.specs.Name.{has_name_length, is_name, is_name_byte}
+use Rattle.pb_rows.specs.Name.{is_name, is_name_byte}
 use Rattle.pb_blocks.specs.Held.{ends_at, is_whole_name, item_end, name_end}
 use Rattle.pb_blocks.specs.Lists.{is_part, space}
+use Rattle.pb_rows.specs.Forms.{has_name_length}
 
 -- the place that `position` gives
 pub place_found : {A : Type 0} (test : A → Bool) (xs : List A) (place : ℕ) → position test xs ≡ Some place → place ≡ position_or_len test xs

@@ -7,7 +7,8 @@ use Rattle.std.proofs.lemmas.Bool.{and_parts, cases_Bool}
 use Rattle.pb_form.specs.contracts.fault.FormFault.{the_type}
 use Rattle.pb_form.specs.Columns.{Schema}
 use Rattle.pb_form.specs.Reading.{has_count}
-use Rattle.pb_form.specs.Telling.{agrees, has_words, is_of, schema_told, untold}
+use Rattle.pb_form.specs.Telling.{agrees, is_of}
+use Rattle.pb_form.specs.Told.{schema_told, untold}
 use Rattle.pb_form.specs.declared.fault.FormFault.{FormFault}
 use Rattle.pb_form.specs.declared.fault.FormFault.TheVariants as form
 
@@ -37,7 +38,7 @@ by_words true = refl
 by_words false = refl
 
 -- a row has the words of one schema exactly when the result says so
-pub words_alone : (schema : Schema) (row : List (List ℕ)) → tells_words (schema_told (schema ∷ []) row) ≡ has_words row schema
+pub words_alone : (schema : Schema) (row : List (List ℕ)) → tells_words (schema_told (schema ∷ []) row) ≡ agrees schema.columns row
 words_alone schema row = elim (cases_Bool (is_of row schema)) [
   | inl holds ↦ rw (alone (is_of row) schema, holds) (sym (and_parts (has_count schema (length row)) (agrees schema.columns row) holds).1)
   | inr fails ↦ rw (alone (is_of row) schema, fails) (by_words (agrees schema.columns row))

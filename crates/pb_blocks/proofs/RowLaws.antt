@@ -8,18 +8,18 @@ use Rattle.std.proofs.lemmas.Int.{ints}
 use Rattle.pb_rows.specs.Name.{is_name}
 use Rattle.pb_rows.specs.Number.{number, within}
 use Rattle.pb_form.specs.Columns.{Column, Schema}
-use Rattle.pb_form.specs.Field.{field_read, formed, found}
+use Rattle.pb_form.specs.Field.{field_read}
 use Rattle.pb_form.specs.Holds.{Name as NameColumn, Number as NumberColumn, Word as WordColumn}
 use Rattle.pb_form.specs.OutputRows.{output_columns, output_schema}
-use Rattle.pb_form.specs.Reading.{are_turns, before, fields_read, has_count, joined, one_read, row_read, tail_read}
+use Rattle.pb_form.specs.Reading.{are_turns, both_read, fields_read, has_count, row_read, tail_read}
+use Rattle.pb_form.specs.Said.{formed, found}
 use Rattle.pb_form.specs.Value.{Value, Missing, Name, Number, Word}
-use Rattle.pb_form.specs.Values.{number_in}
+use Rattle.pb_form.specs.Values.{number_in, value_at, number_at}
 use Rattle.pb_form.specs.declared.fault.FormFault.{FormFault}
 use Rattle.pb_form.specs.declared.fault.FormFault.TheVariants as fault
 use Rattle.pb_form.specs.declared.output.OutputKind.{OutputKind}
 use Rattle.pb_blocks.specs.Laws.{HasColumn, LiesWithin, RowReadLaw}
 use Rattle.pb_blocks.specs.Texts.{field}
-use Rattle.pb_blocks.specs.Values.{number_at, optional_at}
 
 -- ---- the fields of a row that was read
 
@@ -31,7 +31,7 @@ are_read : (schema : Schema) (row : List (List ℕ)) (values : List Value) → r
 are_read schema row values read = by (has_count schema (length row)) refl (fields_read schema.columns row) refl (tail_read schema row) read
   where
     by : (b : Bool) → has_count schema (length row) ≡ b → (front : Result (List Value) FormFault) → fields_read schema.columns row ≡ front
-        → (rest : Result (List Value) FormFault) → (if b then before front rest else Err fault.Fields) ≡ Ok values → AreRead schema.columns row values
+        → (rest : Result (List Value) FormFault) → (if b then both_read (λ values rest. values) front rest else Err fault.Fields) ≡ Ok values → AreRead schema.columns row values
     by false count front is rest read = cc read
     by true count (Err bad) is (Ok more) read = cc read
     by true count (Err bad) is (Err other) read = cc read
@@ -54,7 +54,7 @@ first_read : (asked : Column) (columns : List Column) (text : List ℕ) (row : L
 first_read asked columns text row values read = by (field_read asked text) refl (fields_read columns row) refl read
   where
     by : (one : Result Value FormFault) → field_read asked text ≡ one → (others : Result (List Value) FormFault) → fields_read columns row ≡ others
-        → joined (one_read one) others ≡ Ok values → IsFirstRead asked columns text row values
+        → both_read (λ value values. value ∷ values) one others ≡ Ok values → IsFirstRead asked columns text row values
     by (Err bad) one (Ok rest) others read = cc read
     by (Err bad) one (Err other) others read = cc read
     by (Ok value) one (Err other) others read = cc read
@@ -128,13 +128,13 @@ number_read kind row values place key lo hi read has =
     rw (here.at) (number_says lo hi (number (field row place)) here.value here.says)
 
 pub optional_read : (kind : OutputKind) (row : List (List ℕ)) (values : List Value) (place : ℕ) (key : List ℕ) (lo hi : ℤ)
-    → row_read (output_schema kind) row ≡ Ok values → HasColumn kind place (record { key = key; holds = NumberColumn lo hi; optional = true }) → IfSome (optional_at values place) (LiesWithin lo hi)
+    → row_read (output_schema kind) row ≡ Ok values → HasColumn kind place (record { key = key; holds = NumberColumn lo hi; optional = true }) → IfSome (value_at number_in values place) (LiesWithin lo hi)
 optional_read kind row values place key lo hi read has =
     let here = says_in kind row values place (record { key = key; holds = NumberColumn lo hi; optional = true }) read has in
     rw (here.at) (optional_says lo hi (length (field row place) == 0) (number (field row place)) here.value here.says)
 
 pub word_read : (kind : OutputKind) (row : List (List ℕ)) (values : List Value) (place : ℕ) (key : List ℕ) (words : List (List ℕ))
-    → row_read (output_schema kind) row ≡ Ok values → HasColumn kind place (record { key = key; holds = WordColumn words; optional = false }) → optional_at values place ≡ None
+    → row_read (output_schema kind) row ≡ Ok values → HasColumn kind place (record { key = key; holds = WordColumn words; optional = false }) → value_at number_in values place ≡ None
 word_read kind row values place key words read has =
     let here = says_in kind row values place (record { key = key; holds = WordColumn words; optional = false }) read has in
     rw (here.at) (word_says (position (bytes_eq (field row place)) words) here.value here.says)

@@ -17,13 +17,8 @@ use Rattle.pb_blocks.specs.declared.fault.RowFault.TheVariants.{Count}
 use Rattle.pb_blocks.specs.Codes.{fault_by}
 use Rattle.pb_blocks.specs.Kinds.{kind_among}
 use Rattle.pb_blocks.specs.Lists.{is_among, is_part, is_side, items}
-use Rattle.pb_blocks.specs.Texts.{field, from_field, is_blank, parts_field, place_after, side_field, to_field}
-use Rattle.pb_blocks.specs.Values.{number_at}
-
--- the fault of a row's form
-abbrev pub form_fault : Result (List Value) FormFault → Option RowFault
-form_fault (Ok values) = None
-form_fault (Err fault) = Some (fault_by fault)
+use Rattle.pb_blocks.specs.Texts.{field, is_blank, parts_field, place_after, side_field}
+use Rattle.pb_form.specs.Values.{number_at}
 
 -- the places of the columns of a stream's row that belong together: a value and its variance, bounds, and least bounds
 abbrev pub pairs_of : OutputKind → List (ℕ × ℕ)
@@ -41,7 +36,7 @@ is_half_told kind row = list_any (λ (pair : ℕ × ℕ). is_half (field row pai
 -- a stream from or to a name that isn't one of these nodes, or with such a name in its side
 abbrev pub has_unknown_node : List (List ℕ) → OutputKind → List (List ℕ) → Bool
 has_unknown_node nodes kind row =
-    not (is_among nodes (from_field row)) || not (is_among nodes (to_field row))
+    not (is_among nodes (field row 2)) || not (is_among nodes (field row 3))
     || list_any (λ item. is_name item && not (is_among nodes item)) (items (side_field kind row))
 
 -- a stream's side that doesn't list these nodes in order, a cycle with a side, or parts that aren't signs with names

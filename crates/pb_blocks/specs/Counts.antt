@@ -6,7 +6,7 @@ use Rattle.pb_form.specs.declared.output.OutputKind.{OutputKind}
 use Rattle.pb_form.specs.declared.output.OutputKind.TheVariants.{Stream, StreamBefore}
 use Rattle.pb_blocks.specs.declared.fault.RowFault.{RowFault}
 use Rattle.pb_blocks.specs.declared.rows.Heading.{Heading}
-use Rattle.pb_blocks.specs.Values.{optional_at}
+use Rattle.pb_form.specs.Values.{value_at, number_in}
 
 -- these are numbers of nodes and streams that a graph can have
 pub record AreCounts (nodes streams : ℤ) : Type 0 where
@@ -23,7 +23,7 @@ pub record IsHeading (heading : Heading) : Type 0 where
 
 -- the number at a place, if there is one, lies from 0 to a bound
 abbrev pub IsCountAt : ℕ → List Value → ℕ → Type 0
-IsCountAt bound values place = IfSome (optional_at values place) (λ z. (pos 0 ≤ℤ z) × (z ≤ℤ pos bound))
+IsCountAt bound values place = IfSome (value_at number_in values place) (λ z. (pos 0 ≤ℤ z) × (z ≤ℤ pos bound))
 
 -- the fault that a reading reports
 abbrev pub told : {T : Type 0} → Result T RowFault → Option RowFault

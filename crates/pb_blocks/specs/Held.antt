@@ -1,15 +1,24 @@
 -- Inside. What the code holds: the items of a list that are left, names that are found without walking the list, and what its
 -- functions require.
-use Rattle.std.specs.Prelude.{◌≡◌, ◌≤◌, ℕ, Bool, true, ◌==◌, ◌||◌, ◌&&◌, not, nat_le, List, [], ◌∷◌, map, length, slice_index_or, if◌then◌else◌}
+use Rattle.std.specs.Prelude.{◌≡◌, Option, Result, ◌≤◌, ℕ, Bool, true, ◌==◌, ◌||◌, ◌&&◌, not, nat_le, List, [], ◌∷◌, map, length, slice_index_or, if◌then◌else◌}
 use Rattle.std.specs.List.{list_all, position_or_len, slice_split}
+use Rattle.std.specs.Option.{option_map}
+use Rattle.std.specs.Result.{result_err}
 use Rattle.pb_limits.specs.Limits.{most_streams}
 use Rattle.pb_rows.specs.Bytes.{dash}
 use Rattle.pb_rows.specs.Name.{is_name, is_name_byte, same_name}
 use Rattle.pb_form.specs.declared.output.OutputKind.TheVariants.{Report}
+use Rattle.pb_form.specs.declared.fault.FormFault.{FormFault}
+use Rattle.pb_form.specs.declared.output.OutputKind.{OutputKind}
+use Rattle.pb_blocks.specs.declared.fault.RowFault.{RowFault}
 use Rattle.pb_blocks.specs.declared.rows.Heading.{Heading}
 use Rattle.pb_blocks.specs.Lists.{differ, is_among, is_plus, part_name, place_of, plus, space}
-use Rattle.pb_blocks.specs.Texts.{from_field, to_field}
+use Rattle.pb_blocks.specs.Texts.{field}
 use Rattle.pb_blocks.specs.Values.{said_heading, values_in}
+use Rattle.pb_form.specs.OutputRows.{output_columns}
+use Rattle.pb_form.specs.Telling.{agrees}
+use Rattle.pb_form.specs.Value.{Value}
+use Rattle.pb_blocks.specs.Codes.{fault_by}
 
 -- the items left of a text
 abbrev pub items_left : List ℕ → Bool → List (List ℕ)
@@ -62,8 +71,16 @@ names_no_stream streams part = not (is_among streams (part_name part))
 
 -- a stream from a node to itself
 abbrev pub leads_to_itself : List (List ℕ) → Bool
-leads_to_itself row = same_name (from_field row) (to_field row)
+leads_to_itself row = same_name (field row 2) (field row 3)
 
 -- what a row that opens a block says
 abbrev pub heading_in : List (List ℕ) → Heading
 heading_in row = said_heading row (values_in Report row)
+
+-- the fault of a row's form
+abbrev pub form_fault : Result (List Value) FormFault → Option RowFault
+form_fault read = option_map fault_by (result_err read)
+
+-- a row has a kind's word, whatever its other fields are
+abbrev pub has_word_of : List (List ℕ) → OutputKind → Bool
+has_word_of row kind = agrees (output_columns kind) row

@@ -8,7 +8,7 @@ use Rattle.pb_form.specs.Reading.{row_read}
 use Rattle.pb_form.specs.Value.{Value}
 use Rattle.pb_form.specs.declared.output.OutputKind.{OutputKind}
 use Rattle.pb_blocks.specs.Texts.{field}
-use Rattle.pb_blocks.specs.Values.{number_at, optional_at}
+use Rattle.pb_form.specs.Values.{value_at, number_in, number_at}
 
 -- z lies from lo to hi, both included
 abbrev pub LiesWithin : ℤ → ℤ → ℤ → Type 0
@@ -25,7 +25,7 @@ pub record RowReadLaw : Type 0 where
       → LiesWithin lo hi (number_at values place)
   pub optionals : (kind : OutputKind) (row : List (List ℕ)) (values : List Value) (place : ℕ) (key : List ℕ) (lo hi : ℤ)
       → row_read (output_schema kind) row ≡ Ok values → HasColumn kind place (record { key = key; holds = Number lo hi; optional = true })
-      → IfSome (optional_at values place) (LiesWithin lo hi)
+      → IfSome (value_at number_in values place) (LiesWithin lo hi)
   pub names : (kind : OutputKind) (row : List (List ℕ)) (values : List Value) (place : ℕ) (key : List ℕ)
       → row_read (output_schema kind) row ≡ Ok values → HasColumn kind place (record { key = key; holds = Name; optional = false })
       → is_name (field row place) ≡ true

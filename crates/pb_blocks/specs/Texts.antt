@@ -15,13 +15,6 @@ is_blank text = length text == 0
 abbrev pub name_field : List (List ℕ) → List ℕ
 name_field row = field row 1
 
--- the nodes that a stream leads from and to
-abbrev pub from_field : List (List ℕ) → List ℕ
-from_field row = field row 2
-
-abbrev pub to_field : List (List ℕ) → List ℕ
-to_field row = field row 3
-
 -- the place of a column after the least bounds of a stream's row: in a row without them it is two places earlier
 abbrev pub place_after : OutputKind → ℕ → ℕ
 place_after StreamBefore place = place - 2

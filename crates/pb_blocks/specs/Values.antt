@@ -1,11 +1,11 @@
 -- Statement. What the rows of each kind say, column by column.
-use Rattle.std.specs.Prelude.{ℕ, ℤ, pos, false, List, [], map, Option, Some, None, option_and_then, if◌then◌else◌, unsigned_abs}
+use Rattle.std.specs.Prelude.{ℕ, ℤ, false, List, [], map, Option, Some, None, option_and_then, if◌then◌else◌, unsigned_abs}
 use Rattle.std.specs.Option.{unwrap_or}
 use Rattle.std.specs.Result.{result_unwrap_or}
 use Rattle.pb_form.specs.OutputRows.{output_schema}
 use Rattle.pb_form.specs.Reading.{row_read}
 use Rattle.pb_form.specs.Value.{Value}
-use Rattle.pb_form.specs.Values.{number_in, value_at, word_in}
+use Rattle.pb_form.specs.Values.{number_in, value_at, word_in, number_at}
 use Rattle.pb_form.specs.declared.output.OutputKind.{OutputKind}
 use Rattle.pb_graph.specs.declared.records.Meas.{Meas}
 use Rattle.pb_graph.specs.declared.records.Stream.{Stream}
@@ -22,20 +22,13 @@ use Rattle.pb_blocks.specs.declared.rows.Heading.{Heading}
 use Rattle.pb_blocks.specs.declared.rows.Solution.{Solution}
 use Rattle.pb_blocks.specs.declared.rows.StreamRow.{StreamRow}
 use Rattle.pb_blocks.specs.Lists.{is_among, items, place_of}
-use Rattle.pb_blocks.specs.Texts.{from_field, name_field, parts_field, place_after, side_field, to_field}
+use Rattle.pb_blocks.specs.Texts.{name_field, parts_field, place_after, side_field, field}
 
 -- the values of a row that can be read
 abbrev pub values_in : OutputKind → List (List ℕ) → List Value
 values_in kind row = result_unwrap_or (row_read (output_schema kind) row) []
 
--- the number at a place: of a column that may be empty, and of one that may not
-abbrev pub optional_at : List Value → ℕ → Option ℤ
-optional_at values place = value_at number_in values place
-
-abbrev pub number_at : List Value → ℕ → ℤ
-number_at values place = unwrap_or (optional_at values place) (pos 0)
-
--- the same for a number that isn't negative
+-- the number at a place, of a column whose numbers aren't negative
 abbrev pub natural_at : List Value → ℕ → ℕ
 natural_at values place = unsigned_abs (number_at values place)
 
@@ -68,9 +61,9 @@ said_heading row values = record {
 -- and what was measured
 abbrev pub said_arc : List (List ℕ) → List (List ℕ) → List Value → Stream
 said_arc nodes row values = record {
-  from = place_of nodes (from_field row);
-  to = place_of nodes (to_field row);
-  meas = both_meas (optional_at values 4) (optional_at values 5);
+  from = place_of nodes (field row 2);
+  to = place_of nodes (field row 3);
+  meas = both_meas (value_at number_in values 4) (value_at number_in values 5);
 }
 
 -- the class, the flow, the bounds, the least bounds (in their place an older row has words) and the certificate, whose parts are kept
@@ -79,8 +72,8 @@ abbrev pub said_stream : List (List ℕ) → OutputKind → List (List ℕ) → 
 said_stream nodes kind row values = record {
   class = chosen_at placed_class Nonredundant values 6;
   flow = number_at values 7;
-  bounds = both_bounds (optional_at values 8) (optional_at values 9);
-  least = both_bounds (optional_at values 10) (optional_at values 11);
+  bounds = both_bounds (value_at number_in values 8) (value_at number_in values 9);
+  least = both_bounds (value_at number_in values 10) (value_at number_in values 11);
   shape = chosen_at placed_shape Cycle values (place_after kind 12);
   side = map (is_among (items (side_field kind row))) nodes;
   parts = parts_field kind row;
@@ -94,12 +87,12 @@ said_solution values = record {
   h = natural_at values 4;
   dof = natural_at values 5;
   low = number_at values 6;
-  high = optional_at values 7;
+  high = value_at number_in values 7;
 }
 
 -- `global,CRITICAL,VERDICT`
 abbrev pub said_global : List Value → GlobalTest
-said_global values = record { critical = optional_at values 1; verdict = chosen_at placed_verdict NoTest values 2 }
+said_global values = record { critical = value_at number_in values 1; verdict = chosen_at placed_verdict NoTest values 2 }
 
 -- `nodal,NODE,NET,VARIANCE,CRITICAL,VERDICT`, by the place of the node
 abbrev pub said_nodal : List (List ℕ) → List (List ℕ) → List Value → NodalTest
@@ -107,7 +100,7 @@ said_nodal nodes row values = record {
   node = place_of nodes (name_field row);
   net = number_at values 2;
   variance = number_at values 3;
-  critical = optional_at values 4;
+  critical = value_at number_in values 4;
   verdict = chosen_at placed_verdict NoTest values 5;
 }
 
@@ -116,7 +109,7 @@ abbrev pub said_measure : List (List ℕ) → List (List ℕ) → List Value →
 said_measure streams row values = record {
   stream = place_of streams (name_field row);
   low = number_at values 2;
-  high = optional_at values 3;
-  critical = optional_at values 4;
+  high = value_at number_in values 3;
+  critical = value_at number_in values 4;
   verdict = chosen_at placed_verdict NoTest values 5;
 }

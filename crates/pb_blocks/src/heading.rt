@@ -7,7 +7,8 @@ ghost use Rattle.pb_form.specs.declared.output.OutputKind.TheVariants.{Report};
 ghost use Rattle.pb_blocks.specs.Beside.{are_miscounted, opening_fault};
 ghost use Rattle.pb_blocks.specs.Held.{heading_in};
 ghost use Rattle.pb_blocks.specs.Counts.{AreCounts, IsHeading, told};
-ghost use Rattle.pb_blocks.specs.Values.{said_heading, number_at};
+ghost use Rattle.pb_blocks.specs.Values.{said_heading};
+ghost use Rattle.pb_form.specs.Values.{number_at};
 
 use crate::fault::RowFault;
 use crate::kinds::kind_among;

@@ -5,7 +5,9 @@ ghost use Rattle.std.specs.List.{list_any};
 ghost use Rattle.pb_form.specs.OutputRows.{output_schema};
 ghost use Rattle.pb_form.specs.Telling.{is_of};
 ghost use Rattle.pb_form.specs.declared.output.OutputKind.{OutputKind};
-ghost use Rattle.pb_blocks.specs.Kinds.{has_word_of, is_passed_over, kind_among, passed_kinds};
+ghost use Rattle.pb_blocks.specs.Codes.{fault_by};
+ghost use Rattle.pb_blocks.specs.Held.{has_word_of};
+ghost use Rattle.pb_blocks.specs.Kinds.{is_passed_over, kind_among, passed_kinds};
 
 use crate::fault::RowFault;
 use pb_form::{Fields, FormFault, OutputKind, output_schema, tell};
@@ -32,8 +34,8 @@ fn first_kind<'a>(kinds: &'a [OutputKind], fields: &Fields) -> Option<&'a Output
 
 // Why a record is of none of these kinds.
 fn no_kind(kinds: &[OutputKind], fields: &Fields) -> RowFault
-    ensures { result
-        ≡ if list_any (has_word_of fields.now) kinds.now then RowFault.Fields else RowFault.Kind }
+    ensures { result ≡ fault_by (if list_any (has_word_of fields.now) kinds.now
+        then FormFault.Fields else FormFault.Kind) }
 {
     if has_word_among(kinds, fields) {
         RowFault::Fields

@@ -1,7 +1,7 @@
 // The fields of a row of a block that name or list something, as they are written.
 
 ghost use Rattle.std.specs.Prelude.{◌≡◌, ◌≤◌};
-ghost use Rattle.pb_blocks.specs.Texts.{field, from_field, name_field, parts_field, place_after, side_field, to_field};
+ghost use Rattle.pb_blocks.specs.Texts.{field, name_field, parts_field, place_after, side_field};
 
 use pb_form::{Fields, OutputKind};
 
@@ -25,14 +25,14 @@ pub fn name_field<'a>(fields: &Fields<'a>) -> &'a [u8]
 
 // The node that a stream leads from.
 pub(crate) fn from_field<'a>(fields: &Fields<'a>) -> &'a [u8]
-    ensures { result.now ≡ from_field fields.now }
+    ensures { result.now ≡ field fields.now 2 }
 {
     field(fields, 2)
 }
 
 // The node that a stream leads to.
 pub(crate) fn to_field<'a>(fields: &Fields<'a>) -> &'a [u8]
-    ensures { result.now ≡ to_field fields.now }
+    ensures { result.now ≡ field fields.now 3 }
 {
     field(fields, 3)
 }

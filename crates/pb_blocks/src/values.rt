@@ -7,7 +7,8 @@ ghost use Rattle.pb_form.specs.Writing.{FitEach};
 ghost use Rattle.pb_form.specs.declared.output.OutputKind.TheVariants.{Nodal, Measure};
 ghost use Rattle.pb_blocks.specs.Counts.{IsCountAt, IsStreamKind};
 ghost use Rattle.pb_choices.specs.Places.{placed_class, placed_shape, placed_truth, placed_verdict};
-ghost use Rattle.pb_blocks.specs.Values.{said_arc, both_bounds, chosen_at, said_global, both_meas, said_measure, natural_at, said_nodal, number_at, optional_at, said_solution, said_stream};
+ghost use Rattle.pb_blocks.specs.Values.{said_arc, both_bounds, chosen_at, said_global, both_meas, said_measure, natural_at, said_nodal, said_solution, said_stream};
+ghost use Rattle.pb_form.specs.Values.{value_at, number_in, number_at};
 
 use crate::known::Known;
 use crate::lists::side_of;
@@ -154,7 +155,7 @@ fn long_natural(values: &Values, place: usize) -> u64
 // The critical value at a place, in thousandths, if there is one.
 fn critical(values: &Values, place: usize) -> Option<i64>
     requires { IsCountAt 9223372036854775807 values.now place }
-    ensures { result ≡ optional_at values.now place }
+    ensures { result ≡ value_at number_in values.now place }
 {
     match values.number(place) {
         Some(value) => Some(value as i64),

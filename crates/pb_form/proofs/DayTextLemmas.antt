@@ -9,7 +9,7 @@ use Rattle.std.proofs.lemmas.Bool.Decides.{Decides-int_eq}
 use Rattle.jiff_core.specs.Calendar.{days_in_month, is_leap_year}
 use Rattle.pb_rows.specs.Date.{IsDate, IsDay, date_text, day_of, first_year}
 use Rattle.pb_rows.specs.Texts.{HaveOneDateText}
-use Rattle.pb_form.specs.Days.{dates_of_month, dates_of_year, dates_of_years, text_of_day, first_writing}
+use Rattle.pb_form.specs.Days.{dates_of_years, text_of_day}
 
 -- ---- items of lists
 
@@ -45,6 +45,12 @@ in_range from (suc count) k low high = elim (cases_Bool (k == from)) [
 
 -- ---- dates
 
+abbrev dates_of_month : ℕ → ℕ → List (List ℕ)
+dates_of_month year month = map (date_text year month) (range_with_len 1 31)
+
+abbrev dates_of_year : ℕ → List (List ℕ)
+dates_of_year year = flat_map (dates_of_month year) (range_with_len 1 12)
+
 month_length : (year : ℤ) (month : ℕ) → days_in_month year month ≤ 31
 month_length year month = by (month == 2) (is_leap_year year) ((month == 4) || (month == 6) || (month == 9) || (month == 11))
   where
@@ -55,11 +61,9 @@ month_length year month = by (month == 2) (is_leap_year year) ((month == 4) || (
     by false b false = omega arith
 
 in_month : (year month day : ℕ) → 1 ≤ day → day ≤ 31 → IsIn (date_text year month day) (dates_of_month year month)
-unfolding dates_of_month
 in_month year month day low high = in_map (date_text year month) day (range_with_len 1 31) (in_range 1 31 day low (omega (arith, high)))
 
 in_year : (year month day : ℕ) → 1 ≤ month → month ≤ 12 → 1 ≤ day → day ≤ 31 → IsIn (date_text year month day) (dates_of_year year)
-unfolding dates_of_year
 in_year year month day m_low m_high d_low d_high =
     in_flat (dates_of_month year) month (date_text year month day) (range_with_len 1 12) (in_range 1 12 month m_low (omega (arith, m_high))) (in_month year month day d_low d_high)
 
@@ -74,6 +78,9 @@ in_dates year month day date =
     (omega (arith, date.1.2, month_length (pos year) month))
 
 -- ---- the text that is found
+
+abbrev first_writing : ℤ → List (List ℕ) → List ℕ
+first_writing day texts = unwrap_or (find (λ text. option_eq int_eq (day_of text) (Some day)) texts) []
 
 this_day : (day : ℤ) (o : Option ℤ) → option_eq int_eq o (Some day) ≡ true → o ≡ Some day
 this_day day None is = cc is

@@ -1,18 +1,13 @@
 -- What a field says fits its column.
-use Rattle.std.specs.Prelude.{◌&&◌, ◌==◌, bytes_eq, int_le, map, position, Some, None, Option, if◌then◌else◌}
-use Rattle.std.proofs.Common.{◌≡◌, ◌<◌, ◌≤ℤ◌, ◌+◌, ℕ, ℤ, Bool, true, false, List, [], ◌∷◌, ◌++◌, length, take, get_or, refl, sym, arith, add-one}
+use Rattle.std.specs.Prelude.{◌&&◌, ◌==◌, bytes_eq, int_le, position, Some, None, Option, if◌then◌else◌}
+use Rattle.std.proofs.Common.{◌≡◌, ◌≤ℤ◌, ℕ, ℤ, Bool, true, false, List, [], length, refl, sym, arith}
 use Rattle.std.proofs.lemmas.Int.{ints}
 use Rattle.std.proofs.lemmas.List.Quantifiers.{position-Some}
-use Rattle.std.proofs.lemmas.List.{map-append}
 use Rattle.std.proofs.lemmas.Slice.Eq.{bytes_eq-Decides}
-use Rattle.std.proofs.Math.Seq.{take-suc}
 use Rattle.pb_rows.specs.Number.{within}
-use Rattle.pb_form.specs.Columns.{Column}
-use Rattle.pb_form.specs.Seen.{column_seen}
-use Rattle.pb_form.specs.declared.column.Column as coded
 use Rattle.pb_form.specs.Holds as holds
-use Rattle.pb_form.specs.Value.{Value, Word}
-use Rattle.pb_form.specs.Writing.{FitEach, FitsColumn, FitsIn, word_at}
+use Rattle.pb_form.specs.Value.{Word}
+use Rattle.pb_form.specs.Writing.{FitsIn, word_at}
 
 -- the word at the place of a field among words is the field
 pub word_found : (words : List (List ℕ)) (field : List ℕ) (place : ℕ) → position (bytes_eq field) words ≡ Some place → word_at words place ≡ field

@@ -11,10 +11,11 @@ use Rattle.pb_rows.specs.Texts.{HaveOneDateText}
 use Rattle.pb_form.proofs.FieldLemmas.{number_fits, word_fits}
 use Rattle.pb_form.proofs.PartsLemmas.{least_count, of_form, parts_of, read_parts, was_found}
 use Rattle.pb_form.specs.Columns.{Column}
-use Rattle.pb_form.specs.Field.{field_read, formed, held_in}
+use Rattle.pb_form.specs.Field.{field_read, held_in}
 use Rattle.pb_form.specs.Holds as holds
 use Rattle.pb_form.specs.Laws.{FittingLaw}
 use Rattle.pb_form.specs.Reading.{fields_read}
+use Rattle.pb_form.specs.Said.{formed}
 use Rattle.pb_form.specs.Value.{Value, Missing, Word, Name, Reason, Number, Date, Items}
 use Rattle.pb_form.specs.Writing.{FitEach, FitsColumn, FitsIn}
 use Rattle.pb_form.specs.declared.fault.FormFault.{FormFault}

@@ -6,10 +6,10 @@ use Rattle.std.specs.Cmp.Lexicographic.{slice_cmp}
 use Rattle.std.specs.Ordering.{match_ordering}
 use Rattle.std.proofs.lemmas.Bool.{or_parts}
 use Rattle.std.proofs.Math.Seq.{drop-cons}
-use Rattle.serde_json.specs.Data.{Members, no_members, member, put, string}
+use Rattle.serde_json.specs.Data.{Members, no_members, member, object, put, string}
 use Rattle.serde_json.specs.Written.{has_float, members_have_float}
 use Rattle.pb_form.specs.Columns.{Column}
-use Rattle.pb_form.specs.Json.{members_after, record_object}
+use Rattle.pb_form.specs.Json.{members_after}
 use Rattle.pb_form.specs.Seen.{column_seen}
 use Rattle.pb_form.specs.declared.column.Column as coded
 
@@ -32,7 +32,7 @@ texts_put held (column ∷ columns) [] none = none
 texts_put held (column ∷ columns) (field ∷ fields) none =
     texts_put (put column.key (string field) held) columns fields (put_text column.key field held none)
 
-pub record_has_no_float : (columns : List Column) (fields : List (List ℕ)) → has_float (record_object columns fields) ≡ false
+pub record_has_no_float : (columns : List Column) (fields : List (List ℕ)) → has_float (object (members_after no_members columns fields)) ≡ false
 record_has_no_float columns fields = texts_put no_members columns fields refl
 
 -- one more field is put

@@ -1,24 +1,28 @@
 -- A record is of one kind: no two schemas of a table have their words and their number of fields in common.
-use Rattle.std.specs.Prelude.{◌&&◌, ◌||◌, ◌==◌, bytes_eq, filter, map, nat_lt, not, position, slice_get, Some, Option, Result, Ok, Err, if◌then◌else◌}
-use Rattle.std.specs.List.{list_all, prefix_len}
-use Rattle.std.specs.Option.{ok_or, option_map}
+use Rattle.std.specs.Prelude.{◌&&◌, ◌||◌, ◌==◌, bytes_eq, filter, map, nat_lt, not, position, slice_get, Some, None, Option, Result, Ok, Err, if◌then◌else◌}
+use Rattle.std.specs.List.{find, list_all, position_or_len, prefix_len}
+use Rattle.std.specs.Option.{ok_or, option_and_then, option_map}
 use Rattle.std.proofs.Common.{◌≡◌, ◌∙◌, ◌<◌, ◌≤◌, ◌⊎◌, ◌+◌, ◌-◌, ℕ, zero, suc, Bool, true, false, List, [], ◌∷◌, length, drop, length-drop, get_or, take, refl, sym, ap, subst, arith, inl, inr}
 use Rattle.std.proofs.lemmas.Bool.{and_parts, cases_Bool, cases_lt, ne_eqb}
 use Rattle.std.proofs.lemmas.Bool.Decides.{nat_tests}
 use Rattle.std.proofs.lemmas.List.{drop-map, get_or-drop, take_all}
-use Rattle.std.proofs.lemmas.Option.{slice_get-get_or, slice_get-map}
+use Rattle.std.proofs.lemmas.List.Folds.{find_at}
+use Rattle.std.proofs.lemmas.Option.{slice_get-get_or, slice_get-map, slice_get_past}
 use Rattle.std.proofs.lemmas.Slice.Eq.{bytes_eq-Decides}
 use Rattle.pb_rows.specs.Records.{without_trailing_empty}
+use Rattle.pb_form.proofs.ListLemmas.{any_map, position_map}
 use Rattle.pb_form.proofs.PartsLemmas.{IsRead, has_columns, just_count, parts_of, read_parts}
 use Rattle.pb_form.proofs.TableLemmas.{passes_at}
 use Rattle.pb_form.specs.Columns.{Column, Schema}
-use Rattle.pb_form.specs.Field.{field_read, found, held_in}
+use Rattle.pb_form.specs.Field.{field_read, held_in}
 use Rattle.pb_form.specs.Holds as holds
 use Rattle.pb_form.specs.Laws.{OneKindLaw}
 use Rattle.pb_form.specs.Reading.{fields_read, has_count, repeated, row_read}
-use Rattle.pb_form.specs.SessionRows.{is_of_version_1, is_of_version_2, kind_in, kinds_of_version_1, kinds_of_version_2, session_columns, session_kinds, session_schema, session_schemas, session_tail, session_told}
+use Rattle.pb_form.specs.SessionRows.{is_of_version_1, is_of_version_2, kinds_of_version_1, kinds_of_version_2, session_columns, session_kinds, session_schema, session_schemas, session_tail, session_told}
+use Rattle.pb_form.specs.Said.{found}
 use Rattle.pb_form.specs.Seen.{schema_seen}
-use Rattle.pb_form.specs.Telling.{agrees, has_word, is_of, schema_told, untold}
+use Rattle.pb_form.specs.Telling.{agrees, has_word, is_of, kind_told}
+use Rattle.pb_form.specs.Told.{schema_told, untold}
 use Rattle.pb_form.specs.Value.{Value, Word}
 use Rattle.pb_form.specs.declared.column.Schema as coded
 use Rattle.pb_form.specs.declared.fault.FormFault.{FormFault}
@@ -339,20 +343,56 @@ schemas_from schemas start same =
     ap (map schema_seen) (take_all (length schemas - start) (drop start schemas) (omega (arith, length-drop start schemas)))
     ∙ sym (drop-map schema_seen start schemas) ∙ ap (drop start) same ∙ drop-map session_schema start session_kinds
 
+-- the first item that passes stands at the first place of one
+found_at : {X : Type 0} (p : X → Bool) (xs : List X) → find p xs ≡ option_and_then (slice_get xs) (position p xs)
+found_at p xs = find_at p xs ∙ by (cases_lt (position_or_len p xs) (length xs))
+  where
+    by : (position_or_len p xs < length xs) ⊎ (length xs ≤ position_or_len p xs) → slice_get xs (position_or_len p xs) ≡ option_and_then (slice_get xs) (position p xs)
+    by (inl there) =
+        let test : nat_lt (position_or_len p xs) (length xs) ≡ true = grind (arith, nat_tests) in
+        rw test refl
+    by (inr past) =
+        let test : nat_lt (position_or_len p xs) (length xs) ≡ false = grind (arith, nat_tests) in
+        rw test (slice_get_past xs (position_or_len p xs) past)
+
+-- the kind at the first place of a schema that a record is of, or why there is none
+told_here : {K : Type 0} (schema_of : K → Schema) (kinds : List K) (fields : List (List ℕ)) (place : ℕ) (it : K) → position (is_of fields) (map schema_of kinds) ≡ Some place
+    → slice_get kinds place ≡ Some it → kind_told schema_of kinds fields ≡ Ok it
+told_here schema_of kinds fields place it first at =
+    rw (found_at (λ kind. is_of fields (schema_of kind)) kinds, sym (position_map (is_of fields) schema_of kinds) ∙ first, at) refl
+
+told_none : {K : Type 0} (schema_of : K → Schema) (kinds : List K) (fields : List (List ℕ)) → position (is_of fields) (map schema_of kinds) ≡ None
+    → kind_told schema_of kinds fields ≡ Err (untold (map schema_of kinds) fields)
+told_none schema_of kinds fields none =
+    rw (found_at (λ kind. is_of fields (schema_of kind)) kinds, sym (position_map (is_of fields) schema_of kinds) ∙ none, any_map (λ (schema : Schema). agrees schema.columns fields) schema_of kinds) refl
+
+place_found : (o : Option ℕ) (why : FormFault) (place : ℕ) → ok_or o why ≡ Ok place → o ≡ Some place
+place_found (Some i) why place is = cc is
+place_found None why place is = cc is
+
+none_found : (o : Option ℕ) (why bad : FormFault) → ok_or o why ≡ Err bad → (o ≡ None) × (why ≡ bad)
+none_found (Some i) why bad is = cc is
+none_found None why bad is = (refl, cc is)
+
 -- the kind that they give
 pub kind_from_told : (start place : ℕ) (fields : List (List ℕ)) → schema_told (map session_schema (drop start session_kinds)) fields ≡ Ok place
     → start + place < length session_kinds → session_told (drop start session_kinds) fields ≡ Ok (get_or session_kinds (start + place) kind.Version)
 unfolding session_told
 kind_from_told start place fields told within =
-    let there : place < length (drop start session_kinds) = omega (arith, length-drop start session_kinds, within) in
-    ap (kind_in (drop start session_kinds)) told ∙ ap (λ (o : Option SessionKind). ok_or o fault.Kind) (slice_get-get_or (drop start session_kinds) place kind.Version there)
+    let kinds = drop start session_kinds in
+    let there : place < length kinds = omega (arith, length-drop start session_kinds, within) in
+    let first = place_found (position (is_of fields) (map session_schema kinds)) (untold (map session_schema kinds) fields) place told in
+    told_here session_schema kinds fields place (get_or kinds place kind.Version) first (slice_get-get_or kinds place kind.Version there)
     ∙ ap (λ (it : SessionKind). (let told_kind : Result SessionKind FormFault = Ok it in told_kind)) (get_or-drop start session_kinds place kind.Version)
 
 -- or why there is none
 pub no_kind_told : (start : ℕ) (fields : List (List ℕ)) (bad : FormFault) → schema_told (map session_schema (drop start session_kinds)) fields ≡ Err bad
     → session_told (drop start session_kinds) fields ≡ Err bad
 unfolding session_told
-no_kind_told start fields bad told = ap (kind_in (drop start session_kinds)) told
+no_kind_told start fields bad told =
+    let kinds = drop start session_kinds in
+    let none = none_found (position (is_of fields) (map session_schema kinds)) (untold (map session_schema kinds) fields) bad told in
+    told_none session_schema kinds fields none.0 ∙ ap (λ (bad : FormFault). (let told_fault : Result SessionKind FormFault = Err bad in told_fault)) none.1
 
 -- what passes a test has a place among all that do
 place_kept : {X : Type 0} (p : X → Bool) (xs : List X) (i : ℕ) (x : X) → slice_get xs i ≡ Some x → p x ≡ true → (j : ℕ) × (slice_get (filter p xs) j ≡ Some x)
@@ -396,7 +436,7 @@ told kinds it values fields are at reads =
     let schema_there : slice_get (map session_schema kinds) at.0 ≡ Some (session_schema it) =
     slice_get-map session_schema kinds at.0 ∙ ap (λ (o : Option SessionKind). option_map session_schema o) at.1 in
     let place = place_told (map session_schema kinds) at.0 (session_schema it) values fields are.apart are.firm schema_there reads in
-    ap (λ (o : Option ℕ). kind_in kinds (ok_or o (untold (map session_schema kinds) fields))) place ∙ ap (λ (o : Option SessionKind). ok_or o fault.Kind) at.1
+    told_here session_schema kinds fields at.0 it place at.1
 
 -- some of the schemas of a table differ too
 apart_after : (n : ℕ) (schemas : List Schema) → all_differ schemas ≡ true → all_differ (drop n schemas) ≡ true
@@ -437,7 +477,7 @@ reading_told start fields few is =
     let schema_at_place : slice_get (map session_schema (drop start session_kinds)) (16 - start) ≡ Some (session_schema kind.Reading) =
     slice_get-map session_schema (drop start session_kinds) (16 - start) ∙ ap (λ (o : Option SessionKind). option_map session_schema o) at in
     let place = place_first (map session_schema (drop start session_kinds)) (16 - start) (session_schema kind.Reading) fields apart schema_at_place is in
-    ap (λ (o : Option ℕ). kind_in (drop start session_kinds) (ok_or o (untold (map session_schema (drop start session_kinds)) fields))) place ∙ ap (λ (o : Option SessionKind). ok_or o fault.Kind) at
+    told_here session_schema (drop start session_kinds) fields (16 - start) kind.Reading place at
   where
     at : slice_get (drop start session_kinds) (16 - start) ≡ Some kind.Reading
     at =

@@ -4,8 +4,9 @@ use Rattle.std.proofs.Common.{◌≡◌, ◌≤◌, ◌-◌, ℕ, Bool, true, fa
 use Rattle.std.proofs.lemmas.Bool.{and_parts}
 use Rattle.std.proofs.lemmas.Bool.Decides.{nat_tests}
 use Rattle.pb_form.specs.Columns.{Schema}
-use Rattle.pb_form.specs.Field.{formed, found}
-use Rattle.pb_form.specs.Reading.{are_turns, before, fields_read, has_count, joined, one_read, row_read, tail_read}
+use Rattle.pb_form.specs.Reading.{are_turns, both_read, fields_read, has_count, row_read, tail_read}
+use Rattle.pb_form.specs.Said.{formed, found}
+use Rattle.pb_form.specs.Told.{read_before}
 use Rattle.pb_form.specs.Value.{Value}
 use Rattle.pb_form.specs.declared.fault.FormFault.{FormFault}
 use Rattle.pb_form.specs.declared.fault.FormFault.TheVariants as fault
@@ -31,7 +32,7 @@ pub record AreParts (first : Result Value FormFault) (rest : Result (List Value)
   pub more : rest ≡ Ok others
   pub all : values ≡ value ∷ others
 
-pub parts_of : (first : Result Value FormFault) (rest : Result (List Value) FormFault) (values : List Value) → joined (one_read first) rest ≡ Ok values → AreParts first rest values
+pub parts_of : (first : Result Value FormFault) (rest : Result (List Value) FormFault) (values : List Value) → read_before first rest ≡ Ok values → AreParts first rest values
 parts_of (Ok v) (Ok others) values says =
     let same : v ∷ others ≡ values = cc says in
     record { value = v; others = others; one = refl; more = refl; all = sym same }
@@ -49,14 +50,14 @@ pub record IsRead (schema : Schema) (values : List Value) (row : List (List ℕ)
 pub read_parts : (schema : Schema) (values : List Value) (row : List (List ℕ)) → row_read schema row ≡ Ok values → IsRead schema values row
 read_parts schema values row reads = by (has_count schema (length row)) refl reads
   where
-    said : (front rest : Result (List Value) FormFault) → before front rest ≡ Ok values → (front ≡ Ok values) × ((others : List Value) × (rest ≡ Ok others))
+    said : (front rest : Result (List Value) FormFault) → both_read (λ values rest. values) front rest ≡ Ok values → (front ≡ Ok values) × ((others : List Value) × (rest ≡ Ok others))
     said (Ok front) (Ok rest) is = (is, (rest, refl))
     said (Ok front) (Err bad) is = absurd (cc is)
     said (Err bad) (Ok rest) is = absurd (cc is)
     said (Err bad) (Err other) is = absurd (cc is)
 
     by : (b : Bool) → has_count schema (length row) ≡ b
-        → (if b then before (fields_read schema.columns row) (tail_read schema row) else Err fault.Fields) ≡ Ok values → IsRead schema values row
+        → (if b then both_read (λ values rest. values) (fields_read schema.columns row) (tail_read schema row) else Err fault.Fields) ≡ Ok values → IsRead schema values row
     by true counts is =
         let parts = said (fields_read schema.columns row) (tail_read schema row) is in
         record { counts = counts; says = parts.0; others = parts.1.0; tail = parts.1.1 }

@@ -6,9 +6,9 @@ use Rattle.std.proofs.lemmas.List.{append-nil, drop_all}
 use Rattle.std.proofs.Math.Seq.{drop-cons}
 use Rattle.pb_form.specs.Columns.{Column}
 use Rattle.pb_form.specs.Field.{field_read}
-use Rattle.pb_form.specs.Reading.{fields_read, joined, one_read, repeated, sooner}
+use Rattle.pb_form.specs.Reading.{fields_read, repeated, sooner}
 use Rattle.pb_form.specs.Seen.{column_seen}
-use Rattle.pb_form.specs.Told.{fault_in, so_far, soonest}
+use Rattle.pb_form.specs.Told.{fault_in, joined, read_before, so_far, soonest}
 use Rattle.pb_form.specs.declared.column.Column as coded
 use Rattle.pb_form.specs.Value.{Value}
 use Rattle.pb_form.specs.declared.fault.FormFault.{FormFault}
@@ -19,7 +19,7 @@ sooner_assoc a b c = grind (arith, nat_tests)
 
 -- a field that says something
 pub step_ok : (first : Option FormFault) (values : List Value) (value : Value) (rest : Result (List Value) FormFault)
-    → joined (so_far first (values ++ value ∷ [])) rest ≡ joined (so_far first values) (joined (one_read (Ok value)) rest)
+    → joined (so_far first (values ++ value ∷ [])) rest ≡ joined (so_far first values) (read_before (Ok value) rest)
 step_ok None values value (Ok more) =
     let ok : List Value → Result (List Value) FormFault = λ all. Ok all in ap ok (append_assoc values (value ∷ []) more)
 step_ok None values value (Err fault) = refl
@@ -28,7 +28,7 @@ step_ok (Some fault) values value (Err other) = refl
 
 -- a field with a fault
 pub step_err : (first : Option FormFault) (values : List Value) (fault : FormFault) (rest : Result (List Value) FormFault)
-    → joined (so_far (Some (soonest first fault)) values) rest ≡ joined (so_far first values) (joined (one_read (Err fault)) rest)
+    → joined (so_far (Some (soonest first fault)) values) rest ≡ joined (so_far first values) (read_before (Err fault) rest)
 step_err None values fault (Ok more) = refl
 step_err None values fault (Err other) = refl
 step_err (Some before) values fault (Ok more) = refl

@@ -7,12 +7,12 @@ use Rattle.pb_rows.specs.Name.{is_name}
 use Rattle.pb_rows.specs.Number.{number, within}
 use Rattle.pb_rows.specs.Reason.{is_reason}
 use Rattle.pb_form.specs.Columns.{Column}
-use Rattle.pb_form.specs.Field.{field_read, found, held_in}
+use Rattle.pb_form.specs.Field.{field_read, held_in}
 use Rattle.pb_form.specs.Holds as holds
-use Rattle.pb_form.specs.Reading.{fields_read, joined, one_read}
-use Rattle.pb_form.specs.Said.{value_in, value_said, values_said}
+use Rattle.pb_form.specs.Reading.{fields_read}
+use Rattle.pb_form.specs.Said.{found, value_in, value_said, values_said}
 use Rattle.pb_form.specs.Seen.{column_seen, holds_seen}
-use Rattle.pb_form.specs.Told.{fault_in, so_far, soonest}
+use Rattle.pb_form.specs.Told.{fault_in, joined, read_before, so_far, soonest}
 use Rattle.pb_form.specs.Value.{Value}
 use Rattle.pb_form.specs.Value as value
 use Rattle.pb_form.specs.Values.{day_in, items_in, name_in, number_in, reason_in, word_in}
@@ -62,7 +62,7 @@ no_fault (column ∷ columns) [] told = refl
 no_fault (column ∷ columns) (field ∷ fields) told = by (field_read column field) (fields_read columns fields) (no_fault columns fields) told
   where
     by : (one : Result Value FormFault) (rest : Result (List Value) FormFault) → (None ≡ fault_in rest → Ok (values_said columns fields) ≡ rest)
-        → None ≡ fault_in (joined (one_read one) rest) → Ok (value_in one ∷ values_said columns fields) ≡ joined (one_read one) rest
+        → None ≡ fault_in (read_before one rest) → Ok (value_in one ∷ values_said columns fields) ≡ read_before one rest
     by (Ok value) (Ok values) more told =
         let on : List Value → Result (List Value) FormFault = λ all. Ok (value ∷ all) in
         let same : values_said columns fields ≡ values = cc (more refl) in

@@ -9,9 +9,10 @@ use Rattle.std.proofs.lemmas.Int.Digits.{all_below_base_digits_of}
 use Rattle.std.proofs.lemmas.List.Elements.{All-push}
 use Rattle.std.proofs.lemmas.Str.{IsUtf8-from_ascii}
 use Rattle.pb_rows.specs.Date.{date_text}
-use Rattle.pb_rows.specs.Name.{has_name_length, is_name, is_name_byte}
+use Rattle.pb_rows.specs.Forms.{has_name_length, has_reason_length}
+use Rattle.pb_rows.specs.Name.{is_name, is_name_byte}
 use Rattle.pb_rows.specs.Number.{decimal_text, whole_text}
-use Rattle.pb_rows.specs.Reason.{has_reason_length, is_reason, is_reason_byte}
+use Rattle.pb_rows.specs.Reason.{is_reason, is_reason_byte}
 
 digits_ascii : (ds : List ℕ) → AllBelowBase 10 ds → IsAscii (map (λ digit. 48 + digit) ds)
 digits_ascii [] below i = omega arith

@@ -1,5 +1,5 @@
 -- Statement. A row read by its columns: the value of each field, or the first fault in one order of faults.
-use Rattle.std.specs.Prelude.{ℕ, zero, suc, ◌-◌, ◌%◌, ◌==◌, ◌&&◌, nat_le, nat_lt, Bool, List, [], ◌∷◌, ◌++◌, length, drop, Result, Ok, Err, if◌then◌else◌}
+use Rattle.std.specs.Prelude.{ℕ, zero, suc, ◌-◌, ◌%◌, ◌==◌, ◌&&◌, nat_le, nat_lt, Bool, List, [], ◌∷◌, length, drop, Result, Ok, Err, if◌then◌else◌}
 use Rattle.pb_form.specs.Columns.{Column, Schema}
 use Rattle.pb_form.specs.Field.{field_read}
 use Rattle.pb_form.specs.Value.{Value}
@@ -19,21 +19,17 @@ order_of Word = 5
 abbrev pub sooner : FormFault → FormFault → FormFault
 sooner one other = if nat_lt (order_of other) (order_of one) then other else one
 
--- the values of two parts of a row, or the first fault of either
-abbrev pub joined : Result (List Value) FormFault → Result (List Value) FormFault → Result (List Value) FormFault
-joined (Ok front) (Ok rest) = Ok (front ++ rest)
-joined (Ok front) (Err fault) = Err fault
-joined (Err fault) (Ok rest) = Err fault
-joined (Err fault) (Err other) = Err (sooner fault other)
-
--- the one value of a field, or its fault
-abbrev pub one_read : Result Value FormFault → Result (List Value) FormFault
-one_read (Ok value) = Ok (value ∷ [])
-one_read (Err fault) = Err fault
+-- what two parts of a row say together, or the first fault of either
+abbrev pub both_read : {A B C : Type 0} → (A → B → C) → Result A FormFault → Result B FormFault → Result C FormFault
+both_read join (Ok one) (Ok other) = Ok (join one other)
+both_read join (Ok one) (Err fault) = Err fault
+both_read join (Err fault) (Ok other) = Err fault
+both_read join (Err fault) (Err other) = Err (sooner fault other)
 
 -- the value of each field by its column, or the first fault of the fields
 abbrev pub fields_read : List Column → List (List ℕ) → Result (List Value) FormFault
-fields_read (column ∷ columns) (field ∷ fields) = joined (one_read (field_read column field)) (fields_read columns fields)
+fields_read (column ∷ columns) (field ∷ fields) =
+    both_read (λ value values. value ∷ values) (field_read column field) (fields_read columns fields)
 fields_read columns fields = Ok []
 
 -- n columns: the rest of a tail, and then the columns of the tail, repeated
@@ -56,15 +52,10 @@ are_turns tail n = if length tail == 0 then n == 0 else n % length tail == 0
 abbrev pub has_count : Schema → ℕ → Bool
 has_count schema n = nat_le (length schema.columns) n && are_turns schema.tail (n - length schema.columns)
 
--- the values of the first part of a row, unless either part has a fault
-abbrev pub before : Result (List Value) FormFault → Result (List Value) FormFault → Result (List Value) FormFault
-before (Ok values) (Ok rest) = Ok values
-before (Ok values) (Err fault) = Err fault
-before (Err fault) (Ok rest) = Err fault
-before (Err fault) (Err other) = Err (sooner fault other)
-
 -- The value of each column of a schema in the fields of a row, or the row's first fault: the number of fields, or the first of the
 -- faults of the single fields, including the fields of the tail.
 abbrev pub row_read : Schema → List (List ℕ) → Result (List Value) FormFault
 row_read schema fields =
-    if has_count schema (length fields) then before (fields_read schema.columns fields) (tail_read schema fields) else Err Fields
+    if has_count schema (length fields)
+    then both_read (λ values rest. values) (fields_read schema.columns fields) (tail_read schema fields)
+    else Err Fields

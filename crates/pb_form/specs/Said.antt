@@ -1,9 +1,18 @@
 -- Inside. The values of fields that say something by their columns.
-use Rattle.std.specs.Prelude.{ℕ, List, [], ◌∷◌, Result, Ok, Err}
+use Rattle.std.specs.Prelude.{ℕ, Bool, List, [], ◌∷◌, Option, Result, Ok, Err, if◌then◌else◌}
+use Rattle.std.specs.Option.{ok_or, option_map}
 use Rattle.pb_form.specs.Columns.{Column}
 use Rattle.pb_form.specs.Field.{field_read}
 use Rattle.pb_form.specs.Value.{Value, Missing}
 use Rattle.pb_form.specs.declared.fault.FormFault.{FormFault}
+
+-- a value of what was found, or this fault
+abbrev pub found : {A : Type 0} → (A → Value) → FormFault → Option A → Result Value FormFault
+found value bad option = ok_or (option_map value option) bad
+
+-- the value of a field that has a form, or this fault
+abbrev pub formed : (List ℕ → Bool) → (List ℕ → Value) → FormFault → List ℕ → Result Value FormFault
+formed is_form value bad field = if is_form field then Ok (value field) else Err bad
 
 -- what is said, or nothing if it is a fault
 abbrev pub value_in : Result Value FormFault → Value

@@ -1,13 +1,11 @@
 -- Statement. The rows of a session: the columns of each kind.
 use Prim.Native.String.{String}
-use Rattle.std.specs.Prelude.{ℕ, ◌^◌, Bool, true, false, List, [], ◌∷◌, ◌++◌, Result, Ok, Err, filter, map, slice_get}
-use Rattle.std.specs.Option.{ok_or}
+use Rattle.std.specs.Prelude.{ℕ, ◌^◌, Bool, true, false, List, [], ◌∷◌, ◌++◌, Result, map}
 use Rattle.pb_limits.specs.Limits.{most_critical, most_density, most_freedom, most_grade, most_grade_variance, most_grams, most_level, most_row_variance, most_volume}
 use Rattle.pb_form.specs.Columns.{Column, Schema, column, row, word_column}
 use Rattle.pb_form.specs.Holds.{Holds, Name, Reason, Date, either_way, from_one, from_zero}
-use Rattle.pb_form.specs.Telling.{schema_told}
+use Rattle.pb_form.specs.Telling.{kind_told}
 use Rattle.pb_form.specs.declared.fault.FormFault.{FormFault}
-use Rattle.pb_form.specs.declared.fault.FormFault.TheVariants as fault
 use Rattle.pb_form.specs.declared.session.SessionKind.{SessionKind}
 use Rattle.pb_form.specs.declared.session.SessionKind.TheVariants as kind
 
@@ -52,11 +50,7 @@ dip_columns =
     column "id" Name ∷ column "tank" Name ∷ column "day" Date ∷ column "mm" (from_zero most_level)
     ∷ column "density" (from_one most_density) ∷ column "variance" row_variance ∷ []
 
--- the columns of a late fact: the word `late`, the fact's word, and the columns of the fact
-abbrev pub late_columns : String → List Column → List Column
-late_columns word columns = row "late" (word_column "word" word ∷ columns)
-
--- The columns of each kind.
+-- The columns of each kind. A late fact has the word `late`, the fact's word, and the columns of the fact.
 abbrev pub session_columns : SessionKind → List Column
 session_columns kind.Version = row "version" (word_column "number" "2" ∷ [])
 session_columns kind.Boundary = row "boundary" (column "name" Name ∷ [])
@@ -79,9 +73,9 @@ session_columns kind.CriticalMeasure = row "critical" (word_column "word" "measu
 session_columns kind.Reading = row "reading" reading_columns
 session_columns kind.Transfer = row "transfer" transfer_columns
 session_columns kind.Dip = row "dip" dip_columns
-session_columns kind.LateReading = late_columns "reading" reading_columns
-session_columns kind.LateTransfer = late_columns "transfer" transfer_columns
-session_columns kind.LateDip = late_columns "dip" dip_columns
+session_columns kind.LateReading = row "late" (word_column "word" "reading" ∷ reading_columns)
+session_columns kind.LateTransfer = row "late" (word_column "word" "transfer" ∷ transfer_columns)
+session_columns kind.LateDip = row "late" (word_column "word" "dip" ∷ dip_columns)
 session_columns kind.AmendAmount =
     row "amend" (column "id" Name ∷ column "grams" (either_way most_grams) ∷ column "variance" row_variance
     ∷ column "reason" Reason ∷ [])
@@ -100,38 +94,42 @@ session_columns kind.Advise = row "advise" []
 session_columns kind.Window = row "window" (column "first" Name ∷ column "last" Name ∷ [])
 session_columns kind.Component = row "component" (column "component" Name ∷ column "period" Name ∷ [])
 
--- the columns of a named cost: a stream, and what a meter on it costs
-abbrev pub cost_columns : List Column
-cost_columns = column "stream" Name ∷ column "cost" (from_zero most_meter_cost) ∷ []
-
--- The columns that are repeated after those of a kind.
+-- The columns that are repeated after those of a kind: those of a named cost, a stream and what a meter on it costs.
 abbrev pub session_tail : SessionKind → List Column
-session_tail kind.Advise = cost_columns
+session_tail kind.Advise = column "stream" Name ∷ column "cost" (from_zero most_meter_cost) ∷ []
 session_tail kind = []
 
 -- the schema of each kind
 abbrev pub session_schema : SessionKind → Schema
 session_schema kind = record { columns = session_columns kind; tail = session_tail kind }
 
--- all kinds
-abbrev pub session_kinds : List SessionKind
-session_kinds =
-    kind.Version ∷ kind.Boundary ∷ kind.TankInService ∷ kind.MeteredInService ∷ kind.BatchInService ∷ kind.PlainInService
-    ∷ kind.Unit ∷ kind.Tank ∷ kind.Strap ∷ kind.StreamMetered ∷ kind.StreamBatch ∷ kind.StreamPlain ∷ kind.Period
+-- the kinds of a session of version 1
+abbrev pub kinds_of_version_1 : List SessionKind
+kinds_of_version_1 =
+    kind.Unit ∷ kind.Tank ∷ kind.Strap ∷ kind.StreamMetered ∷ kind.StreamBatch ∷ kind.StreamPlain ∷ kind.Period
     ∷ kind.CriticalGlobal ∷ kind.CriticalNodal ∷ kind.CriticalMeasure ∷ kind.Reading ∷ kind.Transfer ∷ kind.Dip
     ∷ kind.LateReading ∷ kind.LateTransfer ∷ kind.LateDip ∷ kind.AmendAmount ∷ kind.AmendLevel ∷ kind.Strike ∷ kind.Close
     ∷ kind.Assay ∷ kind.Design ∷ kind.Report ∷ kind.History ∷ kind.Advise ∷ kind.Window ∷ kind.Component ∷ []
+
+-- the kinds of a session of version 2, which also has boundaries and dates of service
+abbrev pub kinds_of_version_2 : List SessionKind
+kinds_of_version_2 =
+    kind.Boundary ∷ kind.TankInService ∷ kind.MeteredInService ∷ kind.BatchInService ∷ kind.PlainInService ∷ kinds_of_version_1
+
+-- all kinds: the record that makes a session one of version 2 isn't one of its rows
+abbrev pub session_kinds : List SessionKind
+session_kinds = kind.Version ∷ kinds_of_version_2
 
 -- the schemas of all kinds
 abbrev pub session_schemas : List Schema
 session_schemas = map session_schema session_kinds
 
--- a session of version 2 has rows of this kind; the record that makes it a session of version 2 isn't one of these rows
+-- a session of version 2 has rows of this kind
 abbrev pub is_of_version_2 : SessionKind → Bool
 is_of_version_2 kind.Version = false
 is_of_version_2 kind = true
 
--- a session of version 1 has rows of this kind: it has no boundaries and no dates of service
+-- a session of version 1 has rows of this kind
 abbrev pub is_of_version_1 : SessionKind → Bool
 is_of_version_1 kind.Version = false
 is_of_version_1 kind.Boundary = false
@@ -141,18 +139,6 @@ is_of_version_1 kind.BatchInService = false
 is_of_version_1 kind.PlainInService = false
 is_of_version_1 kind = true
 
--- the kinds of a session of either version
-abbrev pub kinds_of_version_1 : List SessionKind
-kinds_of_version_1 = filter is_of_version_1 session_kinds
-
-abbrev pub kinds_of_version_2 : List SessionKind
-kinds_of_version_2 = filter is_of_version_2 session_kinds
-
--- the kind, among some kinds, whose schema a row is of
-abbrev pub kind_in : List SessionKind → Result ℕ FormFault → Result SessionKind FormFault
-kind_in kinds (Ok place) = ok_or (slice_get kinds place) fault.Kind
-kind_in kinds (Err fault) = Err fault
-
 -- The kind of a row of a session that has rows of these kinds, or why it has none.
 unfoldable pub session_told : List SessionKind → List (List ℕ) → Result SessionKind FormFault
-session_told kinds fields = kind_in kinds (schema_told (map session_schema kinds) fields)
+session_told kinds fields = kind_told session_schema kinds fields

@@ -1,6 +1,6 @@
--- Statement. Which of several schemas a row is of, by its words and the number of its fields.
-use Rattle.std.specs.Prelude.{ℕ, Bool, true, ◌&&◌, List, [], ◌∷◌, length, Result, position, bytes_eq, if◌then◌else◌}
-use Rattle.std.specs.List.{list_any}
+-- Statement. Of which of several kinds a row is, by its words and the number of its fields.
+use Rattle.std.specs.Prelude.{ℕ, Bool, true, ◌&&◌, List, [], ◌∷◌, length, Result, bytes_eq, if◌then◌else◌}
+use Rattle.std.specs.List.{find, list_any}
 use Rattle.std.specs.Option.{ok_or}
 use Rattle.pb_form.specs.Columns.{Column, Schema}
 use Rattle.pb_form.specs.Holds.{Holds, Word}
@@ -22,14 +22,8 @@ agrees columns fields = true
 abbrev pub is_of : List (List ℕ) → Schema → Bool
 is_of fields schema = has_count schema (length fields) && agrees schema.columns fields
 
--- a row has the words of a schema as far as it goes
-abbrev pub has_words : List (List ℕ) → Schema → Bool
-has_words fields schema = agrees schema.columns fields
-
--- why a row is of no schema: none has its words, or none with its words has its number of fields
-abbrev pub untold : List Schema → List (List ℕ) → FormFault
-untold schemas fields = if list_any (has_words fields) schemas then fault.Fields else fault.Kind
-
--- The place of the first schema that a row is of, or why there is none.
-abbrev pub schema_told : List Schema → List (List ℕ) → Result ℕ FormFault
-schema_told schemas fields = ok_or (position (is_of fields) schemas) (untold schemas fields)
+-- The first of some kinds whose schema a row is of. If it is of none, the fault says whether it has the words of one as far as it goes.
+abbrev pub kind_told : {K : Type 0} → (K → Schema) → List K → List (List ℕ) → Result K FormFault
+kind_told schema_of kinds fields =
+    ok_or (find (λ kind. is_of fields (schema_of kind)) kinds)
+    (if list_any (λ kind. agrees (schema_of kind).columns fields) kinds then fault.Fields else fault.Kind)

@@ -1,5 +1,6 @@
 -- Statement. The values of a row by their places.
-use Rattle.std.specs.Prelude.{ℕ, ℤ, List, Option, Some, None, option_and_then, slice_get, if◌then◌else◌}
+use Rattle.std.specs.Prelude.{ℕ, ℤ, pos, List, Option, Some, None, option_and_then, slice_get, if◌then◌else◌}
+use Rattle.std.specs.Option.{unwrap_or}
 use Rattle.pb_rows.specs.Name.{is_name}
 use Rattle.pb_rows.specs.Reason.{is_reason}
 use Rattle.pb_form.specs.Value.{Value, Word, Name, Reason, Number, Date, Items}
@@ -37,3 +38,7 @@ items_in value = None
 -- the value at a place, as one of these
 abbrev pub value_at : {A : Type 0} → (Value → Option A) → List Value → ℕ → Option A
 value_at as_one values place = option_and_then as_one (slice_get values place)
+
+-- the number at a place of a column that holds one
+abbrev pub number_at : List Value → ℕ → ℤ
+number_at values place = unwrap_or (value_at number_in values place) (pos 0)

@@ -1,9 +1,10 @@
 // A record as a line of JSON.
 
 ghost use Rattle.std.specs.Prelude.{◌≡◌, ◌<◌, ◌++◌, [], length, map, slice_index_or, string_bytes, All, IsUtf8, IfOk, OnOk, OnErr};
+ghost use Rattle.serde_json.specs.Data.{no_members, object};
 ghost use Rattle.serde_json.specs.View.{view};
 ghost use Rattle.serde_json.specs.Written.{compact_text};
-ghost use Rattle.pb_form.specs.Json.{record_line, record_object};
+ghost use Rattle.pb_form.specs.Json.{members_after, record_line};
 ghost use Rattle.pb_form.specs.Seen.{column_seen};
 
 use crate::column::{Column, Schema};
@@ -41,7 +42,7 @@ fn text_of(alloc: Global, columns: &[Column], row: &Row) -> Result<String, Alloc
     requires each { length row.now ≡ length columns.now }
     requires texts { All IsUtf8 row.now }
     ensures { IfOk result (λ text. string_bytes text
-        ≡ compact_text (record_object (map column_seen columns.now) row.now)) }
+        ≡ compact_text (object (members_after no_members (map column_seen columns.now) row.now))) }
 {
     object_of(alloc, columns, row)?.to_string(alloc)
 }
@@ -51,7 +52,7 @@ fn object_of(alloc: Global, columns: &[Column], row: &Row) -> Result<Value, Allo
     requires each { length row.now ≡ length columns.now }
     requires texts { All IsUtf8 row.now }
     ensures { IfOk result (λ value. view value
-        ≡ record_object (map column_seen columns.now) row.now) }
+        ≡ object (members_after no_members (map column_seen columns.now) row.now)) }
 {
     let mut members = Map::new(alloc);
     for (i, column) in columns.iter().enumerate() {

@@ -3,7 +3,8 @@
 ghost use Rattle.std.specs.Prelude.{◌≡◌, ◌<◌, ◌≤◌, [], length, map, position, slice_index_or, true, IfOk};
 ghost use Rattle.std.specs.List.{list_any};
 ghost use Rattle.pb_form.specs.Seen.{column_seen, holds_seen, schema_seen};
-ghost use Rattle.pb_form.specs.Telling.{agrees, has_word, has_words, is_of, schema_told, untold};
+ghost use Rattle.pb_form.specs.Telling.{agrees, has_word, is_of};
+ghost use Rattle.pb_form.specs.Told.{schema_told, untold};
 
 use crate::column::{Column, Holds, Schema};
 use crate::fault::FormFault;
@@ -33,7 +34,8 @@ fn place_of(schemas: &[Schema], fields: &Fields) -> Option<usize>
 
 // Whether a record has the words of one of these schemas, as far as it goes.
 fn some_agrees(schemas: &[Schema], fields: &Fields) -> bool
-    ensures { result ≡ list_any (λ schema. has_words fields.now (schema_seen schema)) schemas.now }
+    ensures { result ≡ list_any (λ schema. agrees (schema_seen schema).columns fields.now)
+        schemas.now }
 {
     schemas.iter().any(|schema| agrees(schema.columns, fields))
 }

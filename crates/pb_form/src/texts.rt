@@ -4,7 +4,8 @@ ghost use Rattle.std.specs.Prelude.{◌≡◌, ◌∷◌, ◌++◌, [], length, 
 ghost use Rattle.pb_form.specs.Given.{value_as, values_as};
 ghost use Rattle.pb_form.specs.Seen.{column_seen, holds_seen};
 ghost use Rattle.pb_form.specs.TextLaws.{TextLaw};
-ghost use Rattle.pb_form.specs.Texts.{held_word, texts_of, value_text};
+ghost use Rattle.pb_form.specs.Texts.{texts_of, value_text};
+ghost use Rattle.pb_form.specs.Value.{Word};
 
 use crate::column::{Column, Holds};
 use crate::day::push_day;
@@ -52,7 +53,7 @@ fn push_text(column: &Column, value: Value, row: &mut Row) -> Result<(), AllocEr
 
 // The word at a place among those of a column.
 fn word_of(holds: &Holds, place: usize) -> &'static str
-    ensures { result.now ≡ held_word (holds_seen holds.now) place }
+    ensures { result.now ≡ value_text (holds_seen holds.now) (Word place) }
 {
     match holds {
         Holds::Word(words) if place < words.len() => words[place],

@@ -10,9 +10,9 @@ use Rattle.pb_form.specs.Columns.{Column, Schema}
 use Rattle.pb_form.specs.Field.{field_read}
 use Rattle.pb_form.specs.Holds as holds
 use Rattle.pb_form.specs.Laws.{FittingLaw}
-use Rattle.pb_form.specs.Values.{number_in}
-use Rattle.pb_form.specs.Reading.{before, fields_read, has_count, joined, one_read, repeated, row_read, tail_read}
-use Rattle.pb_form.specs.SessionRows.{cost_columns, kinds_of_version_1, most_meter_cost, session_schema, session_told}
+use Rattle.pb_form.specs.Values.{number_at, number_in}
+use Rattle.pb_form.specs.Reading.{both_read, fields_read, has_count, repeated, row_read, tail_read}
+use Rattle.pb_form.specs.SessionRows.{kinds_of_version_1, most_meter_cost, session_schema, session_told}
 use Rattle.pb_form.specs.Telling.{is_of}
 use Rattle.pb_form.specs.Value.{Value}
 use Rattle.pb_form.specs.Writing.{FitEach}
@@ -26,10 +26,11 @@ use Rattle.pb_site.specs.declared.declared.Declared.TheVariants.{Version2}
 use Rattle.pb_site.specs.declared.declared.Version.{Version}
 use Rattle.pb_kinds.specs.declared.costs.NamedCost.{NamedCost}
 use Rattle.pb_kinds.specs.declared.rows.Request.TheVariants.{Advise}
-use Rattle.pb_kinds.specs.Costs.{IsMeterCost, costs_by, costs_in}
+use Rattle.pb_kinds.specs.Costs.{IsMeterCost, costs_in}
 use Rattle.pb_kinds.specs.Laws.{NamedCostsLaw}
-use Rattle.pb_kinds.specs.Requests.{asked_by, asked_in, declares, kinds_of, name_there, number_there, request_by, request_if, request_in, request_of}
-use Rattle.pb_kinds.specs.There.{ArePairs, IsNameThere, IsNumberThere, pairs_read}
+use Rattle.pb_kinds.specs.Requests.{asked_by, asked_in, declares, name_there, request_if, request_in, request_of}
+use Rattle.pb_kinds.specs.There.{ArePairs, IsNameThere, IsNumberThere, cost_columns, costs_by, kinds_of, pairs_read, request_by}
+use Rattle.pb_kinds.proofs.VersionLemmas.{asked_in_version}
 use Rattle.pb_kinds.proofs.ThereLemmas.{name_is, number_is, column_of}
 
 -- ---- a record that asks for advice
@@ -42,13 +43,13 @@ is_advise it values is = cc is
 tail_says : (schema : Schema) (values : List Value) (fields : List (List ℕ)) → row_read schema fields ≡ Ok values → (others : List Value) × (tail_read schema fields ≡ Ok others)
 tail_says schema values fields reads = by (has_count schema (length fields)) reads
   where
-    both : (front rest : Result (List Value) FormFault) → before front rest ≡ Ok values → (others : List Value) × (rest ≡ Ok others)
+    both : (front rest : Result (List Value) FormFault) → both_read (λ values rest. values) front rest ≡ Ok values → (others : List Value) × (rest ≡ Ok others)
     both (Ok front) (Ok rest) is = (rest, refl)
     both (Ok front) (Err bad) is = absurd (cc is)
     both (Err bad) (Ok rest) is = absurd (cc is)
     both (Err bad) (Err other) is = absurd (cc is)
 
-    by : (b : Bool) → (if b then before (fields_read schema.columns fields) (tail_read schema fields) else Err fault.Fields) ≡ Ok values
+    by : (b : Bool) → (if b then both_read (λ values rest. values) (fields_read schema.columns fields) (tail_read schema fields) else Err fault.Fields) ≡ Ok values
         → (others : List Value) × (tail_read schema fields ≡ Ok others)
     by true is = both (fields_read schema.columns fields) (tail_read schema fields) is
     by false is = absurd (cc is)
@@ -85,7 +86,7 @@ advise_read version fields asks = at version asks
     at : (version : Option Version) → asked_in version (without_trailing_empty fields) ≡ Ok Advise
         → (1 ≤ length (without_trailing_empty fields)) × ((others : List Value) × (tail_read (session_schema kind.Advise) (without_trailing_empty fields) ≡ Ok others))
     at None asks = first (is_of (without_trailing_empty fields) (session_schema kind.Version)) (without_trailing_empty fields) asks
-    at (Some version) asks = by (kinds_of version) (without_trailing_empty fields) asks
+    at (Some version) asks = by (kinds_of version) (without_trailing_empty fields) (sym (asked_in_version version (without_trailing_empty fields)) ∙ asks)
 
 -- the fields after the word are the fields of the tail
 pub after_word : (filled : List (List ℕ)) → pairs_read (drop 1 filled) ≡ tail_read (session_schema kind.Advise) filled
@@ -103,7 +104,7 @@ record AreJoined (first : Result Value FormFault) (rest : Result (List Value) Fo
   pub more : rest ≡ Ok others
   pub all : values ≡ value ∷ others
 
-joined_parts : (first : Result Value FormFault) (rest : Result (List Value) FormFault) (values : List Value) → joined (one_read first) rest ≡ Ok values → AreJoined first rest values
+joined_parts : (first : Result Value FormFault) (rest : Result (List Value) FormFault) (values : List Value) → both_read (λ value values. value ∷ values) first rest ≡ Ok values → AreJoined first rest values
 joined_parts (Ok v) (Ok others) values says =
     let same : v ∷ others ≡ values = cc says in
     record { value = v; others = others; one = refl; more = refl; all = sym same }
@@ -167,7 +168,7 @@ half_many (suc (suc n)) (a ∷ (b ∷ pairs)) values count says =
 pub record IsPair (place : ℕ) (pairs : List (List ℕ)) (values : List Value) : Type 0 where
   pub pair : List Value
   pub reads : fields_read cost_columns (drop (2 * place) pairs) ≡ Ok pair
-  pub there : slice_get (costs_in values) place ≡ Some (let it : NamedCost = record { stream = name_there pair 0; cost = number_there pair 1 } in it)
+  pub there : slice_get (costs_in values) place ≡ Some (let it : NamedCost = record { stream = name_there pair 0; cost = number_at pair 1 } in it)
   pub room : 2 * place + 2 ≤ length pairs
 
 pub pair_at : (place n : ℕ) (pairs : List (List ℕ)) (values : List Value) → length pairs ≡ n → fields_read (repeated cost_columns [] n) pairs ≡ Ok values → place < length (costs_in values)
@@ -208,7 +209,7 @@ pair_at (suc place) (suc (suc n)) (a ∷ (b ∷ pairs)) values count says within
 pub record IsCostRead (costs : List NamedCost) (place : ℕ) (read : Result (List Value) FormFault) : Type 0 where
   pub pair : List Value
   pub reads : read ≡ Ok pair
-  pub there : slice_get costs place ≡ Some (let it : NamedCost = record { stream = name_there pair 0; cost = number_there pair 1 } in it)
+  pub there : slice_get costs place ≡ Some (let it : NamedCost = record { stream = name_there pair 0; cost = number_at pair 1 } in it)
 
 -- the columns of a tail, as the code has them, are the columns of a pair
 pub seen_pair : (schema : coded_schema.Schema) → schema_seen schema ≡ session_schema kind.Advise → map column_seen schema.tail.now ≡ cost_columns
@@ -244,11 +245,11 @@ pair_there schema pair is fit =
 
 -- the cost at a place, as it is handed on
 pub cost_is : (costs : List NamedCost) (place : ℕ) (read : Result (List Value) FormFault) (pair : List Value) (stream : List ℕ) (cost : ℤ) → IsCostRead costs place read → read ≡ Ok pair
-    → IsNumberThere (pos 0) (pos most_meter_cost) pair 1 → stream ≡ name_there pair 0 → cost ≡ number_there pair 1
+    → IsNumberThere (pos 0) (pos most_meter_cost) pair 1 → stream ≡ name_there pair 0 → cost ≡ number_at pair 1
     → slice_get costs place ≡ Some (let it : NamedCost = record { stream = stream; cost = to_z w64 (of_z w64 cost) } in it)
 cost_is costs place read pair stream cost it reads range named numbered =
     let same : it.pair ≡ pair = cc (sym it.reads ∙ reads) in
-    let number : number_there pair 1 ≡ range.number = ap (λ (o : Option ℤ). unwrap_or o (pos 0)) range.is in
+    let number : number_at pair 1 ≡ range.number = ap (λ (o : Option ℤ). unwrap_or o (pos 0)) range.is in
     let fits : FitsSigned w64 cost = omega (arith, ints, numbered, number, range.least, range.most) in
     it.there ∙ rw (to_z-of_z w64 cost fits, named, numbered, same) refl
 

@@ -20,19 +20,20 @@ use Rattle.pb_kinds.specs.declared.rows.Request.{Request}
 use Rattle.pb_kinds.specs.declared.rows.Request.TheVariants.{Store}
 use Rattle.pb_kinds.specs.Effects.{effect_names}
 use Rattle.pb_kinds.specs.Ranges.{IsRequestInRange}
-use Rattle.pb_kinds.specs.Requests.{day_there, dip_from, name_there, number_there, reading_from, request_of, service_from, transfer_from}
+use Rattle.pb_kinds.specs.Requests.{day_there, dip_from, name_there, reading_from, request_of, service_from, transfer_from}
+use Rattle.pb_form.specs.Values.{number_at}
 use Rattle.pb_kinds.proofs.ThereLemmas.{day_is, fit_after, name_is, number_is, column_of}
 
 -- ---- by the column at a place
 
 between : (columns : List Column) (values : List Value) (at place sum : ℕ) (key : List ℕ) (lo hi : ℤ) → FitEach columns (drop at values) → at + place ≡ sum
-    → slice_get columns place ≡ Some (column_of key (holds.Number lo hi)) → (lo ≤ℤ number_there values sum) × (number_there values sum ≤ℤ hi)
+    → slice_get columns place ≡ Some (column_of key (holds.Number lo hi)) → (lo ≤ℤ number_at values sum) × (number_at values sum ≤ℤ hi)
 between columns values at place sum key lo hi fit same has =
     let it = number_is columns values at place sum key lo hi fit same has in
     rw it.is (it.least, it.most)
 
 grams : (columns : List Column) (values : List Value) (at place sum : ℕ) (key : List ℕ) → FitEach columns (drop at values) → at + place ≡ sum
-    → slice_get columns place ≡ Some (column_of key (holds.Number (neg_ℤ (pos most_grams)) (pos most_grams))) → IsGrams (number_there values sum)
+    → slice_get columns place ≡ Some (column_of key (holds.Number (neg_ℤ (pos most_grams)) (pos most_grams))) → IsGrams (number_at values sum)
 grams columns values at place sum key fit same has =
     let is = between columns values at place sum key (neg_ℤ (pos most_grams)) (pos most_grams) fit same has in
     omega (arith, ints, is.0, is.1)
@@ -105,7 +106,7 @@ asked_in_range kind.BatchInService values fit = (
   service (session_columns kind.BatchInService) values 6 _ _ fit refl refl,
 )
 asked_in_range kind.PlainInService values fit = (
-  zero_is (number_there values 5) (between (session_columns kind.PlainInService) values 0 5 5 _ _ _ fit refl refl),
+  zero_is (number_at values 5) (between (session_columns kind.PlainInService) values 0 5 5 _ _ _ fit refl refl),
   service (session_columns kind.PlainInService) values 6 _ _ fit refl refl,
 )
 asked_in_range kind.Tank values fit = (between (session_columns kind.Tank) values 0 2 2 _ _ _ fit refl refl, tt)
@@ -116,13 +117,13 @@ asked_in_range kind.Strap values fit = (
 asked_in_range kind.StreamMetered values fit = (between (session_columns kind.StreamMetered) values 0 5 5 _ _ _ fit refl refl, tt)
 asked_in_range kind.StreamBatch values fit = (between (session_columns kind.StreamBatch) values 0 5 5 _ _ _ fit refl refl, tt)
 asked_in_range kind.StreamPlain values fit =
-    (zero_is (number_there values 5) (between (session_columns kind.StreamPlain) values 0 5 5 _ _ _ fit refl refl), tt)
+    (zero_is (number_at values 5) (between (session_columns kind.StreamPlain) values 0 5 5 _ _ _ fit refl refl), tt)
 asked_in_range kind.Period values fit = (
   day (session_columns kind.Period) values 0 2 2 _ fit refl refl,
   day (session_columns kind.Period) values 0 3 3 _ fit refl refl,
 )
 asked_in_range kind.CriticalGlobal values fit =
-    let dof = freedom (number_there values 2) (between (session_columns kind.CriticalGlobal) values 0 2 2 _ _ _ fit refl refl) in
+    let dof = freedom (number_at values 2) (between (session_columns kind.CriticalGlobal) values 0 2 2 _ _ _ fit refl refl) in
     (dof.0, dof.1, between (session_columns kind.CriticalGlobal) values 0 3 3 _ _ _ fit refl refl)
 asked_in_range kind.CriticalNodal values fit = between (session_columns kind.CriticalNodal) values 0 2 2 _ _ _ fit refl refl
 asked_in_range kind.CriticalMeasure values fit = between (session_columns kind.CriticalMeasure) values 0 2 2 _ _ _ fit refl refl

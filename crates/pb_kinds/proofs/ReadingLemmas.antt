@@ -1,23 +1,19 @@
 -- A row of a reading whose fields have no fault, and the kind that a record is identified as.
-use Rattle.std.specs.Prelude.{◌&&◌, ◌-◌, ◌==◌, ◌≤ℤ◌, bytes_eq, codes, int_le, map, nat_le, neg_ℤ, position, slice_get, Option, Some, None, Result, Ok, Err, IfOk, if◌then◌else◌}
-use Rattle.std.specs.Option.{ok_or, option_map}
+use Rattle.std.specs.Prelude.{◌&&◌, ◌-◌, ◌==◌, ◌≤ℤ◌, bytes_eq, codes, int_le, nat_le, neg_ℤ, Option, Some, None, Result, Ok, Err, IfOk, if◌then◌else◌}
+use Rattle.std.specs.List.{find}
 use Rattle.std.proofs.Common.{◌≡◌, ◌∙◌, ℕ, ℤ, pos, Bool, true, false, List, [], ◌∷◌, length, get_or, refl, subst, sym, ap, arith}
 use Rattle.std.proofs.lemmas.Bool.{and_parts}
 use Rattle.std.proofs.lemmas.Bool.Decides.{nat_tests}
 use Rattle.std.proofs.lemmas.Int.{ints}
-use Rattle.std.proofs.lemmas.List.Quantifiers.{position-Some}
-use Rattle.std.proofs.lemmas.Option.{get_or_from_slice_get, slice_get-map}
 use Rattle.pb_limits.specs.Limits.{most_grams, most_row_variance}
 use Rattle.pb_rows.specs.Date.{IsDay, day_of}
 use Rattle.pb_rows.specs.Name.{is_name}
 use Rattle.pb_rows.specs.Number.{number, within}
-use Rattle.pb_form.specs.Columns.{Schema}
 use Rattle.pb_form.specs.Reading.{are_turns, has_count, row_read}
-use Rattle.pb_form.specs.SessionRows.{kind_in, session_columns, session_schema, session_told}
-use Rattle.pb_form.specs.Telling.{agrees, is_of, untold}
+use Rattle.pb_form.specs.SessionRows.{session_columns, session_schema, session_told}
+use Rattle.pb_form.specs.Telling.{agrees, is_of}
 use Rattle.pb_form.specs.Value.{Value, Word, Name, Number, Date}
 use Rattle.pb_form.specs.declared.fault.FormFault.{FormFault}
-use Rattle.pb_form.specs.declared.fault.FormFault.TheVariants as form
 use Rattle.pb_form.specs.declared.session.SessionKind.{SessionKind}
 use Rattle.pb_form.specs.declared.session.SessionKind.TheVariants as kind
 use Rattle.pb_site.specs.declared.declared.Version.{Version}
@@ -25,11 +21,11 @@ use Rattle.pb_facts.specs.declared.fact.Fact.{Fact}
 use Rattle.pb_facts.specs.declared.fact.Fact.TheVariants.{Reading}
 use Rattle.pb_kinds.specs.declared.rows.Request.{Request}
 use Rattle.pb_kinds.specs.Ranges.{IsRequestInRange}
-use Rattle.pb_kinds.specs.Requests.{books, kinds_of, request_by}
-use Rattle.pb_kinds.specs.There.{IsReadingIn}
+use Rattle.pb_kinds.specs.Requests.{books}
+use Rattle.pb_kinds.specs.There.{IsReadingIn, kinds_of, request_by}
 use Rattle.pb_kinds.specs.Versions.{may_ask}
 use Rattle.pb_kinds.proofs.RangeLemmas.{asked_in_range}
-use Rattle.pb_kinds.proofs.VersionLemmas.{told_may}
+use Rattle.pb_kinds.proofs.VersionLemmas.{kind_found, told_may}
 
 -- ---- the six fields of a reading
 
@@ -114,23 +110,17 @@ reading_in_range fields fact reads =
 -- it has the words and the number of fields of the kind
 pub told_is_of : (kinds : List SessionKind) (fields : List (List ℕ)) (it : SessionKind) → session_told kinds fields ≡ Ok it → is_of fields (session_schema it) ≡ true
 unfolding session_told
-told_is_of kinds fields it told = by (position (is_of fields) (map session_schema kinds)) refl told
+told_is_of kinds fields it told = passes (λ kind. is_of fields (session_schema kind)) kinds (kind_found (find (λ kind. is_of fields (session_schema kind)) kinds) _ it told)
   where
-    here : (place : ℕ) (found : Option SessionKind) → position (is_of fields) (map session_schema kinds) ≡ Some place → slice_get kinds place ≡ found → ok_or found form.Kind ≡ Ok it
-        → is_of fields (session_schema it) ≡ true
-    here place (Some other) first at is =
-        let same : other ≡ it = cc is in
-        let schema : SessionKind → Option Schema = λ it. Some (session_schema it) in
-        let there : slice_get (map session_schema kinds) place ≡ Some (session_schema it) =
-        slice_get-map session_schema kinds place ∙ ap (λ (o : Option SessionKind). option_map session_schema o) at ∙ ap schema same in
-        let its = get_or_from_slice_get (map session_schema kinds) place (session_schema it) (session_schema it) there in
-        ap (is_of fields) (sym its) ∙ (position-Some (is_of fields) (map session_schema kinds) place (session_schema it) first).1
-    here place None first at is = cc is
-
-    by : (place : Option ℕ) → position (is_of fields) (map session_schema kinds) ≡ place → kind_in kinds (ok_or place (untold (map session_schema kinds) fields)) ≡ Ok it
-        → is_of fields (session_schema it) ≡ true
-    by (Some place) first is = here place (slice_get kinds place) first refl is
-    by None none is = cc is
+    passes : (is_its : SessionKind → Bool) (kinds : List SessionKind) → find is_its kinds ≡ Some it → is_its it ≡ true
+    passes is_its [] found = cc found
+    passes is_its (kind ∷ kinds) found = by (is_its kind) refl (passes is_its kinds) found
+      where
+        by : (b : Bool) → is_its kind ≡ b → (find is_its kinds ≡ Some it → is_its it ≡ true) → (if b then Some kind else find is_its kinds) ≡ Some it → is_its it ≡ true
+        by true here later found =
+            let same : kind ≡ it = cc found in
+            ap is_its (sym same) ∙ here
+        by false here later found = later found
 
 -- what it asks for may be asked for in a session of the version
 pub asked_may : (version : Version) (fields : List (List ℕ)) (it : SessionKind) (read : Result (List Value) FormFault) → session_told (kinds_of version) fields ≡ Ok it

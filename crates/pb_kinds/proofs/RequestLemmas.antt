@@ -23,7 +23,8 @@ use Rattle.pb_kinds.specs.declared.rows.Request.{Request}
 use Rattle.pb_kinds.specs.declared.rows.Request.TheVariants.{Blank, Store}
 use Rattle.pb_kinds.specs.Laws.{AskingLaw, StoredLaw}
 use Rattle.pb_kinds.specs.Ranges.{IsRequestInRange}
-use Rattle.pb_kinds.specs.Requests.{asked_by, asked_in, declares, request_by, request_if, request_in, request_of}
+use Rattle.pb_kinds.specs.Requests.{asked_by, asked_in, declares, request_if, request_in, request_of}
+use Rattle.pb_kinds.specs.There.{request_by}
 use Rattle.pb_kinds.specs.Versions.{has_kind, may_ask, may_begin}
 use Rattle.pb_kinds.proofs.RangeLemmas.{asked_in_range, asked_named, stored_names}
 use Rattle.pb_kinds.proofs.VersionLemmas.{asks_what_it_may, begins, kept_passes, may_begin_so, told_among}

@@ -1,12 +1,13 @@
 -- The kinds of the rows of a session of a version, and what these rows may do.
-use Rattle.std.specs.Prelude.{Option, Some, None, Result, Ok, Err, cond, filter, map, slice_get}
+use Rattle.std.specs.Prelude.{Option, Some, None, Ok, cond, filter, slice_get}
+use Rattle.std.specs.List.{find, position_or_len}
 use Rattle.std.specs.Option.{ok_or}
 use Rattle.std.proofs.Common.{◌≡◌, ◌∙◌, ◌⊎◌, ℕ, zero, suc, Bool, true, false, List, [], ◌∷◌, refl, sym, ap, inl, inr}
-use Rattle.pb_form.specs.SessionRows.{is_of_version_1, is_of_version_2, kind_in, session_kinds, session_schema, session_told}
-use Rattle.pb_form.specs.Telling.{schema_told}
+use Rattle.std.proofs.lemmas.List.Folds.{find_at}
+use Rattle.pb_form.specs.SessionRows.{is_of_version_1, is_of_version_2, session_kinds, session_schema, session_told}
+use Rattle.pb_form.specs.Telling.{is_of}
 use Rattle.pb_form.specs.Value.{Value}
 use Rattle.pb_form.specs.declared.fault.FormFault.{FormFault}
-use Rattle.pb_form.specs.declared.fault.FormFault.TheVariants as form
 use Rattle.pb_form.specs.declared.session.SessionKind.{SessionKind}
 use Rattle.pb_form.specs.declared.session.SessionKind.TheVariants as kind
 use Rattle.pb_site.specs.declared.declared.Version.{Version}
@@ -17,7 +18,8 @@ use Rattle.pb_kinds.specs.declared.rows.Effect.{Effect}
 use Rattle.pb_kinds.specs.declared.rows.Effect.TheVariants.{Declares}
 use Rattle.pb_kinds.specs.declared.rows.Request.{Request}
 use Rattle.pb_kinds.specs.declared.rows.Request.TheVariants.{Store}
-use Rattle.pb_kinds.specs.Requests.{kinds_of, request_of}
+use Rattle.pb_kinds.specs.Requests.{asked_by, asked_in, request_of}
+use Rattle.pb_kinds.specs.There.{kinds_of}
 use Rattle.pb_kinds.specs.Versions.{has_kind, may_ask, may_begin, may_declare, may_do}
 
 -- ---- the kind that a record is identified as is one of the session's
@@ -34,19 +36,21 @@ kept_passes p (y ∷ xs) i x at = by (p y) refl (λ k rest. kept_passes p xs k x
     by true e later (suc i) at = later i at
     by false e later i at = later i at
 
+-- a kind that is given was found
+pub kind_found : (found : Option SessionKind) (why : FormFault) (it : SessionKind) → ok_or found why ≡ Ok it → found ≡ Some it
+kind_found (Some other) why it is = cc is
+kind_found None why it is = cc is
+
 pub told_among : (kinds : List SessionKind) (fields : List (List ℕ)) (it : SessionKind) → session_told kinds fields ≡ Ok it → (i : ℕ) × (slice_get kinds i ≡ Some it)
 unfolding session_told
-told_among kinds fields it told = by (schema_told (map session_schema kinds) fields) told
-  where
-    here : (place : ℕ) (found : Option SessionKind) → slice_get kinds place ≡ found → ok_or found form.Kind ≡ Ok it → (i : ℕ) × (slice_get kinds i ≡ Some it)
-    here place (Some other) at is =
-        let same : other ≡ it = cc is in
-        (place, at ∙ ap (λ (k : SessionKind). (let one : Option SessionKind = Some k in one)) same)
-    here place None at is = cc is
+told_among kinds fields it told =
+    let is_its : SessionKind → Bool = λ kind. is_of fields (session_schema kind) in
+    (position_or_len is_its kinds, sym (find_at is_its kinds) ∙ kind_found (find is_its kinds) _ it told)
 
-    by : (told : Result ℕ FormFault) → kind_in kinds told ≡ Ok it → (i : ℕ) × (slice_get kinds i ≡ Some it)
-    by (Ok place) is = here place (slice_get kinds place) refl is
-    by (Err bad) is = cc is
+-- what a record asks for in a session of a version
+pub asked_in_version : (version : Version) (fields : List (List ℕ)) → asked_in (Some version) fields ≡ asked_by (kinds_of version) fields
+asked_in_version One fields = refl
+asked_in_version Two fields = refl
 
 -- ---- before a row is stored
 

@@ -1,23 +1,29 @@
 -- Inside. What stands at a place of a row's values, and what a record writes.
 use Rattle.std.specs.Prelude.{◌≡◌, ◌≤ℤ◌, ◌^◌, ◌-◌, ◌/◌, ◌<◌, ℕ, ℤ, pos, neg_ℤ, true, List, [], length, Option, Result, Ok, Some}
+use Rattle.std.specs.Result.{result_map_both, result_unwrap_or}
 use Rattle.pb_rows.specs.Date.{IsDay}
 use Rattle.pb_rows.specs.Name.{is_name}
 use Rattle.pb_rows.specs.Records.{without_trailing_empty}
 use Rattle.pb_form.specs.Reading.{fields_read, repeated, row_read}
-use Rattle.pb_form.specs.SessionRows.{cost_columns, session_columns, session_schema}
+use Rattle.pb_form.specs.Columns.{Column}
+use Rattle.pb_form.specs.SessionRows.{kinds_of_version_1, kinds_of_version_2, session_columns, session_schema, session_tail}
 use Rattle.pb_form.specs.Value.{Value}
 use Rattle.pb_form.specs.Values.{day_in, name_in, number_in, reason_in, value_at}
 use Rattle.pb_form.specs.Writing.{FitEach}
 use Rattle.pb_form.specs.declared.fault.FormFault.{FormFault}
 use Rattle.pb_form.specs.declared.session.SessionKind.{SessionKind}
-use Rattle.pb_form.specs.declared.session.SessionKind.TheVariants.{BatchInService, MeteredInService, PlainInService, Reading, StreamBatch, StreamMetered, StreamPlain}
+use Rattle.pb_form.specs.declared.session.SessionKind.TheVariants.{Advise, BatchInService, MeteredInService, PlainInService, Reading, StreamBatch, StreamMetered, StreamPlain}
 use Rattle.pb_facts.specs.declared.fact.Fact.{Fact}
 use Rattle.pb_site.specs.declared.declared.Kind.{Kind}
 use Rattle.pb_site.specs.declared.declared.Kind.TheVariants.{Metered, Batch, Plain}
 use Rattle.pb_site.specs.declared.declared.Version.{Version}
+use Rattle.pb_site.specs.declared.declared.Version.TheVariants.{One, Two}
+use Rattle.pb_kinds.specs.declared.costs.NamedCost.{NamedCost}
 use Rattle.pb_kinds.specs.declared.rows.Effect.{Effect}
+use Rattle.pb_kinds.specs.declared.rows.Request.{Request}
 use Rattle.pb_kinds.specs.declared.rows.Request.TheVariants.{Store}
-use Rattle.pb_kinds.specs.Requests.{reading_from, request_in}
+use Rattle.pb_kinds.specs.Costs.{costs_in}
+use Rattle.pb_kinds.specs.Requests.{reading_from, request_in, request_of}
 use Rattle.pb_kinds.specs.Versions.{may_do}
 
 -- a name
@@ -53,9 +59,17 @@ pub record WritesEffect (effect : Effect) (fields : List (List ℕ)) : Type 0 wh
   pub asks : (version : Option Version) → may_do version effect ≡ true → request_in version fields ≡ Ok (Store effect)
   pub filled : without_trailing_empty fields ≡ fields
 
+-- the columns of a named cost
+abbrev pub cost_columns : List Column
+cost_columns = session_tail Advise
+
 -- what fields that are pairs of a stream and a cost say
 abbrev pub pairs_read : List (List ℕ) → Result (List Value) FormFault
 pairs_read pairs = fields_read (repeated cost_columns [] (length pairs)) pairs
+
+-- the costs that values name, if values were read
+abbrev pub costs_by : Result (List Value) FormFault → List NamedCost
+costs_by read = costs_in (result_unwrap_or read [])
 
 -- n pairs, each a name and a cost
 pub record ArePairs (pairs : List (List ℕ)) (n : ℕ) : Type 0 where
@@ -63,6 +77,15 @@ pub record ArePairs (pairs : List (List ℕ)) (n : ℕ) : Type 0 where
   pub read : pairs_read pairs ≡ Ok values
   pub half : n ≡ length pairs / 2
   pub few : length pairs < 2 ^ 64
+
+-- the request of values that were read, or their fault
+abbrev pub request_by : SessionKind → Result (List Value) FormFault → Result Request FormFault
+request_by kind read = result_map_both (request_of kind) (λ fault. fault) read
+
+-- the kinds of the rows of a session of a version
+abbrev pub kinds_of : Version → List SessionKind
+kinds_of One = kinds_of_version_1
+kinds_of Two = kinds_of_version_2
 
 -- the kind of the row of a stream
 abbrev pub stream_kind : Kind → SessionKind

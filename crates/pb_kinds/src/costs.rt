@@ -26,8 +26,7 @@ pub struct NamedCosts<'a> {
 impl<'a> Model for NamedCosts<'a> {
     ghost use Rattle.std.specs.Prelude.{List};
     ghost use Rattle.pb_kinds.specs.declared.costs.NamedCost.{NamedCost};
-    ghost use Rattle.pb_kinds.specs.Costs.{costs_by};
-    ghost use Rattle.pb_kinds.specs.There.{ArePairs, pairs_read};
+    ghost use Rattle.pb_kinds.specs.There.{ArePairs, costs_by, pairs_read};
 
     ghost Value = { List NamedCost };
 

@@ -7,8 +7,8 @@ ghost use Rattle.pb_form.specs.Telling.{is_of};
 ghost use Rattle.pb_form.specs.Writing.{FitEach};
 ghost use Rattle.pb_form.specs.declared.session.SessionKind.TheVariants as kinds;
 ghost use Rattle.pb_kinds.specs.Ranges.{IsRequestInRange};
-ghost use Rattle.pb_kinds.specs.Requests.{asked_by, asked_in, books, declares, kinds_of, request_by, request_in, request_of, service_from, stream_of};
-ghost use Rattle.pb_kinds.specs.There.{IsNameThere};
+ghost use Rattle.pb_kinds.specs.Requests.{asked_by, asked_in, books, declares, request_in, request_of, service_from, stream_of};
+ghost use Rattle.pb_kinds.specs.There.{IsNameThere, kinds_of, request_by};
 ghost use Rattle.pb_kinds.specs.Versions.{may_ask};
 
 use crate::facts::{dip_from, reading_from, reading_in, transfer_from};

@@ -2,7 +2,8 @@
 
 ghost use Rattle.std.specs.Prelude.{◌≡◌, pos, unsigned_abs};
 ghost use Rattle.pb_limits.specs.Limits.{most_freedom};
-ghost use Rattle.pb_kinds.specs.Requests.{day_there, name_there, number_there, reason_there};
+ghost use Rattle.pb_form.specs.Values.{number_at};
+ghost use Rattle.pb_kinds.specs.Requests.{day_there, name_there, reason_there};
 ghost use Rattle.pb_kinds.specs.There.{IsLongThere, IsNameThere, IsNumberThere, IsReasonThere};
 
 use pb_form::Values;
@@ -36,7 +37,7 @@ pub(crate) fn day_there(values: &Values, place: usize) -> i32
 // A whole number.
 #[inline(always)]
 pub(crate) fn number_there(values: &Values, place: usize) -> i128
-    ensures { result ≡ number_there values.now place }
+    ensures { result ≡ number_at values.now place }
 {
     values.number(place).unwrap_or(0)
 }
@@ -45,7 +46,7 @@ pub(crate) fn number_there(values: &Values, place: usize) -> i128
 #[inline(always)]
 pub(crate) fn long_there(values: &Values, place: usize) -> i64
     requires { IsLongThere values.now place }
-    ensures { result ≡ number_there values.now place }
+    ensures { result ≡ number_at values.now place }
 {
     number_there(values, place) as i64
 }
@@ -53,7 +54,7 @@ pub(crate) fn long_there(values: &Values, place: usize) -> i64
 // Degrees of freedom.
 pub(crate) fn dof_there(values: &Values, place: usize) -> u32
     requires { IsNumberThere (pos 1) (pos most_freedom) values.now place }
-    ensures { result ≡ unsigned_abs (number_there values.now place) }
+    ensures { result ≡ unsigned_abs (number_at values.now place) }
 {
     number_there(values, place) as u32
 }

@@ -33,8 +33,8 @@ use Rattle.pb_choices.specs.declared.places.Shape.{Shape as ShapeKind}
 use Rattle.pb_choices.specs.declared.places.Shape.TheVariants.{Cut, Cycle}
 use Rattle.pb_blocks.specs.declared.rows.Solution.{Solution}
 use Rattle.pb_blocks.specs.declared.rows.StreamRow.{StreamRow}
-use Rattle.pb_blocks.specs.Beside.{are_miscounted, form_fault, has_bad_list, has_unknown_node, heading_fault, is_half_told, opening_fault}
-use Rattle.pb_blocks.specs.Held.{leads_to_itself, heading_in, names_no_stream, side_of}
+use Rattle.pb_blocks.specs.Beside.{are_miscounted, has_bad_list, has_unknown_node, heading_fault, is_half_told, opening_fault}
+use Rattle.pb_blocks.specs.Held.{leads_to_itself, heading_in, names_no_stream, side_of, form_fault}
 use Rattle.pb_blocks.specs.Codes.{lowest}
 use Rattle.pb_blocks.specs.Counts.{IsHeading}
 use Rattle.pb_blocks.specs.Kinds.{kind_among}
@@ -42,9 +42,10 @@ use Rattle.pb_blocks.specs.Laws.{LiesWithin}
 use Rattle.pb_blocks.specs.Lists.{is_among, is_plus, items, member_of, part_name, step_of}
 use Rattle.pb_blocks.specs.Results.{has_unknown_part, result_of, witness_by}
 use Rattle.pb_blocks.specs.Texts.{name_field, side_field}
-use Rattle.pb_blocks.specs.Values.{said_arc, both_bounds, both_meas, chosen_at, said_measure, natural_at, said_nodal, number_at, optional_at, said_stream, values_in}
+use Rattle.pb_blocks.specs.Values.{said_arc, both_bounds, both_meas, chosen_at, said_measure, natural_at, said_nodal, said_stream, values_in}
 use Rattle.pb_blocks.proofs.NameLemmas.{some_found}
 use Rattle.pb_blocks.proofs.RowLaws.{name_read, number_read, optional_read, word_read}
+use Rattle.pb_form.specs.Values.{value_at, number_in, number_at}
 use Rattle.pb_readback.specs.declared.draft.Draft.{Draft}
 use Rattle.pb_readback.specs.Blocks.{block_of}
 use Rattle.pb_readback.specs.Drafts.{draft_with_row, kinds_next, with_measure, with_nodal, with_rows, with_stream}
@@ -262,10 +263,10 @@ node_formed draft row formed may fine =
 -- what the row of a stream says is within the limits
 record IsSaidStream (kind : OutputKind) (row : List (List ℕ)) : Type 0 where
   name : is_name (name_field row) ≡ true
-  meas : IfSome (both_meas (optional_at (values_in kind row) 4) (optional_at (values_in kind row) 5)) IsMeasurement
+  meas : IfSome (both_meas (value_at number_in (values_in kind row) 4) (value_at number_in (values_in kind row) 5)) IsMeasurement
   flow : IsFlow (number_at (values_in kind row) 7)
-  bounds : IfSome (both_bounds (optional_at (values_in kind row) 8) (optional_at (values_in kind row) 9)) AreBoundsWithin
-  least : IfSome (both_bounds (optional_at (values_in kind row) 10) (optional_at (values_in kind row) 11)) AreBoundsWithin
+  bounds : IfSome (both_bounds (value_at number_in (values_in kind row) 8) (value_at number_in (values_in kind row) 9)) AreBoundsWithin
+  least : IfSome (both_bounds (value_at number_in (values_in kind row) 10) (value_at number_in (values_in kind row) 11)) AreBoundsWithin
 
 flow_in : (z : ℤ) → LiesWithin (neg_ℤ (pos (2 ^ 68 - 1))) (pos (2 ^ 68 - 1)) z → IsFlow z
 flow_in z h = let most = abs_within (2 ^ 68 - 1) z h in omega (arith, most)
@@ -273,16 +274,16 @@ flow_in z h = let most = abs_within (2 ^ 68 - 1) z h in omega (arith, most)
 stream_within : (row : List (List ℕ)) → row_read (output_schema Stream) row ≡ Ok (values_in Stream row) → IsSaidStream Stream row
 stream_within row read =
     let values = values_in Stream row in
-    let wide = λ (place : ℕ) (number : IfSome (optional_at values place) (LiesWithin (neg_ℤ (pos (2 ^ 126))) (pos (2 ^ 126)))). wide_if (optional_at values place) number in
+    let wide = λ (place : ℕ) (number : IfSome (value_at number_in values place) (LiesWithin (neg_ℤ (pos (2 ^ 126))) (pos (2 ^ 126)))). wide_if (value_at number_in values place) number in
     record {
       name = name_read Stream row values 1 (codes "name") read refl;
-      meas = meas_in (optional_at values 4) (optional_at values 5) (optional_read Stream row values 4 (codes "value") (neg_ℤ (pos most_value)) (pos most_value) read refl)
+      meas = meas_in (value_at number_in values 4) (value_at number_in values 5) (optional_read Stream row values 4 (codes "value") (neg_ℤ (pos most_value)) (pos most_value) read refl)
           (optional_read Stream row values 5 (codes "variance") (pos 1) (pos most_variance) read refl);
       flow = flow_in (number_at values 7) (number_read Stream row values 7 (codes "flow") (neg_ℤ (pos (2 ^ 68 - 1))) (pos (2 ^ 68 - 1)) read refl);
-      bounds = bounds_in (optional_at values 8) (optional_at values 9)
+      bounds = bounds_in (value_at number_in values 8) (value_at number_in values 9)
           (wide 8 (optional_read Stream row values 8 (codes "lo") (neg_ℤ (pos (2 ^ 126))) (pos (2 ^ 126)) read refl))
           (wide 9 (optional_read Stream row values 9 (codes "hi") (neg_ℤ (pos (2 ^ 126))) (pos (2 ^ 126)) read refl));
-      least = bounds_in (optional_at values 10) (optional_at values 11)
+      least = bounds_in (value_at number_in values 10) (value_at number_in values 11)
           (wide 10 (optional_read Stream row values 10 (codes "least_lo") (neg_ℤ (pos (2 ^ 126))) (pos (2 ^ 126)) read refl))
           (wide 11 (optional_read Stream row values 11 (codes "least_hi") (neg_ℤ (pos (2 ^ 126))) (pos (2 ^ 126)) read refl));
     }
@@ -290,13 +291,13 @@ stream_within row read =
 before_within : (row : List (List ℕ)) → row_read (output_schema StreamBefore) row ≡ Ok (values_in StreamBefore row) → IsSaidStream StreamBefore row
 before_within row read =
     let values = values_in StreamBefore row in
-    let wide = λ (place : ℕ) (number : IfSome (optional_at values place) (LiesWithin (neg_ℤ (pos (2 ^ 126))) (pos (2 ^ 126)))). wide_if (optional_at values place) number in
+    let wide = λ (place : ℕ) (number : IfSome (value_at number_in values place) (LiesWithin (neg_ℤ (pos (2 ^ 126))) (pos (2 ^ 126)))). wide_if (value_at number_in values place) number in
     record {
       name = name_read StreamBefore row values 1 (codes "name") read refl;
-      meas = meas_in (optional_at values 4) (optional_at values 5) (optional_read StreamBefore row values 4 (codes "value") (neg_ℤ (pos most_value)) (pos most_value) read refl)
+      meas = meas_in (value_at number_in values 4) (value_at number_in values 5) (optional_read StreamBefore row values 4 (codes "value") (neg_ℤ (pos most_value)) (pos most_value) read refl)
           (optional_read StreamBefore row values 5 (codes "variance") (pos 1) (pos most_variance) read refl);
       flow = flow_in (number_at values 7) (number_read StreamBefore row values 7 (codes "flow") (neg_ℤ (pos (2 ^ 68 - 1))) (pos (2 ^ 68 - 1)) read refl);
-      bounds = bounds_in (optional_at values 8) (optional_at values 9)
+      bounds = bounds_in (value_at number_in values 8) (value_at number_in values 9)
           (wide 8 (optional_read StreamBefore row values 8 (codes "lo") (neg_ℤ (pos (2 ^ 126))) (pos (2 ^ 126)) read refl))
           (wide 9 (optional_read StreamBefore row values 9 (codes "hi") (neg_ℤ (pos (2 ^ 126))) (pos (2 ^ 126)) read refl));
       least = rw (word_read StreamBefore row values 10 (codes "shape") shape_words read refl) tt;
@@ -352,7 +353,7 @@ solved_formed draft row formed may fine =
         h = count 4 32 (number_read Solved row values 4 (codes "h") (pos 0) (pos 32) fine.read refl);
         dof = count 5 most_freedom (number_read Solved row values 5 (codes "dof") (pos 0) (pos most_freedom) fine.read refl);
         low = abs_within (2 ^ 126) (number_at values 6) (number_read Solved row values 6 (codes "low") (neg_ℤ (pos (2 ^ 126))) (pos (2 ^ 126)) fine.read refl);
-        high = wide_if (optional_at values 7) (optional_read Solved row values 7 (codes "high") (neg_ℤ (pos (2 ^ 126))) (pos (2 ^ 126)) fine.read refl);
+        high = wide_if (value_at number_in values 7) (optional_read Solved row values 7 (codes "high") (neg_ℤ (pos (2 ^ 126))) (pos (2 ^ 126)) fine.read refl);
       };
       tests = formed.tests;
     }
@@ -411,7 +412,7 @@ measure_formed draft row formed may fine =
     let test : IsFormedMeasure draft.heading (said_measure draft.streams row values) = record {
       stream = omega (arith, at, few);
       low = abs_within (2 ^ 126) (number_at values 2) (number_read Measure row values 2 (codes "low") (neg_ℤ (pos (2 ^ 126))) (pos (2 ^ 126)) fine.read refl);
-      high = wide_if (optional_at values 3) (optional_read Measure row values 3 (codes "high") (neg_ℤ (pos (2 ^ 126))) (pos (2 ^ 126)) fine.read refl);
+      high = wide_if (value_at number_in values 3) (optional_read Measure row values 3 (codes "high") (neg_ℤ (pos (2 ^ 126))) (pos (2 ^ 126)) fine.read refl);
       critical = optional_read Measure row values 4 (codes "critical") (pos 0) (pos most_critical) fine.read refl;
     } in
     record {

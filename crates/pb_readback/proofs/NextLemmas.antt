@@ -19,8 +19,8 @@ use Rattle.pb_readback.specs.Blocks.{block_of}
 use Rattle.pb_readback.specs.Drafts.{draft_with_row, kinds_next, with_rows}
 use Rattle.pb_readback.specs.Faults.{fault_behind, first_unknown}
 use Rattle.pb_readback.specs.Laws.{JoinLaw, NextLaw}
-use Rattle.pb_readback.specs.Next.{AreBlocks, ArePassedOver, AreSound, Found, IsFault, IsFound, IsNext, IsNoBlock, Next, NoBlock, Refused, fault_next, opened_draft}
-use Rattle.pb_readback.specs.Reading.{HasAll, IsReadWhole, MayCome}
+use Rattle.pb_readback.specs.Next.{AreBlocks, ArePassedOver, AreSound, Found, IsFault, IsFound, IsNext, IsNoBlock, Next, NoBlock, Refused, opened_draft}
+use Rattle.pb_readback.specs.Reading.{HasAll, IsReadWhole, MayCome, fault_next}
 use Rattle.pb_readback.proofs.ReadingLemmas.{fault_if, is_row_of, may_come, not_below, opening_by, sound_more, told_if, unended, with_rows_more}
 
 -- the row that ends a block

@@ -9,11 +9,11 @@ use Rattle.pb_form.specs.OutputRows.{output_schema}
 use Rattle.pb_form.specs.Reading.{row_read}
 use Rattle.pb_blocks.specs.declared.fault.RowFault.{RowFault}
 use Rattle.pb_blocks.specs.declared.fault.RowFault.TheVariants.{Number, Unknown, Duplicate, Shape, Count}
-use Rattle.pb_blocks.specs.Beside.{form_fault, has_bad_list, has_unknown_node, is_half_told}
+use Rattle.pb_blocks.specs.Beside.{has_bad_list, has_unknown_node, is_half_told}
 use Rattle.pb_blocks.specs.Kinds.{kind_among}
 use Rattle.pb_blocks.specs.Lists.{is_among, is_part, is_side, items}
 use Rattle.pb_blocks.specs.Texts.{field, is_blank, name_field, parts_field, place_after, side_field}
-use Rattle.pb_blocks.specs.Held.{leads_to_itself}
+use Rattle.pb_blocks.specs.Held.{leads_to_itself, form_fault}
 use Rattle.pb_blocks.specs.Values.{said_stream, values_in}
 use Rattle.pb_blocks.proofs.NameLemmas.{all_more}
 use Rattle.pb_readback.specs.declared.draft.Draft.{Draft}

@@ -2,7 +2,7 @@
 use Rattle.std.specs.Prelude.{◌≢◌, nat_eq, nat_lt, find, Result, Ok, Err, if◌then◌else◌}
 use Rattle.std.specs.List.{list_all, list_any, AllByRecursion}
 use Rattle.std.specs.Option.{ok_or, option_map_or}
-use Rattle.std.specs.Result.{result_ok}
+use Rattle.std.specs.Result.{result_ok, result_map_both}
 use Rattle.std.proofs.Common.{◌≡◌, ◌∙◌, ℕ, ◌+◌, ◌<◌, ◌≤◌, List, [], ◌∷◌, ◌++◌, length, Bool, true, false, Option, Some, None, refl, sym, ap, arith, inl, inr, append_assoc, length-append}
 use Rattle.std.proofs.lemmas.Bool.{and_parts, cases_Bool}
 use Rattle.pb_form.specs.OutputRows.{output_schema}
@@ -16,9 +16,13 @@ use Rattle.pb_blocks.specs.declared.fault.RowFault.TheVariants.{Unknown, Ended}
 use Rattle.pb_blocks.specs.declared.rows.Heading.{Heading}
 use Rattle.pb_blocks.specs.Counts.{IsHeading}
 use Rattle.pb_blocks.specs.Beside.{fault_as, heading_fault}
-use Rattle.pb_blocks.specs.Kinds.{has_word_of, is_passed_over, kind_among}
+use Rattle.pb_blocks.specs.Codes.{fault_by}
+use Rattle.pb_blocks.specs.Held.{has_word_of}
+use Rattle.pb_blocks.specs.Kinds.{is_passed_over, kind_among}
 use Rattle.pb_blocks.specs.Texts.{name_field}
 use Rattle.pb_blocks.specs.Values.{said_arc, said_stream, values_in}
+use Rattle.pb_form.specs.declared.fault.FormFault.{FormFault}
+use Rattle.pb_form.specs.declared.fault.FormFault.TheVariants as form
 use Rattle.pb_readback.specs.declared.block.Block.{Block}
 use Rattle.pb_readback.specs.declared.draft.Draft.{Draft}
 use Rattle.pb_readback.specs.declared.reading.ReadRefused.{ReadRefused}
@@ -60,9 +64,9 @@ found_among P row (first ∷ kinds) kind all found = elim (cases_Bool (is_row_of
 ]
 
 told_among : (P : OutputKind → Type 0) (row : List (List ℕ)) (kinds : List OutputKind) (kind : OutputKind) → AllByRecursion P kinds → kind_among kinds row ≡ Ok kind → P kind
-told_among P row kinds kind all told = by (find (is_row_of row) kinds) refl (if list_any (has_word_of row) kinds then RowFault.Fields else RowFault.Kind) told
+told_among P row kinds kind all told = by (find (is_row_of row) kinds) refl (if list_any (has_word_of row) kinds then form.Fields else form.Kind) told
   where
-    by : (found : Option OutputKind) → find (is_row_of row) kinds ≡ found → (fault : RowFault) → ok_or found fault ≡ Ok kind → P kind
+    by : (found : Option OutputKind) → find (is_row_of row) kinds ≡ found → (fault : FormFault) → result_map_both (λ kind. kind) fault_by (ok_or found fault) ≡ Ok kind → P kind
     by None is fault told = cc told
     by (Some other) is fault told =
         let same : other ≡ kind = cc told in

@@ -11,7 +11,7 @@ use Rattle.pb_form.specs.Value.{Value}
 use Rattle.pb_blocks.specs.Beside.{has_unknown_node}
 use Rattle.pb_blocks.specs.Held.{leads_to_itself, is_unknown_item}
 use Rattle.pb_blocks.specs.Lists.{is_among, items, place_of}
-use Rattle.pb_blocks.specs.Texts.{from_field, side_field, to_field}
+use Rattle.pb_blocks.specs.Texts.{side_field, field}
 use Rattle.pb_blocks.specs.Values.{said_arc}
 use Rattle.pb_blocks.proofs.NameLemmas.{all_more, any_place, differ_more}
 use Rattle.pb_readback.specs.WellFormed.{AreNames}
@@ -52,21 +52,21 @@ names_more names name are form new = record {
 
 -- the ends of a stream are nodes
 pub known_ends : (nodes : List (List ℕ)) (kind : OutputKind) (row : List (List ℕ)) → has_unknown_node nodes kind row ≡ false
-    → (is_among nodes (from_field row) ≡ true) × (is_among nodes (to_field row) ≡ true)
+    → (is_among nodes (field row 2) ≡ true) × (is_among nodes (field row 3) ≡ true)
 known_ends nodes kind row known =
-    let parts = or_parts (not (is_among nodes (from_field row)) || not (is_among nodes (to_field row))) (list_any (is_unknown_item nodes) (items (side_field kind row))) known in
-    let both = or_parts (not (is_among nodes (from_field row))) (not (is_among nodes (to_field row))) parts.0 in
-    (not_false (is_among nodes (from_field row)) both.0, not_false (is_among nodes (to_field row)) both.1)
+    let parts = or_parts (not (is_among nodes (field row 2)) || not (is_among nodes (field row 3))) (list_any (is_unknown_item nodes) (items (side_field kind row))) known in
+    let both = or_parts (not (is_among nodes (field row 2))) (not (is_among nodes (field row 3))) parts.0 in
+    (not_false (is_among nodes (field row 2)) both.0, not_false (is_among nodes (field row 3)) both.1)
 
 -- a stream between two of these nodes is a stream of a graph with these nodes
 pub arc_joins : (nodes : List (List ℕ)) (kind : OutputKind) (row : List (List ℕ)) (values : List Value) (count : ℕ) → length nodes ≤ count → has_unknown_node nodes kind row ≡ false
     → leads_to_itself row ≡ false → IsStream count (said_arc nodes row values)
 arc_joins nodes kind row values count few known apart =
     let ends = known_ends nodes kind row known in
-    let first = place_within nodes (from_field row) ends.0 in
-    let second = place_within nodes (to_field row) ends.1 in
+    let first = place_within nodes (field row 2) ends.0 in
+    let second = place_within nodes (field row 3) ends.1 in
     record {
       from = omega (arith, first, few);
       to = omega (arith, second, few);
-      apart = places_apart nodes (from_field row) (to_field row) ends.0 ends.1 apart;
+      apart = places_apart nodes (field row 2) (field row 3) ends.0 ends.1 apart;
     }

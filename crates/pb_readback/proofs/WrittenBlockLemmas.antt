@@ -14,7 +14,7 @@ use Rattle.pb_form.specs.Value.{Value}
 use Rattle.pb_form.specs.declared.output.OutputKind.{OutputKind}
 use Rattle.pb_form.specs.declared.output.OutputKind.TheVariants.{Node}
 use Rattle.pb_blocks.specs.Lists.{is_among}
-use Rattle.pb_blocks.specs.Values.{number_at}
+use Rattle.pb_form.specs.Values.{number_at}
 use Rattle.pb_readback.specs.declared.draft.Draft.{Draft}
 use Rattle.pb_readback.specs.Drafts.{draft_with_row, with_rows}
 use Rattle.pb_readback.specs.Faults.{fault_behind, first_unknown}

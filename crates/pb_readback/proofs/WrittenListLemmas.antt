@@ -7,12 +7,13 @@ use Rattle.std.proofs.lemmas.List.{append-nil}
 use Rattle.std.proofs.lemmas.List.Splits.{slice_split_at, slice_split_none}
 use Rattle.std.proofs.lemmas.List.Sums.{AllPass-from_list_all}
 use Rattle.std.proofs.Math.Seq.{get_or-append_seam}
-use Rattle.pb_rows.specs.Name.{is_name, is_name_byte, has_name_length, same_name}
+use Rattle.pb_rows.specs.Name.{is_name, is_name_byte, same_name}
 use Rattle.pb_report.specs.Certificate.{names_in, spaced}
 use Rattle.pb_report.specs.Names.{name_at}
 use Rattle.pb_blocks.specs.Lists.{space, items, is_among, place_of, rise_from}
 use Rattle.pb_blocks.specs.Held.{is_unknown_item, side_of}
 use Rattle.pb_readback.proofs.WrittenFieldLemmas.{is_empty, AreApart, same_self, same_sym, place_at, some_byte}
+use Rattle.pb_rows.specs.Forms.{has_name_length}
 
 -- ---- pieces separated by one space
 

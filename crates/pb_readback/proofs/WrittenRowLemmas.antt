@@ -22,13 +22,14 @@ use Rattle.pb_report.specs.Row.{OutputRow, fields_of}
 use Rattle.pb_report.specs.Tests.{global_row, measure_row, nodal_row}
 use Rattle.pb_blocks.specs.declared.fault.RowFault.{RowFault}
 use Rattle.pb_blocks.specs.declared.fault.RowFault.TheVariants.{Unknown, Duplicate, Shape, Count}
-use Rattle.pb_blocks.specs.Beside.{are_miscounted, form_fault, has_bad_list, has_unknown_node, heading_fault, is_half_told, opening_fault}
-use Rattle.pb_blocks.specs.Held.{leads_to_itself}
+use Rattle.pb_blocks.specs.Beside.{are_miscounted, has_bad_list, has_unknown_node, heading_fault, is_half_told, opening_fault}
+use Rattle.pb_blocks.specs.Held.{leads_to_itself, form_fault}
 use Rattle.pb_blocks.specs.Codes.{lowest}
 use Rattle.pb_blocks.specs.Kinds.{kind_among}
 use Rattle.pb_blocks.specs.Lists.{is_among}
 use Rattle.pb_blocks.specs.Texts.{name_field}
-use Rattle.pb_blocks.specs.Values.{number_at, values_in}
+use Rattle.pb_blocks.specs.Values.{values_in}
+use Rattle.pb_form.specs.Values.{number_at}
 use Rattle.pb_readback.specs.declared.draft.Draft.{Draft}
 use Rattle.pb_readback.specs.Drafts.{draft_with_row, kinds_after, kinds_next, stream_kinds}
 use Rattle.pb_readback.specs.Reading.{told_with, AwaitsNodes, AwaitsStreams, HasAll}

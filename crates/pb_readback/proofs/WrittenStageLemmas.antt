@@ -24,7 +24,7 @@ use Rattle.pb_readback.specs.Faults.{first_unknown}
 use Rattle.pb_readback.specs.Written.{records_in}
 use Rattle.pb_readback.proofs.WrittenFieldLemmas.{AreNew, AreWritten}
 use Rattle.pb_readback.proofs.WrittenRowLemmas.{row_leaves, row_sound, takes_least, values_back}
-use Rattle.pb_readback.proofs.WrittenStreamLemmas.{AreKnownNames, result_told, stream_back, stream_fields, stream_fine, stream_values, told_of}
+use Rattle.pb_readback.proofs.WrittenStreamLemmas.{AreKnownNames, result_told, stream_back, stream_fields, stream_fine, stream_values, told_of, fields_are}
 use Rattle.pb_readback.proofs.WrittenBlockLemmas.{Tells, last_of, tells_more, tells_none, tells_to}
 
 -- the draft after the rows of streams
@@ -119,5 +119,7 @@ streams_tell written names graph known draft (name ∷ rest) (stream ∷ streams
     (append_assoc draft.rows (told_of names result ∷ []) (map (told_of names) results))) in
     let all_rows = records_in (rows_with (result_row names) (i + 1) streams results) in
     let counted = subst (λ (n : ℕ). Tells next (records_in (rows_with (result_row names) n streams results)) (behind_streams names next rest streams results)) more behind in
-    tells_more draft next row all_rows (behind_streams names draft (name ∷ rest) (stream ∷ streams) (result ∷ results)) (unfinished draft below) (row_sound draft OutputKind.Stream row values fine) leaves
-    (tells_to next (behind_streams names next rest streams results) (behind_streams names draft (name ∷ rest) (stream ∷ streams) (result ∷ results)) all_rows same counted)
+    let told_row = λ (fields : List (List ℕ)). Tells draft (fields ∷ all_rows) (behind_streams names draft (name ∷ rest) (stream ∷ streams) (result ∷ results)) in
+    subst told_row (fields_are names i stream result)
+    (tells_more draft next row all_rows (behind_streams names draft (name ∷ rest) (stream ∷ streams) (result ∷ results)) (unfinished draft below) (row_sound draft OutputKind.Stream row values fine) leaves
+    (tells_to next (behind_streams names next rest streams results) (behind_streams names draft (name ∷ rest) (stream ∷ streams) (result ∷ results)) all_rows same counted))

@@ -2,7 +2,7 @@
 use Rattle.std.specs.Prelude.{◌&&◌, not, ◌^◌, codes, bytes_eq, IfSome}
 use Rattle.std.specs.List.{list_all, list_any}
 use Rattle.std.specs.Option.{option_and}
-use Rattle.std.proofs.Common.{◌≡◌, ◌∙◌, ℕ, ◌<◌, List, [], length, Bool, true, false, Option, None, Some, refl, sym, ap, ap₂, subst, arith, inl, inr}
+use Rattle.std.proofs.Common.{◌≡◌, ◌∙◌, ◌++◌, ℕ, ◌<◌, List, [], length, take, Bool, true, false, Option, None, Some, refl, sym, ap, ap₂, subst, arith, inl, inr}
 use Rattle.std.proofs.lemmas.Bool.{and_from, cases_Bool, or_from}
 use Rattle.std.specs.Cmp.Lexicographic.{bytes_decides}
 use Rattle.pb_limits.specs.Limits.{most_value, most_variance, most_wide}
@@ -19,10 +19,10 @@ use Rattle.pb_study.specs.declared.results.StreamResult.{StreamResult}
 use Rattle.pb_graph.specs.ProcessGraph.{ProcessGraph, IsMeasurement, IsStream, IsWithinLimits}
 use Rattle.pb_study.specs.WellFormed.{AreBoundsWithin, IsResultWithin}
 use Rattle.pb_graph.specs.WellFormed.{IsWitnessWithin}
-use Rattle.pb_report.specs.Block.{high_end, low_end, result_row, written_least}
-use Rattle.pb_report.specs.Certificate.{parts_text, side_text}
+use Rattle.pb_report.specs.Block.{high_end, low_end, result_row}
+use Rattle.pb_report.specs.Certificate.{certificate_values}
 use Rattle.pb_report.specs.Names.{name_at}
-use Rattle.pb_report.specs.Row.{fields_of, value_or_none}
+use Rattle.pb_report.specs.Row.{fields_of, value_or_none, OutputRow}
 use Rattle.pb_form.specs.Holds.{Holds, either_way, from_one}
 use Rattle.pb_form.specs.OutputRows.{output_columns, wide_range}
 use Rattle.pb_form.specs.Texts.{value_text}
@@ -45,6 +45,7 @@ use Rattle.pb_readback.proofs.WrittenFieldLemmas.{is_empty, AreApart, AreWritten
 use Rattle.pb_readback.proofs.WrittenListLemmas.{AreNamed, in_known, in_named, in_order, named_at, side_back, side_items}
 use Rattle.pb_readback.proofs.WrittenPartLemmas.{AreStreamNames, members_back, steps_back}
 use Rattle.pb_readback.proofs.WrittenRowLemmas.{IsSoundRow, row_back, stream_beside, takes_least, told_stream}
+use Rattle.pb_report.specs.Pieces.{certificate_parts, parts_text, side_text}
 
 -- ---- measurements and bounds
 
@@ -87,7 +88,7 @@ high_fits None h = refl
 high_fits (Some bounds) h = abs_between most_wide bounds.hi h.hi
 
 -- the least bounds that are written are within the limits
-least_within : (result : StreamResult) → IfSome result.least AreBoundsWithin → IfSome (written_least result) AreBoundsWithin
+least_within : (result : StreamResult) → IfSome result.least AreBoundsWithin → IfSome (option_and result.bounds result.least) AreBoundsWithin
 least_within result h = by result.bounds
   where
     by : (bounds : Option Bounds) → IfSome (option_and bounds result.least) AreBoundsWithin
@@ -95,7 +96,7 @@ least_within result h = by result.bounds
     by (Some bounds) = h
 
 -- and they are the least bounds of the stream, if it has none without bounds
-least_back : (result : StreamResult) → HasBoundsForLeast result → written_least result ≡ result.least
+least_back : (result : StreamResult) → HasBoundsForLeast result → option_and result.bounds result.least ≡ result.least
 least_back result whole = by result.bounds whole
   where
     by : (bounds : Option Bounds) → (bounds ≡ None → result.least ≡ None) → option_and bounds result.least ≡ result.least
@@ -112,12 +113,27 @@ pub record AreKnownNames (names : Names) (graph : ProcessGraph) : Type 0 where
   pub each_node : length names.nodes ≡ graph.nodes
   pub each_stream : length names.streams ≡ length graph.streams
 
+-- the values of a certificate
+as_parts : (names : Names) (witness : Witness) → certificate_values names witness ≡ certificate_parts names witness
+as_parts names (Witness.Cut side members) = refl
+as_parts names (Witness.Cycle steps) = refl
+
+-- the row of a stream with each value of its certificate by the certificate
+abbrev row_with : Names → ℕ → Stream → StreamResult → List Value → OutputRow
+row_with names i stream result values = record { kind = OutputKind.Stream; values = take 12 (result_row names i stream result).values ++ values }
+
+abbrev parts_row : Names → ℕ → Stream → StreamResult → OutputRow
+parts_row names i stream result = row_with names i stream result (certificate_parts names result.classified.witness)
+
 -- the fields of the row of a stream, and its values
 abbrev pub stream_fields : Names → ℕ → Stream → StreamResult → List (List ℕ)
-stream_fields names i stream result = fields_of (result_row names i stream result)
+stream_fields names i stream result = fields_of (parts_row names i stream result)
+
+pub fields_are : (names : Names) (i : ℕ) (stream : Stream) (result : StreamResult) → stream_fields names i stream result ≡ fields_of (result_row names i stream result)
+fields_are names i stream result = ap (λ (values : List Value). fields_of (row_with names i stream result values)) (sym (as_parts names result.classified.witness))
 
 abbrev pub stream_values : Names → ℕ → Stream → StreamResult → List Value
-stream_values names i stream result = (result_row names i stream result).values
+stream_values names i stream result = (parts_row names i stream result).values
 
 -- what the row says about a stream
 pub stream_back : (names : Names) (graph : ProcessGraph) (i : ℕ) (stream : Stream) (result : StreamResult) → AreKnownNames names graph → IsStream graph.nodes stream
@@ -142,7 +158,7 @@ told_of names result = record {
   class = result.classified.class;
   flow = result.flow;
   bounds = result.bounds;
-  least = written_least result;
+  least = option_and result.bounds result.least;
   shape = witness_shape result.classified.witness;
   side = side_in names.nodes result.classified.witness;
   parts = parts_text names.streams result.classified.witness;
@@ -160,7 +176,7 @@ result_told written names graph i stream result known within =
     rw (
       written.classes.there result.classified.class,
       bounds_back result.bounds,
-      bounds_back (written_least result),
+      bounds_back (option_and result.bounds result.least),
       written.shapes.there (witness_shape result.classified.witness),
       side_told names graph result.classified.witness known within.witness,
     ) refl
@@ -242,9 +258,9 @@ stream_fits written names graph i stream result known joins limits within lt =
                       (
                         high_fits result.bounds within.bounds,
                         (
-                          low_fits (written_least result) least,
+                          low_fits (option_and result.bounds result.least) least,
                           (
-                            high_fits (written_least result) least,
+                            high_fits (option_and result.bounds result.least) least,
                             (word_fits shape_words shape_place placed_shape written.shapes (witness_shape result.classified.witness), (refl, (refl, tt))),
                           ),
                         ),
@@ -274,11 +290,11 @@ stream_fine written draft names graph i stream result known joins limits within 
     let lists : has_bad_list names.nodes OutputKind.Stream row ≡ false = rw (side.form, side.of_cut, parts.forms) refl in
     record {
       told = told_stream draft row at.awaits at.with_least refl;
-      read = row_back written.texts (result_row names i stream result) (stream_fits written names graph i stream result known joins limits within lt);
+      read = row_back written.texts (parts_row names i stream result) (stream_fits written names graph i stream result known joins limits within lt);
       beside = stream_beside draft row (record {
         whole = or_from _ _ (whole_meas written.numbers (either_way most_value) (from_one most_variance) stream.meas)
             (or_from _ _ (whole_bounds written.numbers wide_range wide_range result.bounds)
-            (or_from _ _ (whole_bounds written.numbers wide_range wide_range (written_least result)) refl));
+            (or_from _ _ (whole_bounds written.numbers wide_range wide_range (option_and result.bounds result.least)) refl));
         known = of_nodes (λ nodes. has_unknown_node nodes OutputKind.Stream row ≡ false) ends;
         new = at.new;
         good = of_nodes (λ nodes. has_bad_list nodes OutputKind.Stream row ≡ false) lists;
@@ -307,7 +323,7 @@ result_back names graph result known within whole =
           class = result.classified.class;
           flow = result.flow;
           bounds = result.bounds;
-          least = written_least result;
+          least = option_and result.bounds result.least;
           shape = witness_shape witness;
           side = side_in names.nodes witness;
           parts = parts_text names.streams witness;

@@ -2,6 +2,7 @@
 use Rattle.std.specs.Prelude.{ℕ, pos, nat_lt, List, [], ◌∷◌, ◌++◌, length, Some, None, if◌then◌else◌}
 use Rattle.std.specs.Option.{option_map, option_map_or}
 use Rattle.std.specs.Result.{result_ok}
+use Rattle.std.specs.List.{fold}
 use Rattle.pb_form.specs.declared.output.OutputKind.{OutputKind}
 use Rattle.pb_form.specs.declared.output.OutputKind.TheVariants.{Report, Node, Stream, StreamBefore, Solved, Global, Nodal, Measure, End}
 use Rattle.pb_study.specs.declared.results.MeasureTest.{MeasureTest}
@@ -11,7 +12,8 @@ use Rattle.pb_study.specs.declared.results.Tests.{Tests}
 use Rattle.pb_blocks.specs.declared.rows.Heading.{Heading}
 use Rattle.pb_blocks.specs.Kinds.{kind_among}
 use Rattle.pb_blocks.specs.Texts.{name_field}
-use Rattle.pb_blocks.specs.Values.{number_at, said_arc, said_global, said_measure, said_nodal, said_solution, said_stream, values_in}
+use Rattle.pb_blocks.specs.Values.{said_arc, said_global, said_measure, said_nodal, said_solution, said_stream, values_in}
+use Rattle.pb_form.specs.Values.{number_at}
 use Rattle.pb_readback.specs.declared.draft.Draft.{Draft}
 
 -- what a heading says: no nodes and no streams yet, and nothing about the solution
@@ -90,5 +92,4 @@ draft_with_row draft row =
 
 -- the draft after several more rows
 abbrev pub with_rows : Draft → List (List (List ℕ)) → Draft
-with_rows draft [] = draft
-with_rows draft (row ∷ rows) = with_rows (draft_with_row draft row) rows
+with_rows draft rows = fold draft_with_row draft rows

@@ -1,5 +1,7 @@
 -- Statement. When a row of a block can't be read, after the rows before it. Of all its faults the lowest is reported.
 use Rattle.std.specs.Prelude.{ℕ, ◌==◌, ◌&&◌, not, List, length, Option, Some, None, if◌then◌else◌, codes, bytes_eq, position}
+use Rattle.std.specs.Option.{option_map}
+use Rattle.std.specs.Result.{result_err}
 use Rattle.pb_rows.specs.Name.{same_name}
 use Rattle.pb_form.specs.OutputRows.{output_schema}
 use Rattle.pb_form.specs.Reading.{row_read}
@@ -7,12 +9,12 @@ use Rattle.pb_form.specs.declared.output.OutputKind.{OutputKind}
 use Rattle.pb_form.specs.declared.output.OutputKind.TheVariants.{Node, Stream, StreamBefore, Nodal, Measure, End}
 use Rattle.pb_blocks.specs.declared.fault.RowFault.{RowFault}
 use Rattle.pb_blocks.specs.declared.fault.RowFault.TheVariants.{Number, Unknown, Duplicate, Shape, Count, Env}
-use Rattle.pb_blocks.specs.Beside.{fault_as, form_fault, has_bad_list, has_unknown_node, is_half_told, is_round}
-use Rattle.pb_blocks.specs.Codes.{lowest}
+use Rattle.pb_blocks.specs.Beside.{fault_as, has_bad_list, has_unknown_node, is_half_told, is_round}
+use Rattle.pb_blocks.specs.Codes.{lowest, fault_by}
 use Rattle.pb_blocks.specs.Kinds.{kind_among}
 use Rattle.pb_blocks.specs.Lists.{is_among}
 use Rattle.pb_blocks.specs.Results.{has_unknown_part}
-use Rattle.pb_blocks.specs.Texts.{from_field, name_field, to_field}
+use Rattle.pb_blocks.specs.Texts.{name_field, field}
 use Rattle.pb_readback.specs.declared.draft.Draft.{Draft}
 use Rattle.pb_readback.specs.Drafts.{kinds_next}
 
@@ -25,7 +27,7 @@ stream_fault kind draft row =
     else if has_unknown_node draft.nodes kind row then Some Unknown
     else if is_among draft.streams (name_field row) then Some Duplicate
     else if has_bad_list draft.nodes kind row then Some Shape
-    else if same_name (from_field row) (to_field row) then Some Count
+    else if same_name (field row 2) (field row 3) then Some Count
     else None
 
 -- The lowest fault of a row of a kind besides the faults of its form. A node's name must be new, and the first node must be the
@@ -45,7 +47,8 @@ fault_beside kind draft row = None
 
 -- The lowest fault of a row of a kind that may come next.
 abbrev pub row_fault_of : OutputKind → Draft → List (List ℕ) → Option RowFault
-row_fault_of kind draft row = lowest (form_fault (row_read (output_schema kind) row)) (fault_beside kind draft row)
+row_fault_of kind draft row =
+    lowest (option_map fault_by (result_err (row_read (output_schema kind) row))) (fault_beside kind draft row)
 
 -- The lowest fault of a row after the heading and the rows of a draft.
 abbrev pub fault_behind : Draft → List (List ℕ) → Option RowFault

@@ -1,6 +1,7 @@
 -- Statement. What comes next in records: a block, the first row that can't be read, or neither.
-use Rattle.std.specs.Prelude.{◌≡◌, ◌≢◌, ◌⊎◌, ℕ, ◌+◌, ◌≤◌, true, false, List, [], ◌∷◌, ◌++◌, length, drop, Option, Some, None}
+use Rattle.std.specs.Prelude.{◌≡◌, ◌≢◌, ◌⊎◌, ℕ, ◌+◌, ◌≤◌, true, false, List, [], ◌∷◌, ◌++◌, length, drop, Option, Some, None, slice_get}
 use Rattle.std.specs.List.{list_all}
+use Rattle.std.specs.Option.{option_map_or}
 use Rattle.pb_form.specs.declared.output.OutputKind.TheVariants.{End, Report}
 use Rattle.pb_rows.specs.RecordsLeft.{RecordsLeft}
 use Rattle.pb_blocks.specs.declared.fault.RowFault.{RowFault}
@@ -38,20 +39,15 @@ AreSound draft (row ∷ rows) =
 abbrev pub opened_draft : List (List ℕ) → Draft
 opened_draft row = draft_of (said_heading row (values_in Report row))
 
--- the fault after the rows of an incomplete block: the fault of the next row, or that there is no next row
-abbrev pub fault_next : Draft → List (List (List ℕ)) → Option RowFault
-fault_next draft [] = Some Ended
-fault_next draft (row ∷ rows) = fault_behind draft row
-
 -- After the first row of a block and this many more rows, this is the number, counted within the block, of the first row that has a
 -- fault: the row of the first stream whose parts name an unknown stream, once all streams are read; otherwise the next row,
--- before the end. These records are left: a row that has the fault itself is taken, and no row after it.
+-- before the end, or that there is no next row. These records are left: a row that has the fault itself is taken, and no row after it.
 abbrev pub IsFault : Draft → ℕ → List (List (List ℕ)) → ℕ → RowFault → List (List (List ℕ)) → Type 0
 IsFault draft rows rest number fault left =
     ((stream : ℕ) × (first_unknown draft ≡ Some stream) × (number ≡ draft.heading.nodes + stream + 2) × (fault ≡ Unknown)
     × (left ≡ rest))
-    ⊎ ((first_unknown draft ≡ None) × (draft.last ≢ End) × (fault_next draft rest ≡ Some fault) × (number ≡ rows + 2)
-    × (left ≡ drop 1 rest))
+    ⊎ ((first_unknown draft ≡ None) × (draft.last ≢ End)
+    × (option_map_or (fault_behind draft) (slice_get rest 0) (Some Ended) ≡ Some fault) × (number ≡ rows + 2) × (left ≡ drop 1 rest))
 
 -- a block comes next, after rows that are passed over: a row that opens it, and the rows after it up to the end; these records come
 -- after the block

@@ -1,6 +1,7 @@
 -- Inside. A draft in progress, and what reading on has shown of the records.
-use Rattle.std.specs.Prelude.{◌≡◌, ◌≢◌, ◌⊎◌, ◌≤◌, ◌+◌, ◌==◌, ℕ, pos, Bool, true, false, nat_lt, List, [], ◌∷◌, ◌++◌, length, map, Option, Some, None}
+use Rattle.std.specs.Prelude.{◌≡◌, ◌≢◌, ◌⊎◌, ◌≤◌, ◌+◌, ◌==◌, ℕ, pos, Bool, true, false, nat_lt, List, [], ◌∷◌, ◌++◌, length, map, Option, Some, None, slice_get}
 use Rattle.std.specs.List.{list_all, list_any}
+use Rattle.std.specs.Option.{option_map_or}
 use Rattle.pb_form.specs.declared.output.OutputKind.{OutputKind}
 use Rattle.pb_form.specs.declared.output.OutputKind.TheVariants.{Node, StreamBefore, Solved, Global, Nodal, Measure, End}
 use Rattle.pb_form.specs.Value.{Value}
@@ -47,6 +48,10 @@ with_node row draft = added Node draft row
 -- the draft after a row of a kind
 abbrev pub told_with : OutputKind → Draft → List (List ℕ) → Draft
 told_with kind draft row = record (added kind draft row) { last = kind }
+
+-- the fault after the rows of an incomplete block: the fault of the next row, or that there is no next row
+abbrev pub fault_next : Draft → List (List (List ℕ)) → Option RowFault
+fault_next draft rest = option_map_or (fault_behind draft) (slice_get rest 0) (Some Ended)
 
 -- not all nodes have come; all of them have, but not all streams; or all of both have
 abbrev pub AwaitsNodes : Draft → Type 0

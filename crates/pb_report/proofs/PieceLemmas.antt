@@ -3,8 +3,11 @@ use Rattle.std.specs.List.{flat_map}
 use Rattle.std.proofs.Common.{◌≡◌, ◌∙◌, ℕ, zero, suc, ◌+◌, ◌<◌, ◌≤◌, ◌==◌, List, [], ◌∷◌, ◌++◌, length, get_or, drop, Bool, true, false, codes, refl, sym, ap, append_assoc, append-nil, arith}
 use Rattle.std.proofs.lemmas.Bool.{ne_eqb}
 use Rattle.pb_fixed.proofs.Lists.{drop_next}
-use Rattle.pb_report.specs.Certificate.{spaced, names_in}
-use Rattle.pb_report.specs.Pieces.{gap_before}
+use Rattle.pb_graph.specs.declared.records.Witness.{Witness}
+use Rattle.pb_graph.specs.declared.records.Witness.TheVariants.{Cut, Cycle}
+use Rattle.pb_report.specs.Certificate.{spaced, names_in, certificate_values}
+use Rattle.pb_report.specs.Pieces.{gap_before, certificate_parts}
+use Rattle.pb_rows.specs.declared.name.Names.{Names}
 
 -- the text of pieces that are left, the first of which has a space before it unless it is the first of all
 abbrev pub rest_of : {A : Type 0} → (A → List ℕ) → Bool → List A → List ℕ
@@ -69,3 +72,8 @@ pub side_outside : (whole text : List ℕ) (side : List Bool) (nodes : List (Lis
     → whole ≡ text ++ rest_of (λ (name : List ℕ). name) first (names_in (drop (n + 1) side) (drop (n + 1) nodes))
 side_outside whole text side nodes n first ls ln out so_far =
     so_far ∙ ap (λ (names : List (List ℕ)). text ++ rest_of (λ (name : List ℕ). name) first names) (names_outside side nodes n ls ln out)
+
+-- the values of a certificate
+pub as_parts : (names : Names) (witness : Witness) → certificate_values names witness ≡ certificate_parts names witness
+as_parts names (Cut side members) = refl
+as_parts names (Cycle steps) = refl

@@ -42,20 +42,17 @@ low_end bounds = value_or_none (λ (bounds : Bounds). Number bounds.lo) bounds
 abbrev pub high_end : Option Bounds → Value
 high_end bounds = value_or_none (λ (bounds : Bounds). Number bounds.hi) bounds
 
--- the least bounds that are written for a stream: none for a stream without bounds
-abbrev pub written_least : StreamResult → Option Bounds
-written_least result = option_and result.bounds result.least
-
 -- The row of the stream at a place with its result: its name and the names of its ends, the measured value and its variance, its
--- class, its reconciled flow, the bounds of the flow, its bounds in every least vector, and the certificate of its class.
+-- class, its reconciled flow, the bounds of the flow, its bounds in every least vector (none for a stream without bounds), and the
+-- certificate of its class.
 abbrev pub result_row : Names → ℕ → Stream → StreamResult → OutputRow
 result_row names id stream result =
     row_of kind.Stream
     (Name (name_at names.streams id) ∷ Name (name_at names.nodes stream.from) ∷ Name (name_at names.nodes stream.to)
     ∷ value_or_none (λ (meas : Meas). Number meas.value) stream.meas
     ∷ value_or_none (λ (meas : Meas). Number meas.variance) stream.meas ∷ Word (class_place result.classified.class)
-    ∷ Number result.flow ∷ low_end result.bounds ∷ high_end result.bounds ∷ low_end (written_least result)
-    ∷ high_end (written_least result) ∷ certificate_values names result.classified.witness)
+    ∷ Number result.flow ∷ low_end result.bounds ∷ high_end result.bounds ∷ low_end (option_and result.bounds result.least)
+    ∷ high_end (option_and result.bounds result.least) ∷ certificate_values names result.classified.witness)
 
 -- how the stage was solved: the sweeps done and whether the gap was met, its two numbers, the degrees of freedom, and the
 -- bounds of the weighted squares

@@ -8,7 +8,6 @@ use Rattle.pb_graph.specs.declared.records.Witness.{Witness}
 use Rattle.pb_graph.specs.declared.records.Witness.TheVariants.{Cut, Cycle}
 use Rattle.pb_form.specs.Value.{Value, Word, Items}
 use Rattle.pb_report.specs.Names.{name_at}
-use Rattle.pb_choices.specs.Places.{shape_place, witness_shape}
 
 -- the names of the nodes in a side, in order of nodes
 abbrev pub names_in : List Bool → List (List ℕ) → List (List ℕ)
@@ -19,11 +18,6 @@ names_in side names = []
 -- texts separated by one space
 abbrev pub spaced : {A : Type 0} → (A → List ℕ) → List A → List ℕ
 spaced piece items = join_by piece (codes " ") items
-
--- the nodes in a cut's side; nothing for a cycle
-abbrev pub side_text : List (List ℕ) → Witness → List ℕ
-side_text nodes (Cut side members) = spaced (λ name. name) (names_in side nodes)
-side_text nodes (Cycle steps) = []
 
 -- a part: `+` or `-`, and the name of a stream
 abbrev pub part_text : List (List ℕ) → Bool → ℕ → List ℕ
@@ -37,12 +31,9 @@ member_text streams member = part_text streams (int_le (pos 0) member.sign) memb
 abbrev pub step_text : List (List ℕ) → Step → List ℕ
 step_text streams step = part_text streams step.forward step.stream
 
--- the members of a cut, or the steps of a cycle
-abbrev pub parts_text : List (List ℕ) → Witness → List ℕ
-parts_text streams (Cut side members) = spaced (member_text streams) members
-parts_text streams (Cycle steps) = spaced (step_text streams) steps
-
--- the values of a certificate
+-- the values of a certificate: the word at place 0, `cut`, the nodes in the side of the cut and its members; or the word at place 1,
+-- `cycle`, no node and the steps of the cycle
 abbrev pub certificate_values : Names → Witness → List Value
-certificate_values names witness =
-    Word (shape_place (witness_shape witness)) ∷ Items (side_text names.nodes witness) ∷ Items (parts_text names.streams witness) ∷ []
+certificate_values names (Cut side members) =
+    Word 0 ∷ Items (spaced (λ name. name) (names_in side names.nodes)) ∷ Items (spaced (member_text names.streams) members) ∷ []
+certificate_values names (Cycle steps) = Word 1 ∷ Items [] ∷ Items (spaced (step_text names.streams) steps) ∷ []

@@ -1,6 +1,7 @@
 // The block of a stage: what frames it, its nodes, its streams, and how it was solved.
 
 ghost use Rattle.std.specs.Prelude.{◌≡◌, ◌<◌, ◌∷◌, [], ℕ, ℤ, List, length, All, OnOk};
+ghost use Rattle.std.specs.Option.{option_and};
 ghost use Rattle.pb_form.specs.Given.{value_as};
 ghost use Rattle.pb_form.specs.Holds.{Holds};
 ghost use Rattle.pb_form.specs.Value.{Number};
@@ -8,7 +9,7 @@ ghost use Rattle.pb_graph.specs.declared.records.Meas.{Meas};
 ghost use Rattle.pb_graph.specs.ProcessGraph.{IsStream};
 ghost use Rattle.pb_study.specs.WellFormed.{IsResultWithin, IsWellFormed, sweeps_of};
 ghost use Rattle.pb_graph.specs.WellFormed.{IsWitnessWithin};
-ghost use Rattle.pb_report.specs.Block.{block_rows, end_row, high_end, low_end, node_row, report_row, result_row, solved_row, written_least};
+ghost use Rattle.pb_report.specs.Block.{block_rows, end_row, high_end, low_end, node_row, report_row, result_row, solved_row};
 ghost use Rattle.pb_report.specs.Certificate.{certificate_values};
 ghost use Rattle.pb_report.specs.Given.{given_certificate, given_row};
 ghost use Rattle.pb_report.specs.Names.{IsNamed};
@@ -236,7 +237,7 @@ fn high_end(bounds: Option<Bounds>) -> Value<'static>
 
 // The least bounds that are written for a stream: none for a stream without bounds.
 fn written_least(result_of: &StreamResult) -> Option<Bounds>
-    ensures { result ≡ written_least result_of.now }
+    ensures { result ≡ option_and result_of.now.bounds result_of.now.least }
 {
     result_of.bounds.and(result_of.least)
 }

@@ -3,10 +3,11 @@
 ghost use Rattle.std.specs.Prelude.{◌≡◌, ◌<◌, ◌↔◌, length, string_bytes, IfOk, IfSome, IsTrue};
 ghost use Rattle.pb_graph.specs.WellFormed.{IsWitnessWithin};
 ghost use Rattle.pb_graph.specs.declared.records.Witness.TheVariants.{Cut};
-ghost use Rattle.pb_report.specs.Certificate.{certificate_values, parts_text, side_text};
+ghost use Rattle.pb_report.specs.Certificate.{certificate_values};
 ghost use Rattle.pb_report.specs.Given.{given_certificate};
 ghost use Rattle.pb_report.specs.Kept.{IsOf};
 ghost use Rattle.pb_report.specs.Names.{IsNamed};
+ghost use Rattle.pb_report.specs.Pieces.{parts_text, side_text};
 
 use crate::parts;
 use pb_choices::{Shape, witness_shape};
@@ -25,6 +26,7 @@ pub struct Certificate {
 
 impl Certificate {
     /// The certificate of a class.
+    #[tactic(auto, using(crate::proofs::PieceLemmas::as_parts))]
     pub fn of(
         alloc: Global,
         names: &Names,

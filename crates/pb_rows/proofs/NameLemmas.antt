@@ -9,9 +9,10 @@ use Rattle.std.proofs.lemmas.Bool.{and_parts, leb-true}
 use Rattle.std.proofs.lemmas.List.{drop-drop, drop-replicate, drop-set-lt, length-replicate, length-set, take_all, take_more, take_more_set}
 use Rattle.std.proofs.Math.ListN.{set}
 use Rattle.std.proofs.Math.Seq.{drop-append_seam, take-append_seam}
-use Rattle.pb_rows.specs.Name.{has_name_length, is_name, is_name_byte}
-use Rattle.pb_rows.specs.Reason.{has_reason_length, is_reason, is_reason_byte, most_reason}
+use Rattle.pb_rows.specs.Name.{is_name, is_name_byte}
+use Rattle.pb_rows.specs.Reason.{is_reason, is_reason_byte, most_reason}
 use Rattle.pb_rows.specs.Padded.{IsPadded, padded_bytes}
+use Rattle.pb_rows.specs.Forms.{has_name_length, has_reason_length}
 
 -- a name has at most 32 bytes
 pub name_fits : (field : List ℕ) → has_name_length field ≡ true → length field ≤ 32

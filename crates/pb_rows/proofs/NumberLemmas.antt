@@ -14,7 +14,8 @@ use Rattle.std.proofs.lemmas.Str.{IsUtf8-from_ascii, digit_value_digit}
 use Rattle.std.proofs.lemmas.Str.Parse.{IsNumeralModel, numerals_by_value, digit_from_value, digits_value-take-le, digits_value_short}
 use mir.Syntax.{w128}
 use Rattle.pb_rows.specs.Bytes.{dash}
-use Rattle.pb_rows.specs.Number.{are_digits, is_plain, is_whole, number, whole_value}
+use Rattle.pb_rows.specs.Forms.{are_digits}
+use Rattle.pb_rows.specs.Number.{is_plain, is_whole, number, whole_value}
 
 own : IsNumeralModel (λ ds. list_all is_ascii_digit ds ≡ true) (digits_value 10)
 own = numerals_by_value (λ ds. list_all is_ascii_digit ds ≡ true) (search rules)

@@ -13,7 +13,8 @@ use Rattle.std.proofs.lemmas.Int.{ints}
 use Rattle.std.proofs.lemmas.Int.Digits.{all_below_base_digits_of, digits_of_step, first_digits_of, length-digits_of_step, number_digits_of}
 use Rattle.std.proofs.lemmas.List.{map-append}
 use mir.Syntax.{w128}
-use Rattle.pb_rows.specs.Number.{are_digits, decimal_text, is_plain, number, whole_text}
+use Rattle.pb_rows.specs.Number.{decimal_text, is_plain, number, whole_text}
+use Rattle.pb_rows.specs.Forms.{are_digits}
 
 -- the text of a number that isn't 0
 some_text : (n : ℕ) → 0 < n → decimal_text n ≡ map (λ digit. 48 + digit) (digits_of 10 n)

@@ -50,18 +50,14 @@ two_digits_value tens ones =
 abbrev pub two_digits_at : List ℕ → ℕ → Option ℕ
 two_digits_at field i = two_digits_value (slice_index field i) (slice_index field (i + 1))
 
--- ten bytes, with a dash after the year and after the month
-abbrev pub is_dashed : List ℕ → Bool
-is_dashed field = (length field == 10) && (slice_index field 4 == dash) && (slice_index field 7 == dash)
-
 -- the day given by a century, a year of that century, a month and a day of the month
 abbrev pub day_of_parts : Option ℕ → Option ℕ → Option ℕ → Option ℕ → Option ℤ
 day_of_parts (Some century) (Some year) (Some month) (Some day) = day_number (pos (century * 100 + year)) (pos month) (pos day)
 day_of_parts _ _ _ _ = None
 
--- the day that a field of the form `YYYY-MM-DD` writes
+-- the day that a field of the form `YYYY-MM-DD` writes: ten bytes, with a dash after the year and after the month
 abbrev pub day_of : List ℕ → Option ℤ
 day_of field =
-    if is_dashed field
+    if (length field == 10) && (slice_index field 4 == dash) && (slice_index field 7 == dash)
     then day_of_parts (two_digits_at field 0) (two_digits_at field 2) (two_digits_at field 5) (two_digits_at field 8)
     else None

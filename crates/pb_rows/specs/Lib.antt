@@ -9,6 +9,7 @@ pub mod Date
 pub mod Written
 pub mod Texts
 -- Inside
+pub mod Forms
 pub mod InHand
 pub mod Padded
 pub mod Hashed

@@ -9,13 +9,9 @@ use Rattle.pb_rows.specs.Bytes.{dash, dot, underscore}
 abbrev pub is_name_byte : ℕ → Bool
 is_name_byte byte = is_ascii_alphanumeric byte || (byte == underscore) || (byte == dash) || (byte == dot)
 
--- 1 to 32 bytes
-abbrev pub has_name_length : List ℕ → Bool
-has_name_length field = not (length field == 0) && nat_le (length field) 32
-
 -- 1 to 32 such bytes
 abbrev pub is_name : List ℕ → Bool
-is_name field = has_name_length field && list_all is_name_byte field
+is_name field = not (length field == 0) && nat_le (length field) 32 && list_all is_name_byte field
 
 -- whether two names are the same, byte for byte
 abbrev pub same_name : List ℕ → List ℕ → Bool

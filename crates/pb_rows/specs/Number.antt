@@ -1,22 +1,15 @@
 -- Statement. Whole numbers as fields write them.
-use Rattle.std.specs.Prelude.{◌+◌, ◌==◌, ◌&&◌, ℕ, suc, ℤ, pos, negsuc, neg_ℤ, int_le, List, [], ◌∷◌, length, map, slice_index, Bool, false, not, nat_lt, Option, Some, None, if◌then◌else◌}
+use Rattle.std.specs.Prelude.{◌+◌, ◌==◌, ◌&&◌, ℕ, suc, ℤ, pos, negsuc, neg_ℤ, int_le, List, [], ◌∷◌, length, map, slice_index, Bool, false, not, nat_lt, Option, Some, None, option_and_then, if◌then◌else◌}
 use Rattle.std.specs.Char.{is_ascii_digit}
 use Rattle.std.specs.List.{list_all}
 use Rattle.std.specs.Int.Digits.{digits_of}
 use Rattle.std.specs.Str.Parse.{digits_value}
 use Rattle.pb_rows.specs.Bytes.{dash, zero_digit}
 
--- decimal digits, one or more
-abbrev pub are_digits : List ℕ → Bool
-are_digits field = not (length field == 0) && list_all is_ascii_digit field
-
--- a zero in front of other digits
-abbrev pub is_padded : List ℕ → Bool
-is_padded field = nat_lt 1 (length field) && (slice_index field 0 == zero_digit)
-
--- decimal digits without leading zeros
+-- decimal digits, one or more, without a zero in front of other digits
 abbrev pub is_plain : List ℕ → Bool
-is_plain field = are_digits field && not (is_padded field)
+is_plain field =
+    not (length field == 0) && list_all is_ascii_digit field && not (nat_lt 1 (length field) && (slice_index field 0 == zero_digit))
 
 -- the same, with a minus sign only before a number that isn't zero
 abbrev pub is_whole : List ℕ → Bool
@@ -34,8 +27,7 @@ number field = if is_whole field then Some (whole_value field) else None
 
 -- a number, if it lies from lo to hi, both included
 abbrev pub within : ℤ → ℤ → Option ℤ → Option ℤ
-within lo hi None = None
-within lo hi (Some z) = if int_le lo z && int_le z hi then Some z else None
+within lo hi number = option_and_then (λ z. if int_le lo z && int_le z hi then Some z else None) number
 
 -- the decimal text of a number: its digits, the most significant first; a single zero for 0
 unfoldable pub decimal_text : ℕ → List ℕ

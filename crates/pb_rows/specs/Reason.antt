@@ -12,13 +12,9 @@ most_reason = 80
 abbrev pub is_reason_byte : ℕ → Bool
 is_reason_byte byte = nat_le 32 byte && nat_le byte 126
 
--- 1 to 80 bytes
-abbrev pub has_reason_length : List ℕ → Bool
-has_reason_length field = not (length field == 0) && nat_le (length field) most_reason
-
 -- 1 to 80 such bytes
 abbrev pub is_reason : List ℕ → Bool
-is_reason field = has_reason_length field && list_all is_reason_byte field
+is_reason field = not (length field == 0) && nat_le (length field) most_reason && list_all is_reason_byte field
 
 -- whether two reasons are the same, byte for byte
 abbrev pub same_reason : List ℕ → List ℕ → Bool

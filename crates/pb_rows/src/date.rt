@@ -1,7 +1,8 @@
 // Civil dates as fields write them.
 
 ghost use Rattle.std.specs.Prelude.{◌≡◌, ◌+◌, ◌<◌, ◌≤◌, pos, length, Ok, IfOk, IfSome};
-ghost use Rattle.pb_rows.specs.Date.{IsDay, day_number, day_of, is_dashed, two_digits_at};
+ghost use Rattle.pb_rows.specs.Date.{IsDay, day_number, day_of, two_digits_at};
+ghost use Rattle.pb_rows.specs.Forms.{is_dashed};
 
 use jiff::civil::Date;
 use std::alloc::AllocError;

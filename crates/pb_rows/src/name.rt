@@ -7,7 +7,8 @@ ghost use Rattle.std.specs.Cmp.Lexicographic.{nat_list_cmp_total, nat_list_eq_eq
 ghost use Rattle.std.specs.Ordering.{nat_cmp};
 ghost use Rattle.std.specs.Slice.Iter.{iter_rest};
 ghost use Rattle.pb_rows.specs.Hashed.{same_name_writes};
-ghost use Rattle.pb_rows.specs.Name.{has_name_length, is_name, is_name_byte, same_name};
+ghost use Rattle.pb_rows.specs.Name.{is_name, is_name_byte, same_name};
+ghost use Rattle.pb_rows.specs.Forms.{has_name_length};
 
 use std::alloc::{AllocError, Global};
 use std::cmp::Ordering;

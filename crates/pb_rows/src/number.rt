@@ -7,7 +7,8 @@ ghost use Rattle.std.specs.List.{list_all};
 ghost use Rattle.std.specs.Char.{is_ascii_digit};
 ghost use Rattle.std.specs.Str.Parse.{digits_value};
 ghost use Rattle.pb_rows.specs.Bytes.{dash};
-ghost use Rattle.pb_rows.specs.Number.{are_digits, is_padded, is_plain, is_whole, number, whole_text, whole_value, within};
+ghost use Rattle.pb_rows.specs.Forms.{are_digits, is_padded};
+ghost use Rattle.pb_rows.specs.Number.{is_plain, is_whole, number, whole_text, whole_value, within};
 
 use std::alloc::{AllocError, Global};
 

@@ -4,7 +4,8 @@ ghost use Rattle.std.specs.Prelude.{◌≡◌, Some, true, false, MatchOption};
 ghost use Rattle.std.specs.Cmp.{partial_equiv_from_equiv};
 ghost use Rattle.std.specs.Cmp.Lexicographic.{nat_list_eq_equiv};
 ghost use Rattle.std.specs.List.{list_all};
-ghost use Rattle.pb_rows.specs.Reason.{has_reason_length, is_reason, is_reason_byte, same_reason};
+ghost use Rattle.pb_rows.specs.Reason.{is_reason, is_reason_byte, same_reason};
+ghost use Rattle.pb_rows.specs.Forms.{has_reason_length};
 
 use std::fmt;
 use std::marker::Model;

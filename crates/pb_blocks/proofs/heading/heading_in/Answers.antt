@@ -5,10 +5,10 @@ use Rattle.pb_form.specs.OutputRows.{output_schema}
 use Rattle.pb_form.specs.Reading.{row_read}
 use Rattle.pb_form.specs.declared.output.OutputKind.TheVariants.{Report}
 use Rattle.pb_blocks.specs.Texts.{name_field}
-use Rattle.pb_blocks.specs.Values.{number_at}
 use Rattle.pb_blocks.proofs.FitLemmas.{counts_within}
 use Rattle.pb_blocks.proofs.RowLaws.{name_read}
 use Rattle.pb_blocks.proofs.heading.heading_in.Goals as goal
+use Rattle.pb_form.specs.Values.{number_at}
 
 pub returns-in-None-clause-fault : goal.returns-in-None-clause-fault
 returns-in-None-clause-fault c =

@@ -1,10 +1,10 @@
 use Rattle.std.proofs.Common.{◌≡◌, ◌∙◌, [], ◌∷◌, ap}
 use Rattle.pb_form.specs.Columns.{Schema}
 use Rattle.pb_form.specs.OutputRows.{output_schema}
-use Rattle.pb_form.specs.Telling.{schema_told}
-use Rattle.pb_blocks.specs.Kinds.{has_word_of}
+use Rattle.pb_form.specs.Told.{schema_told}
 use Rattle.pb_blocks.proofs.KindLemmas.{another, tells_words, words_alone}
 use Rattle.pb_blocks.proofs.kinds.has_word_of.Goals as goal
+use Rattle.pb_blocks.specs.Held.{has_word_of}
 
 pub returns-in-Ok : goal.returns-in-Ok
 returns-in-Ok c =

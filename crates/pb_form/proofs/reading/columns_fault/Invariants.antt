@@ -1,7 +1,7 @@
 use Rattle.std.proofs.Common.{◌≡◌, [], map, drop}
-use Rattle.pb_form.specs.Reading.{fields_read, joined}
+use Rattle.pb_form.specs.Reading.{fields_read}
 use Rattle.pb_form.specs.Seen.{column_seen}
-use Rattle.pb_form.specs.Told.{fault_in, so_far}
+use Rattle.pb_form.specs.Told.{fault_in, joined, so_far}
 use Rattle.pb_form.proofs.reading.columns_fault.Given as goal
 
 -- the first fault so far and what the fields that are left say give the fault of all of them

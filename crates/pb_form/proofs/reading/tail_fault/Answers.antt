@@ -1,8 +1,8 @@
 use Rattle.std.specs.Prelude.{map, Option}
 use Rattle.std.proofs.Common.{◌≡◌, ◌∙◌, ◌<◌, ◌+◌, ◌-◌, ℕ, [], length, drop, arith}
-use Rattle.pb_form.specs.Reading.{fields_read, joined, repeated}
+use Rattle.pb_form.specs.Reading.{fields_read, repeated}
 use Rattle.pb_form.specs.Seen.{column_seen}
-use Rattle.pb_form.specs.Told.{fault_in, so_far}
+use Rattle.pb_form.specs.Told.{fault_in, joined, so_far}
 use Rattle.pb_form.specs.declared.fault.FormFault.{FormFault}
 use Rattle.pb_form.proofs.ReadingLemmas.{next_turn, tail_err, tail_ok}
 use Rattle.pb_form.proofs.SaidLemmas.{fault_told, none_left, none_told}

@@ -1,7 +1,7 @@
 use Rattle.std.proofs.Common.{◌≡◌, ◌<◌, ◌-◌, [], length, map, drop}
-use Rattle.pb_form.specs.Reading.{fields_read, joined, repeated}
+use Rattle.pb_form.specs.Reading.{fields_read, repeated}
 use Rattle.pb_form.specs.Seen.{column_seen}
-use Rattle.pb_form.specs.Told.{fault_in, so_far}
+use Rattle.pb_form.specs.Told.{fault_in, joined, so_far}
 use Rattle.pb_form.proofs.reading.tail_fault.Given as goal
 
 -- the place lies in the tail, and the first fault so far and what the fields that are left say give the fault of all of them

@@ -5,7 +5,7 @@ use Rattle.std.proofs.lemmas.Result.{err_from_is_err_and}
 use Rattle.pb_form.specs.Columns.{Schema}
 use Rattle.pb_form.specs.Seen.{schema_seen}
 use Rattle.pb_form.specs.SessionRows.{session_kinds, session_schema}
-use Rattle.pb_form.specs.Telling.{schema_told}
+use Rattle.pb_form.specs.Told.{schema_told}
 use Rattle.pb_form.specs.declared.fault.FormFault.{FormFault}
 use Rattle.pb_form.proofs.KindLemmas.{kind_from_told, no_kind_told, reading_told, schemas_from}
 use Rattle.pb_form.proofs.session.kind_from.Goals as goal

@@ -8,7 +8,7 @@ use Rattle.pb_form.specs.Writing.{FitEach}
 use Rattle.pb_form.specs.declared.fault.FormFault.{FormFault}
 use Rattle.pb_kinds.specs.declared.rows.Request.{Request}
 use Rattle.pb_kinds.specs.Ranges.{IsRequestInRange}
-use Rattle.pb_kinds.specs.Requests.{request_by}
+use Rattle.pb_kinds.specs.There.{request_by}
 use Rattle.pb_kinds.proofs.RangeLemmas.{asked_in_range}
 use Rattle.pb_kinds.proofs.reading.asked_by_values.Goals as goal
 

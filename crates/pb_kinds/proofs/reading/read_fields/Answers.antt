@@ -4,7 +4,7 @@ use Rattle.std.proofs.lemmas.Result.{err_from_is_err_and}
 use Rattle.pb_form.specs.SessionRows.{session_told}
 use Rattle.pb_form.specs.declared.fault.FormFault.{FormFault}
 use Rattle.pb_form.specs.declared.session.SessionKind.{SessionKind}
-use Rattle.pb_kinds.specs.Requests.{kinds_of}
+use Rattle.pb_kinds.specs.There.{kinds_of}
 use Rattle.pb_kinds.proofs.ReadingLemmas.{asked_may, told_is_of}
 use Rattle.pb_kinds.proofs.RequestLemmas.{blank_asks, told_asks}
 use Rattle.pb_kinds.proofs.reading.read_fields.Goals as goal

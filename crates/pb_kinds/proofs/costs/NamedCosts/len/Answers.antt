@@ -1,6 +1,7 @@
 use Rattle.std.proofs.Common.{◌≡◌, ◌∙◌, List, length, refl, ap, sym}
 use Rattle.pb_kinds.specs.declared.costs.NamedCost.{NamedCost}
-use Rattle.pb_kinds.specs.Costs.{costs_by, costs_in}
+use Rattle.pb_kinds.specs.Costs.{costs_in}
+use Rattle.pb_kinds.specs.There.{costs_by}
 use Rattle.pb_kinds.proofs.CostLemmas.{half_many}
 use Rattle.pb_kinds.proofs.costs.NamedCosts.len.Goals as goal
 
