@@ -38,9 +38,9 @@ impl Model for Facts {
 
     ghost Value = { List KeptFact };
 
-    ghost view = { λ a. a.shelf };
+    ghost view = { λ a. a.shelf.facts };
 
-    ghost invariant = { λ a. IsKept a.shelf a.places };
+    ghost invariant = { λ a. IsKept a.shelf.facts a.shelf.names a.places };
 }
 
 impl Facts {
@@ -88,8 +88,8 @@ impl Facts {
     {
         self.places.reserve(self.alloc, &fact)?;
         let place = self.shelf.len();
-        self.shelf.push(&fact)?;
-        self.places.note(&fact, place);
+        let number = self.shelf.push(&fact)?;
+        self.places.note(&fact, number, place);
         Ok(())
     }
 
@@ -127,7 +127,9 @@ impl Facts {
         ensures { self.new ≡ struck id.now self.old }
     {
         if let Some(place) = self.find(id) {
-            self.places.forget(&self.shelf.at(place).fact);
+            let fact = self.shelf.at(place).fact;
+            let number = self.shelf.number_of(&fact.stream_or_tank());
+            self.places.forget(&fact, number);
             self.shelf.strike(place);
         }
     }
@@ -195,7 +197,8 @@ impl Facts {
         ensures found { option_and_then (live_at self.now) result
             ≡ find (is_reading_on stream.now day) (live_facts self.now) }
     {
-        self.places.readings.get(&(*stream, day)).copied()
+        let number = self.shelf.number_of(stream)?;
+        self.places.readings.get(&(number, day)).copied()
     }
 
     /// The place of the live dip of a tank at the end of a day; `None` exactly when there is none.
