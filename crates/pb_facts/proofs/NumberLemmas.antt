@@ -1,5 +1,5 @@
 -- A map by the numbers of names, looked up by names.
-use Rattle.std.proofs.Common.{◌≡◌, ◌≤◌, ◌+◌, ◌∷◌, [], ◌∙◌, ℕ, ℤ, List, Bool, true, false, Option, Some, None, length, arith, ap, cond, sym, refl, inl, inr, subst, length-append}
+use Rattle.std.proofs.Common.{◌≡◌, ◌≤◌, ◌+◌, ◌∷◌, [], ◌∙◌, ℕ, ℤ, List, Bool, true, false, Option, Some, None, length, get_or, slice_get, arith, ap, cond, sym, refl, inl, inr, subst, length-append}
 use Rattle.std.specs.Prelude.{◌&&◌, nat_eq, nat_lt, is_some, if◌then◌else◌, position, option_and_then}
 use Rattle.std.specs.Cmp.Lexicographic.{bytes_decides}
 use Rattle.std.specs.HashMap.{HashMap, get}
@@ -7,6 +7,7 @@ use Rattle.std.specs.List.{list_any, position_or_len}
 use Rattle.std.specs.Ordering.{int_eq}
 use Rattle.std.proofs.lemmas.Bool.{cases_Bool, eq-eqb, eqb-true}
 use Rattle.std.proofs.lemmas.List.Quantifiers.{position-Some}
+use Rattle.std.proofs.lemmas.Option.{slice_get-get_or}
 use Rattle.std.proofs.lemmas.List.Sums.{position_or_len_is}
 use Rattle.indexmap.specs.IndexSet.{insert_key}
 use Rattle.pb_rows.specs.Name.{same_name}
@@ -32,6 +33,14 @@ position_inserted names name = elim (cases_Bool (list_any (same_name name) names
     some : (b : Bool) (n : ℕ) → is_some (cond b (Some n) None) ≡ true → cond b (Some n) None ≡ Some n
     some true n is = refl
     some false n is = cc is
+
+-- a name that has a number is there
+pub known_name : (names : List (List ℕ)) (name : List ℕ) (number : ℕ) → position (same_name name) names ≡ Some number → (insert_key same_name names name ≡ names) × (slice_get names number ≡ Some name)
+known_name names name number at =
+    let there : list_any (same_name name) names ≡ true = sym (is_some-position (same_name name) names) ∙ ap is_some at in
+    let found = position-Some (same_name name) names number [] at in
+    let same : name ≡ get_or names number [] = (bytes_decides name _).0 found.1 in
+    (rw there refl, slice_get-get_or names number [] found.0 ∙ ap Some (sym same))
 
 -- there are as many names once one is inserted, or one more
 pub more_names : (names : List (List ℕ)) (name : List ℕ) → (length names ≤ length (insert_key same_name names name)) × (length (insert_key same_name names name) ≤ length names + 1)

@@ -5,7 +5,7 @@ use Rattle.std.specs.Cmp.{signed_Decides}
 use Rattle.std.specs.Cmp.Lexicographic.{bytes_decides}
 use Rattle.std.specs.HashMap.{get}
 use Rattle.std.specs.List.{list_any}
-use Rattle.std.proofs.lemmas.Bool.{and_parts, cases_Bool, cases_lt, leb-false}
+use Rattle.std.proofs.lemmas.Bool.{and_parts, cases_Bool, cases_lt, leb-false, leb-true}
 use Rattle.std.proofs.lemmas.List.Elements.{All-push}
 use Rattle.std.proofs.lemmas.List.{get_or_default}
 use Rattle.std.proofs.lemmas.List.Quantifiers.{all_pairs_push, position-Some}
@@ -14,10 +14,11 @@ use Rattle.pb_limits.specs.Limits.{most_facts}
 use Rattle.pb_rows.specs.Name.{same_name}
 use Rattle.pb_facts.specs.Fact.{IsFactInRange, id_of, is_dip_on, is_fact_out_of_order, is_reading_on, is_too_long}
 use Rattle.pb_facts.specs.Facts.{NoRepeats, are_facts_full, fact_fault_of, first_fact_fault, has_id, is_duplicate_fact, is_live_dip_on, is_live_reading_on, is_repeat, is_repeat_by_day, live_place_of}
-use Rattle.pb_facts.specs.Places.{IsKept, Notes, SamePlaces, is_about, numbered_at, places_from, same_key}
+use Rattle.pb_facts.specs.Places.{IsKept, IsKeyOf, Notes, SamePlaces, is_about, numbered_at, places_from, same_key, same_numbered}
 use Rattle.pb_facts.specs.Shelf.{stream_or_tank}
 use Rattle.pb_facts.specs.declared.fact.Fact.{Fact}
 use Rattle.pb_facts.specs.declared.fact.Fact.TheVariants.{Reading, Transfer, Dip}
+use Rattle.pb_facts.specs.declared.fact.FactFault.TheVariants.{Duplicate}
 use Rattle.pb_facts.specs.declared.facts.KeptFact.{KeptFact}
 use Rattle.pb_facts.specs.declared.places.Places.{Places}
 use Rattle.pb_facts.proofs.NumberLemmas.{more_names, numbered_more, numbered_noted, numbered_same, numbers_noted}
@@ -200,3 +201,48 @@ struck_place id kept i d apart at struck =
 pub none_live : (kept : List KeptFact) → list_any (λ k. not k.struck && false) kept ≡ false
 none_live [] = refl
 none_live (k ∷ kept) = rw (and_false (not k.struck)) (none_live kept)
+
+-- ---- a reading by its key
+
+-- the key has the number of the name
+pub key_number : (names : List (List ℕ)) (key : ℕ × ℤ) (fact : Fact) → IsKeyOf names key fact → position (same_name (stream_or_tank fact)) names ≡ Some key.0
+key_number names key (Reading id stream day grams variance) is = is.0
+key_number names key (Transfer id stream first last grams variance) is = absurd is
+key_number names key (Dip id tank day mm density variance) is = absurd is
+
+-- the map has the key exactly when a live reading has the stream and day
+pub day_taken : (kept : List KeptFact) (names : List (List ℕ)) (places : Places) (key : ℕ × ℤ) (fact : Fact) → IsKept kept names places → IsKeyOf names key fact
+    → is_some (get same_numbered places.readings key) ≡ list_any (is_repeat_by_day fact) kept
+day_taken kept names places key (Reading id stream day grams variance) right is =
+    let here = rw is.0 at (right.readings (stream, day)) in
+    ap (λ (d : ℤ). is_some (get same_numbered places.readings (key.0, d))) is.1 ∙ ap is_some here ∙ is_some-position (is_live_reading_on stream day) kept
+day_taken kept names places key (Transfer id stream first last grams variance) right is = absurd is
+day_taken kept names places key (Dip id tank day mm density variance) right is = absurd is
+
+-- so what the first fault is
+repeated : (kept : List KeptFact) (fact : Fact) → (list_any (has_id (id_of fact)) kept || list_any (is_repeat_by_day fact) kept) ≡ true → Some Duplicate ≡ fact_fault_of kept fact
+repeated kept fact some =
+    sym (ap (λ (b : Bool). first_fact_fault b (is_fact_out_of_order fact) (is_too_long fact) (are_facts_full kept)) (list_any-or (has_id (id_of fact)) (is_repeat_by_day fact) kept ∙ some))
+
+pub id_repeated : (kept : List KeptFact) (fact : Fact) → list_any (has_id (id_of fact)) kept ≡ true → Some Duplicate ≡ fact_fault_of kept fact
+id_repeated kept fact used = repeated kept fact (rw used refl)
+
+pub day_repeated : (kept : List KeptFact) (fact : Fact) → list_any (is_repeat_by_day fact) kept ≡ true → Some Duplicate ≡ fact_fault_of kept fact
+day_repeated kept fact taken = repeated kept fact (rw taken (either (list_any (has_id (id_of fact)) kept)))
+  where
+    either : (b : Bool) → (b || true) ≡ true
+    either true = refl
+    either false = refl
+
+pub none_repeated : (kept : List KeptFact) (names : List (List ℕ)) (key : ℕ × ℤ) (fact : Fact) → IsKeyOf names key fact → list_any (has_id (id_of fact)) kept ≡ false
+    → list_any (is_repeat_by_day fact) kept ≡ false → length kept < most_facts → None ≡ fact_fault_of kept fact
+none_repeated kept names key (Reading id stream day grams variance) is new free room =
+    let fact = Reading id stream day grams variance in
+    let none : is_duplicate_fact kept fact ≡ false = list_any-or (has_id id) (is_repeat_by_day fact) kept ∙ rw (new, free) refl in
+    let some : are_facts_full kept ≡ false = elim (cases_Bool (are_facts_full kept)) [
+      | inl full ↦ absurd (omega (arith, room, leb-true most_facts (length kept) full))
+      | inr left ↦ left
+    ] in
+    rw (none, some) refl
+none_repeated kept names key (Transfer id stream first last grams variance) is new free room = absurd is
+none_repeated kept names key (Dip id tank day mm density variance) is new free room = absurd is

@@ -37,6 +37,11 @@ abbrev pub is_reading_numbered : Option ℕ → ℕ × ℤ → Fact → Bool
 is_reading_numbered number key (Reading id stream day grams variance) = has_number number key.0 && int_eq day key.1
 is_reading_numbered number key _ = false
 
+-- the number of the name of this reading's stream, and its day
+abbrev pub IsKeyOf : List (List ℕ) → ℕ × ℤ → Fact → Type 0
+IsKeyOf names key (Reading id stream day grams variance) = (position (same_name stream) names ≡ Some key.0) × (key.1 ≡ day)
+IsKeyOf names key _ = ⊥
+
 -- the block of 512 days that a day lies in: no period and a transfer together are longer
 abbrev pub block_of : ℤ → ℤ
 block_of day = int_div_euclid day (pos 512)

@@ -1,6 +1,6 @@
 // The facts on their shelf, in the order in which they were added: each under its id, with its stream or tank as a number.
 
-ghost use Rattle.std.specs.Prelude.{◌≡◌, ℕ, ◌<◌, ◌≤◌, ◌∷◌, ◌++◌, [], List, length, set, true, false, IfOk, IfSome, OnOk, OnErr, position, slice_get, slice_index_or};
+ghost use Rattle.std.specs.Prelude.{◌≡◌, ◌≢◌, ℕ, ◌<◌, ◌≤◌, ◌∷◌, ◌++◌, [], List, length, set, not, true, false, Ok, Some, IfOk, IfSome, IsTrue, OnOk, OnErr, position, slice_get, slice_index_or};
 ghost use Rattle.std.specs.List.{list_any};
 ghost use Rattle.indexmap.specs.IndexSet as names_of;
 ghost use Rattle.indexmap.specs.IndexMap as entries_of;
@@ -14,6 +14,7 @@ ghost use Rattle.pb_facts.specs.Shelf.{stream_or_tank, told_fact};
 use crate::fact::{Change, Fact};
 use crate::facts::KeptFact;
 use crate::places::more_after;
+use indexmap::map::Entry as Found;
 use indexmap::{IndexMap, IndexSet};
 use pb_rows::Name;
 use std::alloc::{AllocError, Global};
@@ -95,6 +96,22 @@ impl Shelf {
         let name = name_number(&mut self.names, fact.stream_or_tank());
         put_entry(&mut self.entries, fact.id(), Entry::of(fact, name));
         Ok(name)
+    }
+
+    /// Appends a fact unless its id is used, given the number of the name of its stream or tank, and returns whether its id is new.
+    /// After an `Err`, out of memory, the shelf is as it was.
+    pub fn push_new(&mut self, fact: &Fact, number: u32) -> Result<bool, AllocError>
+        requires room { length self.old.facts < most_facts }
+        requires number { position (same_name (stream_or_tank fact.now)) self.old.names ≡ Some number }
+        ensures new { IfOk result
+            (λ new. list_any (has_id (id_of fact.now)) self.old.facts ≡ not new) }
+        ensures pushed { result ≡ Ok true → self.new.facts
+            ≡ self.old.facts ++ record { fact = fact.now; struck = false } ∷ [] }
+        ensures unchanged { result ≢ Ok true → self.new.facts ≡ self.old.facts }
+        ensures names { self.new.names ≡ self.old.names }
+    {
+        self.entries.reserve(more_after(self.entries.len()))?;
+        Ok(put_new(&mut self.entries, fact.id(), Entry::of(fact, number)))
     }
 
     /// The fact at a place.
@@ -277,6 +294,24 @@ fn name_number(names: &mut IndexSet<Name>, name: Name) -> u32
 {
     let (number, _) = names.insert_full(name).unwrap();
     number as u32
+}
+
+// Appends an entry unless its id is used, and returns whether it is new.
+fn put_new(entries: &mut IndexMap<Name, Entry>, id: Name, entry: Entry) -> bool
+    requires { 0 < entries_of.spare entries.old }
+    ensures new { list_any (same_name id) (entries_of.keys entries.old) ≡ not result }
+    ensures put { result ≡ true → entries.new.entries
+        ≡ entries_of.insert_entry same_name entries.old.entries id entry }
+    ensures unchanged { result ≡ false → entries.new.entries ≡ entries.old.entries }
+{
+    let found: Result<_, _> = entries.entry(id);
+    match found.unwrap() {
+        Found::Occupied(_) => false,
+        Found::Vacant(slot) => {
+            slot.insert(entry);
+            true
+        }
+    }
 }
 
 // Appends an entry with a new id.
