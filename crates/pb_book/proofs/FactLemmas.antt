@@ -1,12 +1,14 @@
 -- A fact that there is no cause to refuse has no fault.
 use Rattle.std.specs.Prelude.{not, IsSome, if◌then◌else◌}
 use Rattle.std.specs.List.{list_any}
-use Rattle.std.specs.Option.{option_map}
+use Rattle.std.specs.Option.{option_eq, option_map}
 use Rattle.std.proofs.Common.{◌≡◌, ◌∙◌, ℕ, List, [], Bool, true, false, Option, Some, None, refl, sym, ap}
 use Rattle.pb_site.specs.declared.declared.Declared.{Declared}
 use Rattle.pb_site.specs.declared.declared.Version.{Version}
 use Rattle.pb_site.specs.Site.{version_of}
 use Rattle.pb_facts.specs.declared.fact.Fact.{Fact}
+use Rattle.pb_facts.specs.declared.fact.FactFault.{FactFault}
+use Rattle.pb_facts.specs.declared.fact.FactFault.TheVariants as fault
 use Rattle.pb_facts.specs.declared.facts.KeptFact.{KeptFact}
 use Rattle.pb_facts.specs.Fact.{is_fact_out_of_order, is_too_long}
 use Rattle.pb_facts.specs.Facts.{are_facts_full, fact_fault_of, first_fact_fault, is_duplicate_fact, is_live_with, live_place_of}
@@ -19,7 +21,7 @@ use Rattle.pb_book.specs.Accepted.{IsAcceptable}
 use Rattle.pb_periods.specs.Apart.{is_named}
 use Rattle.pb_book.specs.Kept.{AreOf}
 use Rattle.pb_book.specs.Causes.{cause_of_fault, first_cause}
-use Rattle.pb_book.specs.Refusals.{is_closed, is_mismatch, is_out_of_range, is_unknown, refusal_behind}
+use Rattle.pb_book.specs.Refusals.{is_closed, is_mismatch, is_out_of_range, is_unknown, refusal_behind, refusal_of}
 use Rattle.pb_book.specs.declared.answer.Refused.{Refused}
 use Rattle.pb_book.specs.declared.answer.Refused.TheVariants.{Unknown, Duplicate, Order, Mismatch, Closed, Range, Full}
 use Rattle.pb_kinds.specs.declared.rows.StoredRow.{StoredRow}
@@ -51,6 +53,39 @@ in_order unknown duplicate order mismatch closed range full =
     else if range then Some Range
     else if full then Some Full
     else None
+
+-- a fact whose first fault is that it is a duplicate is one, and no other fact is
+pub told_duplicate : (same : FactFault → FactFault → Bool) (kept : List KeptFact) (fact : Fact) (found : Option FactFault) (result : Bool)
+    → same fault.Order fault.Duplicate ≡ false → same fault.Range fault.Duplicate ≡ false → same fault.Full fault.Duplicate ≡ false
+    → found ≡ fact_fault_of kept fact → result ≡ option_eq same found (Some fault.Duplicate) → result ≡ true → is_duplicate_fact kept fact ≡ true
+told_duplicate same kept fact found result not_order not_range not_full is tells told =
+    by (is_duplicate_fact kept fact) (is_fact_out_of_order fact) (is_too_long fact) (are_facts_full kept) (sym told ∙ tells ∙ ap (λ (f : Option FactFault). option_eq same f (Some fault.Duplicate)) is)
+  where
+    by : (d o r f : Bool) → true ≡ option_eq same (first_fact_fault d o r f) (Some fault.Duplicate) → d ≡ true
+    by true o r f e = refl
+    by false true r f e = cc (e ∙ not_order)
+    by false false true f e = cc (e ∙ not_range)
+    by false false false true e = cc (e ∙ not_full)
+    by false false false false e = cc e
+
+pub no_duplicate : (same : FactFault → FactFault → Bool) (kept : List KeptFact) (fact : Fact) (found : Option FactFault) (result : Bool) → same fault.Duplicate fault.Duplicate ≡ true
+    → found ≡ fact_fault_of kept fact → result ≡ option_eq same found (Some fault.Duplicate) → result ≡ false → is_duplicate_fact kept fact ≡ false
+no_duplicate same kept fact found result itself is tells none = by (is_duplicate_fact kept fact) refl
+  where
+    by : (b : Bool) → is_duplicate_fact kept fact ≡ b → is_duplicate_fact kept fact ≡ false
+    by false e = e
+    by true e =
+        let first : fact_fault_of kept fact ≡ Some fault.Duplicate = rw e refl in
+        cc (sym none ∙ tells ∙ ap (λ (f : Option FactFault). option_eq same f (Some fault.Duplicate)) (is ∙ first) ∙ itself)
+
+-- the first cause if a fact is a duplicate, and if it isn't
+pub duplicate_first : (cause : Refused) (kept : List KeptFact) (fact : Fact) → (cause ≡ Unknown → ⊥) → is_duplicate_fact kept fact ≡ true → Duplicate ≡ first_cause cause kept fact
+duplicate_first Unknown kept fact other repeats = absurd (other refl)
+duplicate_first cause kept fact other repeats = rw repeats refl
+
+pub itself_first : (cause : Refused) (kept : List KeptFact) (fact : Fact) → is_duplicate_fact kept fact ≡ false → cause ≡ first_cause cause kept fact
+itself_first Unknown kept fact new = refl
+itself_first cause kept fact new = rw new refl
 
 -- other facts come first if they are a cause, except before Unknown
 pub first_with : (version : Version) (declared : List Declared) (kept : List KeptFact) (periods : List Period) (assays : List Assay) (fact : Fact) (late : Bool) (cause : Refused)
@@ -86,6 +121,17 @@ fault_with version declared kept periods assays fact late alone =
     by true f = refl
     by false true = refl
     by false false = refl
+
+-- the same of stored rows
+pub refused_first : (rows : List StoredRow) (declared : List Declared) (kept : List KeptFact) (periods : List Period) (assays : List Assay) (fact : Fact) (cause : Refused) → AreOf rows declared kept periods assays
+    → Some cause ≡ refusal_behind (version_of declared) declared [] periods [] (Books fact false) → refusal_of rows (Books fact false) ≡ Some (first_cause cause kept fact)
+refused_first rows declared kept periods assays fact cause right alone =
+    rw (← right.site, ← right.facts, ← right.spans) (sym (first_with (version_of declared) declared kept periods (assays_of rows) fact false cause alone))
+
+pub refused_by_fault : (rows : List StoredRow) (declared : List Declared) (kept : List KeptFact) (periods : List Period) (assays : List Assay) (fact : Fact) → AreOf rows declared kept periods assays
+    → refusal_behind (version_of (declared_of rows)) (declared_of rows) [] (periods_of rows) [] (Books fact false) ≡ None → refusal_of rows (Books fact false) ≡ option_map cause_of_fault (fact_fault_of kept fact)
+refused_by_fault rows declared kept periods assays fact right alone =
+    rw right.facts (fault_with (version_of (declared_of rows)) (declared_of rows) (facts_of rows) (periods_of rows) (assays_of rows) fact false (sym alone))
 
 -- nor has a declaration a fault
 pub no_site_fault_of : (rows : List StoredRow) (declared : List Declared) (kept : List KeptFact) (periods : List Period) (assays : List Assay) (row : Declared) → AreOf rows declared kept periods assays

@@ -171,10 +171,10 @@ pub fn judge_alone(site: &Site, periods: &Periods, fact: &Fact, late: bool) -> O
 pub fn first_cause(cause: Refused, facts: &Facts, fact: &Fact) -> Refused
     ensures { result ≡ first_cause cause facts.now fact.now }
 {
-    match (cause, facts.judge(fact)) {
-        (Refused::Unknown, _) => Refused::Unknown,
-        (_, Some(FactFault::Duplicate)) => Refused::Duplicate,
-        (cause, _) => cause,
+    match cause {
+        Refused::Unknown => cause,
+        _ if facts.judge(fact) == Some(FactFault::Duplicate) => Refused::Duplicate,
+        _ => cause,
     }
 }
 
