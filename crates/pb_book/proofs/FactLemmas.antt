@@ -1,17 +1,17 @@
 -- A fact that there is no cause to refuse has no fault.
-use Rattle.std.specs.Prelude.{not, IsSome}
+use Rattle.std.specs.Prelude.{not, IsSome, if◌then◌else◌}
 use Rattle.std.specs.List.{list_any}
-use Rattle.std.specs.Option.{option_eq}
+use Rattle.std.specs.Option.{option_eq, option_map}
 use Rattle.std.proofs.Common.{◌≡◌, ◌∙◌, ℕ, List, [], Bool, true, false, Option, Some, None, refl, sym, ap}
 use Rattle.pb_site.specs.declared.declared.Declared.{Declared}
 use Rattle.pb_site.specs.declared.declared.Version.{Version}
 use Rattle.pb_site.specs.Site.{version_of, service_in}
 use Rattle.pb_facts.specs.declared.fact.Fact.{Fact}
 use Rattle.pb_facts.specs.declared.fact.FactFault.{FactFault}
-use Rattle.pb_facts.specs.declared.fact.FactFault.TheVariants.{Duplicate, Order}
+use Rattle.pb_facts.specs.declared.fact.FactFault.TheVariants as fault
 use Rattle.pb_facts.specs.declared.facts.KeptFact.{KeptFact}
-use Rattle.pb_facts.specs.Fact.{is_fact_out_of_order, is_too_long, named_by}
-use Rattle.pb_facts.specs.Facts.{are_facts_full, fact_fault_of, is_duplicate_fact, is_live_with, live_place_of}
+use Rattle.pb_facts.specs.Fact.{is_fact_out_of_order, is_too_long}
+use Rattle.pb_facts.specs.Facts.{are_facts_full, fact_fault_of, is_duplicate_fact, is_live_with, live_place_of, first_fact_fault}
 use Rattle.pb_kinds.specs.declared.rows.Edit.TheVariants as edits
 use Rattle.pb_site.specs.Faults.{site_fault_of}
 use Rattle.pb_facts.specs.declared.assays.Assay.{Assay}
@@ -20,8 +20,10 @@ use Rattle.pb_periods.specs.declared.period.Period.{Period}
 use Rattle.pb_book.specs.Accepted.{IsAcceptable}
 use Rattle.pb_periods.specs.Apart.{is_named}
 use Rattle.pb_book.specs.Kept.{AreOf}
-use Rattle.pb_book.specs.Refusals.{is_closed, is_mismatch, is_out_of_service, is_unknown, refusal_behind}
-use Rattle.pb_book.specs.declared.answer.Refused.TheVariants.{Range}
+use Rattle.pb_book.specs.Refusals.{is_closed, is_mismatch, is_unknown, refusal_behind, is_out_of_range, refusal_of}
+use Rattle.pb_book.specs.declared.answer.Refused.TheVariants.{Range, Unknown, Duplicate, Order, Mismatch, Closed, Full}
+use Rattle.pb_book.specs.Causes.{cause_of_fault, first_cause}
+use Rattle.pb_book.specs.declared.answer.Refused.{Refused}
 use Rattle.pb_kinds.specs.declared.rows.StoredRow.{StoredRow}
 use Rattle.pb_book.specs.Assays.{assays_of}
 use Rattle.pb_book.specs.Rows.{declared_of, facts_of, period_place, periods_of}
@@ -38,33 +40,98 @@ no_fault_of rows declared kept periods assays fact late right accepted =
     let good = fine (version_of (declared_of rows)) (declared_of rows) (facts_of rows) (periods_of rows) (assays_of rows) (Books fact late) accepted.no_cause in
     rw right.facts (no_fault (facts_of rows) fact good.new good.order (range_parts (version_of (declared_of rows)) (declared_of rows) (facts_of rows) (periods_of rows) fact late good.range).short good.room)
 
--- a fact whose first fault isn't that it is a duplicate isn't a duplicate; nor is a fact out of order if its first fault isn't that
-pub no_duplicate : (same : FactFault → FactFault → Bool) (kept : List KeptFact) (fact : Fact) (fault : Option FactFault) (result : Bool) → same Duplicate Duplicate ≡ true
-    → fault ≡ fact_fault_of kept fact → result ≡ option_eq same fault (Some Duplicate) → result ≡ false → is_duplicate_fact kept fact ≡ false
-no_duplicate same kept fact fault result itself is tells none = by (is_duplicate_fact kept fact) refl
+-- ---- the first cause to refuse a fact, with and without other facts
+
+-- the causes of a fact in order
+abbrev in_order : Bool → Bool → Bool → Bool → Bool → Bool → Bool → Option Refused
+in_order unknown duplicate order mismatch closed range full =
+    if unknown then Some Unknown
+    else if duplicate then Some Duplicate
+    else if order then Some Order
+    else if mismatch then Some Mismatch
+    else if closed then Some Closed
+    else if range then Some Range
+    else if full then Some Full
+    else None
+
+-- a fact whose first fault is that it is a duplicate is one, and no other fact is
+pub told_duplicate : (same : FactFault → FactFault → Bool) (kept : List KeptFact) (fact : Fact) (found : Option FactFault) (result : Bool)
+    → same fault.Order fault.Duplicate ≡ false → same fault.Range fault.Duplicate ≡ false → same fault.Full fault.Duplicate ≡ false
+    → found ≡ fact_fault_of kept fact → result ≡ option_eq same found (Some fault.Duplicate) → result ≡ true → is_duplicate_fact kept fact ≡ true
+told_duplicate same kept fact found result not_order not_range not_full is tells told =
+    by (is_duplicate_fact kept fact) (is_fact_out_of_order fact) (is_too_long fact) (are_facts_full kept) (sym told ∙ tells ∙ ap (λ (f : Option FactFault). option_eq same f (Some fault.Duplicate)) is)
+  where
+    by : (d o r f : Bool) → true ≡ option_eq same (first_fact_fault d o r f) (Some fault.Duplicate) → d ≡ true
+    by true o r f e = refl
+    by false true r f e = cc (e ∙ not_order)
+    by false false true f e = cc (e ∙ not_range)
+    by false false false true e = cc (e ∙ not_full)
+    by false false false false e = cc e
+
+pub no_duplicate : (same : FactFault → FactFault → Bool) (kept : List KeptFact) (fact : Fact) (found : Option FactFault) (result : Bool) → same fault.Duplicate fault.Duplicate ≡ true
+    → found ≡ fact_fault_of kept fact → result ≡ option_eq same found (Some fault.Duplicate) → result ≡ false → is_duplicate_fact kept fact ≡ false
+no_duplicate same kept fact found result itself is tells none = by (is_duplicate_fact kept fact) refl
   where
     by : (b : Bool) → is_duplicate_fact kept fact ≡ b → is_duplicate_fact kept fact ≡ false
     by false e = e
     by true e =
-        let first : fact_fault_of kept fact ≡ Some Duplicate = rw e refl in
-        cc (sym none ∙ tells ∙ ap (λ (f : Option FactFault). option_eq same f (Some Duplicate)) (is ∙ first) ∙ itself)
+        let first : fact_fault_of kept fact ≡ Some fault.Duplicate = rw e refl in
+        cc (sym none ∙ tells ∙ ap (λ (f : Option FactFault). option_eq same f (Some fault.Duplicate)) (is ∙ first) ∙ itself)
 
-pub no_disorder : (same : FactFault → FactFault → Bool) (kept : List KeptFact) (fact : Fact) (fault : Option FactFault) (result : Bool) → same Order Order ≡ true
-    → fault ≡ fact_fault_of kept fact → result ≡ option_eq same fault (Some Order) → result ≡ false → is_duplicate_fact kept fact ≡ false → is_fact_out_of_order fact ≡ false
-no_disorder same kept fact fault result itself is tells none new = by (is_fact_out_of_order fact) refl
+-- the first cause if a fact is a duplicate, and if it isn't
+pub duplicate_first : (cause : Refused) (kept : List KeptFact) (fact : Fact) → (cause ≡ Unknown → ⊥) → is_duplicate_fact kept fact ≡ true → Duplicate ≡ first_cause cause kept fact
+duplicate_first Unknown kept fact other repeats = absurd (other refl)
+duplicate_first cause kept fact other repeats = rw repeats refl
+
+pub itself_first : (cause : Refused) (kept : List KeptFact) (fact : Fact) → is_duplicate_fact kept fact ≡ false → cause ≡ first_cause cause kept fact
+itself_first Unknown kept fact new = refl
+itself_first cause kept fact new = rw new refl
+
+-- other facts come first if they are a cause, except before Unknown
+pub first_with : (version : Version) (declared : List Declared) (kept : List KeptFact) (periods : List Period) (assays : List Assay) (fact : Fact) (late : Bool) (cause : Refused)
+    → Some cause ≡ refusal_behind version declared [] periods [] (Books fact late) → Some (first_cause cause kept fact) ≡ refusal_behind version declared kept periods assays (Books fact late)
+first_with version declared kept periods assays fact late cause alone =
+    by (is_unknown declared [] periods (Books fact late)) (is_fact_out_of_order fact) (is_mismatch declared [] periods (Books fact late)) (is_closed version declared periods (Books fact late))
+    (is_out_of_range version declared [] periods (Books fact late)) cause alone
   where
-    by : (b : Bool) → is_fact_out_of_order fact ≡ b → is_fact_out_of_order fact ≡ false
-    by false e = e
-    by true e =
-        let first : fact_fault_of kept fact ≡ Some Order = rw (new, e) refl in
-        cc (sym none ∙ tells ∙ ap (λ (f : Option FactFault). option_eq same f (Some Order)) (is ∙ first) ∙ itself)
+    either : (d : Bool) (x y : Refused) → Some (if d then x else y) ≡ (if d then Some x else Some y)
+    either true x y = refl
+    either false x y = refl
 
--- a fact of a day out of service is out of range, if no earlier cause holds
-pub out_of_service : (version : Version) (declared : List Declared) (kept : List KeptFact) (periods : List Period) (fact : Fact) (late : Bool)
-    → is_unknown declared kept periods (Books fact late) ≡ false → is_duplicate_fact kept fact ≡ false → is_fact_out_of_order fact ≡ false
-    → is_mismatch declared kept periods (Books fact late) ≡ false → is_closed version declared periods (Books fact late) ≡ false
-    → is_out_of_service (service_in version declared (named_by fact)) fact ≡ true → Some Range ≡ refusal_behind version declared kept periods [] (Books fact late)
-out_of_service version declared kept periods fact late known new order matching opened out = rw (known, new, order, matching, opened, out) refl
+    same : (x y : Refused) (o : Option Refused) → Some x ≡ Some y → Some (first_cause y kept fact) ≡ o → Some (first_cause x kept fact) ≡ o
+    same x y o e is = ap (λ (z : Refused). Some (first_cause z kept fact)) (cc e) ∙ is
+
+    by : (u o m c r : Bool) (x : Refused) → Some x ≡ in_order u false o m c r false → Some (first_cause x kept fact) ≡ in_order u (is_duplicate_fact kept fact) o m c r (are_facts_full kept)
+    by true o m c r x is = same x Unknown (Some Unknown) is refl
+    by false true m c r x is = same x Order (in_order false (is_duplicate_fact kept fact) true m c r (are_facts_full kept)) is (either (is_duplicate_fact kept fact) Duplicate Order)
+    by false false true c r x is = same x Mismatch (in_order false (is_duplicate_fact kept fact) false true c r (are_facts_full kept)) is (either (is_duplicate_fact kept fact) Duplicate Mismatch)
+    by false false false true r x is = same x Closed (in_order false (is_duplicate_fact kept fact) false false true r (are_facts_full kept)) is (either (is_duplicate_fact kept fact) Duplicate Closed)
+    by false false false false true x is = same x Range (in_order false (is_duplicate_fact kept fact) false false false true (are_facts_full kept)) is (either (is_duplicate_fact kept fact) Duplicate Range)
+    by false false false false false x is = cc is
+
+-- if there is no cause without other facts, the first fault of the fact is the cause
+pub fault_with : (version : Version) (declared : List Declared) (kept : List KeptFact) (periods : List Period) (assays : List Assay) (fact : Fact) (late : Bool)
+    → None ≡ refusal_behind version declared [] periods [] (Books fact late) → refusal_behind version declared kept periods assays (Books fact late) ≡ option_map cause_of_fault (fact_fault_of kept fact)
+fault_with version declared kept periods assays fact late alone =
+    let good = fine version declared [] periods [] (Books fact late) (sym alone) in
+    let inside = range_parts version declared [] periods fact late good.range in
+    rw (good.known, good.order, good.matching, good.opened, good.range, inside.short) (by (is_duplicate_fact kept fact) (are_facts_full kept))
+  where
+    by : (d f : Bool) → in_order false d false false false false f ≡ option_map cause_of_fault (first_fact_fault d false false f)
+    by true f = refl
+    by false true = refl
+    by false false = refl
+
+-- the same of stored rows
+pub refused_first : (rows : List StoredRow) (declared : List Declared) (kept : List KeptFact) (periods : List Period) (assays : List Assay) (fact : Fact) (cause : Refused) → AreOf rows declared kept periods assays
+    → Some cause ≡ refusal_behind (version_of declared) declared [] periods [] (Books fact false) → refusal_of rows (Books fact false) ≡ Some (first_cause cause kept fact)
+refused_first rows declared kept periods assays fact cause right alone =
+    rw (← right.site, ← right.facts, ← right.spans) (sym (first_with (version_of declared) declared kept periods (assays_of rows) fact false cause alone))
+
+pub refused_by_fault : (rows : List StoredRow) (declared : List Declared) (kept : List KeptFact) (periods : List Period) (assays : List Assay) (fact : Fact) → AreOf rows declared kept periods assays
+    → refusal_behind (version_of (declared_of rows)) (declared_of rows) [] (periods_of rows) [] (Books fact false) ≡ None → refusal_of rows (Books fact false) ≡ option_map cause_of_fault (fact_fault_of kept fact)
+refused_by_fault rows declared kept periods assays fact right alone =
+    rw right.facts (fault_with (version_of (declared_of rows)) (declared_of rows) (facts_of rows) (periods_of rows) (assays_of rows) fact false (sym alone))
 
 -- nor has a declaration a fault
 pub no_site_fault_of : (rows : List StoredRow) (declared : List Declared) (kept : List KeptFact) (periods : List Period) (assays : List Assay) (row : Declared) → AreOf rows declared kept periods assays

@@ -1,6 +1,6 @@
 // The book of accepted rows.
 
-ghost use Rattle.std.specs.Prelude.{◌≡◌, ◌≢◌, ◌<◌, ◌≤◌, [], length, map, All, Err, Ok, IfOk, IfSome, OnOk, OnErr, slice_get, Some, false, true, vec_capacity, vec_len};
+ghost use Rattle.std.specs.Prelude.{◌≡◌, ◌≢◌, ◌<◌, ◌≤◌, [], length, map, All, Err, Ok, IfOk, IfSome, OnOk, OnErr, slice_get, None, Some, false, true, vec_capacity, vec_len};
 ghost use Rattle.pb_limits.specs.Limits.{most_periods, most_periods_of_window};
 ghost use Rattle.pb_facts.specs.Grade.{IsGrade};
 ghost use Rattle.pb_site.specs.Site.{version_of};
@@ -23,7 +23,7 @@ ghost use Rattle.pb_book.specs.Costs.{meter_costs, refusal_of_costs};
 ghost use Rattle.pb_book.specs.Edits.{edit_touches, edits_of, touches_at};
 ghost use Rattle.pb_book.specs.Plain.{plain_rows};
 ghost use Rattle.pb_periods.specs.Ranges.{IsPeriod};
-ghost use Rattle.pb_book.specs.Refusals.{refusal_of};
+ghost use Rattle.pb_book.specs.Refusals.{refusal_behind, refusal_of};
 ghost use Rattle.pb_book.specs.Rows.{declared_of, facts_of, period_place, periods_of, version_at, with_row};
 ghost use Rattle.pb_periods.specs.Touching.{touches_in};
 ghost use Rattle.pb_book.specs.TakenOut.{last_row, takes_out, touched_at, touches_by_id};
@@ -35,7 +35,7 @@ ghost use Rattle.pb_window.specs.Window.{IsWindow};
 
 use crate::answer::{Accepted, NotAccepted, Refused};
 use crate::costs::{judge_costs, meter_costs};
-use crate::judge::{judge, judge_fact};
+use crate::judge::{first_cause, judge, judge_alone};
 use crate::originals::keep_original;
 use crate::plain::plain_records;
 use crate::rows::{Edited, Part, Place};
@@ -461,11 +461,36 @@ impl Book {
         ensures unchanged { result ≡ Err NoMemory → self.new ≡ self.old }
         ensures no_repeats { result ≡ Ok Stored → NoRepeats (facts_of self.new) }
     {
-        if let Some(cause) = judge_fact(&self.site, &self.facts, &self.periods, fact, false) {
-            return Err(NotAccepted::Refused(cause));
+        match judge_alone(&self.site, &self.periods, fact, false) {
+            Some(cause) => Err(NotAccepted::Refused(first_cause(cause, &self.facts, fact))),
+            None => self.book_alone(at, fact),
         }
-        self.add_fact(at, fact)?;
-        Ok(Accepted::Stored)
+    }
+
+    // Books a fact unless another fact is a cause to refuse it.
+    fn book_alone(&mut self, at: u32, fact: &Fact) -> Result<Accepted, NotAccepted>
+        requires in_range { IsEffectInRange (Books fact.now false) }
+        requires alone { refusal_behind (version_of (declared_of self.old)) (declared_of self.old)
+            [] (periods_of self.old) [] (Books fact.now false) ≡ None }
+        ensures answer { result ≢ Err NoMemory → result ≡ said_of (unless_refused
+            (Stores (Books fact.now false)) (refusal_of self.old (Books fact.now false))) }
+        ensures stored { result ≢ Err NoMemory → self.new ≡ after_answer self.old at (unless_refused
+            (Stores (Books fact.now false)) (refusal_of self.old (Books fact.now false))) }
+        ensures unchanged { result ≡ Err NoMemory → self.new ≡ self.old }
+        ensures no_repeats { result ≡ Ok Stored → NoRepeats (facts_of self.new) }
+    {
+        make_room(&mut self.places)?;
+        let part = Part::Booked {
+            place: self.facts.len(),
+            late: false,
+        };
+        match self.facts.book(fact)? {
+            Some(fault) => Err(NotAccepted::Refused(Refused::from(fault))),
+            None => {
+                self.places.push_reserved(Place { at, part });
+                Ok(Accepted::Stored)
+            }
+        }
     }
 
     // Stores a row, or returns why it is refused.
@@ -655,7 +680,7 @@ fn make_room(places: &mut Vec<Place>) -> Result<(), AllocError>
     places.reserve(if places.len() == FEW { MANY - FEW } else { 1 })
 }
 
-// A place in 32 bits. If it doesn't fit, there are more rows than memory is made for.
+// A place in 32 bits. So many rows that it doesn't fit are answered as if memory ran out.
 fn short(place: usize) -> Result<u32, AllocError>
     ensures { IfOk result (λ short. short ≡ place) }
 {

@@ -10,8 +10,8 @@ ghost use Rattle.pb_site.specs.declared.declared.Version.TheVariants.{One};
 ghost use Rattle.pb_site.specs.Site.{kind_of, version_of};
 ghost use Rattle.pb_kinds.specs.declared.rows.Effect.TheVariants.{Books, Closes, Declares, Edits, Opens};
 ghost use Rattle.pb_kinds.specs.Ranges.{IsEffectInRange};
-ghost use Rattle.pb_book.specs.Causes.{cause_of_change, cause_of_edit};
-ghost use Rattle.pb_book.specs.Refusals.{is_closed, is_of_other_kind, is_of_plant, is_out_of_service, is_outside_table, is_sealed_by, names_other, refusal_behind, serves_closed};
+ghost use Rattle.pb_book.specs.Causes.{cause_of_change, cause_of_edit, first_cause};
+ghost use Rattle.pb_book.specs.Refusals.{is_closed, is_of_other_kind, is_of_plant, is_out_of_service, is_outside_table, is_sealed_by, names_other, refusal_behind, serves_closed, kind_of_fact};
 
 use crate::answer::Refused;
 use pb_facts::{Assays, Change, Fact, FactFault, Facts, MOST_ASSAYS};
@@ -121,7 +121,7 @@ fn judge_period(periods: &Periods, name: &Name, first: i32, last: i32) -> Option
 }
 
 /// The first cause to refuse a fact. A late fact may touch a closed period.
-pub fn judge_fact(
+fn judge_fact(
     site: &Site,
     facts: &Facts,
     periods: &Periods,
@@ -132,28 +132,49 @@ pub fn judge_fact(
     ensures { result ≡ refusal_behind (version_of site.now) site.now facts.now periods.now []
         (Books fact.now late) }
 {
+    match judge_alone(site, periods, fact, late) {
+        Some(cause) => Some(first_cause(cause, facts, fact)),
+        None => match facts.judge(fact) {
+            Some(fault) => Some(Refused::from(fault)),
+            None => None,
+        },
+    }
+}
+
+/// The first cause to refuse a fact as if there were no other facts.
+pub fn judge_alone(site: &Site, periods: &Periods, fact: &Fact, late: bool) -> Option<Refused>
+    requires { IsFactInRange fact.now }
+    ensures { result ≡ refusal_behind (version_of site.now) site.now [] periods.now []
+        (Books fact.now late) }
+{
     let kind = kind_of_fact(site, fact);
     if names_other(fact, kind) {
-        return Some(Refused::Unknown);
-    }
-    let fault = facts.judge(fact);
-    if fault == Some(FactFault::Duplicate) {
-        Some(Refused::Duplicate)
-    } else if fault == Some(FactFault::Order) {
+        Some(Refused::Unknown)
+    } else if fact.is_out_of_order() {
         Some(Refused::Order)
     } else if is_of_other_kind(fact, kind) {
         Some(Refused::Mismatch)
     } else if is_closed(site, periods, fact, late) {
         Some(Refused::Closed)
     } else if is_out_of_service(service_of(site, fact), fact)
-        || fault == Some(FactFault::Range)
+        || fact.is_too_long()
         || is_outside_table(site, fact)
     {
         Some(Refused::Range)
-    } else if fault == Some(FactFault::Full) {
-        Some(Refused::Full)
     } else {
         None
+    }
+}
+
+/// The first cause to refuse a fact, given the first one as if there were no other facts. If the fact repeats another, only Unknown
+/// comes before that.
+pub fn first_cause(cause: Refused, facts: &Facts, fact: &Fact) -> Refused
+    ensures { result ≡ first_cause cause facts.now fact.now }
+{
+    match cause {
+        Refused::Unknown => cause,
+        _ if facts.judge(fact) == Some(FactFault::Duplicate) => Refused::Duplicate,
+        _ => cause,
     }
 }
 

@@ -1,11 +1,10 @@
 -- The maps of kept facts, as facts are amended and struck.
-use Rattle.std.proofs.Common.{◌≡◌, ◌≢◌, ◌<◌, ◌≤◌, ◌+◌, ◌++◌, ◌∷◌, [], ◌∙◌, ℕ, zero, suc, ℤ, List, Bool, true, false, Option, Some, None, All, length, get_or, set, map, cond, arith, ap, ap₂, sym, refl, inl, inr, subst}
-use Rattle.std.specs.Prelude.{◌||◌, ◌&&◌, not, nat_lt, is_some, IsSome, if◌then◌else◌, position, AllPairs}
+use Rattle.std.proofs.Common.{◌≡◌, ◌≢◌, ◌<◌, ◌+◌, ◌∷◌, [], ◌∙◌, ℕ, zero, suc, ℤ, List, Bool, true, false, Option, Some, None, All, length, get_or, set, map, arith, ap, ap₂, sym, refl, inl, inr, subst}
+use Rattle.std.specs.Prelude.{◌||◌, ◌&&◌, not, is_some, if◌then◌else◌, position, AllPairs}
 use Rattle.std.specs.Cmp.{signed_Decides}
 use Rattle.std.specs.Cmp.Lexicographic.{bytes_decides}
 use Rattle.std.specs.HashMap.{get}
 use Rattle.std.specs.List.{list_any, position_or_len}
-use Rattle.std.specs.Ordering.{int_eq}
 use Rattle.std.proofs.lemmas.Bool.{and_parts, cases_Bool, cases_lt}
 use Rattle.std.proofs.lemmas.List.{get_or_default, length-map}
 use Rattle.std.proofs.lemmas.List.Folds.{list_any_at}
@@ -14,18 +13,19 @@ use Rattle.pb_rows.specs.Name.{same_name}
 use Rattle.pb_facts.specs.Changes.{IsChangeInRange, amend_fault_of, amended, changed, fits, is_live_without, struck}
 use Rattle.pb_facts.specs.Fact.{IsFactInRange, id_of, is_dip_on, is_on_day_of, is_reading_on, is_too_long}
 use Rattle.pb_facts.specs.Facts.{NoRepeats, has_id, is_live_dip_on, is_live_reading_on, is_live_with, is_repeat, is_repeat_by_day, live_place_of}
-use Rattle.pb_facts.specs.Places.{Forgets, IsKept, is_about, places_at, places_from, same_key}
+use Rattle.pb_facts.specs.Places.{Forgets, IsKept, is_about, numbered_at, places_from, same_key}
+use Rattle.pb_facts.specs.Shelf.{stream_or_tank}
 use Rattle.pb_facts.specs.declared.fact.Change.{Change}
 use Rattle.pb_facts.specs.declared.fact.Change.TheVariants.{Amount, Level}
 use Rattle.pb_facts.specs.declared.fact.Fact.{Fact}
 use Rattle.pb_facts.specs.declared.fact.Fact.TheVariants.{Reading, Transfer, Dip}
-use Rattle.pb_facts.specs.declared.fact.FactFault.{FactFault}
 use Rattle.pb_facts.specs.declared.fact.FactFault.TheVariants.{Unknown, Mismatch}
 use Rattle.pb_facts.specs.declared.facts.KeptFact.{KeptFact}
 use Rattle.pb_facts.specs.declared.places.Places.{Places}
 use Rattle.pb_facts.proofs.LiveLemmas.{passes_live}
+use Rattle.pb_facts.proofs.NumberLemmas.{numbered_forgotten, numbers_forgotten}
 use Rattle.pb_facts.proofs.PlaceLemmas.{or_none}
-use Rattle.pb_facts.proofs.PositionLemmas.{any_absent, is_some-position, position_none}
+use Rattle.pb_facts.proofs.PositionLemmas.{is_some-position, position_none}
 
 -- ---- lists whose items are changed
 
@@ -232,12 +232,13 @@ amend_one_range id c k new old = elim (cases_Bool (is_live_with id k)) [
 ]
 
 -- the maps give the places of the facts after an amendment too
-pub kept_amended : (id : List ℕ) (c : Change) (kept : List KeptFact) (places : Places) → IsChangeInRange c → IsKept kept places → IsKept (amended id c kept) places
-kept_amended id c kept places new right =
+pub kept_amended : (id : List ℕ) (c : Change) (kept : List KeptFact) (names : List (List ℕ)) (places : Places) → IsChangeInRange c → IsKept kept names places → IsKept (amended id c kept) names places
+kept_amended id c kept names places new right =
     let one = amend_one id c in
     record {
       readings = λ key. right.readings key
           ∙ sym (position_map (is_live_reading_on key.0 key.1) one kept (λ i d lt. amend_one_same (λ b fact. not b && is_reading_on key.0 key.1 fact) id c (get_or kept i d) (λ b fact. ap (λ (x : Bool). not b && x) (changed_reading key.0 key.1 c fact))));
+      numbers = right.numbers;
       dips = λ key. right.dips key
           ∙ sym (position_map (is_live_dip_on key.0 key.1) one kept (λ i d lt. amend_one_same (λ b fact. not b && is_dip_on key.0 key.1 fact) id c (get_or kept i d) (λ b fact. ap (λ (x : Bool). not b && x) (changed_dip key.0 key.1 c fact))));
       transfers = λ key. right.transfers key
@@ -350,13 +351,14 @@ forgotten q id kept i d old one_day pairs only right = elim (cases_Bool (q (get_
     ]
 
 -- the maps give the places of the facts after a strike
-pub kept_struck : (id : List ℕ) (kept : List KeptFact) (old new : Places) (i : ℕ) (d : KeptFact) → IsOnly id kept i d → IsKept kept old
-    → Forgets old new (get_or kept i d).fact → IsKept (struck id kept) new
-kept_struck id kept old new i d only right forgets =
+pub kept_struck : (id : List ℕ) (kept : List KeptFact) (names : List (List ℕ)) (old new : Places) (number : Option ℕ) (i : ℕ) (d : KeptFact) → IsOnly id kept i d → IsKept kept names old
+    → Forgets old new (get_or kept i d).fact number → position (same_name (stream_or_tank (get_or kept i d).fact)) names ≡ number → IsKept (struck id kept) names new
+kept_struck id kept names old new number i d only right forgets numbered =
     let one = strike_one id in
     record {
-      readings = λ key. forgets.readings key
-          ∙ forgotten (is_reading_on key.0 key.1) id kept i d (get same_key old.readings key) (same_reading_day key.0 key.1) right.no_repeats only (right.readings key);
+      readings = λ key. numbered_forgotten names (get_or kept i d).fact number old.readings new.readings numbered forgets.readings key
+          ∙ forgotten (is_reading_on key.0 key.1) id kept i d (numbered_at names old.readings key) (same_reading_day key.0 key.1) right.no_repeats only (right.readings key);
+      numbers = numbers_forgotten names (get_or kept i d).fact number old.readings new.readings forgets.readings right.numbers;
       dips = λ key. forgets.dips key
           ∙ forgotten (is_dip_on key.0 key.1) id kept i d (get same_key old.dips key) (same_dip_day key.0 key.1) right.no_repeats only (right.dips key);
       transfers = λ key. forgets.transfers key ∙ right.transfers key
@@ -409,10 +411,11 @@ fault_at id c kept i d only =
 
 -- ---- the same for the item that was found at the place
 
-pub kept_struck_item : (id : List ℕ) (kept : List KeptFact) (old new : Places) (i : ℕ) (item : KeptFact) → IsOnly id kept i item → item ≡ get_or kept i item → IsKept kept old
-    → Forgets old new item.fact → IsKept (struck id kept) new
-kept_struck_item id kept old new i item only is right forgets =
-    kept_struck id kept old new i item only right (subst (λ (k : KeptFact). Forgets old new k.fact) is forgets)
+pub kept_struck_item : (id : List ℕ) (kept : List KeptFact) (names : List (List ℕ)) (old new : Places) (number : Option ℕ) (i : ℕ) (item : KeptFact) → IsOnly id kept i item → item ≡ get_or kept i item
+    → IsKept kept names old → Forgets old new item.fact number → position (same_name (stream_or_tank item.fact)) names ≡ number → IsKept (struck id kept) names new
+kept_struck_item id kept names old new number i item only is right forgets numbered =
+    kept_struck id kept names old new number i item only right (subst (λ (k : KeptFact). Forgets old new k.fact number) is forgets)
+    (subst (λ (k : KeptFact). position (same_name (stream_or_tank k.fact)) names ≡ number) is numbered)
 
 pub fit_at : (id : List ℕ) (c : Change) (kept : List KeptFact) (i : ℕ) (item : KeptFact) → IsOnly id kept i item → item ≡ get_or kept i item → fits c item.fact ≡ true
     → amend_fault_of kept id c ≡ None

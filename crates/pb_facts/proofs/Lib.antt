@@ -1,6 +1,7 @@
 mod AssayLemmas
 mod ChangeLemmas
 mod LiveLemmas
+mod NumberLemmas
 mod PlaceLemmas
 mod PositionLemmas
 mod ShareLemmas

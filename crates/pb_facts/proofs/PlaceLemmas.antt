@@ -5,19 +5,23 @@ use Rattle.std.specs.Cmp.{signed_Decides}
 use Rattle.std.specs.Cmp.Lexicographic.{bytes_decides}
 use Rattle.std.specs.HashMap.{get}
 use Rattle.std.specs.List.{list_any}
-use Rattle.std.proofs.lemmas.Bool.{and_parts, cases_Bool, cases_lt, leb-false}
+use Rattle.std.proofs.lemmas.Bool.{and_parts, cases_Bool, cases_lt, leb-false, leb-true}
 use Rattle.std.proofs.lemmas.List.Elements.{All-push}
 use Rattle.std.proofs.lemmas.List.{get_or_default}
 use Rattle.std.proofs.lemmas.List.Quantifiers.{all_pairs_push, position-Some}
+use Rattle.indexmap.specs.IndexSet.{insert_key}
 use Rattle.pb_limits.specs.Limits.{most_facts}
 use Rattle.pb_rows.specs.Name.{same_name}
 use Rattle.pb_facts.specs.Fact.{IsFactInRange, id_of, is_dip_on, is_fact_out_of_order, is_reading_on, is_too_long}
 use Rattle.pb_facts.specs.Facts.{NoRepeats, are_facts_full, fact_fault_of, first_fact_fault, has_id, is_duplicate_fact, is_live_dip_on, is_live_reading_on, is_repeat, is_repeat_by_day, live_place_of}
-use Rattle.pb_facts.specs.Places.{IsKept, Notes, SamePlaces, is_about, places_from, same_key}
+use Rattle.pb_facts.specs.Places.{IsKept, IsKeyOf, Notes, SamePlaces, is_about, numbered_at, places_from, same_key, same_numbered}
+use Rattle.pb_facts.specs.Shelf.{stream_or_tank}
 use Rattle.pb_facts.specs.declared.fact.Fact.{Fact}
 use Rattle.pb_facts.specs.declared.fact.Fact.TheVariants.{Reading, Transfer, Dip}
+use Rattle.pb_facts.specs.declared.fact.FactFault.TheVariants.{Duplicate}
 use Rattle.pb_facts.specs.declared.facts.KeptFact.{KeptFact}
 use Rattle.pb_facts.specs.declared.places.Places.{Places}
+use Rattle.pb_facts.proofs.NumberLemmas.{more_names, numbered_more, numbered_noted, numbered_same, numbers_noted}
 use Rattle.pb_facts.proofs.TransferLemmas.{places_from-push}
 use Rattle.pb_facts.proofs.PositionLemmas.{any_absent, is_some-position, position_at, position_none, position_push_new, position_push_other}
 
@@ -58,9 +62,10 @@ pub new_id : (kept : List KeptFact) (fact : Fact) → fact_fault_of kept fact �
 new_id kept fact fine = (or_none _ _ (sym (list_any-or (has_id (id_of fact)) (is_repeat_by_day fact) kept) ∙ (no_fault kept fact fine).0)).0
 
 -- maps that give the same places
-pub kept_same : (kept : List KeptFact) (old new : Places) → IsKept kept old → SamePlaces old new → IsKept kept new
-kept_same kept old new right same = record {
-  readings = λ key. same.readings key ∙ right.readings key;
+pub kept_same : (kept : List KeptFact) (names : List (List ℕ)) (old new : Places) → IsKept kept names old → SamePlaces old new → IsKept kept names new
+kept_same kept names old new right same = record {
+  readings = λ key. numbered_same names old.readings new.readings same.readings key ∙ right.readings key;
+  numbers = λ key past. same.readings key ∙ right.numbers key past;
   dips = λ key. same.dips key ∙ right.dips key;
   transfers = λ key. same.transfers key ∙ right.transfers key;
   no_repeats = right.no_repeats;
@@ -101,15 +106,17 @@ fresh_dip kept (Dip id t d mm density variance) tank day none same =
     subst (λ (q : List ℕ). list_any (is_live_dip_on q day) kept ≡ false) e (subst (λ (q : ℤ). list_any (is_live_dip_on t q) kept ≡ false) f none)
 
 -- what holds of the kept facts holds with one more
-pub kept_more : (kept : List KeptFact) (old mid new : Places) (fact : Fact) (place : ℕ) → IsKept kept old → SamePlaces old mid → Notes mid new fact place
-    → fact_fault_of kept fact ≡ None → IsFactInRange fact → place ≡ length kept → IsKept (kept ++ record { fact = fact; struck = false } ∷ []) new
-kept_more kept old mid new fact place right same notes fine ranges at =
+pub kept_more : (kept : List KeptFact) (names all : List (List ℕ)) (old mid new : Places) (fact : Fact) (number place : ℕ) → IsKept kept names old → SamePlaces old mid → Notes mid new fact number place
+    → all ≡ insert_key same_name names (stream_or_tank fact) → position (same_name (stream_or_tank fact)) all ≡ Some number
+    → fact_fault_of kept fact ≡ None → IsFactInRange fact → place ≡ length kept → IsKept (kept ++ record { fact = fact; struck = false } ∷ []) all new
+kept_more kept names all old mid new fact number place right same notes more numbered fine ranges at =
     let free = no_fault kept fact fine in
     let apart = or_none _ _ (sym (list_any-or (has_id (id_of fact)) (is_repeat_by_day fact) kept) ∙ free.0) in
     let item : KeptFact = record { fact = fact; struck = false } in
     record {
-      readings = λ key. notes.readings key
-          ∙ noted (is_live_reading_on key.0 key.1) kept item place (get same_key mid.readings key) (same.readings key ∙ right.readings key) (fresh_reading kept fact key.0 key.1 apart.1) at;
+      readings = λ key. numbered_noted all fact number place mid.readings new.readings numbered notes.readings key
+          ∙ noted (is_live_reading_on key.0 key.1) kept item place (numbered_at all mid.readings key) (before key) (fresh_reading kept fact key.0 key.1 apart.1) at;
+      numbers = numbers_noted all fact number place mid.readings new.readings numbered notes.readings (λ key past. same.readings key ∙ right.numbers key (fewer key past));
       dips = λ key. notes.dips key
           ∙ noted (is_live_dip_on key.0 key.1) kept item place (get same_key mid.dips key) (same.dips key ∙ right.dips key) (fresh_dip kept fact key.0 key.1 apart.1) at;
       transfers = λ key. notes.transfers key
@@ -121,6 +128,16 @@ kept_more kept old mid new fact place right same notes fine ranges at =
       few = few kept item free.1;
     }
   where
+    before : (key : List ℕ × ℤ) → numbered_at all mid.readings key ≡ position (is_live_reading_on key.0 key.1) kept
+    before key =
+        numbered_same all old.readings mid.readings same.readings key
+        ∙ ap (λ (ns : List (List ℕ)). numbered_at ns old.readings key) more
+        ∙ numbered_more names (stream_or_tank fact) old.readings right.numbers key
+        ∙ right.readings key
+
+    fewer : (key : ℕ × ℤ) → length all ≤ key.0 → length names ≤ key.0
+    fewer key past = let long = (more_names names (stream_or_tank fact)).0 in omega (arith, long, rw more at past)
+
     placed : (key : List ℕ × ℤ) (place : ℕ) → place ≡ length kept
         → places_from (λ (k : KeptFact). is_about key k.fact) 0 kept ++ (if is_about key fact then place ∷ [] else [])
         ≡ places_from (λ (k : KeptFact). is_about key k.fact) 0 (kept ++ record { fact = fact; struck = false } ∷ [])
@@ -184,3 +201,48 @@ struck_place id kept i d apart at struck =
 pub none_live : (kept : List KeptFact) → list_any (λ k. not k.struck && false) kept ≡ false
 none_live [] = refl
 none_live (k ∷ kept) = rw (and_false (not k.struck)) (none_live kept)
+
+-- ---- a reading by its key
+
+-- the key has the number of the name
+pub key_number : (names : List (List ℕ)) (key : ℕ × ℤ) (fact : Fact) → IsKeyOf names key fact → position (same_name (stream_or_tank fact)) names ≡ Some key.0
+key_number names key (Reading id stream day grams variance) is = is.0
+key_number names key (Transfer id stream first last grams variance) is = absurd is
+key_number names key (Dip id tank day mm density variance) is = absurd is
+
+-- the map has the key exactly when a live reading has the stream and day
+pub day_taken : (kept : List KeptFact) (names : List (List ℕ)) (places : Places) (key : ℕ × ℤ) (fact : Fact) → IsKept kept names places → IsKeyOf names key fact
+    → is_some (get same_numbered places.readings key) ≡ list_any (is_repeat_by_day fact) kept
+day_taken kept names places key (Reading id stream day grams variance) right is =
+    let here = rw is.0 at (right.readings (stream, day)) in
+    ap (λ (d : ℤ). is_some (get same_numbered places.readings (key.0, d))) is.1 ∙ ap is_some here ∙ is_some-position (is_live_reading_on stream day) kept
+day_taken kept names places key (Transfer id stream first last grams variance) right is = absurd is
+day_taken kept names places key (Dip id tank day mm density variance) right is = absurd is
+
+-- so what the first fault is
+repeated : (kept : List KeptFact) (fact : Fact) → (list_any (has_id (id_of fact)) kept || list_any (is_repeat_by_day fact) kept) ≡ true → Some Duplicate ≡ fact_fault_of kept fact
+repeated kept fact some =
+    sym (ap (λ (b : Bool). first_fact_fault b (is_fact_out_of_order fact) (is_too_long fact) (are_facts_full kept)) (list_any-or (has_id (id_of fact)) (is_repeat_by_day fact) kept ∙ some))
+
+pub id_repeated : (kept : List KeptFact) (fact : Fact) → list_any (has_id (id_of fact)) kept ≡ true → Some Duplicate ≡ fact_fault_of kept fact
+id_repeated kept fact used = repeated kept fact (rw used refl)
+
+pub day_repeated : (kept : List KeptFact) (fact : Fact) → list_any (is_repeat_by_day fact) kept ≡ true → Some Duplicate ≡ fact_fault_of kept fact
+day_repeated kept fact taken = repeated kept fact (rw taken (either (list_any (has_id (id_of fact)) kept)))
+  where
+    either : (b : Bool) → (b || true) ≡ true
+    either true = refl
+    either false = refl
+
+pub none_repeated : (kept : List KeptFact) (names : List (List ℕ)) (key : ℕ × ℤ) (fact : Fact) → IsKeyOf names key fact → list_any (has_id (id_of fact)) kept ≡ false
+    → list_any (is_repeat_by_day fact) kept ≡ false → length kept < most_facts → None ≡ fact_fault_of kept fact
+none_repeated kept names key (Reading id stream day grams variance) is new free room =
+    let fact = Reading id stream day grams variance in
+    let none : is_duplicate_fact kept fact ≡ false = list_any-or (has_id id) (is_repeat_by_day fact) kept ∙ rw (new, free) refl in
+    let some : are_facts_full kept ≡ false = elim (cases_Bool (are_facts_full kept)) [
+      | inl full ↦ absurd (omega (arith, room, leb-true most_facts (length kept) full))
+      | inr left ↦ left
+    ] in
+    rw (none, some) refl
+none_repeated kept names key (Transfer id stream first last grams variance) is new free room = absurd is
+none_repeated kept names key (Dip id tank day mm density variance) is new free room = absurd is

@@ -1,5 +1,5 @@
 -- The facts on the shelf, looked up, added and changed.
-use Rattle.std.proofs.Common.{◌≡◌, ◌<◌, ◌≤◌, ◌+◌, ◌++◌, ◌∷◌, [], ◌∙◌, ℕ, zero, suc, List, Bool, true, false, Some, All, length, get_or, set, map, arith, ap, ap₂, cond, sym, refl, inl, inr, length-append, slice_get}
+use Rattle.std.proofs.Common.{◌≡◌, ◌<◌, ◌+◌, ◌++◌, ◌∷◌, [], ◌∙◌, ℕ, zero, suc, List, Bool, true, false, Some, All, length, get_or, set, map, arith, ap, ap₂, cond, sym, refl, inl, inr, length-append, slice_get}
 use Rattle.std.specs.Prelude.{◌||◌, not, position}
 use Rattle.std.specs.Cmp.Lexicographic.{bytes_decides}
 use Rattle.std.specs.List.{list_any, prefix_len}
@@ -23,6 +23,7 @@ use Rattle.pb_facts.specs.declared.facts.KeptFact.{KeptFact}
 use Rattle.pb_facts.specs.declared.shelf.Entry.{Entry}
 use Rattle.pb_facts.specs.declared.shelf.Told.{Told}
 use Rattle.pb_facts.proofs.ChangeLemmas.{at_map}
+use Rattle.pb_facts.proofs.NumberLemmas.{more_names}
 
 -- ---- ids
 
@@ -87,13 +88,6 @@ pub same_facts : (names : List (List ℕ)) (name : List ℕ) (entries : List (Li
 same_facts names name entries numbered = elim (cases_Bool (list_any (same_name name) names)) [
   | inl there ↦ rw there refl
   | inr new ↦ rw new (names_behind names (name ∷ []) entries numbered)
-]
-
--- there are then as many names, or one more
-more_names : (names : List (List ℕ)) (name : List ℕ) → (length names ≤ length (insert_key same_name names name)) × (length (insert_key same_name names name) ≤ length names + 1)
-more_names names name = elim (cases_Bool (list_any (same_name name) names)) [
-  | inl there ↦ rw there (omega arith, omega arith)
-  | inr new ↦ rw new (let long = length-append names (name ∷ []) in (omega (arith, long), omega (arith, long)))
 ]
 
 -- what an entry says under an id, with the number of a name

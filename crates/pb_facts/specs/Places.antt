@@ -1,5 +1,5 @@
 -- Inside. The places of the kept facts, as the maps of facts give them.
-use Rattle.std.specs.Prelude.{◌≡◌, ◌+◌, ◌<◌, ◌≤◌, ◌&&◌, ◌||◌, ◌++◌, ℕ, ℤ, pos, ◌+ℤ◌, List, [], ◌∷◌, length, Bool, false, Some, None, IsSomeAnd, if◌then◌else◌, All, position, vec_len, vec_capacity}
+use Rattle.std.specs.Prelude.{◌≡◌, ◌+◌, ◌<◌, ◌≤◌, ◌&&◌, ◌||◌, ◌++◌, ℕ, ℤ, nat_eq, pos, ◌+ℤ◌, List, [], ◌∷◌, length, Bool, false, Option, Some, None, IsSomeAnd, if◌then◌else◌, All, option_and_then, position, vec_len, vec_capacity}
 use Rattle.std.specs.Int.{int_div_euclid}
 use Rattle.std.specs.Option.{option_map_or}
 use Rattle.std.specs.Ordering.{int_eq}
@@ -7,7 +7,7 @@ use Rattle.std.specs.HashMap.{HashMap, get, spare}
 use Rattle.std.specs.Global.{Vec}
 use Rattle.pb_limits.specs.Limits.{most_facts}
 use Rattle.pb_rows.specs.Name.{same_name}
-use Rattle.pb_facts.specs.Fact.{IsFactInRange, is_dip_on, is_reading_on, is_too_long}
+use Rattle.pb_facts.specs.Fact.{IsFactInRange, is_dip_on, is_too_long}
 use Rattle.pb_facts.specs.Facts.{NoRepeats, is_live_dip_on, is_live_reading_on}
 use Rattle.pb_facts.specs.declared.fact.Fact.{Fact}
 use Rattle.pb_facts.specs.declared.fact.Fact.TheVariants.{Reading, Transfer, Dip}
@@ -17,6 +17,30 @@ use Rattle.pb_facts.specs.declared.places.Places.{Places}
 -- two keys of a name and a day, or of a name and a block of days, are the same
 abbrev pub same_key : List ℕ × ℤ → List ℕ × ℤ → Bool
 same_key a b = same_name a.0 b.0 && int_eq a.1 b.1
+
+-- two keys of the number of a name and a day are the same
+abbrev pub same_numbered : ℕ × ℤ → ℕ × ℤ → Bool
+same_numbered a b = nat_eq a.0 b.0 && int_eq a.1 b.1
+
+-- what a map has for the number of a name and a day; none if the name has no number
+abbrev pub numbered_at : {S : Type 0} → List (List ℕ) → HashMap (ℕ × ℤ) ℕ S → List ℕ × ℤ → Option ℕ
+numbered_at names map key =
+    option_and_then (λ (number : ℕ). get same_numbered map (number, key.1)) (position (same_name key.0) names)
+
+-- a name that may have a number has this one
+abbrev pub has_number : Option ℕ → ℕ → Bool
+has_number None wanted = false
+has_number (Some number) wanted = nat_eq number wanted
+
+-- a reading of this day, of the stream whose name may have a number, and has this one
+abbrev pub is_reading_numbered : Option ℕ → ℕ × ℤ → Fact → Bool
+is_reading_numbered number key (Reading id stream day grams variance) = has_number number key.0 && int_eq day key.1
+is_reading_numbered number key _ = false
+
+-- the number of the name of this reading's stream, and its day
+abbrev pub IsKeyOf : List (List ℕ) → ℕ × ℤ → Fact → Type 0
+IsKeyOf names key (Reading id stream day grams variance) = (position (same_name stream) names ≡ Some key.0) × (key.1 ≡ day)
+IsKeyOf names key _ = ⊥
 
 -- the block of 512 days that a day lies in: no period and a transfer together are longer
 abbrev pub block_of : ℤ → ℤ
@@ -44,10 +68,13 @@ abbrev pub HasRoomAt : {S : Type 0} → HashMap (List ℕ × ℤ) (Vec ℕ) S �
 HasRoomAt transfers key =
     IsSomeAnd (get same_key transfers key) (λ places. vec_len places < vec_capacity places)
 
--- the maps give the places of the kept facts, no fact repeats an earlier one, each lies in its ranges, and no transfer is too long
-pub record IsKept (kept : List KeptFact) (places : Places) : Type 0 where
+-- the maps give the places of the kept facts, readings by the numbers of these names, no fact repeats an earlier one, each lies in
+-- its ranges, and no transfer is too long
+pub record IsKept (kept : List KeptFact) (names : List (List ℕ)) (places : Places) : Type 0 where
   pub readings : (key : List ℕ × ℤ)
-      → get same_key places.readings key ≡ position (is_live_reading_on key.0 key.1) kept
+      → numbered_at names places.readings key ≡ position (is_live_reading_on key.0 key.1) kept
+  pub numbers : (key : ℕ × ℤ)
+      → length names ≤ key.0 → get same_numbered places.readings key ≡ None
   pub dips : (key : List ℕ × ℤ)
       → get same_key places.dips key ≡ position (is_live_dip_on key.0 key.1) kept
   pub transfers : (key : List ℕ × ℤ)
@@ -59,7 +86,7 @@ pub record IsKept (kept : List KeptFact) (places : Places) : Type 0 where
 
 -- maps that give the same places
 pub record SamePlaces (old new : Places) : Type 0 where
-  pub readings : (key : List ℕ × ℤ) → get same_key new.readings key ≡ get same_key old.readings key
+  pub readings : (key : ℕ × ℤ) → get same_numbered new.readings key ≡ get same_numbered old.readings key
   pub dips : (key : List ℕ × ℤ) → get same_key new.dips key ≡ get same_key old.dips key
   pub transfers : (key : List ℕ × ℤ) → places_at new.transfers key ≡ places_at old.transfers key
 
@@ -71,11 +98,12 @@ HasRoom places (Transfer id stream first last grams variance) =
     × HasRoomAt places.transfers (stream, block_of first +ℤ pos 1)
 HasRoom places (Dip id tank day mm density variance) = 0 < spare places.dips
 
--- the maps give the place of a new fact by its stream or tank and day or days, and otherwise what they gave before
-pub record Notes (old new : Places) (fact : Fact) (place : ℕ) : Type 0 where
-  pub readings : (key : List ℕ × ℤ)
-      → get same_key new.readings key
-      ≡ (if is_reading_on key.0 key.1 fact then Some place else get same_key old.readings key)
+-- the maps give the place of a new fact by its stream or tank, whose name has this number, and its day or days, and otherwise what
+-- they gave before
+pub record Notes (old new : Places) (fact : Fact) (number place : ℕ) : Type 0 where
+  pub readings : (key : ℕ × ℤ)
+      → get same_numbered new.readings key
+      ≡ (if is_reading_numbered (Some number) key fact then Some place else get same_numbered old.readings key)
   pub dips : (key : List ℕ × ℤ)
       → get same_key new.dips key
       ≡ (if is_dip_on key.0 key.1 fact then Some place else get same_key old.dips key)
@@ -83,11 +111,12 @@ pub record Notes (old new : Places) (fact : Fact) (place : ℕ) : Type 0 where
       → places_at new.transfers key
       ≡ places_at old.transfers key ++ (if is_about key fact then place ∷ [] else [])
 
--- the maps don't give the place of a fact by its stream or tank and day, and otherwise give what they gave before
-pub record Forgets (old new : Places) (fact : Fact) : Type 0 where
-  pub readings : (key : List ℕ × ℤ)
-      → get same_key new.readings key
-      ≡ (if is_reading_on key.0 key.1 fact then None else get same_key old.readings key)
+-- the maps don't give the place of a fact by its stream or tank, whose name may have a number, and its day, and otherwise give what
+-- they gave before
+pub record Forgets (old new : Places) (fact : Fact) (number : Option ℕ) : Type 0 where
+  pub readings : (key : ℕ × ℤ)
+      → get same_numbered new.readings key
+      ≡ (if is_reading_numbered number key fact then None else get same_numbered old.readings key)
   pub dips : (key : List ℕ × ℤ)
       → get same_key new.dips key
       ≡ (if is_dip_on key.0 key.1 fact then None else get same_key old.dips key)

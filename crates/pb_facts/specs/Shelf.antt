@@ -26,6 +26,11 @@ kept_of names one = record {
   struck = one.1.struck;
 }
 
+-- the facts on a shelf, and the names of their streams and tanks, each at the place of its number
+pub record Shelved : Type 0 where
+  pub facts : List KeptFact
+  pub names : List (List ℕ)
+
 -- the facts of the ids and entries
 abbrev pub kept_facts : List (List ℕ) → List (List ℕ × Entry) → List KeptFact
 kept_facts names entries = map (kept_of names) entries

@@ -97,8 +97,8 @@ impl Fact {
         }
     }
 
-    // Whether it is a transfer whose first day comes after its last.
-    pub(crate) fn is_out_of_order(&self) -> bool
+    /// Whether it is a transfer whose first day comes after its last.
+    pub fn is_out_of_order(&self) -> bool
         ensures { result ≡ is_fact_out_of_order self.now }
     {
         match self {
@@ -107,8 +107,8 @@ impl Fact {
         }
     }
 
-    // Whether it is a transfer of more than 366 days.
-    pub(crate) fn is_too_long(&self) -> bool
+    /// Whether it is a transfer of more than 366 days.
+    pub fn is_too_long(&self) -> bool
         ensures { result ≡ is_too_long self.now }
     {
         match self {

@@ -1,10 +1,11 @@
 // The facts of a plant, in the order in which they were added.
 
-ghost use Rattle.std.specs.Prelude.{◌≡◌, ◌<◌, ◌≤◌, ◌-ℤ◌, ◌<ℤ◌, ◌∷◌, ◌++◌, [], pos, length, All, IfSome, IsSome, OnOk, OnErr, find, position, slice_get, option_and_then, false, IsTrue, ◌↔◌};
+ghost use Rattle.std.specs.Prelude.{◌≡◌, ◌≢◌, ◌<◌, ◌≤◌, ◌-ℤ◌, ◌<ℤ◌, ◌∷◌, ◌++◌, [], pos, length, All, IfOk, IfSome, IsSome, None, Ok, OnOk, OnErr, find, position, slice_get, option_and_then, false, IsTrue, ◌↔◌};
 ghost use Rattle.std.specs.List.{list_any};
 ghost use Rattle.pb_limits.specs.Limits.{most_days_of_period, most_facts};
 ghost use Rattle.pb_facts.specs.Changes.{IsChangeInRange, amend_fault_of, amended, struck};
 ghost use Rattle.pb_facts.specs.Fact.{IsFactInRange, is_dip_on, is_reading_on, is_too_long};
+ghost use Rattle.pb_facts.specs.Places.{IsKept, IsKeyOf};
 ghost use Rattle.pb_facts.specs.Facts.{HoldsTransfers, NoRepeats, fact_fault_of, has_id, is_duplicate_fact, is_live_dip_on, is_live_reading_on, is_repeat_by_day, live_at, live_facts, live_place_of, place_of_id};
 
 use crate::fact::{Change, Fact, FactFault};
@@ -38,9 +39,9 @@ impl Model for Facts {
 
     ghost Value = { List KeptFact };
 
-    ghost view = { λ a. a.shelf };
+    ghost view = { λ a. a.shelf.facts };
 
-    ghost invariant = { λ a. IsKept a.shelf a.places };
+    ghost invariant = { λ a. IsKept a.shelf.facts a.shelf.names a.places };
 }
 
 impl Facts {
@@ -88,9 +89,41 @@ impl Facts {
     {
         self.places.reserve(self.alloc, &fact)?;
         let place = self.shelf.len();
-        self.shelf.push(&fact)?;
-        self.places.note(&fact, place);
+        let number = self.shelf.push(&fact)?;
+        self.places.note(&fact, number, place);
         Ok(())
+    }
+
+    /// Adds a fact unless it has a fault, and returns its first fault, as `judge` does. After a fault, and after an `Err`, out of
+    /// memory, the facts are as they were.
+    pub fn book(&mut self, fact: &Fact) -> Result<Option<FactFault>, AllocError>
+        requires { IsFactInRange fact.now }
+        ensures fault { IfOk result (λ fault. fault ≡ fact_fault_of self.old fact.now) }
+        ensures added { result ≡ Ok None → self.new
+            ≡ self.old ++ record { fact = fact.now; struck = false } ∷ [] }
+        ensures unchanged { result ≢ Ok None → self.new ≡ self.old }
+    {
+        match key_of(&self.shelf, fact) {
+            Some(key) => book_reading(self.alloc, &mut self.shelf, &mut self.places, fact, key),
+            None => self.judge_and_add(fact),
+        }
+    }
+
+    // The same in two steps, with more look-ups.
+    fn judge_and_add(&mut self, fact: &Fact) -> Result<Option<FactFault>, AllocError>
+        requires { IsFactInRange fact.now }
+        ensures fault { IfOk result (λ fault. fault ≡ fact_fault_of self.old fact.now) }
+        ensures added { result ≡ Ok None → self.new
+            ≡ self.old ++ record { fact = fact.now; struck = false } ∷ [] }
+        ensures unchanged { result ≢ Ok None → self.new ≡ self.old }
+    {
+        match self.judge(fact) {
+            Some(fault) => Ok(Some(fault)),
+            None => {
+                self.add(*fact)?;
+                Ok(None)
+            }
+        }
     }
 
     /// The first fault of an amendment, among Unknown and Mismatch: no live fact has the id; the change is a level and the fact isn't
@@ -127,7 +160,9 @@ impl Facts {
         ensures { self.new ≡ struck id.now self.old }
     {
         if let Some(place) = self.find(id) {
-            self.places.forget(&self.shelf.at(place).fact);
+            let fact = self.shelf.at(place).fact;
+            let number = self.shelf.number_of(&fact.stream_or_tank());
+            self.places.forget(&fact, number);
             self.shelf.strike(place);
         }
     }
@@ -195,7 +230,8 @@ impl Facts {
         ensures found { option_and_then (live_at self.now) result
             ≡ find (is_reading_on stream.now day) (live_facts self.now) }
     {
-        self.places.readings.get(&(*stream, day)).copied()
+        let number = self.shelf.number_of(stream)?;
+        self.places.readings.get(&(number, day)).copied()
     }
 
     /// The place of the live dip of a tank at the end of a day; `None` exactly when there is none.
@@ -245,4 +281,48 @@ impl Facts {
             Fact::Transfer { .. } => false,
         }
     }
+}
+
+// The number of the name of a reading's stream, and the reading's day; `None` if no fact on the shelf has the name, or if there is no
+// room for another fact. `None` for other facts.
+fn key_of(shelf: &Shelf, fact: &Fact) -> Option<(u32, i32)>
+    ensures key { IfSome result (λ key. IsKeyOf shelf.now.names key fact.now) }
+    ensures room { IfSome result (λ key. length shelf.now.facts < most_facts) }
+{
+    match fact {
+        Fact::Reading { stream, day, .. } if (shelf.len() as usize) < MOST_FACTS => {
+            Some((shelf.number_of(stream)?, *day))
+        }
+        _ => None,
+    }
+}
+
+// Adds a reading by the number of its stream's name and its day, unless it has a fault, and returns its first fault.
+fn book_reading(
+    alloc: Global,
+    shelf: &mut Shelf,
+    places: &mut Places,
+    reading: &Fact,
+    key: (u32, i32),
+) -> Result<Option<FactFault>, AllocError>
+    requires kept { IsKept shelf.old.facts shelf.old.names places.old }
+    requires key { IsKeyOf shelf.old.names key reading.now }
+    requires room { length shelf.old.facts < most_facts }
+    requires in_range { IsFactInRange reading.now }
+    ensures kept { IsKept shelf.new.facts shelf.new.names places.new }
+    ensures fault { IfOk result (λ fault. fault ≡ fact_fault_of shelf.old.facts reading.now) }
+    ensures added { result ≡ Ok None → shelf.new.facts
+        ≡ shelf.old.facts ++ record { fact = reading.now; struck = false } ∷ [] }
+    ensures unchanged { result ≢ Ok None → shelf.new.facts ≡ shelf.old.facts }
+{
+    if places.readings.contains_key(&key) {
+        return Ok(Some(FactFault::Duplicate));
+    }
+    places.reserve(alloc, reading)?;
+    let place = shelf.len();
+    if !shelf.push_new(reading, key.0)? {
+        return Ok(Some(FactFault::Duplicate));
+    }
+    places.note(reading, key.0, place);
+    Ok(None)
 }

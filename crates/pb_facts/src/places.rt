@@ -18,11 +18,12 @@ const FEW: usize = 9 << 7;
 
 const MANY: usize = 9 << 10;
 
-/// The places of the kept facts: of the live readings and dips by stream or tank and day, and of the transfers by stream and each
-/// block of days in which they may be looked up.
+/// The places of the kept facts: of the live readings by the number of their stream's name and the day, of the live dips by tank and
+/// day, and of the transfers by stream and each block of days in which they may be looked up. Most facts are readings, so their keys
+/// are short.
 #[derive(Drop)]
 pub struct Places {
-    pub readings: HashMap<(Name, i32), u32>,
+    pub readings: HashMap<(u32, i32), u32>,
     pub dips: HashMap<(Name, i32), u32>,
     pub transfers: HashMap<(Name, i32), Vec<u32>>,
 }
@@ -42,13 +43,13 @@ impl Places {
         }
     }
 
-    /// Notes the place of a new fact, by its stream or tank and day or days.
-    pub fn note(&mut self, fact: &Fact, place: u32)
+    /// Notes the place of a new fact, by its stream or tank, whose name has this number, and its day or days.
+    pub fn note(&mut self, fact: &Fact, number: u32, place: u32)
         requires { HasRoom self.old fact.now }
-        ensures { Notes self.old self.new fact.now place }
+        ensures { Notes self.old self.new fact.now number place }
     {
         match fact {
-            Fact::Reading { stream, day, .. } => put(&mut self.readings, (*stream, *day), place),
+            Fact::Reading { day, .. } => put(&mut self.readings, (number, *day), place),
             Fact::Dip { tank, day, .. } => put(&mut self.dips, (*tank, *day), place),
             Fact::Transfer { stream, first, .. } => {
                 put_transfer(&mut self.transfers, *stream, block_of(*first), place)
@@ -56,22 +57,23 @@ impl Places {
         }
     }
 
-    /// Removes the place of a fact that is struck, by its stream or tank and day. A transfer keeps its place.
-    pub fn forget(&mut self, fact: &Fact)
-        ensures { Forgets self.old self.new fact.now }
+    /// Removes the place of a fact that is struck, by its stream or tank, whose name may have a number, and its day. A transfer keeps
+    /// its place.
+    pub fn forget(&mut self, fact: &Fact, number: Option<u32>)
+        ensures { Forgets self.old self.new fact.now number }
     {
-        match fact {
-            Fact::Reading { stream, day, .. } => take(&mut self.readings, (*stream, *day)),
-            Fact::Dip { tank, day, .. } => take(&mut self.dips, (*tank, *day)),
-            Fact::Transfer { .. } => {}
+        match (fact, number) {
+            (Fact::Reading { day, .. }, Some(number)) => take(&mut self.readings, (number, *day)),
+            (Fact::Reading { .. }, None) => {}
+            (Fact::Dip { tank, day, .. }, _) => take(&mut self.dips, (*tank, *day)),
+            (Fact::Transfer { .. }, _) => {}
         }
     }
 }
 
 // Removes the entry at a key.
-fn take(map: &mut HashMap<(Name, i32), u32>, key: (Name, i32))
-    ensures { (q : List ℕ × ℤ) → get same_key map.new q
-        ≡ (if same_key key q then None else get same_key map.old q) }
+fn take<K: Eq + Hash + Drop>(map: &mut HashMap<K, u32>, key: K)
+    ensures { (q : K) → get K.eq map.new q ≡ (if K.eq key q then None else get K.eq map.old q) }
 {
     map.remove(&key);
 }

@@ -1,5 +1,5 @@
-use Rattle.std.specs.Prelude.{All, IfSome, Option, map, take}
-use Rattle.std.proofs.Common.{◌≡◌, ◌∙◌, ◌+◌, ◌++◌, ◌∷◌, [], List, suc, arith, ap, subst, sym}
+use Rattle.std.specs.Prelude.{IfSome, Option, map, take}
+use Rattle.std.proofs.Common.{◌≡◌, ◌∙◌, ◌+◌, ◌++◌, ◌∷◌, [], List, suc, arith, ap, sym}
 use Rattle.std.proofs.lemmas.List.Elements.{All-push}
 use Rattle.pb_facts.specs.Grade.{IsGrade}
 use Rattle.pb_facts.specs.declared.grade.Grade.{Grade}

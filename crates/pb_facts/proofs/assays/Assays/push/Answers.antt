@@ -1,6 +1,6 @@
 use Rattle.std.specs.Prelude.{true, if◌then◌else◌}
 use Rattle.std.specs.List.{list_any}
-use Rattle.std.proofs.Common.{◌∙◌, ℕ, List, Bool, ap}
+use Rattle.std.proofs.Common.{◌∙◌, Bool, ap}
 use Rattle.pb_facts.specs.Kept.{same_three, same_two}
 use Rattle.pb_facts.proofs.AssayLemmas.{assays_push, assays_same_keys}
 use Rattle.pb_facts.proofs.assays.Assays.push.Goals as goal

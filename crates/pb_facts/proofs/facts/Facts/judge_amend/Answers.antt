@@ -9,7 +9,7 @@ returns-in-None c = sym (unknown_id c.args.id.now c.args.change.now c.args.self.
 
 pub returns-then-fits : goal.returns-then-fits
 returns-then-fits c =
-    let kept = c.self.inside.shelf in
+    let kept = c.self.inside.shelf.facts in
     let item = c.at.result in
     let at : live_place_of c.args.id.now kept ≡ Some c.in-Some.place = rw (← c.self.view_is) at (sym c.in-Some.ensures.value) in
     let only = only_live c.args.id.now kept c.in-Some.place item c.self.invariant.no_repeats at in
@@ -18,7 +18,7 @@ returns-then-fits c =
 
 pub returns-else-fits : goal.returns-else-fits
 returns-else-fits c =
-    let kept = c.self.inside.shelf in
+    let kept = c.self.inside.shelf.facts in
     let item = c.at.result in
     let at : live_place_of c.args.id.now kept ≡ Some c.in-Some.place = rw (← c.self.view_is) at (sym c.in-Some.ensures.value) in
     let only = only_live c.args.id.now kept c.in-Some.place item c.self.invariant.no_repeats at in

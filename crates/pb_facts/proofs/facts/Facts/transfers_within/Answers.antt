@@ -18,7 +18,7 @@ listed kept stream to block ns is at = is ∙ ap (λ (b : ℤ). places_from (λ 
 
 pub returns-in-Some-clause-transfers : goal.returns-in-Some-clause-transfers
 returns-in-Some-clause-transfers c =
-    let kept = c.self.inside.shelf in
+    let kept = c.self.inside.shelf.facts in
     let fits : FitsSigned w32 c.args.last = c.ranges.last in
     let fits_block : FitsSigned w32 c.block_of.result = search rules in
     let block = simp to_z-of_z at c.block_of.ensures.value in
@@ -30,7 +30,7 @@ returns-in-Some-clause-transfers c =
 
 pub returns-in-Some-clause-places : goal.returns-in-Some-clause-places
 returns-in-Some-clause-places c k d lt =
-    let kept = c.self.inside.shelf in
+    let kept = c.self.inside.shelf.facts in
     let fits_block : FitsSigned w32 c.block_of.result = search rules in
     let found = simp to_z-of_z at c.in-Some.ensures.value in
     let places = c.deref.ensures.value ∙ ap places_in found ∙ c.self.invariant.transfers (c.args.stream.now, c.block_of.result) in
@@ -43,12 +43,12 @@ returns-in-Some-clause-within c =
     let fits_block : FitsSigned w32 c.block_of.result = search rules in
     let found = simp to_z-of_z at c.in-Some.ensures.value in
     let places = c.deref.ensures.value ∙ ap places_in found ∙ c.self.invariant.transfers (c.args.stream.now, c.block_of.result) in
-    let few = places_from-few (λ (kept : KeptFact). is_about (c.args.stream.now, c.block_of.result) kept.fact) 0 c.self.inside.shelf in
+    let few = places_from-few (λ (kept : KeptFact). is_about (c.args.stream.now, c.block_of.result) kept.fact) 0 c.self.inside.shelf.facts in
     rw places (omega (arith, few, c.self.invariant.few))
 
 pub returns-in-None-clause-transfers : goal.returns-in-None-clause-transfers
 returns-in-None-clause-transfers c =
-    let kept = c.self.inside.shelf in
+    let kept = c.self.inside.shelf.facts in
     let fits : FitsSigned w32 c.args.last = c.ranges.last in
     let fits_block : FitsSigned w32 c.block_of.result = search rules in
     let block = simp to_z-of_z at c.block_of.ensures.value in
