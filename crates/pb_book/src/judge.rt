@@ -11,7 +11,7 @@ ghost use Rattle.pb_site.specs.Site.{kind_of, version_of};
 ghost use Rattle.pb_kinds.specs.declared.rows.Effect.TheVariants.{Books, Closes, Declares, Edits, Opens};
 ghost use Rattle.pb_kinds.specs.Ranges.{IsEffectInRange};
 ghost use Rattle.pb_book.specs.Causes.{cause_of_change, cause_of_edit, first_cause};
-ghost use Rattle.pb_book.specs.Refusals.{is_closed, is_of_other_kind, is_of_plant, is_out_of_service, is_outside_table, is_sealed_by, names_other, refusal_behind, serves_closed, kind_of_fact};
+ghost use Rattle.pb_book.specs.Refusals.{is_closed, is_of_other_kind, is_of_plant, is_out_of_service, is_outside_table, is_sealed_by, names_other, refusal_behind, serves_closed};
 
 use crate::answer::Refused;
 use pb_facts::{Assays, Change, Fact, FactFault, Facts, MOST_ASSAYS};

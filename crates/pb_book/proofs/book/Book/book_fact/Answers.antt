@@ -1,4 +1,4 @@
-use Rattle.std.proofs.Common.{◌≡◌, false, refl, Some}
+use Rattle.std.proofs.Common.{◌≡◌, false, refl, sym, Some}
 use Rattle.pb_kinds.specs.declared.rows.Effect.TheVariants.{Books}
 use Rattle.pb_book.specs.Causes.{first_cause}
 use Rattle.pb_book.specs.Kept.{rows_at, shelves_of, told_at}
@@ -23,3 +23,8 @@ returns-in-Some-clause-stored c = λ _.
     let cause : refusal_of rows (Books c.args.fact.now false) ≡ Some (first_cause c.in-Some.cause inside.facts c.args.fact.now) =
     refused_first rows inside.site inside.facts inside.periods inside.assays c.args.fact.now c.in-Some.cause c.self.invariant.parts c.in-Some.ensures in
     rw (← c.self.view_is, cause) refl
+
+pub book_alone-requires-clause-alone : goal.book_alone-requires-clause-alone
+book_alone-requires-clause-alone c =
+    let parts = c.self.invariant.parts in
+    rw (← c.self.view_is, ← parts.site, ← parts.spans) (sym c.in-None.ensures)
