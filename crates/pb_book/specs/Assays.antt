@@ -17,10 +17,6 @@ assay_by effect = None
 abbrev pub assays_of : List StoredRow → List Assay
 assays_of rows = filter_map (λ (stored : StoredRow). assay_by stored.effect) rows
 
--- some assay is of this component over the period with this name
-abbrev pub has_assay : List StoredRow → List ℕ → List ℕ → Bool
-has_assay rows component period = list_any (is_assay_over component period) (assays_of rows)
-
 -- The grade of a component over a period in a stream, all three given by name, if there is an assay.
 abbrev pub grade_of : List StoredRow → List ℕ → List ℕ → List ℕ → Option Grade
 grade_of rows = grade_among (assays_of rows)
