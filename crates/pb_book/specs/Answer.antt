@@ -1,5 +1,5 @@
 -- Statement. The answer to a record, given the rows stored before it, and the rows stored after it.
-use Rattle.std.specs.Prelude.{ℕ, Bool, true, false, List, Option, Some, None, Result, Ok, Err, if◌then◌else◌}
+use Rattle.std.specs.Prelude.{ℕ, Bool, true, false, List, Option, Some, Result, Ok, Err, if◌then◌else◌}
 use Rattle.std.specs.Option.{option_map_or}
 use Rattle.pb_form.specs.declared.fault.FormFault.{FormFault}
 use Rattle.pb_form.specs.declared.fault.FormFault.TheVariants as fault

@@ -1,8 +1,7 @@
 -- Statement. The assays among the stored rows: for which components the grade is known, in which streams and over which periods.
-use Rattle.std.specs.Prelude.{ℕ, Bool, List, filter_map, Option, Some, None}
-use Rattle.std.specs.List.{list_any}
+use Rattle.std.specs.Prelude.{ℕ, List, filter_map, Option, Some, None}
 use Rattle.pb_facts.specs.declared.grade.Grade.{Grade}
-use Rattle.pb_facts.specs.Assays.{grade_among, is_assay_over}
+use Rattle.pb_facts.specs.Assays.{grade_among}
 use Rattle.pb_facts.specs.declared.assays.Assay.{Assay}
 use Rattle.pb_kinds.specs.declared.rows.Effect.{Effect}
 use Rattle.pb_kinds.specs.declared.rows.Effect.TheVariants.{Assays}

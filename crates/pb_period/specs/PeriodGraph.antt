@@ -1,5 +1,5 @@
 -- Statement. The graph of the declared plant before any reading, and that of the part in service as a period measured it.
-use Rattle.std.specs.Prelude.{ℕ, ◌<◌, ℤ, pos, Bool, false, ◌||◌, nat_lt, int_lt, unsigned_abs, List, length, map, position, Option, Some, None, Result, Ok, Err, if◌then◌else◌}
+use Rattle.std.specs.Prelude.{ℕ, ◌<◌, pos, Bool, false, ◌||◌, nat_lt, int_lt, unsigned_abs, List, length, map, position, Option, Some, None, Result, Ok, Err, if◌then◌else◌}
 use Rattle.std.specs.Option.{option_map_or}
 use Rattle.pb_limits.specs.Limits.{most_value, most_variance}
 use Rattle.pb_graph.specs.declared.records.Meas.{Meas}
