@@ -1,5 +1,5 @@
 -- Statement. The advice: the cheapest choice that suffices, with a cycle for each of its streams that shows why it needs a meter.
-use Rattle.std.specs.Prelude.{◌≡◌, ◌≢◌, ◌↔◌, ℕ, ◌+◌, ◌*◌, ◌<◌, ℤ, pos, ◌≤ℤ◌, int_le, int_lt, nat_lt, Bool, true, false, ◌&&◌, ◌||◌, List, ◌∷◌, length, filter_map, map, Some, None, if◌then◌else◌, slice_get, get_or, All}
+use Rattle.std.specs.Prelude.{◌≡◌, ◌≢◌, ◌↔◌, ℕ, ◌*◌, ◌<◌, ℤ, pos, ◌≤ℤ◌, int_le, int_lt, nat_lt, Bool, true, false, ◌&&◌, ◌||◌, List, ◌∷◌, length, filter_map, map, Some, None, if◌then◌else◌, slice_get, get_or, All}
 use Rattle.std.specs.List.{AllByRecursion, enumerate_from}
 use Rattle.pb_limits.specs.Limits.{most_streams}
 use Rattle.pb_fixed.specs.Sums.{item}

@@ -14,12 +14,14 @@ use Rattle.pb_book.specs.declared.answer.Refused.{Refused}
 use Rattle.pb_periods.specs.declared.period.Period.{Period}
 use Rattle.pb_kinds.specs.declared.rows.StoredRow.{StoredRow}
 use Rattle.pb_book.specs.Answer.{Answer, Says, answer_if, answer_to, component_or_refused, window_or_refused, Stores, if_known, unless_refused}
-use Rattle.pb_book.specs.Assays.{has_assay}
 use Rattle.pb_book.specs.Costs.{refusal_of_costs}
 use Rattle.pb_book.specs.Laws.{AskedWindowLaw}
 use Rattle.pb_book.specs.Refusals.{refusal_of}
 use Rattle.pb_book.specs.Rows.{declared_of, period_place, periods_of, version_at}
 use Rattle.pb_book.specs.Windows.{IsWindowAsked, refusal_of_ends, refusal_of_window}
+use Rattle.std.specs.List.{list_any}
+use Rattle.pb_facts.specs.Assays.{is_assay_over}
+use Rattle.pb_book.specs.Assays.{assays_of}
 
 -- what is stored was asked for, and there is no cause to refuse it; advice was asked for; a window is one that may be asked for; and
 -- there is an assay of the component of a balance
@@ -27,7 +29,7 @@ abbrev pub AnswersTo : List StoredRow → Request → Answer → Type 0
 AnswersTo rows request (Stores effect) = (request ≡ asked.Store effect) × (refusal_of rows effect ≡ None)
 AnswersTo rows request (Says answered.Advise) = request ≡ asked.Advise
 AnswersTo rows request (Says (answered.Window first last)) = IsWindowAsked rows first last
-AnswersTo rows request (Says (answered.Component component period)) = (name : List ℕ) × (has_assay rows component name ≡ true)
+AnswersTo rows request (Says (answered.Component component period)) = (name : List ℕ) × (list_any (is_assay_over component name) (assays_of rows) ≡ true)
 AnswersTo rows request answer = Unit {0}
 
 stored : (rows : List StoredRow) (effect : Effect) (cause : Option Refused) → refusal_of rows effect ≡ cause → AnswersTo rows (asked.Store effect) (unless_refused (Stores effect) cause)
@@ -60,7 +62,7 @@ windowed rows request (Some first) (Some last) = between rows request first last
 windowed rows request (Some first) None = tt
 windowed rows request None other = tt
 
-balanced : (rows : List StoredRow) (request : Request) (component name : List ℕ) (assayed : Bool) → has_assay rows component name ≡ assayed → (place : Option ℕ)
+balanced : (rows : List StoredRow) (request : Request) (component name : List ℕ) (assayed : Bool) → list_any (is_assay_over component name) (assays_of rows) ≡ assayed → (place : Option ℕ)
     → AnswersTo rows request (component_or_refused component assayed place)
 balanced rows request component name true is (Some place) = (name, is)
 balanced rows request component name true is None = tt
@@ -73,7 +75,7 @@ answers_to rows costs (asked.History name) = known rows (asked.History name) ans
 answers_to rows costs asked.Advise = advised rows (refusal_of_costs (declared_of rows) costs)
 answers_to rows costs (asked.Window first last) = windowed rows (asked.Window first last) (period_place rows first) (period_place rows last)
 answers_to rows costs (asked.Component component name) =
-    balanced rows (asked.Component component name) component name (has_assay rows component name) refl (period_place rows name)
+    balanced rows (asked.Component component name) component name (list_any (is_assay_over component name) (assays_of rows)) refl (period_place rows name)
 answers_to rows costs request = tt
 
 -- ---- a window that is asked for

@@ -25,7 +25,7 @@ use Rattle.pb_book.specs.Costs.{cost_named, cost_of_arc, is_cost_of, names_twice
 use Rattle.pb_book.specs.Laws.{MeterCostsLaw}
 use Rattle.pb_book.specs.Rows.{declared_of, version_at}
 use Rattle.pb_book.proofs.AnswerLemmas.{AnswersTo, answers_to}
-use Rattle.pb_site.specs.Row.{is_plain}
+use Rattle.pb_site.specs.Row.{is_plain_kind}
 
 -- ---- a record that is accepted as one that asks for advice asks for it
 
@@ -59,7 +59,7 @@ one_in_range = (omega (arith, ints), omega (arith, ints))
 none_in_range : IsMeterCost (pos 0)
 none_in_range = (omega (arith, ints), omega (arith, ints))
 
-pub kind_in_range : (kind : ArcKind) (cost : ℤ) → IsMeterCost cost → IsMeterCost (if is_plain kind then cost else pos 0)
+pub kind_in_range : (kind : ArcKind) (cost : ℤ) → IsMeterCost cost → IsMeterCost (if is_plain_kind kind then cost else pos 0)
 kind_in_range Plain cost is = is
 kind_in_range Metered cost is = none_in_range
 kind_in_range Batch cost is = none_in_range

@@ -1,5 +1,5 @@
 -- Statement. The answer to a record, given the rows stored before it, and the rows stored after it.
-use Rattle.std.specs.Prelude.{ℕ, Bool, true, false, List, Option, Some, None, Result, Ok, Err, if◌then◌else◌}
+use Rattle.std.specs.Prelude.{ℕ, Bool, true, false, List, Option, Some, Result, Ok, Err, if◌then◌else◌}
 use Rattle.std.specs.Option.{option_map_or}
 use Rattle.pb_form.specs.declared.fault.FormFault.{FormFault}
 use Rattle.pb_form.specs.declared.fault.FormFault.TheVariants as fault
@@ -15,11 +15,13 @@ use Rattle.pb_book.specs.declared.answer.NotAccepted.{NotAccepted}
 use Rattle.pb_book.specs.declared.answer.Refused.{Refused}
 use Rattle.pb_book.specs.declared.answer.Refused.TheVariants.{Kind, Fields, BadName, Number, Date, Unknown, Duplicate, Order, Mismatch, Sealed, Closed, Range, Full}
 use Rattle.pb_kinds.specs.declared.rows.StoredRow.{StoredRow}
-use Rattle.pb_book.specs.Assays.{has_assay}
 use Rattle.pb_book.specs.Costs.{refusal_of_costs}
 use Rattle.pb_book.specs.Refusals.{refusal_of}
 use Rattle.pb_book.specs.Rows.{declared_of, period_place, version_at, with_row}
 use Rattle.pb_book.specs.Windows.{refusal_of_window}
+use Rattle.std.specs.List.{list_any}
+use Rattle.pb_facts.specs.Assays.{is_assay_over}
+use Rattle.pb_book.specs.Assays.{assays_of}
 
 -- the numbers of the causes in the output
 abbrev pub cause_code : Refused → ℕ
@@ -79,7 +81,7 @@ answer_to rows costs (asked.History period) = if_known History (period_place row
 answer_to rows costs asked.Advise = unless_refused (Says Advise) (refusal_of_costs (declared_of rows) costs)
 answer_to rows costs (asked.Window first last) = window_or_refused rows (period_place rows first) (period_place rows last)
 answer_to rows costs (asked.Component component period) =
-    component_or_refused component (has_assay rows component period) (period_place rows period)
+    component_or_refused component (list_any (is_assay_over component period) (assays_of rows)) (period_place rows period)
 
 -- the answer to a request, or to a record that has a fault
 abbrev pub answer_if : List StoredRow → List NamedCost → Result Request FormFault → Answer

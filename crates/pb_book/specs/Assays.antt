@@ -1,8 +1,7 @@
 -- Statement. The assays among the stored rows: for which components the grade is known, in which streams and over which periods.
-use Rattle.std.specs.Prelude.{ℕ, Bool, List, filter_map, Option, Some, None}
-use Rattle.std.specs.List.{list_any}
+use Rattle.std.specs.Prelude.{ℕ, List, filter_map, Option, Some, None}
 use Rattle.pb_facts.specs.declared.grade.Grade.{Grade}
-use Rattle.pb_facts.specs.Assays.{grade_among, is_assay_over}
+use Rattle.pb_facts.specs.Assays.{grade_among}
 use Rattle.pb_facts.specs.declared.assays.Assay.{Assay}
 use Rattle.pb_kinds.specs.declared.rows.Effect.{Effect}
 use Rattle.pb_kinds.specs.declared.rows.Effect.TheVariants.{Assays}
@@ -16,10 +15,6 @@ assay_by effect = None
 -- the assays among the stored rows, in order
 abbrev pub assays_of : List StoredRow → List Assay
 assays_of rows = filter_map (λ (stored : StoredRow). assay_by stored.effect) rows
-
--- some assay is of this component over the period with this name
-abbrev pub has_assay : List StoredRow → List ℕ → List ℕ → Bool
-has_assay rows component period = list_any (is_assay_over component period) (assays_of rows)
 
 -- The grade of a component over a period in a stream, all three given by name, if there is an assay.
 abbrev pub grade_of : List StoredRow → List ℕ → List ℕ → List ℕ → Option Grade

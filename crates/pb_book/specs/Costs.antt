@@ -5,7 +5,7 @@ use Rattle.std.specs.Option.{option_map_or}
 use Rattle.pb_rows.specs.Name.{same_name}
 use Rattle.pb_site.specs.declared.declared.Arc.{Arc}
 use Rattle.pb_site.specs.declared.declared.Declared.{Declared}
-use Rattle.pb_site.specs.Row.{is_inventory, is_plain}
+use Rattle.pb_site.specs.Row.{is_inventory, is_plain_kind}
 use Rattle.pb_site.specs.Site.{arcs_of, kind_of}
 use Rattle.pb_kinds.specs.declared.costs.NamedCost.{NamedCost}
 use Rattle.pb_book.specs.declared.answer.Refused.{Refused}
@@ -28,7 +28,7 @@ names_twice (named ∷ costs) = list_any (is_cost_of named.stream) costs || name
 
 -- Mismatch: a stream that isn't plain; only plain streams have no measurements
 abbrev pub names_measured : List Declared → NamedCost → Bool
-names_measured declared named = not (option_map_or is_plain (kind_of declared named.stream) false)
+names_measured declared named = not (option_map_or is_plain_kind (kind_of declared named.stream) false)
 
 -- The first cause to refuse named costs.
 abbrev pub refusal_of_costs : List Declared → List NamedCost → Option Refused
@@ -46,7 +46,7 @@ cost_named costs stream = fold (λ (cost : ℤ) (named : NamedCost). if is_cost_
 
 -- what a meter costs on an arc: 0 if the arc has measurements, since it already has a meter
 abbrev pub cost_of_arc : List NamedCost → Arc → ℤ
-cost_of_arc costs arc = if is_plain arc.kind then cost_named costs arc.name else pos 0
+cost_of_arc costs arc = if is_plain_kind arc.kind then cost_named costs arc.name else pos 0
 
 -- What a meter on each arc of the plant costs.
 abbrev pub meter_costs : List Declared → List NamedCost → List ℤ

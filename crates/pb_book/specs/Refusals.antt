@@ -1,6 +1,6 @@
 -- Statement. When a row is refused, given the rows stored before it: one condition for each cause, in the order in which they are
 -- tested. A condition takes what is declared, the facts, the periods and the assays, as far as it needs them.
-use Rattle.std.specs.Prelude.{ℕ, pos, ◌-ℤ◌, Bool, true, false, not, ◌||◌, ◌&&◌, nat_le, int_le, int_lt, List, length, Option, Some, None, if◌then◌else◌, is_none, option_and_then}
+use Rattle.std.specs.Prelude.{pos, ◌-ℤ◌, Bool, true, false, not, ◌||◌, ◌&&◌, nat_le, int_le, int_lt, List, length, Option, Some, None, if◌then◌else◌, is_none, option_and_then}
 use Rattle.std.specs.List.{list_any}
 use Rattle.std.specs.Option.{option_map_or}
 use Rattle.pb_limits.specs.Limits.{most_days_of_period, most_facts, most_periods}

@@ -6,7 +6,7 @@ use Rattle.pb_facts.specs.declared.facts.KeptFact.{KeptFact}
 use Rattle.pb_facts.specs.declared.fact.Fact.{Fact}
 use Rattle.pb_site.specs.Site.{version_of}
 use Rattle.pb_kinds.specs.declared.rows.Effect.{Effect}
-use Rattle.pb_kinds.specs.declared.rows.Effect.TheVariants.{Declares, Opens, Books, Edits, Closes, Assays}
+use Rattle.pb_kinds.specs.declared.rows.Effect.TheVariants.{Declares, Books, Edits}
 use Rattle.pb_periods.specs.declared.period.Period.{Period}
 use Rattle.pb_kinds.specs.declared.rows.StoredRow.{StoredRow}
 use Rattle.pb_book.specs.Rows.{declared_of, facts_after, facts_of, periods_after, periods_of, with_row}

@@ -1,6 +1,7 @@
 // The book of accepted rows.
 
 ghost use Rattle.std.specs.Prelude.{◌≡◌, ◌≢◌, ◌<◌, ◌≤◌, [], length, map, All, Err, Ok, IfOk, IfSome, OnOk, OnErr, slice_get, None, Some, false, true, vec_capacity, vec_len};
+ghost use Rattle.std.specs.List.{list_any};
 ghost use Rattle.pb_limits.specs.Limits.{most_periods, most_periods_of_window};
 ghost use Rattle.pb_facts.specs.Grade.{IsGrade};
 ghost use Rattle.pb_site.specs.Site.{version_of};
@@ -9,7 +10,7 @@ ghost use Rattle.pb_facts.specs.Facts.{NoRepeats};
 ghost use Rattle.pb_kinds.specs.declared.rows.Effect.TheVariants.{Books, Closes, Declares, Edits, Opens};
 ghost use Rattle.pb_kinds.specs.Costs.{IsMeterCost, named_costs};
 ghost use Rattle.pb_kinds.specs.Ranges.{IsEffectInRange, IsRequestInRange};
-ghost use Rattle.pb_facts.specs.Assays.{most_assays};
+ghost use Rattle.pb_facts.specs.Assays.{is_assay_over, most_assays};
 ghost use Rattle.pb_kinds.specs.Requests.{request_in};
 ghost use Rattle.pb_kinds.specs.Versions.{may_ask, may_do};
 ghost use Rattle.pb_book.specs.declared.answer.Accepted.TheVariants.{Advise, Stored};
@@ -18,7 +19,7 @@ ghost use Rattle.pb_book.specs.Accepted.{AreAccepted, AreInTables, IsAcceptable}
 ghost use Rattle.pb_book.specs.Answer.{Says, after, after_answer, answer_of, answer_to, component_or_refused, said_of, window_or_refused, Stores, unless_refused};
 ghost use Rattle.pb_book.specs.declared.answer.Accepted.TheVariants as answered;
 ghost use Rattle.pb_periods.specs.Apart.{AreApart};
-ghost use Rattle.pb_book.specs.Assays.{assays_of, grade_of, has_assay};
+ghost use Rattle.pb_book.specs.Assays.{assays_of, grade_of};
 ghost use Rattle.pb_book.specs.Costs.{meter_costs, refusal_of_costs};
 ghost use Rattle.pb_book.specs.Edits.{edit_touches, edits_of, touches_at};
 ghost use Rattle.pb_book.specs.Plain.{plain_rows};
@@ -426,7 +427,8 @@ impl Book {
     // refused.
     fn component(&self, component: &Name, period: &Name) -> Result<Accepted, NotAccepted>
         ensures { result ≡ said_of (component_or_refused component.now
-            (has_assay self.now component.now period.now) (period_place self.now period.now)) }
+            (list_any (is_assay_over component.now period.now) (assays_of self.now))
+            (period_place self.now period.now)) }
     {
         let assayed = self.assays.has_over(component, period);
         match self.period_of(period) {

@@ -5,7 +5,7 @@ ghost use Rattle.std.specs.HashMap.{get};
 ghost use Rattle.std.specs.List.{list_any};
 ghost use Rattle.std.specs.Option.{option_map_or};
 ghost use Rattle.pb_rows.specs.Name.{same_name};
-ghost use Rattle.pb_site.specs.Row.{is_inventory, is_plain};
+ghost use Rattle.pb_site.specs.Row.{is_inventory, is_plain_kind};
 ghost use Rattle.pb_kinds.specs.Costs.{IsMeterCost};
 ghost use Rattle.pb_book.specs.Costs.{cost_named, meter_costs, names_measured, names_twice, names_unknown, refusal_of_costs};
 
@@ -86,7 +86,7 @@ fn some_measured(site: &Site, named: &NamedCosts) -> bool
 
 // Whether this isn't the kind of a plain stream.
 fn is_not_plain(kind: Option<ArcKind>) -> bool
-    ensures { result ≡ not (option_map_or is_plain kind false) }
+    ensures { result ≡ not (option_map_or is_plain_kind kind false) }
 {
     !matches!(kind, Some(ArcKind::Plain))
 }
@@ -121,7 +121,7 @@ fn costs_by_name(alloc: Global, named: &NamedCosts) -> Result<HashMap<Name, i64>
 
 // What a meter on an arc costs.
 fn cost_of_arc(costs: &HashMap<Name, i64>, arc: &Arc) -> i64
-    ensures { result ≡ (if is_plain arc.now.kind
+    ensures { result ≡ (if is_plain_kind arc.now.kind
         then unwrap_or (get same_name costs.now arc.now.name) (pos 1) else pos 0) }
 {
     match arc.kind {

@@ -26,7 +26,7 @@ use Rattle.pb_site.specs.declared.declared.Version.TheVariants.{One, Two}
 use Rattle.pb_site.specs.Laws.{IsDeclaredPlant, IsPartOnDays, JoinsPlaces}
 use Rattle.pb_site.specs.OnDays.{arcs_on, is_arc_in_service, name_at_node, names_on, nodes_on}
 use Rattle.pb_site.specs.Service.{day_of_opening, last_served, first_served}
-use Rattle.pb_site.specs.Row.{IsArcBase, is_plain}
+use Rattle.pb_site.specs.Row.{IsArcBase, is_plain_kind}
 use Rattle.pb_site.specs.Site.{IsArc, arcs_of, node_names, points_of_tank}
 use Rattle.pb_facts.specs.declared.fact.Fact.{Fact}
 use Rattle.pb_facts.specs.declared.fact.Fact.TheVariants.{Reading, Transfer, Dip}
@@ -186,7 +186,7 @@ measured_least declared facts days service arc all limits = by arc.kind limits (
     by Plain limits fair = tt
     by Tank limits fair = some (amount_of declared facts days service Tank arc.name) limits.0 fair
 
-base_within : (kind : ArcKind) (base : ℤ) → IsArcBase kind base → IfSome (if is_plain kind then None else Some (record { value = pos 0; variance = base })) IsMeasurement
+base_within : (kind : ArcKind) (base : ℤ) → IsArcBase kind base → IfSome (if is_plain_kind kind then None else Some (record { value = pos 0; variance = base })) IsMeasurement
 base_within Metered base limits = record { value = omega arith; least = limits.0; greatest = omega (arith, ints, limits.1) }
 base_within Batch base limits = record { value = omega arith; least = limits.0; greatest = omega (arith, ints, limits.1) }
 base_within Plain base limits = tt

@@ -1,12 +1,12 @@
 -- Statement. The graph of the declared plant before any reading, and that of the part in service as a period measured it.
-use Rattle.std.specs.Prelude.{ℕ, ◌<◌, ℤ, pos, Bool, false, ◌||◌, nat_lt, int_lt, unsigned_abs, List, length, map, position, Option, Some, None, Result, Ok, Err, if◌then◌else◌}
+use Rattle.std.specs.Prelude.{ℕ, ◌<◌, pos, Bool, false, ◌||◌, nat_lt, int_lt, unsigned_abs, List, length, map, position, Option, Some, None, Result, Ok, Err, if◌then◌else◌}
 use Rattle.std.specs.Option.{option_map_or}
 use Rattle.pb_limits.specs.Limits.{most_value, most_variance}
 use Rattle.pb_graph.specs.declared.records.Meas.{Meas}
 use Rattle.pb_graph.specs.declared.records.Stream.{Stream}
 use Rattle.pb_graph.specs.ProcessGraph.{ProcessGraph}
 use Rattle.pb_site.specs.declared.declared.Arc.{Arc}
-use Rattle.pb_site.specs.Row.{is_plain}
+use Rattle.pb_site.specs.Row.{is_plain_kind}
 use Rattle.pb_rows.specs.declared.name.Names.{Names}
 use Rattle.pb_site.specs.declared.declared.Declared.{Declared}
 use Rattle.pb_site.specs.declared.declared.Version.{Version}
@@ -36,7 +36,7 @@ graph_with measure rows = record {
 
 -- before any reading: the value 0 with the base variance, for all streams except plain ones
 abbrev pub base_of : Arc → Option Meas
-base_of arc = if is_plain arc.kind then None else Some (record { value = pos 0; variance = arc.base })
+base_of arc = if is_plain_kind arc.kind then None else Some (record { value = pos 0; variance = arc.base })
 
 -- The graph of a design.
 abbrev pub design_graph : List StoredRow → ProcessGraph

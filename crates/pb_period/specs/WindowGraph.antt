@@ -1,5 +1,5 @@
 -- Statement. What the facts say about the streams of a window, and its graph.
-use Rattle.std.specs.Prelude.{ℕ, ◌<◌, ℤ, ◌-◌, List, length, filter_map, find, map, slice_get, option_and_then, option_map, Option, None, Result}
+use Rattle.std.specs.Prelude.{ℕ, ◌<◌, ℤ, ◌-◌, List, length, filter_map, find, map, slice_get, option_and_then, option_map, Option, Result}
 use Rattle.pb_strap.specs.declared.strap.Point.{Point}
 use Rattle.pb_graph.specs.declared.records.Meas.{Meas}
 use Rattle.pb_graph.specs.ProcessGraph.{ProcessGraph}
@@ -9,9 +9,6 @@ use Rattle.pb_window.specs.declared.window.Window.{Window}
 use Rattle.pb_window.specs.declared.window.WindowStream.{WindowStream}
 use Rattle.pb_window.specs.Graph.{window_graph}
 use Rattle.pb_site.specs.declared.declared.Arc.{Arc}
-use Rattle.pb_site.specs.declared.declared.Declared.{Declared}
-use Rattle.pb_site.specs.declared.declared.Version.{Version}
-use Rattle.pb_site.specs.declared.declared.Version.TheVariants.{One, Two}
 use Rattle.pb_site.specs.Site.{arcs_of, table_of_arc, version_of}
 use Rattle.pb_facts.specs.declared.fact.Fact.{Fact}
 use Rattle.pb_facts.specs.Fact.{is_dip_on}
@@ -20,12 +17,11 @@ use Rattle.pb_periods.specs.declared.period.Period.{Period}
 use Rattle.pb_kinds.specs.declared.rows.StoredRow.{StoredRow}
 use Rattle.pb_book.specs.Rows.{declared_of, facts_of, periods_of}
 use Rattle.pb_period.specs.declared.amount.Amount.{Amount}
-use Rattle.pb_period.specs.declared.days.Days.{Days}
 use Rattle.pb_period.specs.declared.graph.Assembly.{Assembly}
 use Rattle.pb_period.specs.declared.graph.Assembly.TheVariants.{NoMemory, Over}
 use Rattle.pb_period.specs.Days.{days_of}
 use Rattle.pb_period.specs.Facts.{content_of}
-use Rattle.pb_period.specs.Measurement.{measured, measurement}
+use Rattle.pb_period.specs.Measurement.{measurement}
 use Rattle.pb_period.specs.PeriodGraph.{measured_in, within_limits}
 
 -- ---- the periods of a window

@@ -123,7 +123,8 @@ fn base_of(arc: &Arc) -> Option<Meas>
 // The graph of the whole plant, with what some days measured.
 fn measured_graph(alloc: Global, book: &Book, days: Days) -> Result<Graph, Assembly>
     requires { AreDays days }
-    ensures answer { result ≢ Err Assembly.NoMemory → result ≡ within_limits (graph_in One book.now days) }
+    ensures answer { result ≢ Err Assembly.NoMemory
+        → result ≡ within_limits (graph_in One book.now days) }
     ensures over { IfErr result (IsStreamOfGraph (graph_in One book.now days)) }
 {
     let site = book.site();
@@ -142,7 +143,8 @@ fn measured_graph(alloc: Global, book: &Book, days: Days) -> Result<Graph, Assem
 fn served_graph(alloc: Global, book: &Book, days: Days) -> Result<Graph, Assembly>
     requires days { AreDays days }
     requires version { version_of (declared_of book.now) ≡ Two }
-    ensures answer { result ≢ Err Assembly.NoMemory → result ≡ within_limits (graph_in Two book.now days) }
+    ensures answer { result ≢ Err Assembly.NoMemory
+        → result ≡ within_limits (graph_in Two book.now days) }
     ensures over { IfErr result (IsStreamOfGraph (graph_in Two book.now days)) }
 {
     let site = book.site();

@@ -1,6 +1,6 @@
 -- What a session keeps, after a row and after a report.
 use Rattle.std.specs.Prelude.{◌-◌, ◌+◌, ◌==◌, IsSome, IfOk, IfSome, find, option_map, slice_index_or}
-use Rattle.std.specs.List.{AllByRecursion}
+use Rattle.std.specs.List.{AllByRecursion, list_any}
 use Rattle.std.specs.Option.{option_and_then, option_map_or}
 use Rattle.std.proofs.Common.{◌≡◌, ◌≢◌, ◌∙◌, ◌≤◌, ℕ, zero, suc, Bool, true, false, List, [], ◌∷◌, ◌++◌, length, Option, Some, None, Result, Ok, Err, slice_get, refl, sym, ap, ap₂, subst, arith, inl, inr, length-append}
 use Rattle.std.proofs.lemmas.Bool.{cases_Bool, eqb-true}
@@ -28,7 +28,6 @@ use Rattle.pb_kinds.specs.declared.rows.Effect.TheVariants.{Declares, Opens, Boo
 use Rattle.pb_periods.specs.declared.period.Period.{Period}
 use Rattle.pb_kinds.specs.declared.costs.NamedCost.{NamedCost}
 use Rattle.pb_kinds.specs.Costs.{named_costs}
-use Rattle.pb_book.specs.Assays.{has_assay}
 use Rattle.pb_book.specs.Costs.{refusal_of_costs}
 use Rattle.pb_book.specs.Answer.{Answer, Refuses, Says, Stores, after_answer, answer_if, answer_of, answer_to, component_or_refused, said_of, window_or_refused, if_known, unless_refused}
 use Rattle.pb_book.specs.declared.answer.Accepted.TheVariants as answered
@@ -54,6 +53,8 @@ use Rattle.pb_session.specs.Session.{AreNamesOf, SessionState}
 use Rattle.pb_session.proofs.NamedLemmas.{period_names_are}
 use Rattle.pb_session.proofs.ReportLemmas.{at_found}
 use Rattle.pb_session.proofs.KeptLemmas.{all_behind, behind_periods, contained_found, few_behind, few_filter, found_is, others_periods, periods_in, place_found, untouched_periods}
+use Rattle.pb_facts.specs.Assays.{is_assay_over}
+use Rattle.pb_book.specs.Assays.{assays_of}
 
 -- accepted rows, no two facts of which have the same id
 abbrev pub AreInOrder : List StoredRow → Type 0
@@ -290,7 +291,7 @@ said_to : (rows : List StoredRow) (costs : List NamedCost) (request : Request) �
 said_to rows costs (asked.Store effect) = said_stored effect (refusal_of rows effect)
 said_to rows costs (asked.Report name) = said_of_period answered.Report (λ i. tt) (period_place rows name)
 said_to rows costs (asked.History name) = said_of_period answered.History (λ i. tt) (period_place rows name)
-said_to rows costs (asked.Component component name) = said_component component (has_assay rows component name) (period_place rows name)
+said_to rows costs (asked.Component component name) = said_component component (list_any (is_assay_over component name) (assays_of rows)) (period_place rows name)
 said_to rows costs (asked.Window first last) = said_window rows (period_place rows first) (period_place rows last)
 said_to rows costs asked.Advise = said_advise (refusal_of_costs (declared_of rows) costs)
 said_to rows costs request = tt

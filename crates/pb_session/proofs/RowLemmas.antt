@@ -17,7 +17,6 @@ use Rattle.pb_book.specs.Rows.{declared_of, period_place, periods_of, version_at
 use Rattle.pb_kinds.specs.Requests.{request_in}
 use Rattle.pb_kinds.specs.declared.costs.NamedCost.{NamedCost}
 use Rattle.pb_kinds.specs.Costs.{named_costs}
-use Rattle.pb_book.specs.Assays.{has_assay}
 use Rattle.pb_book.specs.Costs.{refusal_of_costs}
 use Rattle.pb_book.specs.Refusals.{refusal_of}
 use Rattle.pb_book.specs.Windows.{refusal_of_ends, window_refusal}
@@ -25,6 +24,9 @@ use Rattle.pb_book.specs.Answer.{Answer, Refuses, Says, Stores, after_answer, an
 use Rattle.pb_book.specs.declared.answer.Accepted.TheVariants as answered
 use Rattle.pb_session.specs.Session.{AddsAccepted, AddsBy, SessionState}
 use Rattle.pb_session.specs.Accepted.{IsOfPeriods}
+use Rattle.std.specs.List.{list_any}
+use Rattle.pb_facts.specs.Assays.{is_assay_over}
+use Rattle.pb_book.specs.Assays.{assays_of}
 
 -- what the book says about a record that it accepts, and about one that it refuses
 abbrev said_ok : Accepted → Result Accepted NotAccepted
@@ -117,7 +119,7 @@ answers_to rows costs (asked.Store effect) = stores_of rows effect (refusal_of r
 answers_to rows costs (asked.Report name) = of_period rows answered.Report (λ i lt. lt) name
 answers_to rows costs (asked.History name) = of_period rows answered.History (λ i lt. lt) name
 answers_to rows costs (asked.Component component name) =
-    components_of rows component (has_assay rows component name) (period_place rows name) (found_within name (periods_of rows) (period_place rows name) refl)
+    components_of rows component (list_any (is_assay_over component name) (assays_of rows)) (period_place rows name) (found_within name (periods_of rows) (period_place rows name) refl)
 answers_to rows costs (asked.Window first last) = windows_of rows (period_place rows first) (period_place rows last)
 answers_to rows costs asked.Advise = advises_of rows (refusal_of_costs (declared_of rows) costs)
 answers_to rows costs request = tt

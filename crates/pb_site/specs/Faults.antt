@@ -1,5 +1,5 @@
 -- Statement. The first fault of a new declaration, given the declarations before it.
-use Rattle.std.specs.Prelude.{ℕ, ◌==◌, Bool, true, false, ◌&&◌, ◌||◌, not, nat_le, List, length, filter_map, slice_get, Option, Some, None, if◌then◌else◌, is_some}
+use Rattle.std.specs.Prelude.{ℕ, ◌==◌, Bool, false, ◌&&◌, ◌||◌, not, nat_le, List, length, filter_map, slice_get, Option, Some, None, if◌then◌else◌, is_some}
 use Rattle.pb_limits.specs.Limits.{most_boundaries, most_streams, most_streams_of_version_1, most_units_and_tanks}
 use Rattle.pb_strap.specs.Table.{is_full, rises}
 use Rattle.pb_site.specs.declared.declared.Declared.{Declared}

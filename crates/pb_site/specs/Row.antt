@@ -46,9 +46,9 @@ is_inventory ArcKind.Tank = true
 is_inventory kind = false
 
 -- an arc of this kind is a plain stream; only plain streams have no measurements
-abbrev pub is_plain : ArcKind → Bool
-is_plain ArcKind.Plain = true
-is_plain kind = false
+abbrev pub is_plain_kind : ArcKind → Bool
+is_plain_kind ArcKind.Plain = true
+is_plain_kind kind = false
 
 -- the name of the unit or tank that a declaration declares
 abbrev pub node_name : Declared → Option (List ℕ)

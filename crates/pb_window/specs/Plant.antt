@@ -1,5 +1,5 @@
 -- Statement. A plant with its days of service, and which parts of it are there in a period.
-use Rattle.std.specs.Prelude.{◌≡◌, ◌≢◌, ℕ, ◌≤◌, ◌==◌, ◌&&◌, ◌||◌, ℤ, pos, ◌-ℤ◌, int_le, Bool, true, List, length, filter, All, Option, Some, None}
+use Rattle.std.specs.Prelude.{◌≡◌, ◌≢◌, ℕ, ◌≤◌, ◌==◌, ◌&&◌, ◌||◌, ℤ, pos, ◌-ℤ◌, int_le, Bool, true, List, length, filter, All, Option}
 use Rattle.std.specs.Int.{int_max, int_min}
 use Rattle.std.specs.List.{enumerate_from, list_any, range_with_len}
 use Rattle.std.specs.Option.{option_map_or}

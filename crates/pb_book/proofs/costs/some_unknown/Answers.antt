@@ -1,5 +1,5 @@
 use Rattle.std.specs.Option.{option_map_or}
-use Rattle.std.proofs.Common.{◌≡◌, ◌∙◌, Option, true, false, not, ap, sym}
+use Rattle.std.proofs.Common.{◌≡◌, ◌∙◌, Option, true, false, ap, sym}
 use Rattle.pb_site.specs.declared.declared.ArcKind.{ArcKind}
 use Rattle.pb_site.specs.Row.{is_inventory}
 use Rattle.pb_book.specs.Costs.{names_unknown}
