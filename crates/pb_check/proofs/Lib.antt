@@ -1,5 +1,6 @@
 mod AmongLemmas
 mod BoxLemmas
+mod ClassLemmas
 mod DecideLemmas
 mod FirstLemmas
 mod GroupLemmas

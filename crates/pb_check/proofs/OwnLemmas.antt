@@ -25,9 +25,10 @@ use Rattle.pb_stage.specs.Printed.{have_least, printed_flows, printed_gap, print
 use Rattle.pb_stage.specs.Certified.{AreShownTests, IsShownStage, found_least}
 use Rattle.pb_check.specs.declared.faults.Test.TheVariants.{Balance, Price, Box, Freedom, State, Statistic, Nodal, Least}
 use Rattle.pb_check.specs.declared.faults.Test.{Test}
-use Rattle.pb_check.specs.Asked.{HasClassAt, IsStateAt, found_gap, is_bounded, is_of_measured}
-use Rattle.pb_check.specs.Places.{AreNodalRows, AreVerdicts}
+use Rattle.pb_check.specs.Asked.{HasClassAt, IsStateAt, found_gap}
+use Rattle.pb_check.specs.Places.{AreNodalRows, AreVerdicts, is_bounded, is_of_measured}
 use Rattle.pb_check.specs.Verdict.{IsPassed}
+use Rattle.pb_check.proofs.ClassLemmas.{of_bits}
 use Rattle.pb_check.proofs.FirstLemmas.{each_fails}
 use Rattle.pb_check.proofs.GroupLemmas.{nodes_by_prices}
 
@@ -80,11 +81,11 @@ has_class stage j r shown there =
     let bounded = ap is_some (shown.numbers.bounded j r there) ∙ class_bounded stage.graph j s c.class c.witness (printed_price stage) stage.graph.streams (printed_gap stage) shows in (
       s,
       at,
-      record {
+      of_bits (have_least stage.streams) s r (record {
         measured = class_measured stage.graph j s c.class c.witness shows;
         bounded = bounded;
         least_bounded = least_beside stage j s r shown.numbers.least_bounded there shows bounded;
-      },
+      }),
     )
 
 -- ---- the state

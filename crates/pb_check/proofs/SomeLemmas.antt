@@ -44,6 +44,7 @@ use Rattle.pb_check.specs.Asked.{HasClass, HasClassAt, HasGroupPriceAt, found_ga
 use Rattle.pb_check.specs.Faults.{bare_fault_at, fault_at, first_differing, row_numbers, AreRowsFault, AreVerdictsFault, IsBalanceFault, IsBoundsFault, IsBoxFault, IsPriceFault}
 use Rattle.pb_check.specs.Verdict.{Passes, Fails}
 use Rattle.pb_check.specs.Places.{AreNodalRows, AreVerdicts, AtStream, IsEvenAt, IsFirstMeasure, IsFirstNodal, IsNodalRowsFault, IsStreamFault}
+use Rattle.pb_check.proofs.ClassLemmas.{bits_of, of_bits}
 use Rattle.pb_check.proofs.DecideLemmas.{decided_both, decided_as, decided_not, decided_if, each_or_first}
 use Rattle.pb_check.proofs.GroupLemmas.{some_least, has_price}
 use Rattle.pb_check.proofs.PlaceLemmas.{each_or_fails, some_and, some_at}
@@ -64,7 +65,8 @@ stream_either stage P decided = elim (each_or_fails P stage.streams decided) [
 
 has_class_decided : (b : Bool) (s : Stream) (r : StreamResult) → IsDecidable (HasClass b s r)
 has_class_decided b s r =
-    decided_as (λ p. record { measured = p.0; bounded = p.1.0; least_bounded = p.1.1 }) (λ h. (h.measured, (h.bounded, h.least_bounded)))
+    decided_as (λ p. of_bits b s r (record { measured = p.0; bounded = p.1.0; least_bounded = p.1.1 }))
+    (λ has. let h = bits_of b s r has in (h.measured, (h.bounded, h.least_bounded)))
     (decided_both (bits_decided _ _) (decided_both (bits_decided _ _) (bits_decided _ _)))
 
 class_at_decided : (stage : Stage) (j : ℕ) → j < length stage.graph.streams → IsDecidable (AtStream stage (HasClassAt stage) j)

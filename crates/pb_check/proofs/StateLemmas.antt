@@ -22,10 +22,11 @@ use Rattle.pb_stage.specs.Printed.{have_least, printed_flows, printed_gap, print
 use Rattle.pb_stage.specs.Signs.{AreWitnessSigns}
 use Rattle.pb_stage.specs.Certified.{found_bounds, found_least}
 use Rattle.pb_check.specs.declared.faults.Fault.{Fault}
-use Rattle.pb_check.specs.Asked.{found_gap, is_bounded, HasClassAt}
+use Rattle.pb_check.specs.Asked.{found_gap, HasClassAt}
 use Rattle.pb_check.specs.Faults.{IsBoundsFault}
-use Rattle.pb_check.specs.Places.{AtStream, DifferAt}
+use Rattle.pb_check.specs.Places.{AtStream, DifferAt, is_bounded}
 use Rattle.pb_check.specs.Pairs.{IsPairOf}
+use Rattle.pb_check.proofs.ClassLemmas.{bits_of}
 use Rattle.pb_check.proofs.PlaceLemmas.{fails_here, some_and}
 use Rattle.pb_check.proofs.OwnLemmas.{class_bounded, class_least_bounded}
 
@@ -50,7 +51,8 @@ pub result_bounded : (stage : Stage) (j : ℕ) (r : StreamResult) → EachStream
     → is_some r.bounds ≡ is_some (stream_bounds (printed_price stage) stage.graph.streams (printed_gap stage) j r.classified)
 result_bounded stage j r classes shown at =
     let (s, there, shows) = shown j r at in
-    (classes j r at).2.bounded ∙ sym (class_bounded stage.graph j s r.classified.class r.classified.witness (printed_price stage) stage.graph.streams (printed_gap stage) shows)
+    let (t, here, has) = classes j r at in
+    (bits_of (have_least stage.streams) t r has).bounded ∙ sym (class_bounded stage.graph j s r.classified.class r.classified.witness (printed_price stage) stage.graph.streams (printed_gap stage) shows)
 
 -- and, if the stage has any, least bounds exactly when the rule gives it some
 pub result_least_bounded : (stage : Stage) (j : ℕ) (r : StreamResult) → HasLeastBounds stage → EachStream stage (HasClassAt stage) → EachStream stage (λ j r. IsCertified stage.graph j r.classified) → slice_get stage.streams j ≡ Some r
@@ -58,7 +60,8 @@ pub result_least_bounded : (stage : Stage) (j : ℕ) (r : StreamResult) → HasL
 result_least_bounded stage j r have classes shown at =
     let (s, there, shows) = shown j r at in
     let (t, here, has) = classes j r at in
-    has.least_bounded ∙ ap₂ (λ (a b : Bool). a && b) has.bounded have ∙ and-true (is_bounded r.classified.class)
+    let bits = bits_of (have_least stage.streams) t r has in
+    bits.least_bounded ∙ ap₂ (λ (a b : Bool). a && b) bits.bounded have ∙ and-true (is_bounded r.classified.class)
     ∙ sym (class_least_bounded stage.graph j s r.classified.class r.classified.witness (printed_price stage) stage.graph.streams (printed_flows stage) (printed_gap stage) shows)
 
 -- ---- flows

@@ -1,14 +1,13 @@
 -- Statement. What the tests ask of a stage, and of each of its nodes and streams.
-use Rattle.std.specs.Prelude.{◌≡◌, ◌≤◌, ◌&&◌, ℕ, ℤ, pos, Bool, true, false, Option, Some, is_some, slice_get}
+use Rattle.std.specs.Prelude.{◌≡◌, ◌⊎◌, ◌↔◌, ◌≤◌, ◌&&◌, ℕ, ℤ, pos, Bool, Option, Some, None, is_some, IsSome, slice_get}
 use Rattle.pb_graph.specs.declared.records.Stream.{Stream}
-use Rattle.pb_graph.specs.declared.records.Class.{Class}
 use Rattle.pb_graph.specs.declared.records.Class.TheVariants.{Unobservable, Redundant, Nonredundant}
 use Rattle.pb_study.specs.declared.results.StreamResult.{StreamResult}
 use Rattle.pb_study.specs.declared.results.Solved.{Solved}
 use Rattle.pb_study.specs.declared.results.Solved.TheVariants.{Converged, Unconverged}
 use Rattle.pb_study.specs.declared.results.Tests.{Tests}
 use Rattle.pb_study.specs.declared.results.Stage.{Stage}
-use Rattle.pb_graph.specs.ProcessGraph.{ProcessGraph, is_measured}
+use Rattle.pb_graph.specs.ProcessGraph.{ProcessGraph}
 use Rattle.pb_graph.specs.Groups.{SameGroup, IsFreeGroup}
 use Rattle.pb_gap.specs.declared.gap.Gap.{Gap}
 use Rattle.pb_gap.specs.Gap.{MeetsGap, gap_of}
@@ -17,22 +16,11 @@ use Rattle.pb_stage.specs.Verdicts.{global_verdict}
 use Rattle.pb_stage.specs.Printed.{printed_price, printed_flows, printed_gap, have_least}
 
 -- ---- 1. class
--- whether a class is one of those of measured streams
-abbrev pub is_of_measured : Class → Bool
-is_of_measured Redundant = true
-is_of_measured Nonredundant = true
-is_of_measured class = false
-
--- whether a stream of a class has bounds
-abbrev pub is_bounded : Class → Bool
-is_bounded Unobservable = false
-is_bounded class = true
-
--- A stream has a class of measured streams exactly when it is measured, bounds exactly when it isn't unobservable, and least bounds exactly
--- when it has bounds and its stage has least bounds.
+-- A stream is redundant or nonredundant exactly when it is measured, has no bounds exactly when it is unobservable, and has least bounds
+-- exactly when it has bounds and its stage has least bounds.
 pub record HasClass (in_stage : Bool) (stream : Stream) (result : StreamResult) : Type 0 where
-  pub measured : is_of_measured result.classified.class ≡ is_measured stream
-  pub bounded : is_some result.bounds ≡ is_bounded result.classified.class
+  pub measured : IsSome stream.meas ↔ ((result.classified.class ≡ Redundant) ⊎ (result.classified.class ≡ Nonredundant))
+  pub bounded : (result.bounds ≡ None) ↔ (result.classified.class ≡ Unobservable)
   pub least_bounded : is_some result.least ≡ (is_some result.bounds && in_stage)
 
 -- this holds of the stream at a place and its result

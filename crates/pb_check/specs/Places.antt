@@ -1,6 +1,8 @@
 -- Inside. What holds at a place of a stage or of a list of rows, and what is reported if it doesn't.
-use Rattle.std.specs.Prelude.{◌≡◌, ◌≢◌, ℕ, ℤ, pos, unsigned_abs, List, Option, Some, None, All, map, slice_get, if◌then◌else◌}
+use Rattle.std.specs.Prelude.{◌≡◌, ◌≢◌, ◌&&◌, ℕ, ℤ, Bool, true, false, is_some, pos, unsigned_abs, List, Option, Some, None, All, map, slice_get, if◌then◌else◌}
 use Rattle.std.specs.Ordering.{int_eq}
+use Rattle.pb_graph.specs.declared.records.Class.{Class}
+use Rattle.pb_graph.specs.declared.records.Class.TheVariants.{Unobservable, Redundant, Nonredundant}
 use Rattle.pb_graph.specs.declared.records.Meas.{Meas}
 use Rattle.pb_graph.specs.declared.records.Stream.{Stream}
 use Rattle.pb_study.specs.declared.results.Bounds.{Bounds}
@@ -9,6 +11,7 @@ use Rattle.pb_study.specs.declared.results.MeasureTest.{MeasureTest}
 use Rattle.pb_study.specs.declared.results.StreamResult.{StreamResult}
 use Rattle.pb_study.specs.declared.results.Tests.{Tests}
 use Rattle.pb_study.specs.declared.results.Stage.{Stage}
+use Rattle.pb_graph.specs.ProcessGraph.{is_measured}
 use Rattle.pb_graph.specs.Balance.{net_of}
 use Rattle.pb_graph.specs.Prices.{IsInBox, rise_of}
 use Rattle.pb_dual.specs.Candidates.{room_of}
@@ -21,6 +24,23 @@ use Rattle.pb_check.specs.declared.faults.Place.TheVariants.{Node}
 use Rattle.pb_check.specs.First.{FirstFails}
 use Rattle.pb_check.specs.Asked.{HasGroupPriceAt, IsGlobalVerdict, IsLeastOfGroup}
 use Rattle.pb_check.specs.Faults.{AreRowsFault, IsBoundsFault, bare_fault_at, fault_at, first_differing, row_numbers}
+
+-- whether a class is one of those of measured streams
+abbrev pub is_of_measured : Class → Bool
+is_of_measured Redundant = true
+is_of_measured Nonredundant = true
+is_of_measured class = false
+
+-- whether a stream of a class has bounds
+abbrev pub is_bounded : Class → Bool
+is_bounded Unobservable = false
+is_bounded class = true
+
+-- `HasClass`, by these
+pub record HasClassBits (in_stage : Bool) (stream : Stream) (result : StreamResult) : Type 0 where
+  pub measured : is_of_measured result.classified.class ≡ is_measured stream
+  pub bounded : is_some result.bounds ≡ is_bounded result.classified.class
+  pub least_bounded : is_some result.least ≡ (is_some result.bounds && in_stage)
 
 -- what holds for the stream at a place and its result
 abbrev pub AtStream : Stage → (ℕ → StreamResult → Type 0) → ℕ → Type 0

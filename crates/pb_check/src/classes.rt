@@ -10,8 +10,8 @@ ghost use Rattle.pb_graph.specs.Certificates.{CutsOff, GoesRound, Shows, IsCerti
 ghost use Rattle.pb_study.specs.WellFormed.{IsWellFormed};
 ghost use Rattle.pb_stage.specs.Printed.{have_least, EachStream};
 ghost use Rattle.pb_check.specs.Others.{IsOtherMeasured, IsOtherUnmeasured};
-ghost use Rattle.pb_check.specs.Asked.{is_of_measured, is_bounded, HasClass, HasClassAt};
-ghost use Rattle.pb_check.specs.Places.{AtStream, IsStreamFault};
+ghost use Rattle.pb_check.specs.Asked.{HasClassAt};
+ghost use Rattle.pb_check.specs.Places.{is_of_measured, is_bounded, AtStream, HasClassBits, IsStreamFault};
 
 use crate::faults::{Fault, at_stream};
 use crate::least::have_least;
@@ -35,7 +35,7 @@ fn is_bounded(class: Class) -> bool
 // Whether a stream has a class of measured streams exactly when it is measured, bounds exactly when it isn't unobservable, and least bounds
 // exactly when it has bounds and its stage has least bounds.
 fn has_class(in_stage: bool, stream: &Stream, printed: &StreamResult) -> bool
-    ensures { IsTrue result ↔ HasClass in_stage stream.now printed.now }
+    ensures { IsTrue result ↔ HasClassBits in_stage stream.now printed.now }
 {
     let class = printed.classified.class;
     let bounded = printed.bounds.is_some();
