@@ -114,7 +114,7 @@ pub record AreKnownNames (names : Names) (graph : ProcessGraph) : Type 0 where
   pub each_stream : length names.streams ≡ length graph.streams
 
 -- the values of a certificate
-as_parts : (names : Names) (witness : Witness) → certificate_values names witness ≡ certificate_parts names witness
+pub as_parts : (names : Names) (witness : Witness) → certificate_values names witness ≡ certificate_parts names witness
 as_parts names (Witness.Cut side members) = refl
 as_parts names (Witness.Cycle steps) = refl
 
