@@ -30,7 +30,8 @@ IsFormOf (Some text) form = ((text ≡ codes "csv") × (form ≡ Csv)) ⊎ ((tex
 abbrev pub says_any : (List ℕ → Option (List ℕ)) → List (List ℕ) → Bool
 says_any said names = list_any (λ name. is_some (said name)) names
 
--- What is said about each name asks for a run with these options in this form. Rounds of elimination also ask for tests.
+-- What is said about each name asks for a run with these options in this form. Rounds of elimination also ask for tests. Nothing is
+-- said about the options of another mode.
 pub record AsksRun (said : List ℕ → Option (List ℕ)) (options : Options) (asked : Form) : Type 0 where
   pub mode : said (codes "mode") ≡ Some (codes "run")
   pub gap : number_or 1 most_gap default_gap (said (codes "gap")) ≡ Some options.gap
@@ -40,7 +41,8 @@ pub record AsksRun (said : List ℕ → Option (List ℕ)) (options : Options) (
   pub form : IsFormOf (said (codes "format")) asked
   pub others : says_any said (codes "number" ∷ codes "streams" ∷ codes "summary" ∷ []) ≡ false
 
--- It asks for a session made from this number with this many streams, or for its summary with this gap and this many sweeps.
+-- What is said about each name asks for a session made from this number with this many streams, or for its summary with this gap and
+-- this many sweeps.
 pub record AsksMake (said : List ℕ → Option (List ℕ)) (from count : ℕ) (summed : Bool) (within_gap within_sweeps : ℕ) : Type 0 where
   pub mode : said (codes "mode") ≡ Some (codes "make")
   pub number : number_or 0 greatest_number default_number (said (codes "number")) ≡ Some from
