@@ -20,6 +20,18 @@ fn reading(id: &[u8], stream: &[u8]) -> Option<Fact>
     })
 }
 
+fn reading_after(id: &[u8], stream: &[u8]) -> Option<Fact>
+    ensures { IfSome result IsFactInRange }
+{
+    Some(Fact::Reading {
+        id: Name::read(id)?,
+        stream: Name::read(stream)?,
+        day: 19783,
+        grams: 5,
+        variance: 1,
+    })
+}
+
 fn dip(id: &[u8], tank: &[u8]) -> Option<Fact>
     ensures { IfSome result IsFactInRange }
 {
@@ -164,4 +176,44 @@ fn shares_of_three_days(rt: HostRuntime) {
             "{total} {before} {until}"
         );
     }
+}
+
+// Whether a fact is booked.
+fn is_booked(facts: &mut Facts, fact: Option<Fact>) -> Result<bool, Fail>
+    requires { IfSome fact IsFactInRange }
+{
+    let fact = fact.ok_or("a name")?;
+    Ok(facts.book(&fact)?)
+}
+
+// Whether readings are booked that have the id, the day or neither of an earlier one, and a dip and a transfer after them.
+fn book_each(facts: &mut Facts) -> Result<[bool; 8], Fail> {
+    Ok([
+        is_booked(facts, reading(b"r1", b"A"))?,
+        is_booked(facts, reading(b"r1", b"B"))?,
+        is_booked(facts, reading(b"r2", b"A"))?,
+        is_booked(facts, reading_after(b"r1", b"A"))?,
+        is_booked(facts, reading_after(b"r2", b"A"))?,
+        is_booked(facts, reading_after(b"r3", b"A"))?,
+        is_booked(facts, dip(b"p1", b"A"))?,
+        is_booked(facts, transfer(b"p1", b"T"))?,
+    ])
+}
+
+fn booked(alloc: Global) -> Result<([bool; 8], u32), Fail> {
+    let mut facts = Facts::new(alloc);
+    let each = book_each(&mut facts)?;
+    Ok((each, facts.len()))
+}
+
+#[test]
+fn books_facts(rt: HostRuntime) -> Result<(), Fail> {
+    let (each, count) = booked(rt.alloc())?;
+    assert_eq!(rt;
+        each,
+        [true, false, false, false, true, false, true, false],
+        "each fact"
+    );
+    assert_eq!(rt; count, 3, "how many");
+    Ok(())
 }

@@ -1,14 +1,12 @@
 -- A fact that there is no cause to refuse has no fault.
-use Rattle.std.specs.Prelude.{not, IsSome, if◌then◌else◌}
+use Rattle.std.specs.Prelude.{not, is_none, is_some, IsSome, if◌then◌else◌}
 use Rattle.std.specs.List.{list_any}
-use Rattle.std.specs.Option.{option_eq, option_map}
 use Rattle.std.proofs.Common.{◌≡◌, ◌∙◌, ℕ, List, [], Bool, true, false, Option, Some, None, refl, sym, ap}
 use Rattle.pb_site.specs.declared.declared.Declared.{Declared}
 use Rattle.pb_site.specs.declared.declared.Version.{Version}
 use Rattle.pb_site.specs.Site.{version_of, service_in}
 use Rattle.pb_facts.specs.declared.fact.Fact.{Fact}
 use Rattle.pb_facts.specs.declared.fact.FactFault.{FactFault}
-use Rattle.pb_facts.specs.declared.fact.FactFault.TheVariants as fault
 use Rattle.pb_facts.specs.declared.facts.KeptFact.{KeptFact}
 use Rattle.pb_facts.specs.Fact.{is_fact_out_of_order, is_too_long}
 use Rattle.pb_facts.specs.Facts.{are_facts_full, fact_fault_of, is_duplicate_fact, is_live_with, live_place_of, first_fact_fault}
@@ -22,7 +20,7 @@ use Rattle.pb_periods.specs.Apart.{is_named}
 use Rattle.pb_book.specs.Kept.{AreOf}
 use Rattle.pb_book.specs.Refusals.{is_closed, is_mismatch, is_unknown, refusal_behind, is_out_of_range, refusal_of}
 use Rattle.pb_book.specs.declared.answer.Refused.TheVariants.{Range, Unknown, Duplicate, Order, Mismatch, Closed, Full}
-use Rattle.pb_book.specs.Causes.{cause_of_fault, first_cause}
+use Rattle.pb_book.specs.Causes.{first_cause, fault_cause}
 use Rattle.pb_book.specs.declared.answer.Refused.{Refused}
 use Rattle.pb_kinds.specs.declared.rows.StoredRow.{StoredRow}
 use Rattle.pb_book.specs.Assays.{assays_of}
@@ -53,30 +51,6 @@ in_order unknown duplicate order mismatch closed range full =
     else if range then Some Range
     else if full then Some Full
     else None
-
--- a fact whose first fault is that it is a duplicate is one, and no other fact is
-pub told_duplicate : (same : FactFault → FactFault → Bool) (kept : List KeptFact) (fact : Fact) (found : Option FactFault) (result : Bool)
-    → same fault.Order fault.Duplicate ≡ false → same fault.Range fault.Duplicate ≡ false → same fault.Full fault.Duplicate ≡ false
-    → found ≡ fact_fault_of kept fact → result ≡ option_eq same found (Some fault.Duplicate) → result ≡ true → is_duplicate_fact kept fact ≡ true
-told_duplicate same kept fact found result not_order not_range not_full is tells told =
-    by (is_duplicate_fact kept fact) (is_fact_out_of_order fact) (is_too_long fact) (are_facts_full kept) (sym told ∙ tells ∙ ap (λ (f : Option FactFault). option_eq same f (Some fault.Duplicate)) is)
-  where
-    by : (d o r f : Bool) → true ≡ option_eq same (first_fact_fault d o r f) (Some fault.Duplicate) → d ≡ true
-    by true o r f e = refl
-    by false true r f e = cc (e ∙ not_order)
-    by false false true f e = cc (e ∙ not_range)
-    by false false false true e = cc (e ∙ not_full)
-    by false false false false e = cc e
-
-pub no_duplicate : (same : FactFault → FactFault → Bool) (kept : List KeptFact) (fact : Fact) (found : Option FactFault) (result : Bool) → same fault.Duplicate fault.Duplicate ≡ true
-    → found ≡ fact_fault_of kept fact → result ≡ option_eq same found (Some fault.Duplicate) → result ≡ false → is_duplicate_fact kept fact ≡ false
-no_duplicate same kept fact found result itself is tells none = by (is_duplicate_fact kept fact) refl
-  where
-    by : (b : Bool) → is_duplicate_fact kept fact ≡ b → is_duplicate_fact kept fact ≡ false
-    by false e = e
-    by true e =
-        let first : fact_fault_of kept fact ≡ Some fault.Duplicate = rw e refl in
-        cc (sym none ∙ tells ∙ ap (λ (f : Option FactFault). option_eq same f (Some fault.Duplicate)) (is ∙ first) ∙ itself)
 
 -- the first cause if a fact is a duplicate, and if it isn't
 pub duplicate_first : (cause : Refused) (kept : List KeptFact) (fact : Fact) → (cause ≡ Unknown → ⊥) → is_duplicate_fact kept fact ≡ true → Duplicate ≡ first_cause cause kept fact
@@ -109,18 +83,34 @@ first_with version declared kept periods assays fact late cause alone =
     by false false false false true x is = same x Range (in_order false (is_duplicate_fact kept fact) false false false true (are_facts_full kept)) is (either (is_duplicate_fact kept fact) Duplicate Range)
     by false false false false false x is = cc is
 
--- if there is no cause without other facts, the first fault of the fact is the cause
-pub fault_with : (version : Version) (declared : List Declared) (kept : List KeptFact) (periods : List Period) (assays : List Assay) (fact : Fact) (late : Bool)
-    → None ≡ refusal_behind version declared [] periods [] (Books fact late) → refusal_behind version declared kept periods assays (Books fact late) ≡ option_map cause_of_fault (fact_fault_of kept fact)
-fault_with version declared kept periods assays fact late alone =
+-- if there is no cause without other facts, there is one if the fact has a fault
+pub with_fault : (version : Version) (declared : List Declared) (kept : List KeptFact) (periods : List Period) (assays : List Assay) (fact : Fact) (late : Bool)
+    → None ≡ refusal_behind version declared [] periods [] (Books fact late) → is_some (fact_fault_of kept fact) ≡ true
+    → refusal_behind version declared kept periods assays (Books fact late) ≡ Some (fault_cause kept fact)
+with_fault version declared kept periods assays fact late alone fault =
     let good = fine version declared [] periods [] (Books fact late) (sym alone) in
     let inside = range_parts version declared [] periods fact late good.range in
-    rw (good.known, good.order, good.matching, good.opened, good.range, inside.short) (by (is_duplicate_fact kept fact) (are_facts_full kept))
+    let some = rw (good.order, inside.short) at fault in
+    rw (good.known, good.order, good.matching, good.opened, good.range) (by (is_duplicate_fact kept fact) (are_facts_full kept) some)
   where
-    by : (d f : Bool) → in_order false d false false false false f ≡ option_map cause_of_fault (first_fact_fault d false false f)
-    by true f = refl
-    by false true = refl
-    by false false = refl
+    by : (d f : Bool) → is_some (first_fact_fault d false false f) ≡ true → in_order false d false false false false f ≡ Some (if d then Duplicate else Full)
+    by true f some = refl
+    by false true some = refl
+    by false false some = cc some
+
+pub without_fault : (version : Version) (declared : List Declared) (kept : List KeptFact) (periods : List Period) (assays : List Assay) (fact : Fact) (late : Bool)
+    → None ≡ refusal_behind version declared [] periods [] (Books fact late) → is_some (fact_fault_of kept fact) ≡ false
+    → refusal_behind version declared kept periods assays (Books fact late) ≡ None
+without_fault version declared kept periods assays fact late alone fault =
+    let good = fine version declared [] periods [] (Books fact late) (sym alone) in
+    let inside = range_parts version declared [] periods fact late good.range in
+    let none = rw (good.order, inside.short) at fault in
+    rw (good.known, good.order, good.matching, good.opened, good.range) (by (is_duplicate_fact kept fact) (are_facts_full kept) none)
+  where
+    by : (d f : Bool) → is_some (first_fact_fault d false false f) ≡ false → in_order false d false false false false f ≡ None
+    by true f none = cc none
+    by false true none = cc none
+    by false false none = refl
 
 -- the same of stored rows
 pub refused_first : (rows : List StoredRow) (declared : List Declared) (kept : List KeptFact) (periods : List Period) (assays : List Assay) (fact : Fact) (cause : Refused) → AreOf rows declared kept periods assays
@@ -128,10 +118,25 @@ pub refused_first : (rows : List StoredRow) (declared : List Declared) (kept : L
 refused_first rows declared kept periods assays fact cause right alone =
     rw (← right.site, ← right.facts, ← right.spans) (sym (first_with (version_of declared) declared kept periods (assays_of rows) fact false cause alone))
 
-pub refused_by_fault : (rows : List StoredRow) (declared : List Declared) (kept : List KeptFact) (periods : List Period) (assays : List Assay) (fact : Fact) → AreOf rows declared kept periods assays
-    → refusal_behind (version_of (declared_of rows)) (declared_of rows) [] (periods_of rows) [] (Books fact false) ≡ None → refusal_of rows (Books fact false) ≡ option_map cause_of_fault (fact_fault_of kept fact)
-refused_by_fault rows declared kept periods assays fact right alone =
-    rw right.facts (fault_with (version_of (declared_of rows)) (declared_of rows) (facts_of rows) (periods_of rows) (assays_of rows) fact false (sym alone))
+some_if : (o : Option FactFault) (b : Bool) → b ≡ is_none o → is_some o ≡ not b
+some_if None true is = refl
+some_if None false is = cc is
+some_if (Some x) true is = cc is
+some_if (Some x) false is = refl
+
+pub refused_by_fault : (rows : List StoredRow) (declared : List Declared) (kept : List KeptFact) (periods : List Period) (assays : List Assay) (fact : Fact) (added : Bool) → AreOf rows declared kept periods assays
+    → refusal_behind (version_of (declared_of rows)) (declared_of rows) [] (periods_of rows) [] (Books fact false) ≡ None → added ≡ is_none (fact_fault_of kept fact) → added ≡ false
+    → refusal_of rows (Books fact false) ≡ Some (fault_cause kept fact)
+refused_by_fault rows declared kept periods assays fact added right alone is fails =
+    let some : is_some (fact_fault_of kept fact) ≡ true = some_if (fact_fault_of kept fact) added is ∙ ap not fails in
+    rw right.facts (with_fault (version_of (declared_of rows)) (declared_of rows) (facts_of rows) (periods_of rows) (assays_of rows) fact false (sym alone) (rw right.facts at some))
+
+pub not_refused : (rows : List StoredRow) (declared : List Declared) (kept : List KeptFact) (periods : List Period) (assays : List Assay) (fact : Fact) (added : Bool) → AreOf rows declared kept periods assays
+    → refusal_behind (version_of (declared_of rows)) (declared_of rows) [] (periods_of rows) [] (Books fact false) ≡ None → added ≡ is_none (fact_fault_of kept fact) → added ≡ true
+    → refusal_of rows (Books fact false) ≡ None
+not_refused rows declared kept periods assays fact added right alone is passes =
+    let none : is_some (fact_fault_of kept fact) ≡ false = some_if (fact_fault_of kept fact) added is ∙ ap not passes in
+    without_fault (version_of (declared_of rows)) (declared_of rows) (facts_of rows) (periods_of rows) (assays_of rows) fact false (sym alone) (rw right.facts at none)
 
 -- nor has a declaration a fault
 pub no_site_fault_of : (rows : List StoredRow) (declared : List Declared) (kept : List KeptFact) (periods : List Period) (assays : List Assay) (row : Declared) → AreOf rows declared kept periods assays

@@ -3,15 +3,13 @@ use Rattle.std.specs.Prelude.{◌&&◌, ℕ, Bool, not, List, Option, Some, None
 use Rattle.pb_site.specs.declared.declared.Declared.{Declared}
 use Rattle.pb_facts.specs.declared.fact.Change.{Change}
 use Rattle.pb_facts.specs.declared.fact.Fact.{Fact}
-use Rattle.pb_facts.specs.declared.fact.FactFault.{FactFault}
-use Rattle.pb_facts.specs.declared.fact.FactFault.TheVariants as fault
 use Rattle.pb_facts.specs.declared.facts.KeptFact.{KeptFact}
 use Rattle.pb_facts.specs.Changes.{changed, fits}
 use Rattle.pb_facts.specs.Facts.{is_duplicate_fact, is_live_with}
 use Rattle.pb_kinds.specs.declared.rows.Edit.{Edit}
 use Rattle.pb_kinds.specs.declared.rows.Edit.TheVariants as edits
 use Rattle.pb_book.specs.declared.answer.Refused.{Refused}
-use Rattle.pb_book.specs.declared.answer.Refused.TheVariants.{Unknown, Duplicate, Order, Mismatch, Range, Full}
+use Rattle.pb_book.specs.declared.answer.Refused.TheVariants.{Unknown, Duplicate, Mismatch, Range, Full}
 use Rattle.pb_book.specs.Refusals.{is_outside_table}
 
 -- the first cause to refuse a change of a fact
@@ -34,16 +32,11 @@ is_misfit id change kept = is_live_with id kept && not (fits change kept.fact)
 abbrev pub is_moved_outside : List Declared → List ℕ → Change → KeptFact → Bool
 is_moved_outside declared id change kept = is_live_with id kept && is_outside_table declared (changed change kept.fact)
 
--- the cause to refuse a fact, or a change of a fact, that has this fault
-abbrev pub cause_of_fault : FactFault → Refused
-cause_of_fault fault.Unknown = Unknown
-cause_of_fault fault.Duplicate = Duplicate
-cause_of_fault fault.Order = Order
-cause_of_fault fault.Mismatch = Mismatch
-cause_of_fault fault.Range = Range
-cause_of_fault fault.Full = Full
-
 -- the first cause to refuse a fact, given the first one as if there were no other facts
 abbrev pub first_cause : Refused → List KeptFact → Fact → Refused
 first_cause Unknown kept fact = Unknown
 first_cause cause kept fact = if is_duplicate_fact kept fact then Duplicate else cause
+
+-- the cause to refuse a fact that has a fault, if there is none as if there were no other facts
+abbrev pub fault_cause : List KeptFact → Fact → Refused
+fault_cause kept fact = if is_duplicate_fact kept fact then Duplicate else Full

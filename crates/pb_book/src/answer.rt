@@ -3,7 +3,6 @@
 ghost use Rattle.std.specs.Prelude.{◌≡◌, ◌≤◌};
 ghost use Rattle.pb_book.specs.Answer.{cause_code};
 
-use pb_facts::FactFault;
 use pb_form::FormFault;
 use pb_periods::BetweenFault;
 use pb_rows::Name;
@@ -127,23 +126,6 @@ impl From<FormFault> for Refused {
             FormFault::Name => Refused::BadName,
             FormFault::Number => Refused::Number,
             FormFault::Date => Refused::Date,
-        }
-    }
-}
-
-impl From<FactFault> for Refused {
-    ghost use Rattle.pb_book.specs.Causes.{cause_of_fault};
-
-    ghost from_gives = { λ fault cause. cause ≡ cause_of_fault fault };
-
-    fn from(fault: FactFault) -> Refused {
-        match fault {
-            FactFault::Unknown => Refused::Unknown,
-            FactFault::Duplicate => Refused::Duplicate,
-            FactFault::Order => Refused::Order,
-            FactFault::Mismatch => Refused::Mismatch,
-            FactFault::Range => Refused::Range,
-            FactFault::Full => Refused::Full,
         }
     }
 }

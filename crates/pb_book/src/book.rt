@@ -36,7 +36,7 @@ ghost use Rattle.pb_window.specs.Window.{IsWindow};
 
 use crate::answer::{Accepted, NotAccepted, Refused};
 use crate::costs::{judge_costs, meter_costs};
-use crate::judge::{first_cause, judge, judge_alone};
+use crate::judge::{fault_cause, first_cause, judge, judge_alone};
 use crate::originals::keep_original;
 use crate::plain::plain_records;
 use crate::rows::{Edited, Part, Place};
@@ -482,16 +482,13 @@ impl Book {
         ensures no_repeats { result ≡ Ok Stored → NoRepeats (facts_of self.new) }
     {
         make_room(&mut self.places)?;
-        let part = Part::Booked {
-            place: self.facts.len(),
-            late: false,
-        };
-        match self.facts.book(fact)? {
-            Some(fault) => Err(NotAccepted::Refused(Refused::from(fault))),
-            None => {
-                self.places.push_reserved(Place { at, part });
-                Ok(Accepted::Stored)
-            }
+        let place = self.facts.len();
+        if self.facts.book(fact)? {
+            let part = Part::Booked { place, late: false };
+            self.places.push_reserved(Place { at, part });
+            Ok(Accepted::Stored)
+        } else {
+            Err(NotAccepted::Refused(fault_cause(&self.facts, fact)))
         }
     }
 

@@ -10,11 +10,11 @@ ghost use Rattle.pb_site.specs.declared.declared.Version.TheVariants.{One};
 ghost use Rattle.pb_site.specs.Site.{kind_of, version_of};
 ghost use Rattle.pb_kinds.specs.declared.rows.Effect.TheVariants.{Books, Closes, Declares, Edits, Opens};
 ghost use Rattle.pb_kinds.specs.Ranges.{IsEffectInRange};
-ghost use Rattle.pb_book.specs.Causes.{cause_of_change, cause_of_edit, first_cause};
+ghost use Rattle.pb_book.specs.Causes.{cause_of_change, cause_of_edit, first_cause, fault_cause};
 ghost use Rattle.pb_book.specs.Refusals.{is_closed, is_of_other_kind, is_of_plant, is_out_of_service, is_outside_table, is_sealed_by, names_other, refusal_behind, serves_closed};
 
 use crate::answer::Refused;
-use pb_facts::{Assays, Change, Fact, FactFault, Facts, MOST_ASSAYS};
+use pb_facts::{Assays, Change, Fact, Facts, MOST_ASSAYS};
 use pb_kinds::{Assay, Edit, Effect};
 use pb_limits::{MOST_DAYS_OF_PERIOD, MOST_PERIODS};
 use pb_periods::{Periods, service_of};
@@ -134,10 +134,13 @@ fn judge_fact(
 {
     match judge_alone(site, periods, fact, late) {
         Some(cause) => Some(first_cause(cause, facts, fact)),
-        None => match facts.judge(fact) {
-            Some(fault) => Some(Refused::from(fault)),
-            None => None,
-        },
+        None => {
+            if facts.judge(fact).is_some() {
+                Some(fault_cause(facts, fact))
+            } else {
+                None
+            }
+        }
     }
 }
 
@@ -173,8 +176,19 @@ pub fn first_cause(cause: Refused, facts: &Facts, fact: &Fact) -> Refused
 {
     match cause {
         Refused::Unknown => cause,
-        _ if facts.judge(fact) == Some(FactFault::Duplicate) => Refused::Duplicate,
+        _ if facts.repeats(fact) => Refused::Duplicate,
         _ => cause,
+    }
+}
+
+/// The cause to refuse a fact that has a fault, if there is none as if there were no other facts.
+pub fn fault_cause(facts: &Facts, fact: &Fact) -> Refused
+    ensures { result ≡ fault_cause facts.now fact.now }
+{
+    if facts.repeats(fact) {
+        Refused::Duplicate
+    } else {
+        Refused::Full
     }
 }
 

@@ -1,6 +1,6 @@
 // The facts of a plant, in the order in which they were added.
 
-ghost use Rattle.std.specs.Prelude.{◌≡◌, ◌≢◌, ◌<◌, ◌≤◌, ◌-ℤ◌, ◌<ℤ◌, ◌∷◌, ◌++◌, [], pos, length, All, IfOk, IfSome, IsSome, None, Ok, OnOk, OnErr, find, position, slice_get, option_and_then, false, IsTrue, ◌↔◌};
+ghost use Rattle.std.specs.Prelude.{◌≡◌, ◌≢◌, ◌<◌, ◌≤◌, ◌-ℤ◌, ◌<ℤ◌, ◌∷◌, ◌++◌, [], pos, length, All, IfOk, IfSome, IsSome, None, Ok, is_none, true, OnOk, OnErr, find, position, slice_get, option_and_then, false, IsTrue, ◌↔◌};
 ghost use Rattle.std.specs.List.{list_any};
 ghost use Rattle.pb_limits.specs.Limits.{most_days_of_period, most_facts};
 ghost use Rattle.pb_facts.specs.Changes.{IsChangeInRange, amend_fault_of, amended, struck};
@@ -66,7 +66,7 @@ impl Facts {
     pub fn judge(&self, fact: &Fact) -> Option<FactFault>
         ensures { result ≡ fact_fault_of self.now fact.now }
     {
-        if self.is_duplicate(fact) {
+        if self.repeats(fact) {
             Some(FactFault::Duplicate)
         } else if fact.is_out_of_order() {
             Some(FactFault::Order)
@@ -94,14 +94,14 @@ impl Facts {
         Ok(())
     }
 
-    /// Adds a fact unless it has a fault, and returns its first fault, as `judge` does. After a fault, and after an `Err`, out of
-    /// memory, the facts are as they were.
-    pub fn book(&mut self, fact: &Fact) -> Result<Option<FactFault>, AllocError>
+    /// Adds a fact unless it has a fault, and returns whether it was added. If it wasn't, and after an `Err`, out of memory, the
+    /// facts are as they were.
+    pub fn book(&mut self, fact: &Fact) -> Result<bool, AllocError>
         requires { IsFactInRange fact.now }
-        ensures fault { IfOk result (λ fault. fault ≡ fact_fault_of self.old fact.now) }
-        ensures added { result ≡ Ok None → self.new
+        ensures fault { IfOk result (λ added. added ≡ is_none (fact_fault_of self.old fact.now)) }
+        ensures added { result ≡ Ok true → self.new
             ≡ self.old ++ record { fact = fact.now; struck = false } ∷ [] }
-        ensures unchanged { result ≢ Ok None → self.new ≡ self.old }
+        ensures unchanged { result ≢ Ok true → self.new ≡ self.old }
     {
         match key_of(&self.shelf, fact) {
             Some(key) => book_reading(self.alloc, &mut self.shelf, &mut self.places, fact, key),
@@ -110,20 +110,18 @@ impl Facts {
     }
 
     // The same in two steps, with more look-ups.
-    fn judge_and_add(&mut self, fact: &Fact) -> Result<Option<FactFault>, AllocError>
+    fn judge_and_add(&mut self, fact: &Fact) -> Result<bool, AllocError>
         requires { IsFactInRange fact.now }
-        ensures fault { IfOk result (λ fault. fault ≡ fact_fault_of self.old fact.now) }
-        ensures added { result ≡ Ok None → self.new
+        ensures fault { IfOk result (λ added. added ≡ is_none (fact_fault_of self.old fact.now)) }
+        ensures added { result ≡ Ok true → self.new
             ≡ self.old ++ record { fact = fact.now; struck = false } ∷ [] }
-        ensures unchanged { result ≢ Ok None → self.new ≡ self.old }
+        ensures unchanged { result ≢ Ok true → self.new ≡ self.old }
     {
-        match self.judge(fact) {
-            Some(fault) => Ok(Some(fault)),
-            None => {
-                self.add(*fact)?;
-                Ok(None)
-            }
+        if self.judge(fact).is_some() {
+            return Ok(false);
         }
+        self.add(*fact)?;
+        Ok(true)
     }
 
     /// The first fault of an amendment, among Unknown and Mismatch: no live fact has the id; the change is a level and the fact isn't
@@ -257,8 +255,8 @@ impl Facts {
         }
     }
 
-    // Whether the id was used before, or a live fact has the same stream or tank and day.
-    fn is_duplicate(&self, fact: &Fact) -> bool
+    /// Whether a fact's id was used before, or a live fact has the same stream or tank and day.
+    pub fn repeats(&self, fact: &Fact) -> bool
         ensures { result ≡ is_duplicate_fact self.now fact.now }
     {
         self.has_id(&fact.id()) || self.has_day_of(fact)
@@ -297,32 +295,33 @@ fn key_of(shelf: &Shelf, fact: &Fact) -> Option<(u32, i32)>
     }
 }
 
-// Adds a reading by the number of its stream's name and its day, unless it has a fault, and returns its first fault.
+// Adds a reading by the number of its stream's name and its day, unless it has a fault, and returns whether it was added.
 fn book_reading(
     alloc: Global,
     shelf: &mut Shelf,
     places: &mut Places,
     reading: &Fact,
     key: (u32, i32),
-) -> Result<Option<FactFault>, AllocError>
+) -> Result<bool, AllocError>
     requires kept { IsKept shelf.old.facts shelf.old.names places.old }
     requires key { IsKeyOf shelf.old.names key reading.now }
     requires room { length shelf.old.facts < most_facts }
     requires in_range { IsFactInRange reading.now }
     ensures kept { IsKept shelf.new.facts shelf.new.names places.new }
-    ensures fault { IfOk result (λ fault. fault ≡ fact_fault_of shelf.old.facts reading.now) }
-    ensures added { result ≡ Ok None → shelf.new.facts
+    ensures fault { IfOk result
+        (λ added. added ≡ is_none (fact_fault_of shelf.old.facts reading.now)) }
+    ensures added { result ≡ Ok true → shelf.new.facts
         ≡ shelf.old.facts ++ record { fact = reading.now; struck = false } ∷ [] }
-    ensures unchanged { result ≢ Ok None → shelf.new.facts ≡ shelf.old.facts }
+    ensures unchanged { result ≢ Ok true → shelf.new.facts ≡ shelf.old.facts }
 {
     if places.readings.contains_key(&key) {
-        return Ok(Some(FactFault::Duplicate));
+        return Ok(false);
     }
     places.reserve(alloc, reading)?;
     let place = shelf.len();
     if !shelf.push_new(reading, key.0)? {
-        return Ok(Some(FactFault::Duplicate));
+        return Ok(false);
     }
     places.note(reading, key.0, place);
-    Ok(None)
+    Ok(true)
 }

@@ -4,7 +4,7 @@ use Rattle.std.specs.List.{list_any}
 use Rattle.pb_facts.specs.Fact.{id_of}
 use Rattle.pb_facts.specs.Facts.{has_id, is_repeat_by_day}
 use Rattle.pb_facts.proofs.PlaceLemmas.{list_any-or}
-use Rattle.pb_facts.proofs.facts.Facts.is_duplicate.Goals as goal
+use Rattle.pb_facts.proofs.facts.Facts.repeats.Goals as goal
 
 pub returns-then-has_id : goal.returns-then-has_id
 returns-then-has_id c =
