@@ -1,5 +1,5 @@
 -- What a stream has by its class.
-use Rattle.std.proofs.Common.{◌≡◌, ◌⊎◌, ◌↔◌, ◌∙◌, ℕ, Bool, Option, Some, None, is_some, slice_get, IsTrue, refl, sym, subst, inl, inr}
+use Rattle.std.proofs.Common.{◌≡◌, ◌⊎◌, ◌↔◌, ◌∙◌, ◌&&◌, ℕ, Bool, Option, Some, None, is_some, slice_get, IsTrue, refl, sym, subst, inl, inr}
 use Rattle.std.specs.Prelude.{IsSome}
 use Rattle.pb_fixed.proofs.Lists.{some_same}
 use Rattle.pb_graph.specs.declared.records.Class.{Class}
@@ -8,7 +8,7 @@ use Rattle.pb_graph.specs.declared.records.Stream.{Stream}
 use Rattle.pb_study.specs.declared.results.StreamResult.{StreamResult}
 use Rattle.pb_study.specs.declared.results.Stage.{Stage}
 use Rattle.pb_stage.specs.Printed.{have_least}
-use Rattle.pb_check.specs.Asked.{HasClass, HasClassAt}
+use Rattle.pb_check.specs.Asked.{HasClassAt}
 use Rattle.pb_check.specs.Places.{AtStream, HasClassBits, is_bounded, is_of_measured}
 
 measured_of : {A : Type 0} (class : Class) (o : Option A) → is_of_measured class ≡ is_some o → IsSome o ↔ ((class ≡ Redundant) ⊎ (class ≡ Nonredundant))
@@ -45,19 +45,30 @@ bounded_bit Redundant (Some x) is = refl
 bounded_bit Nonredundant None is = let e = is.0 refl in cc e
 bounded_bit Nonredundant (Some x) is = refl
 
+-- what `HasClassAt` asks of a stream and its result
+abbrev pub HasClass : Bool → Stream → StreamResult → Type 0
+HasClass b s r =
+    (IsSome s.meas ↔ ((r.classified.class ≡ Redundant) ⊎ (r.classified.class ≡ Nonredundant)))
+    × ((r.bounds ≡ None) ↔ (r.classified.class ≡ Unobservable)) × (is_some r.least ≡ (is_some r.bounds && b))
+
 pub of_bits : (b : Bool) (s : Stream) (r : StreamResult) → HasClassBits b s r → HasClass b s r
-of_bits b s r bits = record {
-  measured = measured_of r.classified.class s.meas bits.measured;
-  bounded = bounded_of r.classified.class r.bounds bits.bounded;
-  least_bounded = bits.least_bounded;
-}
+of_bits b s r bits =
+    (measured_of r.classified.class s.meas bits.measured, bounded_of r.classified.class r.bounds bits.bounded, bits.least_bounded)
 
 pub bits_of : (b : Bool) (s : Stream) (r : StreamResult) → HasClass b s r → HasClassBits b s r
 bits_of b s r has = record {
-  measured = measured_bit r.classified.class s.meas has.measured;
-  bounded = bounded_bit r.classified.class r.bounds has.bounded;
-  least_bounded = has.least_bounded;
+  measured = measured_bit r.classified.class s.meas has.0;
+  bounded = bounded_bit r.classified.class r.bounds has.1;
+  least_bounded = has.2;
 }
+
+-- from the stream and its result to the place, and back
+pub class_of : (stage : Stage) (j : ℕ) (s : Stream) (r : StreamResult) → slice_get stage.graph.streams j ≡ Some s → HasClass (have_least stage.streams) s r → HasClassAt stage j r
+class_of stage j s r here (measured, bounded, least_bounded) = (s, here, measured, bounded, least_bounded)
+
+pub class_there : (stage : Stage) (j : ℕ) (s : Stream) (r : StreamResult) → slice_get stage.graph.streams j ≡ Some s → HasClassAt stage j r → HasClass (have_least stage.streams) s r
+class_there stage j s r here (t, at, measured, bounded, least_bounded) =
+    subst (λ (u : Stream). HasClass (have_least stage.streams) u r) (some_same (sym at ∙ here)) (measured, bounded, least_bounded)
 
 -- a test of the stream at a place
 pub class_at : (stage : Stage) (j : ℕ) (s : Stream) (r : StreamResult) (in_stage result : Bool) → in_stage ≡ have_least stage.streams → slice_get stage.graph.streams j ≡ Some s
@@ -65,10 +76,9 @@ pub class_at : (stage : Stage) (j : ℕ) (s : Stream) (r : StreamResult) (in_sta
 class_at stage j s r in_stage result is here there decides = (
   (λ yes_ other at.
       let bits = subst (λ (b : Bool). HasClassBits b s r) is (decides.0 yes_) in
-      let has : HasClassAt stage j r = (s, here, of_bits (have_least stage.streams) s r bits) in
+      let has = class_of stage j s r here (of_bits (have_least stage.streams) s r bits) in
       subst (HasClassAt stage j) (some_same (sym there ∙ at)) has),
   (λ each.
-      let (t, at, has) = each r there in
-      let own = subst (λ (u : Stream). HasClass (have_least stage.streams) u r) (some_same (sym at ∙ here)) has in
+      let own = class_there stage j s r here (each r there) in
       decides.1 (subst (λ (b : Bool). HasClassBits b s r) (sym is) (bits_of (have_least stage.streams) s r own))),
 )

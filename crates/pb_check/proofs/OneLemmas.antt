@@ -27,8 +27,8 @@ use Rattle.pb_check.specs.declared.faults.Place.TheVariants.{Node, Whole}
 use Rattle.pb_check.specs.declared.faults.Place.{Place}
 use Rattle.pb_check.specs.declared.faults.Fault.{Fault}
 use Rattle.pb_check.specs.Asked.{HasGroupPriceAt, IsLeastOfGroup}
-use Rattle.pb_check.specs.Faults.{bare_fault_at, fault_at, first_differing, row_numbers, AreRowsFault, AreVerdictsFault, IsBalanceFault, IsBoundsFault, IsBoxFault, IsPriceFault}
-use Rattle.pb_check.specs.Places.{AreNodalRows, AreVerdicts, IsEvenAt, IsFirstMeasure, IsFirstNodal, IsNodalRowsFault, IsStreamFault}
+use Rattle.pb_check.specs.Faults.{bare_fault_at, fault_at, first_differing, row_numbers, AreRowsFault, AreVerdictsFault, IsBoundsFault, IsBoxFault, IsPriceFault}
+use Rattle.pb_check.specs.Places.{AreNodalRows, AreVerdicts, IsBalanceFault, IsEvenAt, IsFirstMeasure, IsFirstNodal, IsNodalRowsFault, IsStreamFault}
 use Rattle.pb_check.specs.Verdict.{test_code, Passes, Fails}
 use Rattle.pb_check.specs.VerdictLaws.{HasFault, NotBothLaw, OneFaultLaw}
 use Rattle.pb_check.proofs.DecideLemmas.{one_first}

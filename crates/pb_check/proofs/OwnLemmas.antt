@@ -28,7 +28,7 @@ use Rattle.pb_check.specs.declared.faults.Test.{Test}
 use Rattle.pb_check.specs.Asked.{HasClassAt, IsStateAt, found_gap}
 use Rattle.pb_check.specs.Places.{AreNodalRows, AreVerdicts, is_bounded, is_of_measured}
 use Rattle.pb_check.specs.Verdict.{IsPassed}
-use Rattle.pb_check.proofs.ClassLemmas.{of_bits}
+use Rattle.pb_check.proofs.ClassLemmas.{class_of, of_bits}
 use Rattle.pb_check.proofs.FirstLemmas.{each_fails}
 use Rattle.pb_check.proofs.GroupLemmas.{nodes_by_prices}
 
@@ -78,15 +78,14 @@ has_class : (stage : Stage) (j : ℕ) (r : StreamResult) → IsShownStage stage 
 has_class stage j r shown there =
     let (s, at, shows) = shown.shown j r there in
     let c = r.classified in
-    let bounded = ap is_some (shown.numbers.bounded j r there) ∙ class_bounded stage.graph j s c.class c.witness (printed_price stage) stage.graph.streams (printed_gap stage) shows in (
-      s,
-      at,
-      of_bits (have_least stage.streams) s r (record {
-        measured = class_measured stage.graph j s c.class c.witness shows;
-        bounded = bounded;
-        least_bounded = least_beside stage j s r shown.numbers.least_bounded there shows bounded;
-      }),
-    )
+    let bounded = ap is_some (shown.numbers.bounded j r there) ∙ class_bounded stage.graph j s c.class c.witness (printed_price stage) stage.graph.streams (printed_gap stage) shows in
+    class_of stage j s r at
+    (of_bits (have_least stage.streams) s r
+    (record {
+      measured = class_measured stage.graph j s c.class c.witness shows;
+      bounded = bounded;
+      least_bounded = least_beside stage j s r shown.numbers.least_bounded there shows bounded;
+    }))
 
 -- ---- the state
 state_at : OneStateLaw → (g : ProcessGraph) (gap sweeps : ℕ) (solved : Solved) (price : ℕ → ℤ) (flows : List ℤ) (printed : Gap) → IsProcessGraph g → printed ≡ gap_of price g.streams flows

@@ -40,11 +40,11 @@ use Rattle.pb_check.specs.declared.faults.Place.TheVariants.{Node, Whole}
 use Rattle.pb_check.specs.declared.faults.Place.{Place}
 use Rattle.pb_check.specs.declared.faults.Fault.{Fault}
 use Rattle.pb_check.specs.First.{IsFirstWithout}
-use Rattle.pb_check.specs.Asked.{HasClass, HasClassAt, HasGroupPriceAt, found_gap, IsStateAt, found_low, found_high}
-use Rattle.pb_check.specs.Faults.{bare_fault_at, fault_at, first_differing, row_numbers, AreRowsFault, AreVerdictsFault, IsBalanceFault, IsBoundsFault, IsBoxFault, IsPriceFault}
+use Rattle.pb_check.specs.Asked.{HasClassAt, HasGroupPriceAt, found_gap, IsStateAt, found_low, found_high}
+use Rattle.pb_check.specs.Faults.{bare_fault_at, fault_at, first_differing, row_numbers, AreRowsFault, AreVerdictsFault, IsBoundsFault, IsBoxFault, IsPriceFault}
 use Rattle.pb_check.specs.Verdict.{Passes, Fails}
-use Rattle.pb_check.specs.Places.{AreNodalRows, AreVerdicts, AtStream, IsEvenAt, IsFirstMeasure, IsFirstNodal, IsNodalRowsFault, IsStreamFault}
-use Rattle.pb_check.proofs.ClassLemmas.{bits_of, of_bits}
+use Rattle.pb_check.specs.Places.{AreNodalRows, AreVerdicts, AtStream, IsBalanceFault, IsEvenAt, IsFirstMeasure, IsFirstNodal, IsNodalRowsFault, IsStreamFault}
+use Rattle.pb_check.proofs.ClassLemmas.{HasClass, bits_of, class_of, class_there, of_bits}
 use Rattle.pb_check.proofs.DecideLemmas.{decided_both, decided_as, decided_not, decided_if, each_or_first}
 use Rattle.pb_check.proofs.GroupLemmas.{some_least, has_price}
 use Rattle.pb_check.proofs.PlaceLemmas.{each_or_fails, some_and, some_at}
@@ -74,7 +74,7 @@ class_at_decided stage j lt =
     let (s, here) = some_at stage.graph.streams j lt in
     let b = have_least stage.streams in
     at_decided (HasClassAt stage j)
-    (λ r. decided_as (λ has. (s, here, has)) (λ (t, there, has). subst (λ (u : Stream). HasClass b u r) (some_same (sym there ∙ here)) has)
+    (λ r. decided_as (class_of stage j s r here) (class_there stage j s r here)
     (has_class_decided b s r)) (slice_get stage.streams j)
 
 pub class_either : (stage : Stage) → IsWellFormed stage → Either (EachStream stage (HasClassAt stage)) (IsStreamFault stage (HasClassAt stage))

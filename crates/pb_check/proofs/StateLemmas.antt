@@ -51,16 +51,16 @@ pub result_bounded : (stage : Stage) (j : ℕ) (r : StreamResult) → EachStream
     → is_some r.bounds ≡ is_some (stream_bounds (printed_price stage) stage.graph.streams (printed_gap stage) j r.classified)
 result_bounded stage j r classes shown at =
     let (s, there, shows) = shown j r at in
-    let (t, here, has) = classes j r at in
-    (bits_of (have_least stage.streams) t r has).bounded ∙ sym (class_bounded stage.graph j s r.classified.class r.classified.witness (printed_price stage) stage.graph.streams (printed_gap stage) shows)
+    let (t, here, measured, bounded, least_bounded) = classes j r at in
+    (bits_of (have_least stage.streams) t r (measured, bounded, least_bounded)).bounded ∙ sym (class_bounded stage.graph j s r.classified.class r.classified.witness (printed_price stage) stage.graph.streams (printed_gap stage) shows)
 
 -- and, if the stage has any, least bounds exactly when the rule gives it some
 pub result_least_bounded : (stage : Stage) (j : ℕ) (r : StreamResult) → HasLeastBounds stage → EachStream stage (HasClassAt stage) → EachStream stage (λ j r. IsCertified stage.graph j r.classified) → slice_get stage.streams j ≡ Some r
     → is_some r.least ≡ is_some (stream_least_bounds (printed_price stage) stage.graph.streams (printed_flows stage) (printed_gap stage) j r.classified)
 result_least_bounded stage j r have classes shown at =
     let (s, there, shows) = shown j r at in
-    let (t, here, has) = classes j r at in
-    let bits = bits_of (have_least stage.streams) t r has in
+    let (t, here, measured, bounded, least_bounded) = classes j r at in
+    let bits = bits_of (have_least stage.streams) t r (measured, bounded, least_bounded) in
     bits.least_bounded ∙ ap₂ (λ (a b : Bool). a && b) bits.bounded have ∙ and-true (is_bounded r.classified.class)
     ∙ sym (class_least_bounded stage.graph j s r.classified.class r.classified.witness (printed_price stage) stage.graph.streams (printed_flows stage) (printed_gap stage) shows)
 

@@ -1,5 +1,5 @@
 -- Statement. What the tests ask of a stage, and of each of its nodes and streams.
-use Rattle.std.specs.Prelude.{◌≡◌, ◌⊎◌, ◌↔◌, ◌≤◌, ◌&&◌, ℕ, ℤ, pos, Bool, Option, Some, None, is_some, IsSome, slice_get}
+use Rattle.std.specs.Prelude.{◌≡◌, ◌⊎◌, ◌↔◌, ◌≤◌, ◌&&◌, ℕ, ℤ, pos, Option, Some, None, is_some, IsSome, slice_get}
 use Rattle.pb_graph.specs.declared.records.Stream.{Stream}
 use Rattle.pb_graph.specs.declared.records.Class.TheVariants.{Unobservable, Redundant, Nonredundant}
 use Rattle.pb_study.specs.declared.results.StreamResult.{StreamResult}
@@ -17,17 +17,13 @@ use Rattle.pb_stage.specs.Printed.{printed_price, printed_flows, printed_gap, ha
 
 -- ---- 1. class
 -- A stream is redundant or nonredundant exactly when it is measured, has no bounds exactly when it is unobservable, and has least bounds
--- exactly when it has bounds and its stage has least bounds.
-pub record HasClass (in_stage : Bool) (stream : Stream) (result : StreamResult) : Type 0 where
-  pub measured : IsSome stream.meas ↔ ((result.classified.class ≡ Redundant) ⊎ (result.classified.class ≡ Nonredundant))
-  pub bounded : (result.bounds ≡ None) ↔ (result.classified.class ≡ Unobservable)
-  pub least_bounded : is_some result.least ≡ (is_some result.bounds && in_stage)
-
--- this holds of the stream at a place and its result
+-- exactly when it has bounds and its stage has least bounds: this holds of the stream at a place and its result.
 abbrev pub HasClassAt : Stage → ℕ → StreamResult → Type 0
 HasClassAt stage j result =
     (stream : Stream) × (slice_get stage.graph.streams j ≡ Some stream)
-    × HasClass (have_least stage.streams) stream result
+    × (IsSome stream.meas ↔ ((result.classified.class ≡ Redundant) ⊎ (result.classified.class ≡ Nonredundant)))
+    × ((result.bounds ≡ None) ↔ (result.classified.class ≡ Unobservable))
+    × (is_some result.least ≡ (is_some result.bounds && have_least stage.streams))
 
 -- ---- 4. price
 -- the least node of the group of a node
@@ -62,5 +58,4 @@ found_high stage = high_of stage.graph.streams (printed_flows stage)
 -- ---- 12. verdicts
 -- the global verdict follows from the printed numbers
 abbrev pub IsGlobalVerdict : Stage → Tests → Type 0
-IsGlobalVerdict stage tests =
-    tests.global.verdict ≡ global_verdict stage.low stage.high stage.dof tests.global.critical
+IsGlobalVerdict stage tests = tests.global.verdict ≡ global_verdict stage.low stage.high stage.dof tests.global.critical

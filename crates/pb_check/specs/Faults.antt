@@ -7,10 +7,9 @@ use Rattle.pb_study.specs.declared.results.NodalTest.{NodalTest}
 use Rattle.pb_study.specs.declared.results.StreamResult.{StreamResult}
 use Rattle.pb_study.specs.declared.results.Tests.{Tests}
 use Rattle.pb_study.specs.declared.results.Stage.{Stage}
-use Rattle.pb_graph.specs.Balance.{net_of}
 use Rattle.pb_graph.specs.Prices.{IsInBox, rise_of}
 use Rattle.pb_dual.specs.Candidates.{room_of}
-use Rattle.pb_stage.specs.Printed.{printed_price, printed_flows}
+use Rattle.pb_stage.specs.Printed.{printed_price}
 use Rattle.pb_stage.specs.Certified.{IsMeasureVerdict, IsNodalVerdict}
 use Rattle.pb_check.specs.declared.faults.Fault.{Fault}
 use Rattle.pb_check.specs.declared.faults.Place.{Place}
@@ -34,13 +33,6 @@ bare_fault_at place = fault_at place (pos 0, pos 0)
 -- what a test asks of the whole stage isn't so, and it reports these numbers
 abbrev pub IsWholeFault : Type 0 → ℤ × ℤ → Fault → Type 0
 IsWholeFault Asked numbers fault = (Asked → ⊥) × (fault ≡ fault_at Whole numbers)
-
--- ---- 3: the net flow at the first node where it isn't 0
-abbrev pub IsBalanceFault : Stage → Fault → Type 0
-IsBalanceFault stage fault =
-    (node : ℕ)
-    × IsFirstWithout (λ n. net_of n stage.graph.streams (printed_flows stage) ≡ pos 0) stage.graph.nodes node
-    × (fault ≡ fault_at (Node node) (pos 0, net_of node stage.graph.streams (printed_flows stage)))
 
 -- ---- 4: the price of the first node that doesn't have the price of its group, and the price of the least node of the group, or 0 if these
 -- two agree

@@ -21,7 +21,7 @@ use Rattle.pb_stage.specs.Certified.{IsMeasureVerdict, IsNodalVerdict, found_lea
 use Rattle.pb_check.specs.declared.faults.Fault.{Fault}
 use Rattle.pb_check.specs.declared.faults.Place.{Place}
 use Rattle.pb_check.specs.declared.faults.Place.TheVariants.{Node}
-use Rattle.pb_check.specs.First.{FirstFails}
+use Rattle.pb_check.specs.First.{FirstFails, IsFirstWithout}
 use Rattle.pb_check.specs.Asked.{HasGroupPriceAt, IsGlobalVerdict, IsLeastOfGroup}
 use Rattle.pb_check.specs.Faults.{AreRowsFault, IsBoundsFault, bare_fault_at, fault_at, first_differing, row_numbers}
 
@@ -36,7 +36,7 @@ abbrev pub is_bounded : Class → Bool
 is_bounded Unobservable = false
 is_bounded class = true
 
--- `HasClass`, by these
+-- what `HasClassAt` asks of a stream and its result, by these
 pub record HasClassBits (in_stage : Bool) (stream : Stream) (result : StreamResult) : Type 0 where
   pub measured : is_of_measured result.classified.class ≡ is_measured stream
   pub bounded : is_some result.bounds ≡ is_bounded result.classified.class
@@ -53,6 +53,12 @@ IsStreamFault stage P fault = FirstFails P stage.streams (λ j r. fault ≡ bare
 -- the flows balance at a node
 abbrev pub IsEvenAt : Stage → ℕ → Type 0
 IsEvenAt stage n = net_of n stage.graph.streams (printed_flows stage) ≡ pos 0
+
+-- the first node at which they don't balance
+abbrev pub IsBalanceFault : Stage → Fault → Type 0
+IsBalanceFault stage fault =
+    (node : ℕ) × IsFirstWithout (IsEvenAt stage) stage.graph.nodes node
+    × (fault ≡ fault_at (Node node) (pos 0, net_of node stage.graph.streams (printed_flows stage)))
 
 -- a node doesn't have the price of its group: the number reported next to its price
 pub record IsOtherPrice (stage : Stage) (node : ℕ) (found : ℤ) : Type 0 where

@@ -1,6 +1,6 @@
 -- Statement. The verdict on a stage: it passes all tests, or there is a first one that it fails.
 use Rattle.std.specs.Prelude.{◌≡◌, ℕ, ℤ, pos, negsuc, ◌<◌, List, length, map, None, All, IfSome, IsSomeAnd, unwrap_or}
-use Rattle.pb_graph.specs.Balance.{IsBalanced}
+use Rattle.pb_graph.specs.Balance.{IsBalanced, net_of}
 use Rattle.pb_graph.specs.Certificates.{IsCertified}
 use Rattle.pb_graph.specs.Prices.{IsInBox}
 use Rattle.pb_study.specs.declared.results.NodalTest.{NodalTest}
@@ -17,9 +17,9 @@ use Rattle.pb_check.specs.declared.faults.Place.TheVariants.{Node, Stream, Whole
 use Rattle.pb_check.specs.declared.faults.CheckFault.{CheckFault}
 use Rattle.pb_check.specs.declared.faults.CheckFault.TheVariants.{At, NoMemory}
 use Rattle.pb_check.specs.declared.faults.Fault.{Fault}
-use Rattle.pb_check.specs.First.{FirstFails}
+use Rattle.pb_check.specs.First.{FirstFails, IsFirstWithout}
 use Rattle.pb_check.specs.Asked.{HasClassAt, HasGroupPriceAt, IsGlobalVerdict, IsStateAt, found_gap, found_high, found_low}
-use Rattle.pb_check.specs.Faults.{AreRowsFault, AreVerdictsFault, IsBalanceFault, IsBoundsFault, IsBoxFault, IsPriceFault, IsWholeFault, bare_fault_at, first_differing}
+use Rattle.pb_check.specs.Faults.{AreRowsFault, AreVerdictsFault, IsBoundsFault, IsBoxFault, IsPriceFault, IsWholeFault, bare_fault_at, fault_at, first_differing}
 
 -- the number of a test, from 1; the tests are made in this order
 abbrev pub test_code : Test → ℕ
@@ -49,22 +49,25 @@ Passes stage gap sweeps Gap = printed_gap stage ≡ found_gap stage
 Passes stage gap sweeps State = IsStateAt gap sweeps (printed_gap stage) stage.solved
 Passes stage gap sweeps Bounds = EachStream stage (λ j r. r.bounds ≡ found_bounds stage j r)
 Passes stage gap sweeps Statistic = (stage.low ≡ found_low stage) × (stage.high ≡ found_high stage)
-Passes stage gap sweeps Nodal =
-    IfSome stage.tests (λ tests. AreNodalTests stage.graph None (map unjudged tests.nodal))
+Passes stage gap sweeps Nodal = IfSome stage.tests (λ tests. AreNodalTests stage.graph None (map unjudged tests.nodal))
 Passes stage gap sweeps Verdict =
     IfSome stage.tests (λ tests.
     IsGlobalVerdict stage tests × All IsNodalVerdict tests.nodal × All IsMeasureVerdict tests.measure)
 Passes stage gap sweeps Least = HasLeastBounds stage → EachStream stage (λ j r. r.least ≡ found_least stage j r)
 
--- The fault that it reports if it fails. The numbers of a whole stage are: the degrees of freedom; h, and if it agrees, g; the sweeps done
--- and those that were allowed; the low end of the statistic, and if it agrees, the high end, with -1 for none.
+-- The fault that it reports if it fails. That of the balance has the net flow at the first node where it isn't 0. The numbers of a whole
+-- stage are: the degrees of freedom; h, and if it agrees, g; the sweeps done and those that were allowed; the low end of the statistic,
+-- and if it agrees, the high end, with -1 for none.
 abbrev pub Fails : Stage → ℕ → ℕ → Test → Fault → Type 0
 Fails stage gap sweeps Class fault =
     FirstFails (HasClassAt stage) stage.streams (λ j r. fault ≡ bare_fault_at (Stream j))
 Fails stage gap sweeps Witness fault =
     FirstFails (λ j r. IsCertified stage.graph j r.classified) stage.streams
     (λ j r. fault ≡ bare_fault_at (Stream j))
-Fails stage gap sweeps Balance fault = IsBalanceFault stage fault
+Fails stage gap sweeps Balance fault =
+    (node : ℕ)
+    × IsFirstWithout (λ n. net_of n stage.graph.streams (printed_flows stage) ≡ pos 0) stage.graph.nodes node
+    × (fault ≡ fault_at (Node node) (pos 0, net_of node stage.graph.streams (printed_flows stage)))
 Fails stage gap sweeps Price fault = IsPriceFault stage fault
 Fails stage gap sweeps Box fault = IsBoxFault stage fault
 Fails stage gap sweeps Freedom fault =
@@ -91,8 +94,7 @@ abbrev pub IsPassed : Stage → ℕ → ℕ → Type 0
 IsPassed stage gap sweeps = (test : Test) → Passes stage gap sweeps test
 
 -- Its first fault, if it doesn't pass: the stage passes the tests before this one, and this one fails with this fault.
-pub record IsFirstFault (stage : Stage) (gap sweeps : ℕ) (test : Test) (place : Place)
-    (stated found : ℤ) : Type 0 where
+pub record IsFirstFault (stage : Stage) (gap sweeps : ℕ) (test : Test) (place : Place) (stated found : ℤ) : Type 0 where
   pub before : (other : Test) → test_code other < test_code test → Passes stage gap sweeps other
   pub fails : Fails stage gap sweeps test (record { place = place; stated = stated; found = found })
 

@@ -8,7 +8,7 @@ ghost use Rattle.pb_graph.specs.Balance.{brought_to, net_of, IsBalanced};
 ghost use Rattle.pb_graph.specs.WellFormed.{IsFlow};
 ghost use Rattle.pb_study.specs.WellFormed.{IsWellFormed};
 ghost use Rattle.pb_stage.specs.Printed.{printed_flows};
-ghost use Rattle.pb_check.specs.Faults.{IsBalanceFault};
+ghost use Rattle.pb_check.specs.Places.{IsBalanceFault};
 
 use crate::faults::{Fault, at_node};
 use pb_graph::Stream;

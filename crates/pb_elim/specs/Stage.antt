@@ -17,15 +17,12 @@ pub record IsReconciliationOf (graph : ProcessGraph) (options : Options) (stage 
   pub graph_is : stage.graph ≡ graph
   pub classes : IsClassification graph (printed_classes stage)
   pub priced : length stage.prices ≡ graph.nodes
-  pub solution :
-      IsSolution graph options.gap options.sweeps stage.solved (printed_price stage)
-      (printed_flows stage)
+  pub solution : IsSolution graph options.gap options.sweeps stage.solved (printed_price stage) (printed_flows stage)
   pub numbers : AreNumbersOf stage
   pub least : EachStream stage (λ j r. r.least ≡ found_least stage j r)
 
 -- The stage of a graph: its reconciliation, and tests exactly when they are asked for.
-pub record IsStageOf (graph : ProcessGraph) (options : Options) (critical : Critical) (stage : Stage)
-    : Type 0 where
+pub record IsStageOf (graph : ProcessGraph) (options : Options) (critical : Critical) (stage : Stage) : Type 0 where
   pub reconciled : IsReconciliationOf graph options stage
   pub asked : is_some stage.tests ≡ options.tests
   pub tests : IfSome stage.tests (AreTestsOf graph options critical stage)

@@ -5,15 +5,15 @@ use Rattle.pb_study.specs.declared.results.Taken.{Taken}
 use Rattle.pb_study.specs.declared.results.Study.{Study}
 use Rattle.pb_study.specs.declared.results.Options.{Options}
 use Rattle.pb_study.specs.declared.results.Critical.{Critical}
-use Rattle.pb_graph.specs.ProcessGraph.{ProcessGraph, unmeasured_at}
+use Rattle.pb_graph.specs.ProcessGraph.{ProcessGraph}
+use Rattle.pb_stage.specs.Drop.{without_measurement}
 use Rattle.pb_elim.specs.Stage.{IsStageOf}
 use Rattle.pb_elim.specs.Elimination.{IsStop, IsSuspect, stop_after}
 
 -- the graph without the measurements of the streams that were taken
 abbrev pub without_taken : ProcessGraph → List Taken → ProcessGraph
 without_taken graph [] = graph
-without_taken graph (t ∷ taken) =
-    without_taken (record graph { streams = unmeasured_at t.stream graph.streams }) taken
+without_taken graph (t ∷ taken) = without_taken (without_measurement t.stream graph) taken
 
 -- Stages of a graph, and the streams taken between them:
 pub record AreRounds (graph : ProcessGraph) (options : Options) (critical : Critical)
@@ -32,8 +32,7 @@ pub record AreRounds (graph : ProcessGraph) (options : Options) (critical : Crit
 
 -- The study of a graph: the stages of the graph and the streams taken between them, until the rule of elimination says to stop, or one
 -- stage if no elimination is asked for.
-pub record IsStudyOf (graph : ProcessGraph) (options : Options) (critical : Critical)
-    (study : Study) : Type 0 where
+pub record IsStudyOf (graph : ProcessGraph) (options : Options) (critical : Critical) (study : Study) : Type 0 where
   pub rounds : AreRounds graph options critical study.stages study.taken
   pub stop :
       (last : Stage) → slice_get study.stages (length study.taken) ≡ Some last

@@ -27,12 +27,9 @@ use Rattle.pb_kinds.specs.declared.rows.Effect.TheVariants.{Declares, Opens, Boo
 use Rattle.pb_kinds.specs.declared.rows.Request.{Request}
 use Rattle.pb_kinds.specs.declared.rows.Request.TheVariants.{Blank, Store, Design, Report, History, Advise, Window, Component}
 
--- the name, the reason or the day at a place of a row's values; a place is only asked for what its column holds
+-- the name or the day at a place of a row's values; a place is only asked for what its column holds
 abbrev pub name_there : List Value → ℕ → List ℕ
 name_there values place = unwrap_or (value_at name_in values place) []
-
-abbrev pub reason_there : List Value → ℕ → List ℕ
-reason_there values place = unwrap_or (value_at reason_in values place) []
 
 abbrev pub day_there : List Value → ℕ → ℤ
 day_there values place = unwrap_or (value_at day_in values place) (pos 0)
@@ -73,7 +70,7 @@ assay_in values = record {
 
 -- the fact of the id in the first column after the word is edited, for the reason in the column at a place
 abbrev pub edits : Edit → List Value → ℕ → Request
-edits edit values place = Store (Edits (name_there values 1) edit (reason_there values place))
+edits edit values place = Store (Edits (name_there values 1) edit (unwrap_or (value_at reason_in values place) []))
 
 -- a declaration is stored
 abbrev pub declares : Declared → Request

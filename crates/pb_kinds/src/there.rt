@@ -1,9 +1,9 @@
 // What stands at a place of a row's values.
 
-ghost use Rattle.std.specs.Prelude.{◌≡◌, pos, unsigned_abs};
+ghost use Rattle.std.specs.Prelude.{◌≡◌, [], pos, unsigned_abs, unwrap_or};
 ghost use Rattle.pb_limits.specs.Limits.{most_freedom};
-ghost use Rattle.pb_form.specs.Values.{number_at};
-ghost use Rattle.pb_kinds.specs.Requests.{day_there, name_there, reason_there};
+ghost use Rattle.pb_form.specs.Values.{number_at, reason_in, value_at};
+ghost use Rattle.pb_kinds.specs.Requests.{day_there, name_there};
 ghost use Rattle.pb_kinds.specs.There.{IsLongThere, IsNameThere, IsNumberThere, IsReasonThere};
 
 use pb_form::Values;
@@ -21,7 +21,7 @@ pub(crate) fn name_there(values: &Values, place: usize) -> Name
 // A reason.
 pub(crate) fn reason_there(values: &Values, place: usize) -> Reason
     requires { IsReasonThere values.now place }
-    ensures { result ≡ reason_there values.now place }
+    ensures { result ≡ unwrap_or (value_at reason_in values.now place) [] }
 {
     values.reason(place).unwrap()
 }

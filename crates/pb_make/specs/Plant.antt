@@ -41,10 +41,7 @@ leads_back side i = not (side.to == 0) && nat_lt side.to i && nat_le i side.from
 
 -- what a side stream adds to the true flow of the stream of the line with this number, counted from 1
 abbrev pub added_to : ℕ → MadeStream → ℤ
-added_to i side =
-    if passes_by side i then neg_ℤ side.truth
-    else if leads_back side i then side.truth
-    else pos 0
+added_to i side = if passes_by side i then neg_ℤ side.truth else if leads_back side i then side.truth else pos 0
 
 -- The stream of the line with this number: from the unit before to the unit of its number, and the last one leads out of the plant,
 -- with its true flow in grams per day.

@@ -33,8 +33,7 @@ day_read place = place % made_days + 1
 
 -- the true flow of the stream with this number, counted from 1
 abbrev pub truth_at : List MadeStream → ℕ → ℤ
-truth_at streams i =
-    (slice_index_or streams (i - 1) (record { from = 0; to = 0; truth = pos 0 })).truth
+truth_at streams i = (slice_index_or streams (i - 1) (record { from = 0; to = 0; truth = pos 0 })).truth
 
 -- the error of a draw, in hundred-thousandths of the true flow: at most one percent
 abbrev pub error_of_draw : ℕ → ℤ

@@ -243,13 +243,13 @@ said_same said parts known e = record {
 pub command_here : (words : List (List ℕ)) (said : Said) (command : Command) → IsGivenByClap words (given_of said) → Asks (said_in said) command → IsCommandOf words command
 command_here words said command taken asks =
     let p = parts_of_taken words (given_of said) taken in
-    record { parts = p.0; read = p.1; asks = same_asked (said_in said) (said_by p.0) (said_same said p.0 p.1.known p.2) command asks }
+    record { parts = p.0; are = p.1.0; known = p.1.1; once = p.1.2; asks = same_asked (said_in said) (said_by p.0) (said_same said p.0 p.1.1 p.2) command asks }
 
 -- and no other
 pub asked_here : (words : List (List ℕ)) (said : Said) (command : Command) → IsGivenByClap words (given_of said) → IsCommandOf words command → Asks (said_in said) command
 asked_here words said command taken of =
-    let e : given_of said ≡ given_by of.parts = taken.is ∙ sym (taken_of_parts of.parts words of.read).is in
-    same_asked (said_by of.parts) (said_in said) (said_back (said_in said) (said_by of.parts) (said_same said of.parts of.read.known e)) command of.asks
+    let e : given_of said ≡ given_by of.parts = taken.is ∙ sym (taken_of_parts of.parts words (of.are, of.known, of.once)).is in
+    same_asked (said_by of.parts) (said_in said) (said_back (said_in said) (said_by of.parts) (said_same said of.parts of.known e)) command of.asks
 
 -- two lines of parts that give the same ask for the same
 pub asked_by_both : (xs ys : List Part) → All IsKnownPart xs → All IsKnownPart ys → given_by xs ≡ given_by ys → (command : Command) → Asks (said_by xs) command → Asks (said_by ys) command

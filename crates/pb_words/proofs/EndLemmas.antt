@@ -16,7 +16,8 @@ use Rattle.clap.proofs.FaultLemmas.{leaf_fault}
 use Rattle.clap.proofs.WalkLemmas.{both, first_value-rows}
 use Rattle.clap.specs.Matches.{first_value}
 use Rattle.clap.specs.declared.parser.matches.Found.{Found}
-use Rattle.pb_words.specs.Parts.{Part, mode, flag, apart, joined, ArePartsOf, IsKnownPart, has_hyphen, is_one_of, option_names, flag_names, words_of}
+use Rattle.pb_words.specs.Laws.{ArePartsOf}
+use Rattle.pb_words.specs.Parts.{Part, mode, flag, apart, joined, IsKnownPart, has_hyphen, is_one_of, option_names, flag_names, words_of}
 use Rattle.pb_words.specs.Given.{Given, given_by, given_of, is_true}
 use Rattle.pb_words.specs.Line.{IsGivenByClap, given_in, is_plain_or_named, line}
 use Rattle.pb_words.proofs.OnceLemmas.{EachOnce, distinct_names, each_once, words_of_parts}
@@ -191,11 +192,11 @@ parts_of_taken words given taken =
     let s = walk_back words [] (walk_from nothing_held) standing taken.formed walks.0 in
     let fresh = settle_first s.front s.last s.known_last (ap (λ (w : Walk). settle_fault rules_in false w.held) (sym s.is) ∙ settles.0) in (
       all_parts s.front s.last,
-      record {
-        are = s.words ∙ sym (all_line s.front s.last fresh);
-        known = known_all s.front s.last fresh s.known_last s.known;
-        once = distinct_names (all_parts s.front s.last) (once_all s.front s.last fresh s.once);
-      },
+      (
+        s.words ∙ sym (all_line s.front s.last fresh),
+        known_all s.front s.last fresh s.known_last s.known,
+        distinct_names (all_parts s.front s.last) (once_all s.front s.last fresh s.once),
+      ),
       taken.is ∙ given_at s.front s.last s.position (end_of words) s.is s.known_last fresh,
     )
   where
@@ -228,7 +229,7 @@ taken_of_line parts known once =
 
 -- and clap accepts the line of each list of known parts that say each thing once
 pub taken_of_parts : (parts : List Part) (words : List Text) → ArePartsOf parts words → IsGivenByClap words (given_by parts)
-taken_of_parts parts words are = subst (λ (ws : List Text). IsGivenByClap ws (given_by parts)) (sym are.are) (taken_of_line parts are.known (each_once parts are.once))
+taken_of_parts parts words are = subst (λ (ws : List Text). IsGivenByClap ws (given_by parts)) (sym are.0) (taken_of_line parts are.1 (each_once parts are.2))
 
 -- ---- in the words of the code
 

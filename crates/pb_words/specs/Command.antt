@@ -1,6 +1,7 @@
 -- Statement. The commands, and the words that give each.
-use Rattle.std.specs.Prelude.{◌≡◌, ◌≤◌, ◌⊎◌, ℕ, pos, Bool, false, ◌||◌, List, [], ◌∷◌, ◌++◌, Option, Some, None, is_some, option_map, unsigned_abs, codes, ⊤}
-use Rattle.std.specs.List.{list_any}
+use Rattle.std.specs.Prelude.{◌≡◌, ◌≤◌, ◌⊎◌, ℕ, pos, Bool, false, ◌||◌, List, [], ◌∷◌, ◌++◌, Option, Some, None, is_some, flat_map, map, option_map, unsigned_abs, codes, ⊤}
+use Rattle.std.specs.List.{list_any, All, IsDistinct}
+use Rattle.std.specs.Str.{bytes_eq}
 use Rattle.pb_rows.specs.Number.{number, within}
 use Rattle.pb_limits.specs.Limits.{default_gap, default_number, default_streams, default_sweeps, most_gap, most_made_streams, most_rounds, most_sweeps}
 use Rattle.pb_study.specs.declared.results.Options.{Options}
@@ -8,7 +9,7 @@ use Rattle.pb_study.specs.Options.{AreOptions}
 use Rattle.pb_report.specs.declared.form.Form.{Form}
 use Rattle.pb_report.specs.declared.form.Form.TheVariants.{Csv, Json}
 use Rattle.pb_make.specs.Plant.{least_streams}
-use Rattle.pb_words.specs.Parts.{Part, ArePartsOf, flag_names, option_names, said_by}
+use Rattle.pb_words.specs.Parts.{Part, IsKnownPart, flag_names, name_of, option_names, said_by, words_of}
 use Rattle.pb_words.specs.declared.command.Command.{Command}
 use Rattle.pb_words.specs.declared.command.Command.TheVariants.{Run, Check, Make}
 
@@ -58,10 +59,13 @@ Asks said (Run options form) = AsksRun said options form
 Asks said Check = (said (codes "mode") ≡ Some (codes "check")) × (says_any said (option_names ++ flag_names) ≡ false)
 Asks said (Make number streams summary gap sweeps) = AsksMake said number streams summary gap sweeps
 
--- The words give the command: they are the words of parts, each option at most once, and what the parts say asks for it.
+-- The words give the command: they are those of known parts in order, with at most one mode and each option at most once (no two parts
+-- are about the same), and what the parts say asks for it.
 pub record IsCommandOf (words : List (List ℕ)) (command : Command) : Type 0 where
   pub parts : List Part
-  pub read : ArePartsOf parts words
+  pub are : words ≡ flat_map words_of parts
+  pub known : All IsKnownPart parts
+  pub once : IsDistinct bytes_eq (map name_of parts)
   pub asks : Asks (said_by parts) command
 
 -- A session to be made is within the limits: its number is one of 32 bits, and the number of streams, and the gap and number of

@@ -61,12 +61,6 @@ IsKnownPart (flag name) = IsTrue (is_one_of name flag_names)
 IsKnownPart (apart name value) = IsTrue (is_one_of name option_names) × (has_hyphen value ≡ false)
 IsKnownPart (joined name value) = IsTrue (is_one_of name option_names)
 
--- The words are those of known parts in order, with at most one mode and each option at most once: no two parts are about the same.
-pub record ArePartsOf (parts : List Part) (words : List (List ℕ)) : Type 0 where
-  pub are : words ≡ flat_map words_of parts
-  pub known : All IsKnownPart parts
-  pub once : IsDistinct bytes_eq (map name_of parts)
-
 -- what the parts say about a name, if one of them does
 abbrev pub said_by : List Part → List ℕ → Option (List ℕ)
 said_by parts name = option_map text_of (find (λ part. bytes_eq (name_of part) name) parts)

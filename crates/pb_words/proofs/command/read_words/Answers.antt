@@ -17,7 +17,7 @@ formed_words words texts are each = subst (λ (ws : List (List ℕ)). IsTrue (li
 pub returns-then-not-are_plain_or_named-clause-usage : goal.returns-then-not-are_plain_or_named-clause-usage
 returns-then-not-are_plain_or_named-clause-usage c = λ e command of.
     let words = c.args.words.now in
-    let formed = (taken_of_parts of.parts words of.read).formed in
+    let formed = (taken_of_parts of.parts words (of.are, of.known, of.once)).formed in
     let each = each_formed string_bytes c.as_slice.result.now (subst (λ (ws : List (List ℕ)). IsTrue (list_all is_plain_or_named ws)) (sym c.as_slice.ensures) formed) in
     let yes : c.are_plain_or_named.result ≡ true = c.are_plain_or_named.ensures.1 each in
     let no : c.are_plain_or_named.result ≡ false = search rules in
@@ -47,7 +47,7 @@ returns-in-Ok-clause-usage c = λ e command of.
 
 -- words that clap refuses belong to no known parts
 pub returns-clause-usage : goal.returns-clause-usage
-returns-clause-usage c = λ e command of. c.in-Err.ensures.refused e (taken_of_parts of.parts c.args.words.now of.read).taken
+returns-clause-usage c = λ e command of. c.in-Err.ensures.refused e (taken_of_parts of.parts c.args.words.now (of.are, of.known, of.once)).taken
 
 pub returns-in-Some-clause-within : goal.returns-in-Some-clause-within
 returns-in-Some-clause-within c = in_range (said_in (first_value (found_of c.in-Ok.matches))) c.in-Some.command c.in-Some.ensures.some
