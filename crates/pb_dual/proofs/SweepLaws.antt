@@ -9,7 +9,7 @@ use Rattle.pb_graph.specs.ProcessGraph.{ProcessGraph, IsProcessGraph}
 use Rattle.pb_graph.specs.Groups.{AreGroups, is_free_group, group_count}
 use Rattle.pb_graph.specs.Prices.{PricesFit}
 use Rattle.pb_dual.specs.DualValue.{dual_value}
-use Rattle.pb_dual.specs.Sweeps.{stepped, sweep_of, swept, prices_after}
+use Rattle.pb_dual.specs.Sweeps.{stepped, swept, prices_after}
 use Rattle.pb_dual.specs.Laws.{CanMove, AscentLaw, IdleLaw}
 use Rattle.pb_dual.proofs.FitLaws.{best_fits, best_up}
 
@@ -60,4 +60,4 @@ ascent_law g group k limits groups =
 
 pub idle_law : IdleLaw
 idle_law g group k zero same = let e : 0 + k ≡ k = omega arith in ap (prices_after g group) e
-idle_law g group k (suc n) same = let e : suc n + k ≡ suc (n + k) = omega arith in ap (prices_after g group) e ∙ ap (sweep_of g group) (idle_law g group k n same) ∙ same
+idle_law g group k (suc n) same = let e : suc n + k ≡ suc (n + k) = omega arith in ap (prices_after g group) e ∙ ap (λ (price : ℕ → ℤ). swept group g.streams price (group_count group)) (idle_law g group k n same) ∙ same

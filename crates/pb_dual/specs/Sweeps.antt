@@ -15,11 +15,7 @@ abbrev pub swept : List ℕ → List Stream → (ℕ → ℤ) → ℕ → ℕ �
 swept group ss price zero = price
 swept group ss price (suc n) = stepped group ss (swept group ss price n) n
 
--- the prices after a sweep over all groups
-abbrev pub sweep_of : ProcessGraph → List ℕ → (ℕ → ℤ) → ℕ → ℤ
-sweep_of g group price = swept group g.streams price (group_count group)
-
--- The prices after this many sweeps, starting from prices that are all 0.
+-- The prices after this many sweeps, each over all groups, starting from prices that are all 0.
 abbrev pub prices_after : ProcessGraph → List ℕ → ℕ → ℕ → ℤ
 prices_after g group zero = λ n. pos 0
-prices_after g group (suc k) = sweep_of g group (prices_after g group k)
+prices_after g group (suc k) = swept group g.streams (prices_after g group k) (group_count group)

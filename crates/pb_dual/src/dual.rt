@@ -8,7 +8,7 @@ ghost use Rattle.pb_graph.specs.Prices.{PricesFit, most_adjustment};
 ghost use Rattle.pb_dual.specs.DualValue.{flow_at, dual_flow, dual_flows_of, dual_value, most_dual_flow};
 ghost use Rattle.pb_dual.specs.Moves.{with_price, group_flow};
 ghost use Rattle.pb_dual.specs.Candidates.{best_price};
-ghost use Rattle.pb_dual.specs.Sweeps.{stepped, sweep_of, prices_after};
+ghost use Rattle.pb_dual.specs.Sweeps.{stepped, swept, prices_after};
 ghost use Rattle.pb_dual.specs.Priced.{price_of};
 ghost use Rattle.pb_dual.specs.Border.{IsPriced};
 ghost use Rattle.pb_graph.specs.declared.records.Stream.{Stream};
@@ -289,7 +289,8 @@ impl<'a> Dual<'a> {
     /// Gives each free group its best price, in the order of the groups. Returns whether a price changed.
     pub fn sweep(&mut self) -> bool
         ensures price { price_of self.new
-            ≡ sweep_of self.old.graph self.old.group (price_of self.old) }
+            ≡ swept self.old.group self.old.graph.streams (price_of self.old)
+            (group_count self.old.group) }
         ensures graph { self.new.graph ≡ self.old.graph }
         ensures groups { self.new.group ≡ self.old.group }
         ensures more { (k : ℕ) → price_of self.old ≡ prices_after self.old.graph self.old.group k

@@ -32,7 +32,7 @@ use Rattle.pb_gap.specs.LeastBounds.{stream_least_bounds}
 use Rattle.pb_gap.specs.Statistic.{low_of, high_of}
 use Rattle.pb_gap.specs.State.{State, IsState, price_in, gap_in}
 use Rattle.pb_gap.specs.Solution.{IsSolution, IsSolvedStatistic}
-use Rattle.pb_stage.specs.Verdicts.{critical_for, global_critical}
+use Rattle.pb_stage.specs.Verdicts.{critical_for}
 use Rattle.pb_study.specs.Options.{AreOptions}
 use Rattle.pb_study.specs.Criticals.{AreCritical, IsCriticalRow}
 use Rattle.pb_stage.specs.Printed.{printed_price, printed_flows, printed_classes, printed_gap}
@@ -270,7 +270,7 @@ none_or : (b : Bool) (o : Option ℤ) → IfSome o IsCriticalValue → IfSome (i
 none_or true o is = tt
 none_or false o is = is
 
-pub global_within : (critical : Critical) (dof : ℕ) (o : Option ℤ) → AreCritical critical → o ≡ global_critical dof critical.global → IfSome o IsCriticalValue
+pub global_within : (critical : Critical) (dof : ℕ) (o : Option ℤ) → AreCritical critical → o ≡ (if dof == 0 then None else critical_for dof critical.global) → IfSome o IsCriticalValue
 global_within critical dof o limits is =
     subst (λ (o : Option ℤ). IfSome o IsCriticalValue) (sym is)
     (none_or (dof == 0) (critical_for dof critical.global) (value_within dof critical.global (recursion_from_All IsCriticalRow critical.global limits.rows)))

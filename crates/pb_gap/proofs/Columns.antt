@@ -6,8 +6,9 @@ use Rattle.std.proofs.lemmas.List.{ext_get_or, get_or_default, get_or-set_other,
 use Rattle.pb_fixed.specs.Sums.{item}
 use Rattle.pb_graph.specs.declared.records.Meas.{Meas}
 use Rattle.pb_graph.specs.declared.records.Stream.{Stream}
+use Rattle.pb_graph.specs.Prices.{rise_of}
 use Rattle.pb_dual.specs.DualValue.{dual_flow, dual_flows_of}
-use Rattle.pb_gap.specs.Gap.{deviation_of, deviations_of}
+use Rattle.pb_gap.specs.Gap.{deviation_at, deviations_of}
 use Rattle.pb_gap.specs.Statistic.{adjustments_by}
 
 pub length-deviations : (price : ℕ → ℤ) (ss : List Stream) (ps : List ℤ) → length ps ≡ length ss → length (deviations_of price ss ps) ≡ length ss
@@ -16,7 +17,7 @@ length-deviations price (s ∷ ss) [] each = absurd (omega (arith, each))
 length-deviations price (s ∷ ss) (p ∷ ps) each = ap suc (length-deviations price ss ps (omega (arith, each)))
 
 pub deviation_item : (price : ℕ → ℤ) (ss : List Stream) (ps : List ℤ) (j : ℕ) (d : Stream) → length ps ≡ length ss → j < length ss
-    → item (deviations_of price ss ps) j ≡ deviation_of price (get_or ss j d) (item ps j)
+    → item (deviations_of price ss ps) j ≡ deviation_at (get_or ss j d).meas (rise_of price (get_or ss j d)) (item ps j)
 deviation_item price [] ps j d each lt = absurd (omega (arith, lt))
 deviation_item price (s ∷ ss) [] j d each lt = absurd (omega (arith, each))
 deviation_item price (s ∷ ss) (p ∷ ps) zero d each lt = refl

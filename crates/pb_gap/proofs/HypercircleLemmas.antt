@@ -21,7 +21,7 @@ use Rattle.pb_graph.specs.PricedSums.{signed_sum}
 use Rattle.pb_dual.specs.DualValue.{scale, dual_flow, dual_value}
 use Rattle.pb_gap.specs.Residuals.{residual_squares, residual_of}
 use Rattle.pb_gap.specs.Gap.{gap_of, gap_size}
-use Rattle.pb_gap.specs.Bounds.{AreSigned, IsSigned, IsWithin, dual_flow_in, dual_flow_sum, variance_sum, half_width_in}
+use Rattle.pb_gap.specs.Bounds.{AreSigned, IsSigned, IsWithin, dual_flow_sum, variance_sum, half_width_in}
 use Rattle.pb_gap.specs.StreamBounds.{IsStreamWithin, sum_for}
 use Rattle.pb_gap.specs.Laws.{IsDualPair, SumsTo, gap_square}
 use Rattle.pb_gap.specs.Least.{combination, difference_of, squared_distance}
@@ -36,6 +36,7 @@ use Rattle.pb_gap.proofs.Rounding.{HasHalfWidth, from_above, from_below}
 use Rattle.pb_gap.proofs.Enclosure.{within_gap}
 use Rattle.pb_gap.proofs.LeastLemmas.{excess}
 use Rattle.pb_gap.proofs.StreamSums.{stream_sum}
+use Rattle.pb_gap.proofs.Found.{dual_flow_in}
 
 -- ---- the parallelogram law: the middle of a vector and the dual flows, their difference, and the residuals of both
 -- two equations between sums of squares, combined

@@ -1,4 +1,5 @@
 mod Weights
+mod Found
 mod InnerProductLemmas
 mod Identity
 mod SchwarzLemmas

@@ -27,7 +27,7 @@ use Rattle.pb_dual.specs.DualValue.{scale, dual_flow, flow_at, most_dual_flow}
 use Rattle.pb_forest.specs.Flows.{IsGivenFlow, most_given_flow}
 use Rattle.pb_gap.specs.Gap.{Gap, deviation_at, deviations_of, gap_from, gap_of, gap_size}
 use Rattle.pb_gap.specs.GapRange.{IsGapInRange}
-use Rattle.pb_gap.specs.Bounds.{AreSigned, IsSigned, bounds_of, dual_flow_in, dual_flow_sum, half_width_in, variance_in, variance_sum}
+use Rattle.pb_gap.specs.Bounds.{AreSigned, IsSigned, bounds_of, dual_flow_sum, half_width_in, variance_sum}
 use Rattle.pb_gap.specs.Statistic.{adjustment_above, adjustment_at, adjustment_below, adjustments_by, capped_squares, full_squares, high_of, low_of, adjustment_cap}
 use Rattle.pb_gap.specs.State.{nearest_flows}
 use Rattle.pb_gap.specs.RangeLaws.{IsEnd, RangeLaw}
@@ -35,6 +35,7 @@ use Rattle.pb_gap.proofs.Columns.{length-adjustments, length-deviations}
 use Rattle.pb_gap.proofs.MemberLists.{members_few}
 use Rattle.pb_gap.proofs.Widths.{ceiling_nonneg, deviation_width, floor_nonneg, measured_root}
 use Rattle.pb_gap.proofs.SmallFlowLemmas.{small_flows, turned}
+use Rattle.pb_gap.proofs.Found.{dual_flow_in, variance_in}
 
 -- what holds of each item holds of the item at a place, and past the end if it holds of 0
 item_has : (P : ℤ → Type 0) (xs : List ℤ) (k : ℕ) → P (pos 0) → AllByRecursion P xs → P (item xs k)

@@ -22,10 +22,11 @@ use Rattle.pb_graph.specs.Variance.{variance_of}
 use Rattle.pb_graph.proofs.GroupLaws.{all_at}
 use Rattle.pb_dual.specs.DualValue.{scale}
 use Rattle.pb_gap.specs.Residuals.{residual_of, residuals_of}
-use Rattle.pb_gap.specs.Bounds.{IsSigned, AreSigned, dual_flow_in, variance_in, dual_flow_sum, variance_sum}
+use Rattle.pb_gap.specs.Bounds.{IsSigned, AreSigned, dual_flow_sum, variance_sum}
 use Rattle.pb_gap.specs.Laws.{SignedSchwarzLaw}
 use Rattle.pb_gap.proofs.Weights.{HasWeight, MayWeigh, product_of, weights_of}
 use Rattle.pb_gap.proofs.InnerProductLemmas.{by_stream_at, square_nonneg}
+use Rattle.pb_gap.proofs.Found.{dual_flow_in, variance_in}
 
 -- the weighted squares of errors, as a list
 abbrev parts : ℤ → List Stream → List ℤ → List ℤ

@@ -3,6 +3,7 @@ use Rattle.std.proofs.Common.{◌≡◌, ◌∙◌, ℕ, ℤ, pos, negsuc, ◌-�
 use Rattle.std.specs.Prelude.{IfSome, is_some}
 use Rattle.std.specs.Int.{int_div_euclid}
 use Rattle.std.specs.List.{All, AllByRecursion}
+use Rattle.std.specs.Option.{option_map_or}
 use Rattle.std.proofs.lemmas.Int.{by_lt_z, ints}
 use Rattle.std.proofs.lemmas.Option.{slice_get-get_or}
 use Rattle.pb_fixed.proofs.Lists.{AllByRecursion-from_all, All-from_recursion, AllByRecursion-map}
@@ -13,7 +14,7 @@ use Rattle.pb_fixed.proofs.QuotientLaws.{floor_multiple}
 use Rattle.pb_graph.specs.declared.records.Meas.{Meas}
 use Rattle.pb_graph.specs.declared.records.Stream.{Stream}
 use Rattle.pb_graph.specs.ProcessGraph.{ProcessGraph, IsProcessGraph, IsMeasurement, IsWithinLimits, is_measured}
-use Rattle.pb_graph.specs.Squares.{variance_or_one, variance_product}
+use Rattle.pb_graph.specs.Squares.{variance_product}
 use Rattle.pb_graph.specs.Prices.{PricesFit, rise_of}
 use Rattle.pb_graph.proofs.GroupLaws.{stream_joins}
 use Rattle.pb_gap.specs.Laws.{WeightLaw}
@@ -34,6 +35,10 @@ divides l k v l_pos v_pos e =
     let is : int_div_euclid l v ≡ k = ap (λ (z : ℤ). int_div_euclid z v) e ∙ floor_multiple k v (omega (arith, ints, v_pos)) in
     let weight : int_div_euclid l v *ℤ v ≡ l = ap (λ (z : ℤ). z *ℤ v) is ∙ sym e in
     record { variance = v_pos; weight = weight; nonneg = weight_nonneg (int_div_euclid l v) v l weight l_pos v_pos }
+
+-- the variance of a measurement, or 1 if there is none
+abbrev variance_or_one : Option Meas → ℤ
+variance_or_one o = option_map_or (λ (m : Meas). m.variance) o (pos 1)
 
 one_positive : (o : Option Meas) → IfSome o IsMeasurement → pos 0 <ℤ variance_or_one o
 one_positive None h = omega (arith, ints)

@@ -1,6 +1,7 @@
 -- Statement. Bounds of a signed sum of measured flows.
-use Rattle.std.specs.Prelude.{◌≡◌, ◌⊎◌, ℕ, ℤ, pos, negsuc, ◌+ℤ◌, ◌-ℤ◌, ◌*ℤ◌, ◌≤ℤ◌, List, [], ◌∷◌, Option, Some, None, slice_get}
+use Rattle.std.specs.Prelude.{◌≡◌, ◌⊎◌, ℕ, ℤ, pos, negsuc, ◌+ℤ◌, ◌-ℤ◌, ◌*ℤ◌, ◌≤ℤ◌, List, [], ◌∷◌, Some, slice_get}
 use Rattle.std.specs.List.{AllByRecursion}
+use Rattle.std.specs.Option.{option_map_or}
 use Rattle.pb_fixed.specs.Sums.{sum_over, AreDistinctBy}
 use Rattle.pb_fixed.specs.Quotients.{floor_div, ceil_div}
 use Rattle.pb_fixed.specs.Roots.{scaled_root_of}
@@ -29,22 +30,15 @@ pub record AreSigned (g : ProcessGraph) (members : List Member) : Type 0 where
   pub each : AllByRecursion (IsSigned g) members
   pub distinct : AreDistinctBy (λ (m : Member). m.stream) members
 
--- the dual flow and the variance of the stream that was found at a place, or 0 if there is none
-abbrev pub dual_flow_in : (ℕ → ℤ) → Option Stream → ℤ
-dual_flow_in price None = pos 0
-dual_flow_in price (Some s) = dual_flow price s
-
-abbrev pub variance_in : Option Stream → ℤ
-variance_in None = pos 0
-variance_in (Some s) = variance_of s.meas
-
 -- the signed sum of the dual flows of a list of streams
 abbrev pub dual_flow_sum : (ℕ → ℤ) → List Stream → List Member → ℤ
-dual_flow_sum price ss members = sum_over (λ (m : Member). m.sign *ℤ dual_flow_in price (slice_get ss m.stream)) members
+dual_flow_sum price ss members =
+    sum_over (λ (m : Member). m.sign *ℤ option_map_or (dual_flow price) (slice_get ss m.stream) (pos 0)) members
 
 -- the sum of the variances of a list of streams
 abbrev pub variance_sum : List Stream → List Member → ℤ
-variance_sum ss members = sum_over (λ (m : Member). variance_in (slice_get ss m.stream)) members
+variance_sum ss members =
+    sum_over (λ (m : Member). option_map_or (λ (s : Stream). variance_of s.meas) (slice_get ss m.stream) (pos 0)) members
 
 -- The half width of the bounds of a signed sum: the gap times the standard deviation of the sum, rounded up; 0 if there is no stream.
 abbrev pub half_width_in : List Stream → Gap → List Member → ℤ

@@ -1,18 +1,19 @@
 -- Statement. The gap of prices and whole flows: how far the flows are from the dual flows, in standard deviations.
-use Rattle.std.specs.Prelude.{ℕ, ◌*◌, ◌^◌, ◌≤◌, ℤ, pos, ◌-ℤ◌, ◌*ℤ◌, ◌≤ℤ◌, unsigned_abs, List, [], ◌∷◌, map, Option, Some, None}
+use Rattle.std.specs.Prelude.{ℕ, ◌*◌, ◌^◌, ◌≤◌, ℤ, pos, ◌-ℤ◌, ◌*ℤ◌, ◌≤ℤ◌, unsigned_abs, List, map, Option, Some, None}
+use Rattle.std.specs.Option.{option_map_or}
 use Rattle.pb_fixed.specs.Quotients.{ceil_div}
 use Rattle.pb_fixed.specs.Roots.{root_ceil_of, scaled_root_of}
 use Rattle.pb_fixed.specs.Blocks.{IsBlockExponent, block_exponent_of, block_squares_of}
 use Rattle.pb_graph.specs.declared.records.Meas.{Meas}
 use Rattle.pb_graph.specs.declared.records.Stream.{Stream}
 use Rattle.pb_graph.specs.Prices.{rise_of}
+use Rattle.pb_graph.specs.Squares.{by_stream}
 use Rattle.pb_dual.specs.DualValue.{scale, flow_at}
 pub use Rattle.pb_gap.specs.declared.gap.Gap.{Gap}
 
 -- the standard deviation of a measurement in units of 2^-20 gram, rounded down; 0 if there is no measurement
 abbrev pub standard_deviation_of : Option Meas → ℤ
-standard_deviation_of None = pos 0
-standard_deviation_of (Some m) = scaled_root_of m.variance
+standard_deviation_of meas = option_map_or (λ (m : Meas). scaled_root_of m.variance) meas (pos 0)
 
 abbrev pub standard_deviations_of : List Stream → List ℤ
 standard_deviations_of streams = map (λ s. standard_deviation_of s.meas) streams
@@ -23,15 +24,9 @@ abbrev pub deviation_at : Option Meas → ℤ → ℤ → ℤ
 deviation_at None d p = pos 0
 deviation_at (Some m) d p = ceil_div (pos (unsigned_abs ((p *ℤ scale) -ℤ flow_at (Some m) d))) (scaled_root_of m.variance *ℤ pos (2 ^ 16))
 
--- the deviation of the flow p of a stream
-abbrev pub deviation_of : (ℕ → ℤ) → Stream → ℤ → ℤ
-deviation_of price s p = deviation_at s.meas (rise_of price s) p
-
 -- the deviation of each stream's flow
 abbrev pub deviations_of : (ℕ → ℤ) → List Stream → List ℤ → List ℤ
-deviations_of price [] ps = []
-deviations_of price (s ∷ ss) [] = []
-deviations_of price (s ∷ ss) (p ∷ ps) = deviation_of price s p ∷ deviations_of price ss ps
+deviations_of price ss ps = by_stream (λ s p. deviation_at s.meas (rise_of price s) p) ss ps
 
 -- the size of a gap, in units of 2^-20 standard deviation
 abbrev pub gap_size : Gap → ℕ

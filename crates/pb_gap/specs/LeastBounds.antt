@@ -23,20 +23,16 @@ twice_middle price stream flow = (flow *ℤ scale) +ℤ dual_flow price stream
 abbrev pub middle_of : (ℕ → ℤ) → List Stream → List ℤ → Fractional
 middle_of price streams flows = record { numerators = by_stream (twice_middle price) streams flows; denominator = pos 2 *ℤ scale }
 
--- half the half width of the bounds of a signed sum, rounded up
-abbrev pub least_half_width_in : List Stream → Gap → List Member → ℤ
-least_half_width_in streams gap members = ceil_div (half_width_in streams gap members) (pos 2)
-
 -- The least bounds of a signed sum of flows, in grams: the middle of its flows and its dual flows, rounded outward, less and plus half
--- the half width.
+-- the half width, rounded up.
 abbrev pub least_bounds_of : (ℕ → ℤ) → List Stream → List ℤ → Gap → List Member → Bounds
 least_bounds_of price streams flows gap members = record {
   lo =
       floor_div (signed_sum members flows +ℤ floor_div (dual_flow_sum price streams members) scale) (pos 2)
-      -ℤ least_half_width_in streams gap members;
+      -ℤ ceil_div (half_width_in streams gap members) (pos 2);
   hi =
       ceil_div (signed_sum members flows +ℤ ceil_div (dual_flow_sum price streams members) scale) (pos 2)
-      +ℤ least_half_width_in streams gap members;
+      +ℤ ceil_div (half_width_in streams gap members) (pos 2);
 }
 
 -- the least bounds of the flow of stream j, or none if it is unobservable

@@ -12,12 +12,12 @@ use Rattle.pb_graph.specs.Certificates.{IsCertified}
 use Rattle.pb_study.specs.WellFormed.{AreBoundsWithin}
 use Rattle.pb_gap.specs.Residuals.{residual_squares}
 use Rattle.pb_gap.specs.Gap.{Gap, gap_of, gap_size}
-use Rattle.pb_gap.specs.Bounds.{AreSigned, IsWithin, variance_sum}
+use Rattle.pb_gap.specs.Bounds.{AreSigned, IsWithin, half_width_in, variance_sum}
 use Rattle.pb_gap.specs.StreamBounds.{IsStreamWithin}
 use Rattle.pb_gap.specs.State.{AreRoundedFlows}
 use Rattle.pb_gap.specs.Laws.{IsDualPair}
 use Rattle.pb_gap.specs.Least.{squared_distance}
-use Rattle.pb_gap.specs.LeastBounds.{middle_of, least_half_width_in, least_bounds_of, stream_least_bounds}
+use Rattle.pb_gap.specs.LeastBounds.{middle_of, least_bounds_of, stream_least_bounds}
 
 -- The hypercircle: a least vector is half as far from the middle of balanced flows and the dual flows of prices that fit as the two
 -- are from each other, by cross products (the denominator of the middle is twice that of the dual flows).
@@ -30,7 +30,7 @@ HypercircleLaw = (graph : ProcessGraph) (price : ℕ → ℤ) (flows : List ℤ)
 -- Half the half width is half the gap times the standard deviation of the sum, rounded up once.
 abbrev pub LeastWidthLaw : Type 0
 LeastWidthLaw = (streams : List Stream) (gap : Gap) (m : Member) (ms : List Member)
-    → least_half_width_in streams gap (m ∷ ms)
+    → ceil_div (half_width_in streams gap (m ∷ ms)) (pos 2)
     ≡ ceil_div ((scaled_root_of (variance_sum streams (m ∷ ms)) +ℤ pos 1) *ℤ pos (gap_size gap)) (pos (2 ^ 41))
 
 -- In each least vector, the signed sum of any list of measured streams, each at most once, is within its least bounds.

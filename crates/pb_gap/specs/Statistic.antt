@@ -1,6 +1,6 @@
 -- Statement. The statistic: what the least weighted squares are at least, and at most, in thousandths (the objective function
 -- statistic of the global test: Narasimhan and Jordache).
-use Rattle.std.specs.Prelude.{◌^◌, ℤ, pos, ◌+ℤ◌, ◌-ℤ◌, ◌*ℤ◌, int_lt, nat_lt, unsigned_abs, List, [], ◌∷◌, Option, Some, None, if◌then◌else◌}
+use Rattle.std.specs.Prelude.{◌^◌, ℤ, pos, ◌+ℤ◌, ◌-ℤ◌, ◌*ℤ◌, int_lt, nat_lt, unsigned_abs, List, Option, Some, None, if◌then◌else◌}
 use Rattle.std.specs.Int.{int_max, int_min}
 use Rattle.std.specs.List.{list_any}
 use Rattle.pb_fixed.specs.Sums.{sum_over}
@@ -8,6 +8,7 @@ use Rattle.pb_fixed.specs.Quotients.{floor_div, ceil_div}
 use Rattle.pb_fixed.specs.Roots.{scaled_root_of}
 use Rattle.pb_graph.specs.declared.records.Meas.{Meas}
 use Rattle.pb_graph.specs.declared.records.Stream.{Stream}
+use Rattle.pb_graph.specs.Squares.{by_stream}
 use Rattle.pb_gap.specs.Gap.{Gap, gap_size}
 
 -- how far the flow p of a measurement is from its value, in units of 2^-40
@@ -25,9 +26,7 @@ adjustment_above (Some m) p = ceil_div (adjustment_at m p) (scaled_root_of m.var
 
 -- the adjustments of the flows of a list of streams, by either rounding
 abbrev pub adjustments_by : (Option Meas → ℤ → ℤ) → List Stream → List ℤ → List ℤ
-adjustments_by rounded [] ps = []
-adjustments_by rounded (s ∷ ss) [] = []
-adjustments_by rounded (s ∷ ss) (p ∷ ps) = rounded s.meas p ∷ adjustments_by rounded ss ps
+adjustments_by rounded ss ps = by_stream (λ s p. rounded s.meas p) ss ps
 
 -- the most that an adjustment counts for
 abbrev pub adjustment_cap : ℤ

@@ -2,10 +2,11 @@
 
 ghost use Rattle.std.specs.Prelude.{◌≡◌, ◌<◌, ◌≤◌, ◌^◌, ℕ, ℤ, false, pos, ◌≤ℤ◌, ◌<ℤ◌, length, unsigned_abs, All, IsTrue};
 ghost use Rattle.pb_fixed.specs.Blocks.{IsBlockItem};
+ghost use Rattle.pb_graph.specs.Prices.{rise_of};
 ghost use Rattle.pb_graph.specs.ProcessGraph.{IsWithinLimits};
 ghost use Rattle.pb_graph.specs.WellFormed.{IsFlow};
 ghost use Rattle.pb_dual.specs.DualValue.{dual_flow, dual_flows_of, most_dual_flow};
-ghost use Rattle.pb_gap.specs.Gap.{standard_deviation_of, deviation_of, deviations_of};
+ghost use Rattle.pb_gap.specs.Gap.{standard_deviation_of, deviation_at, deviations_of};
 ghost use Rattle.pb_gap.specs.Statistic.{adjustment_cap};
 ghost use Rattle.pb_gap.specs.FlowPair.{AreMeasured, AreDualFlows};
 ghost use Rattle.pb_gap.specs.Iterate.{AreFar};
@@ -20,7 +21,7 @@ fn stream_deviation(stream: &Stream, root: i128, dual: i128, flow: i128) -> i128
     requires dual { unsigned_abs dual ≤ most_dual_flow }
     requires flow { IsFlow flow }
     ensures value { (price : ℕ → ℤ) → dual ≡ dual_flow price stream.now
-        → result ≡ deviation_of price stream.now flow }
+        → result ≡ deviation_at stream.now.meas (rise_of price stream.now) flow }
     ensures within { IsBlockItem result }
 {
     match stream.meas {

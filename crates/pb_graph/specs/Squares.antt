@@ -1,6 +1,7 @@
 -- Statement. Weighted squares of flow vectors, and least vectors.
 use Rattle.std.specs.Prelude.{ℤ, pos, ◌-ℤ◌, ◌+ℤ◌, ◌*ℤ◌, ◌≤ℤ◌, List, [], ◌∷◌, Option, Some, None}
 use Rattle.std.specs.Int.{int_div_euclid}
+use Rattle.std.specs.Option.{option_map_or}
 use Rattle.pb_graph.specs.declared.records.Meas.{Meas}
 use Rattle.pb_graph.specs.declared.records.Stream.{Stream}
 use Rattle.pb_graph.specs.ProcessGraph.{ProcessGraph}
@@ -20,15 +21,10 @@ pub record IsBalancedFractional (graph : ProcessGraph) (x : Fractional) : Type 0
 abbrev pub whole_flows : List ℤ → Fractional
 whole_flows flows = record { numerators = flows; denominator = pos 1 }
 
--- a variance, or 1 if there is no measurement
-abbrev pub variance_or_one : Option Meas → ℤ
-variance_or_one None = pos 1
-variance_or_one (Some m) = m.variance
-
 -- the product of the variances of the measured streams, or 1 if there are none
 abbrev pub variance_product : List Stream → ℤ
 variance_product [] = pos 1
-variance_product (s ∷ streams) = variance_or_one s.meas *ℤ variance_product streams
+variance_product (s ∷ streams) = option_map_or (λ (m : Meas). m.variance) s.meas (pos 1) *ℤ variance_product streams
 
 -- the product of two errors of a measurement over its variance, in units of 1 / product; 0 if there is no measurement
 abbrev pub weighted_product : ℤ → Option Meas → ℤ → ℤ → ℤ
@@ -56,8 +52,7 @@ by_stream f (s ∷ streams) (y ∷ flows) = f s y ∷ by_stream f streams flows
 
 -- a measured value, or 0 if there is no measurement
 abbrev pub value_or_zero : Option Meas → ℤ
-value_or_zero None = pos 0
-value_or_zero (Some m) = m.value
+value_or_zero meas = option_map_or (λ (m : Meas). m.value) meas (pos 0)
 
 -- how far the flow y/q of a stream is from its measured value, in units of 1/q gram
 abbrev pub error_of : ℤ → Stream → ℤ → ℤ

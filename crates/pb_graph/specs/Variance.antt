@@ -1,5 +1,6 @@
 -- Statement. The variance of a group of nodes.
-use Rattle.std.specs.Prelude.{ℕ, ◌*◌, ℤ, pos, List, Option, Some, None, if◌then◌else◌}
+use Rattle.std.specs.Prelude.{ℕ, ◌*◌, ℤ, pos, List, Option, if◌then◌else◌}
+use Rattle.std.specs.Option.{option_map_or}
 use Rattle.pb_limits.specs.Limits.{most_streams, most_variance}
 use Rattle.pb_fixed.specs.Sums.{sum_over}
 use Rattle.pb_graph.specs.declared.records.Meas.{Meas}
@@ -8,8 +9,7 @@ use Rattle.pb_graph.specs.Groups.{has_one_end}
 
 -- the variance of a stream, or 0 if it is unmeasured
 abbrev pub variance_of : Option Meas → ℤ
-variance_of None = pos 0
-variance_of (Some m) = m.variance
+variance_of meas = option_map_or (λ (m : Meas). m.variance) meas (pos 0)
 
 -- what a stream adds to the variance of group k
 abbrev pub crossing_variance : List ℕ → ℕ → Stream → ℤ

@@ -34,7 +34,7 @@ use Rattle.pb_kinds.specs.declared.rows.StoredRow.{StoredRow}
 use Rattle.pb_make.specs.declared.plant.MadeStream.{MadeStream}
 use Rattle.pb_make.specs.Bounds.{IsMade}
 use Rattle.pb_make.specs.Laws.{Anything}
-use Rattle.pb_make.specs.Readings.{day_read, error_of_draw, is_plain_stream, meter_variance, metered_at, metered_of, readings_of, shown_grams, stream_read, truth_at}
+use Rattle.pb_make.specs.Readings.{day_read, error_of_draw, is_plain_stream, meter_variance, metered_at, readings_of, shown_grams, stream_read, truth_at}
 use Rattle.pb_make.specs.Rows.{january, made_period, made_report_row, reading_row_at, stream_name}
 use Rattle.pb_make.proofs.Abbreviations.{meter_deviation, reading_draw, reading_id}
 use Rattle.pb_make.proofs.DeclaredLemmas.{AreOther, arcs_are, kind_found, none_any, plant_of}
@@ -52,10 +52,10 @@ metered place = ne_eqb (metered_at place % 7) 0 (λ e. absurd (omega (arith, e))
 pub metered_rises : (place : ℕ) → metered_at place < metered_at (place + 1)
 metered_rises place = omega arith
 
-pub metered_within : (streams place : ℕ) → place < metered_of streams → metered_at place ≤ streams
+pub metered_within : (streams place : ℕ) → place < streams - streams / 7 → metered_at place ≤ streams
 metered_within streams place lt = omega (arith, lt)
 
-pub metered_each : (streams i : ℕ) → 1 ≤ i → i ≤ streams → is_plain_stream i ≡ false → (place : ℕ) × (place < metered_of streams) × (metered_at place ≡ i)
+pub metered_each : (streams i : ℕ) → 1 ≤ i → i ≤ streams → is_plain_stream i ≡ false → (place : ℕ) × (place < streams - streams / 7) × (metered_at place ≡ i)
 metered_each streams i from to metered_is =
     let other = eqb-false (i % 7) 0 metered_is in
     (i - 1 - i / 7, omega (arith, from, to, other), omega (arith, from, to, other))

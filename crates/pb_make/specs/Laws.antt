@@ -1,5 +1,5 @@
 -- Statement. Each row of a made session is accepted, and its text reads back as its rows.
-use Rattle.std.specs.Prelude.{◌≡◌, ℕ, ◌+◌, ◌≤◌, ◌<◌, ◌==◌, ℤ, pos, ◌-ℤ◌, if◌then◌else◌, false, List, [], ◌∷◌, length}
+use Rattle.std.specs.Prelude.{◌≡◌, ℕ, ◌+◌, ◌≤◌, ◌<◌, ◌==◌, ◌-◌, ◌/◌, ℤ, pos, ◌-ℤ◌, if◌then◌else◌, false, List, [], ◌∷◌, length}
 use Rattle.pb_limits.specs.Limits.{most_made_streams}
 use Rattle.pb_fixed.specs.Sums.{sum_over}
 use Rattle.pb_rows.specs.Records.{records_of}
@@ -9,7 +9,7 @@ use Rattle.pb_kinds.specs.declared.rows.StoredRow.{StoredRow}
 use Rattle.pb_book.specs.Rows.{periods_of}
 use Rattle.pb_make.specs.declared.plant.MadeStream.{MadeStream}
 use Rattle.pb_make.specs.Plant.{least_streams, made_streams, units_of}
-use Rattle.pb_make.specs.Readings.{is_plain_stream, metered_at, metered_of, readings_of}
+use Rattle.pb_make.specs.Readings.{is_plain_stream, metered_at, readings_of}
 use Rattle.pb_make.specs.Rows.{january, made_period, session_rows, stored_rows}
 
 -- none of these records, which are numbered from `at`, is refused after these stored rows and the records before it, and `Holds` is true of
@@ -75,6 +75,6 @@ BalanceLaw =
 pub record AreMetered : Type 0 where
   pub metered : (place : ℕ) → is_plain_stream (metered_at place) ≡ false
   pub rise : (place : ℕ) → metered_at place < metered_at (place + 1)
-  pub within : (streams place : ℕ) → place < metered_of streams → metered_at place ≤ streams
+  pub within : (streams place : ℕ) → place < streams - streams / 7 → metered_at place ≤ streams
   pub each : (streams i : ℕ) → 1 ≤ i → i ≤ streams → is_plain_stream i ≡ false
-      → (place : ℕ) × (place < metered_of streams) × (metered_at place ≡ i)
+      → (place : ℕ) × (place < streams - streams / 7) × (metered_at place ≡ i)

@@ -11,17 +11,13 @@ is_plain_stream i = i % 7 == 0
 abbrev pub metered_at : ℕ → ℕ
 metered_at place = place + place / 6 + 1
 
--- the number of metered streams among this many
-abbrev pub metered_of : ℕ → ℕ
-metered_of streams = streams - streams / 7
-
 -- the number of days
 abbrev pub made_days : ℕ
 made_days = 30
 
--- the number of readings: those of the first metered stream come first, day by day
+-- the number of readings, of all streams but each seventh: those of the first metered stream come first, day by day
 abbrev pub readings_of : ℕ → ℕ
-readings_of streams = made_days * metered_of streams
+readings_of streams = made_days * (streams - streams / 7)
 
 -- the number of the stream whose reading is at a place
 abbrev pub stream_read : ℕ → ℕ

@@ -83,22 +83,19 @@ node_among boundaries nodes name =
 -- from the tank to the environment
 abbrev pub arc_in : List (List ℕ) → List (List ℕ) → Declared → Option Arc
 arc_in boundaries nodes (Tank name base service) =
-    let begins = node_among boundaries nodes name in
     Some (record {
       name = name;
-      from = begins;
+      from = node_among boundaries nodes name;
       to = 0;
       kind = ArcKind.Tank;
       base = base;
       service = service;
     })
 arc_in boundaries nodes (Stream name from to kind base service) =
-    let begins = node_among boundaries nodes from in
-    let ends = node_among boundaries nodes to in
     Some (record {
       name = name;
-      from = begins;
-      to = ends;
+      from = node_among boundaries nodes from;
+      to = node_among boundaries nodes to;
       kind = arc_kind kind;
       base = base;
       service = service;

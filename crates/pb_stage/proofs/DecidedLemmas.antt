@@ -7,10 +7,10 @@ use Rattle.pb_fixed.proofs.Ring.{var, plus, times, ring}
 use Rattle.pb_graph.specs.ProcessGraph.{ProcessGraph, IsProcessGraph}
 use Rattle.pb_graph.specs.Squares.{Fractional, AreSquaresAtMost, squares_unit, variance_product, weighted_squares, whole_flows}
 use Rattle.pb_gap.specs.Laws.{WeightLaw}
-use Rattle.pb_stage.specs.Verdicts.{is_at_most, verdict_at}
+use Rattle.pb_stage.specs.Verdicts.{verdict_at}
 use Rattle.pb_stage.specs.Drop.{drop_high, drop_low, without_measurement}
 use Rattle.pb_stage.specs.Laws.{GlobalRejectLaw, GlobalAcceptLaw, DropRejectLaw, DropAcceptLaw}
-use Rattle.pb_stage.proofs.VerdictLemmas.{accepted, rejected, tested}
+use Rattle.pb_stage.proofs.VerdictLemmas.{accepted, is_at_most, rejected, tested}
 use Rattle.pb_stage.proofs.DropLemmas.{without_limits}
 
 -- ---- by cross products

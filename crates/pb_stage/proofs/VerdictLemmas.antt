@@ -1,10 +1,15 @@
 -- What a verdict says of the ends.
 use Rattle.std.proofs.Common.{◌≡◌, ℤ, ◌<ℤ◌, Bool, true, false, cond, Option, refl, arith}
-use Rattle.std.specs.Prelude.{int_lt}
+use Rattle.std.specs.Prelude.{int_le, int_lt}
+use Rattle.std.specs.Option.{option_map_or}
 use Rattle.std.proofs.lemmas.Int.{ints}
 use Rattle.pb_study.specs.declared.results.Verdict.{Verdict}
 use Rattle.pb_study.specs.declared.results.Verdict.TheVariants.{Reject, Accept, Undecided, NoTest}
-use Rattle.pb_stage.specs.Verdicts.{is_at_most, verdict_at}
+use Rattle.pb_stage.specs.Verdicts.{verdict_at}
+
+-- whether there is a high end and it is at most the critical value
+abbrev pub is_at_most : ℤ → Option ℤ → Bool
+is_at_most critical high = option_map_or (λ high. int_le high critical) high false
 
 first_chosen : (a b : Bool) → cond a Reject (cond b Accept Undecided) ≡ Reject → a ≡ true
 first_chosen true b h = refl

@@ -1,5 +1,5 @@
 -- Statement. A shown stage, which an auditor can check, and a certified stage: what a shown stage promises to whoever reads it.
-use Rattle.std.specs.Prelude.{◌≡◌, ℕ, ℤ, length, map, Option, None, is_some, All, IfSome, MatchOption}
+use Rattle.std.specs.Prelude.{◌≡◌, ℕ, ℤ, pos, ◌*ℤ◌, ◌<ℤ◌, length, map, Option, None, is_some, All, IfSome, MatchOption}
 use Rattle.pb_graph.specs.declared.records.Class.{Class}
 use Rattle.pb_graph.specs.declared.records.Class.TheVariants.{Unobservable}
 use Rattle.pb_study.specs.declared.results.Bounds.{Bounds}
@@ -15,7 +15,7 @@ use Rattle.pb_graph.specs.ProcessGraph.{IsProcessGraph}
 use Rattle.pb_graph.specs.Balance.{IsBalanced}
 use Rattle.pb_graph.specs.Classes.{IsClassOf}
 use Rattle.pb_graph.specs.Certificates.{IsCertified}
-use Rattle.pb_graph.specs.Squares.{Fractional, IsBalancedFractional, IsLeast, IsNoWorse, AreSquaresAtLeast, AreSquaresAtMost, whole_flows}
+use Rattle.pb_graph.specs.Squares.{Fractional, IsBalancedFractional, IsLeast, IsNoWorse, AreSquaresAtLeast, AreSquaresAtMost, squares_unit, weighted_squares, whole_flows}
 use Rattle.pb_graph.specs.Prices.{PricesFit}
 use Rattle.pb_gap.specs.Gap.{IsGap, deviations_of}
 use Rattle.pb_gap.specs.StreamBounds.{IsStreamWithin, stream_bounds}
@@ -24,7 +24,6 @@ use Rattle.pb_gap.specs.Statistic.{low_of, high_of}
 use Rattle.pb_gap.specs.Least.{AreWithinGap}
 use Rattle.pb_stage.specs.Verdicts.{global_verdict, measure_verdict, nodal_verdict}
 use Rattle.pb_stage.specs.Nodal.{AreNodalTests}
-use Rattle.pb_stage.specs.Decided.{AreSquaresAbove}
 use Rattle.pb_stage.specs.StageTests.{redundant_streams}
 use Rattle.pb_stage.specs.Freedom.{HasFreedom}
 use Rattle.pb_stage.specs.Printed.{printed_price, printed_flows, printed_gap, EachStream, HasLeastBounds}
@@ -112,10 +111,11 @@ IsUndecided Accept = ⊥
 IsUndecided verdict = Unit {0}
 
 -- what a verdict of the global test says with a critical value: if it rejects, all balanced flows have weighted squares above the
--- value, and if it accepts, the printed flows don't
+-- value, by cross products, and if it accepts, the printed flows don't
 abbrev pub IsVerdictRight : Stage → ℤ → Verdict → Type 0
 IsVerdictRight stage critical Reject =
-    (x : Fractional) → IsBalancedFractional stage.graph x → AreSquaresAbove stage.graph x critical
+    (x : Fractional) → IsBalancedFractional stage.graph x
+    → (critical *ℤ squares_unit stage.graph x) <ℤ (pos 1000 *ℤ weighted_squares stage.graph x)
 IsVerdictRight stage critical Accept =
     AreSquaresAtMost stage.graph (whole_flows (printed_flows stage)) critical
 IsVerdictRight stage critical verdict = Unit {0}

@@ -3,10 +3,6 @@ use Rattle.std.specs.Prelude.{ℤ, pos, ◌+ℤ◌, ◌*ℤ◌, ◌≤ℤ◌, �
 use Rattle.pb_graph.specs.ProcessGraph.{ProcessGraph}
 use Rattle.pb_graph.specs.Squares.{Fractional, IsBalancedFractional, AreSquaresAtLeast, AreSquaresAtMost, weighted_squares, squares_unit, whole_flows}
 
--- the weighted squares of x are above this many thousandths, by cross products
-abbrev pub AreSquaresAbove : ProcessGraph → Fractional → ℤ → Type 0
-AreSquaresAbove graph x critical = (critical *ℤ squares_unit graph x) <ℤ (pos 1000 *ℤ weighted_squares graph x)
-
 -- this many thousandths plus the weighted squares of y in another graph, as a numerator over a thousand units of y
 abbrev pub squares_and : ProcessGraph → Fractional → ℤ → ℤ
 squares_and other y critical = (critical *ℤ squares_unit other y) +ℤ (pos 1000 *ℤ weighted_squares other y)

@@ -1,18 +1,18 @@
 -- Statement. What is proved of tests, and of stages that are shown.
-use Rattle.std.specs.Prelude.{◌≡◌, ℕ, ◌<◌, ◌≤◌, ℤ, pos, ◌≤ℤ◌, unsigned_abs, List, All, Option, Some}
+use Rattle.std.specs.Prelude.{◌≡◌, ℕ, ◌<◌, ◌≤◌, ℤ, pos, ◌*ℤ◌, ◌≤ℤ◌, ◌<ℤ◌, unsigned_abs, List, All, Option, Some}
 use Rattle.std.specs.List.{Any}
 use Rattle.pb_study.specs.declared.results.Verdict.TheVariants.{Reject, Accept}
 use Rattle.pb_study.specs.declared.results.NodalTest.{NodalTest}
 use Rattle.pb_study.specs.declared.results.MeasureTest.{MeasureTest}
 use Rattle.pb_graph.specs.ProcessGraph.{ProcessGraph, IsProcessGraph}
 use Rattle.pb_graph.specs.Groups.{IsFreeGroup, SameGroup}
-use Rattle.pb_graph.specs.Squares.{Fractional, IsBalancedFractional, AreSquaresAtMost, whole_flows}
+use Rattle.pb_graph.specs.Squares.{Fractional, IsBalancedFractional, AreSquaresAtMost, squares_unit, weighted_squares, whole_flows}
 use Rattle.pb_graph.specs.Variance.{most_group_variance}
 use Rattle.pb_gap.specs.Solution.{IsSolvedStatistic}
 use Rattle.pb_stage.specs.Verdicts.{global_verdict, measure_verdict}
 use Rattle.pb_stage.specs.Nodal.{AreNodalTests, most_group_net}
 use Rattle.pb_stage.specs.Drop.{IsMeasureTestOf, AreMeasureTests, drop_high, drop_low, without_measurement}
-use Rattle.pb_stage.specs.Decided.{AreSquaresAbove, AreSquaresAboveBy, AreSquaresWithinBy, AreEnds}
+use Rattle.pb_stage.specs.Decided.{AreSquaresAboveBy, AreSquaresWithinBy, AreEnds}
 use Rattle.pb_study.specs.declared.results.Stage.{Stage}
 use Rattle.pb_stage.specs.Certified.{IsShownStage, IsCertifiedStage}
 
@@ -81,7 +81,7 @@ EndsLaw = (graph : ProcessGraph) (gap sweeps : ℕ) (low : ℤ) (high : Option �
 abbrev pub GlobalRejectLaw : Type 0
 GlobalRejectLaw = (graph : ProcessGraph) (flows : List ℤ) (low : ℤ) (high : Option ℤ) (dof : ℕ) (critical : ℤ) (x : Fractional)
     → IsProcessGraph graph → AreEnds graph flows low high → global_verdict low high dof (Some critical) ≡ Reject
-    → IsBalancedFractional graph x → AreSquaresAbove graph x critical
+    → IsBalancedFractional graph x → (critical *ℤ squares_unit graph x) <ℤ (pos 1000 *ℤ weighted_squares graph x)
 
 -- If it accepts, those of the flows are at most the critical value.
 abbrev pub GlobalAcceptLaw : Type 0

@@ -1,21 +1,18 @@
 -- Statement. The verdict of a test by a critical value in thousandths: the test decides only if the ends of its statistic do (Narasimhan
 -- and Jordache, on the global test and the nodal test).
-use Rattle.std.specs.Prelude.{ℕ, ℤ, pos, ◌*ℤ◌, ◌==◌, int_lt, int_le, Bool, false, List, [], ◌∷◌, Option, Some, None, if◌then◌else◌}
+use Rattle.std.specs.Prelude.{ℕ, ℤ, pos, ◌*ℤ◌, ◌==◌, int_lt, int_le, false, List, [], ◌∷◌, Option, Some, None, if◌then◌else◌}
+use Rattle.std.specs.Option.{option_map_or}
 use Rattle.pb_study.specs.declared.results.Verdict.{Verdict}
 use Rattle.pb_study.specs.declared.results.Verdict.TheVariants.{Reject, Accept, Undecided, NoCritical, NoTest}
 use Rattle.pb_study.specs.declared.results.CriticalRow.{CriticalRow}
 use Rattle.pb_study.specs.declared.results.GlobalTest.{GlobalTest}
 
--- whether there is a high end and it is at most the critical value
-abbrev pub is_at_most : ℤ → Option ℤ → Bool
-is_at_most critical None = false
-is_at_most critical (Some high) = int_le high critical
-
 -- the verdict on a statistic between two ends: rejected if the low end is above the critical value, accepted if there is a high end and it
 -- is at most that value, and otherwise undecided
 abbrev pub verdict_at : ℤ → Option ℤ → ℤ → Verdict
 verdict_at low high critical =
-    if int_lt critical low then Reject else (if is_at_most critical high then Accept else Undecided)
+    if int_lt critical low then Reject
+    else (if option_map_or (λ high. int_le high critical) high false then Accept else Undecided)
 
 -- the same, but there may be no critical value
 abbrev pub verdict_of : ℤ → Option ℤ → Option ℤ → Verdict
@@ -41,13 +38,8 @@ abbrev pub critical_for : ℕ → List CriticalRow → Option ℤ
 critical_for dof [] = None
 critical_for dof (row ∷ rows) = if row.dof == dof then Some row.value else critical_for dof rows
 
--- the critical value of the global test, or none if there is nothing to test
-abbrev pub global_critical : ℕ → List CriticalRow → Option ℤ
-global_critical dof rows = if dof == 0 then None else critical_for dof rows
-
--- the global test with its critical value
+-- the global test with its critical value, which is none if there is nothing to test
 abbrev pub global_test_of : List CriticalRow → ℤ → Option ℤ → ℕ → GlobalTest
-global_test_of rows low high dof = record {
-  critical = global_critical dof rows;
-  verdict = global_verdict low high dof (global_critical dof rows);
-}
+global_test_of rows low high dof =
+    let critical = if dof == 0 then None else critical_for dof rows in
+    record { critical = critical; verdict = global_verdict low high dof critical }

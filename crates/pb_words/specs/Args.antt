@@ -16,10 +16,6 @@ abbrev pub refused_by : ErrorKind → WordsRefused
 refused_by kind.OutOfMemory = NoMemory
 refused_by _ = Usage
 
--- the texts of the arguments after the first, which is the program's name
-abbrev pub words_after_name : IntoIter (String Global) Global → List (List ℕ)
-words_after_name args = map string_bytes (drop 1 (into_iter_items args))
-
--- the words that the arguments give, or why they give no words
+-- the words that the arguments give: their texts after the first, which is the program's name; or why they give no words
 abbrev pub words_given : Result (IntoIter (String Global) Global) Error → Result (List (List ℕ)) WordsRefused
-words_given = result_map_both words_after_name (λ error. refused_by (error_kind error))
+words_given = result_map_both (λ args. map string_bytes (drop 1 (into_iter_items args))) (λ error. refused_by (error_kind error))

@@ -1,12 +1,13 @@
 use Rattle.std.proofs.Common.{◌≡◌, ◌∙◌, ◌<◌, ℕ, List, length, All, FitsSigned, sym, ap, subst, arith}
-use Rattle.std.specs.Prelude.{IfSome}
+use Rattle.std.specs.Prelude.{◌==◌, IfSome, None, if◌then◌else◌}
 use Rattle.std.specs.Int.{w128}
 use Rattle.std.proofs.lemmas.Int.{ints, to_z-of_z}
+use Rattle.pb_study.specs.declared.results.CriticalRow.{CriticalRow}
 use Rattle.pb_study.specs.declared.results.GlobalTest.{GlobalTest}
 use Rattle.pb_study.specs.declared.results.StreamResult.{StreamResult}
 use Rattle.pb_graph.specs.ProcessGraph.{ProcessGraph}
 use Rattle.pb_study.specs.WellFormed.{IsMeasureWithin, IsWide}
-use Rattle.pb_stage.specs.Verdicts.{global_critical}
+use Rattle.pb_stage.specs.Verdicts.{critical_for}
 use Rattle.pb_stage.specs.StageTests.{redundant_streams}
 use Rattle.pb_elim.proofs.StageLemmas.{global_within, redundant_within, solved_statistic}
 use Rattle.pb_elim.proofs.testing.tests_of.Goals as goal
@@ -34,7 +35,7 @@ returns-clause-within c =
     let within : IsWide low → IfSome high IsWide → All (IsMeasureWithin c.args.graph.now) c.in_ok-measure.measure = simp to_z-of_z at c.in_ok-measure.ensures.within in
     record {
       overall = global_within c.args.critical.now c.args.stage.now.dof c.global_test-global.result.critical c.requires.critical
-          (ap (λ (t : GlobalTest). t.critical) c.global_test-global.ensures ∙ ap (global_critical c.args.stage.now.dof) c.as_slice-rows.ensures);
+          (ap (λ (t : GlobalTest). t.critical) c.global_test-global.ensures ∙ ap (λ (rows : List CriticalRow). if c.args.stage.now.dof == 0 then None else critical_for c.args.stage.now.dof rows) c.as_slice-rows.ensures);
       nodal = c.in_ok-nodal.ensures.within;
       measure = within c.requires.formed.low c.requires.formed.high;
     }

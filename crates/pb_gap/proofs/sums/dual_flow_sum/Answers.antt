@@ -10,11 +10,12 @@ use Rattle.pb_fixed.proofs.Sums.{sum_over-take_more}
 use Rattle.pb_graph.specs.declared.records.Member.{Member}
 use Rattle.pb_graph.specs.ProcessGraph.{some_stream}
 use Rattle.pb_dual.specs.DualValue.{dual_flows_of, most_dual_flow}
-use Rattle.pb_gap.specs.Bounds.{dual_flow_in, dual_flow_sum}
+use Rattle.pb_gap.specs.Bounds.{dual_flow_sum}
 use Rattle.pb_gap.specs.Members.{IsMemberOf}
 use Rattle.pb_gap.proofs.Columns.{dual_item}
 use Rattle.pb_gap.proofs.MemberLists.{some_member}
 use Rattle.pb_gap.proofs.sums.dual_flow_sum.Goals as goal
+use Rattle.pb_gap.proofs.Found.{dual_flow_in}
 
 -- the dual flow of one more member joins the total
 pub loop-member-preserved : goal.loop-member-preserved

@@ -8,9 +8,9 @@ use Rattle.pb_limits.specs.Limits.{most_streams}
 use Rattle.pb_fixed.proofs.Sums.{sum_over-take_more}
 use Rattle.pb_graph.specs.declared.records.Member.{Member}
 use Rattle.pb_graph.specs.ProcessGraph.{some_stream}
-use Rattle.pb_gap.specs.Bounds.{variance_in}
 use Rattle.pb_gap.proofs.MemberLists.{some_member}
 use Rattle.pb_gap.proofs.sums.variance_sum.Goals as goal
+use Rattle.pb_gap.proofs.Found.{variance_in}
 
 -- the variance of one more member joins the total
 pub loop-member-preserved : goal.loop-member-preserved
