@@ -7,6 +7,8 @@ use Rattle.pb_graph.specs.declared.records.Step.{Step}
 use Rattle.pb_graph.specs.declared.records.Witness.{Witness}
 use Rattle.pb_graph.specs.declared.records.Witness.TheVariants.{Cut, Cycle}
 use Rattle.pb_form.specs.Value.{Value, Word, Items}
+use Rattle.pb_choices.specs.declared.places.Shape.TheVariants as shape
+use Rattle.pb_choices.specs.Places.{shape_place}
 use Rattle.pb_report.specs.Names.{name_at}
 
 -- the names of the nodes in a side, in order of nodes
@@ -31,9 +33,11 @@ member_text streams member = part_text streams (int_le (pos 0) member.sign) memb
 abbrev pub step_text : List (List ℕ) → Step → List ℕ
 step_text streams step = part_text streams step.forward step.stream
 
--- the values of a certificate: the word at place 0, `cut`, the nodes in the side of the cut and its members; or the word at place 1,
--- `cycle`, no node and the steps of the cycle
+-- the values of a certificate: the word of its shape, the nodes in the side of a cut and its members; or no node and the steps of a
+-- cycle
 abbrev pub certificate_values : Names → Witness → List Value
 certificate_values names (Cut side members) =
-    Word 0 ∷ Items (spaced (λ name. name) (names_in side names.nodes)) ∷ Items (spaced (member_text names.streams) members) ∷ []
-certificate_values names (Cycle steps) = Word 1 ∷ Items [] ∷ Items (spaced (step_text names.streams) steps) ∷ []
+    Word (shape_place shape.Cut) ∷ Items (spaced (λ name. name) (names_in side names.nodes))
+    ∷ Items (spaced (member_text names.streams) members) ∷ []
+certificate_values names (Cycle steps) =
+    Word (shape_place shape.Cycle) ∷ Items [] ∷ Items (spaced (step_text names.streams) steps) ∷ []
