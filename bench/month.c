@@ -496,14 +496,14 @@ static wide ceil_shift(wide x, int bits) { return -(-x >> bits); }
 static wide half_width(wide root, Gap gap) { return ceil_shift(root * (wide)gap.number, 40 - gap.exponent); }
 
 /* the bounds of a flow, about its dual flow, and the least bounds, about the middle of both, which are half as wide */
-static void write_bounds(wide dual_flow, wide flow, wide half)
+static void write_bounds(wide balanced, wide dual_flow, wide half)
 {
-    wide below = dual_flow >> 56, above = ceil_shift(dual_flow, 56), quarter = (half + 1) / 2;
-    wide ends[4] = { below - half, above + half, ((flow + below) >> 1) - quarter, ceil_shift(flow + above, 1) + quarter };
+    wide below = dual_flow >> 56, above = ceil_shift(dual_flow, 56), least = (half + 1) / 2;
+    wide ends[4] = { below - half, above + half, ((balanced + below) >> 1) - least, ceil_shift(balanced + above, 1) + least };
     for (int i = 0; i < 4; i++) { print_wide(ends[i]); putchar_unlocked(','); }
 }
 
-static void write_measured_bounds(int j, Gap gap) { write_bounds(dual[j], flow[j], half_width(deviation_root[j] + 1, gap)); }
+static void write_measured_bounds(int j, Gap gap) { write_bounds(flow[j], dual[j], half_width(deviation_root[j] + 1, gap)); }
 
 /* those of an observable stream, from the other streams of its cut */
 static void write_observable_bounds(int j, Gap gap, const Part *parts, int count)
@@ -516,7 +516,8 @@ static void write_observable_bounds(int j, Gap gap, const Part *parts, int count
         sum += parts[i].plus ? dual[other] : -dual[other];
         variance += streams[other].variance;
     }
-    write_bounds(plus ? -sum : sum, flow[j], count == 1 ? 0 : half_width((wide)root_floor((uwide)variance << 40) + 1, gap));
+    wide half = count == 1 ? 0 : half_width((wide)root_floor((uwide)variance << 40) + 1, gap);
+    write_bounds(flow[j], plus ? -sum : sum, half);
 }
 
 /* how far a flow is from its value, in units of 2^-40 gram */
