@@ -82,10 +82,8 @@ is_of_other_kind fact kind = true
 -- a transfer of a stream that isn't moved in batches, a level for a fact that isn't a dip, or an amount for a dip
 abbrev pub is_mismatch : List Declared → List KeptFact → List Period → Effect → Bool
 is_mismatch declared kept periods (Declares row) = is_mismatched_declaration declared row
-is_mismatch declared kept periods (Opens name first last) =
-    list_any (shares_a_day first last) periods
-is_mismatch declared kept periods (Books fact late) =
-    is_of_other_kind fact (kind_of declared (named_by fact))
+is_mismatch declared kept periods (Opens name first last) = list_any (shares_a_day first last) periods
+is_mismatch declared kept periods (Books fact late) = is_of_other_kind fact (kind_of declared (named_by fact))
 is_mismatch declared kept periods (Edits id (edits.Change change) reason) =
     list_any (λ (k : KeptFact). is_live_with id k && not (fits change k.fact)) kept
 is_mismatch declared kept periods effect = false
@@ -139,8 +137,7 @@ is_out_of_service service (Dip id tank day mm density variance) = not (is_in_ser
 -- Range: a period of more than 100 days, a fact of a day out of service, a transfer of more than 366 days, a level outside the
 -- tank's table, or an assay over a period without a day in service
 abbrev pub is_out_of_range : Version → List Declared → List KeptFact → List Period → Effect → Bool
-is_out_of_range version declared kept periods (Opens name first last) =
-    int_le (pos most_days_of_period) (last -ℤ first)
+is_out_of_range version declared kept periods (Opens name first last) = int_le (pos most_days_of_period) (last -ℤ first)
 is_out_of_range version declared kept periods (Books fact late) =
     is_out_of_service (service_in version declared (named_by fact)) fact || (is_too_long fact || is_outside_table declared fact)
 is_out_of_range version declared kept periods (Edits id (edits.Change change) reason) =

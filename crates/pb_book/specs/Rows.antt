@@ -45,8 +45,7 @@ periods_after periods effect = periods
 
 -- the periods, in order
 abbrev pub periods_of : List StoredRow → List Period
-periods_of rows =
-    fold (λ (periods : List Period) (stored : StoredRow). periods_after periods stored.effect) [] rows
+periods_of rows = fold (λ (periods : List Period) (stored : StoredRow). periods_after periods stored.effect) [] rows
 
 -- a fact that hasn't been struck
 abbrev pub live : Fact → KeptFact
@@ -61,8 +60,7 @@ facts_after kept effect = kept
 
 -- the facts with their last values, in order
 abbrev pub facts_of : List StoredRow → List KeptFact
-facts_of rows =
-    fold (λ (kept : List KeptFact) (stored : StoredRow). facts_after kept stored.effect) [] rows
+facts_of rows = fold (λ (kept : List KeptFact) (stored : StoredRow). facts_after kept stored.effect) [] rows
 
 -- the place of the period of this name
 abbrev pub period_place : List StoredRow → List ℕ → Option ℕ

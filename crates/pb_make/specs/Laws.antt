@@ -3,14 +3,13 @@ use Rattle.std.specs.Prelude.{◌≡◌, ℕ, ◌+◌, ◌≤◌, ◌<◌, ◌==
 use Rattle.pb_limits.specs.Limits.{most_made_streams}
 use Rattle.pb_fixed.specs.Sums.{sum_over}
 use Rattle.pb_rows.specs.Records.{records_of}
-use Rattle.pb_rows.specs.Written.{text_of_rows}
 use Rattle.pb_book.specs.Answer.{after, answer_of, is_refused}
 use Rattle.pb_kinds.specs.declared.rows.StoredRow.{StoredRow}
 use Rattle.pb_book.specs.Rows.{periods_of}
 use Rattle.pb_make.specs.declared.plant.MadeStream.{MadeStream}
 use Rattle.pb_make.specs.Plant.{least_streams, made_streams, units_of}
 use Rattle.pb_make.specs.Readings.{is_plain_stream, metered_at, readings_of}
-use Rattle.pb_make.specs.Rows.{january, made_period, session_rows, stored_rows}
+use Rattle.pb_make.specs.Rows.{january, made_period, session_rows, session_text, stored_rows}
 
 -- none of these records, which are numbered from `at`, is refused after these stored rows and the records before it, and `Holds` is true of
 -- what is stored in the end
@@ -39,13 +38,13 @@ HasMadePeriod rows =
 -- the rows of a session read back from its text
 abbrev pub ReadsBackLaw : Type 0
 ReadsBackLaw =
-    (number streams : ℕ) → records_of (text_of_rows (session_rows number streams)) ≡ session_rows number streams
+    (number streams : ℕ) → records_of (session_text number streams) ≡ session_rows number streams
 
 -- The session that is made from a number: none of its records is refused.
 abbrev pub NoneRefusedLaw : Type 0
 NoneRefusedLaw =
     (number streams : ℕ) → least_streams ≤ streams → streams ≤ most_made_streams
-    → AreTaken Anything [] 1 (records_of (text_of_rows (session_rows number streams)))
+    → AreTaken Anything [] 1 (records_of (session_text number streams))
 
 -- before its last record, which asks for the report, it has stored its only period
 abbrev pub PeriodLaw : Type 0

@@ -3,6 +3,7 @@ use Rattle.std.specs.Prelude.{ℕ, ◌+◌, ◌*◌, ◌==◌, ℤ, pos, List, [
 use Rattle.std.specs.List.{enumerate_from, range_with_len}
 use Rattle.jiff_core.specs.Calendar.{days_from_civil}
 use Rattle.pb_rows.specs.Number.{decimal_text}
+use Rattle.pb_rows.specs.Written.{text_of_rows}
 use Rattle.pb_form.specs.SessionRows.{session_columns}
 use Rattle.pb_form.specs.Texts.{texts_of}
 use Rattle.pb_form.specs.Value.{Value, Word, Name, Number, Date}
@@ -80,7 +81,10 @@ stored_rows number streams =
     ++ (made_period_row ∷ made_critical_row kind.CriticalNodal ∷ made_critical_row kind.CriticalMeasure
     ∷ map (reading_row_at number (sides_of streams) plant) (range_with_len 0 (readings_of streams))))
 
--- The rows of the session made from a number, with this many streams: those that are stored, and the row that asks for the report. Its
--- text has each row as `csv` writes it.
+-- The rows of the session made from a number, with this many streams: those that are stored, and the row that asks for the report.
 abbrev pub session_rows : ℕ → ℕ → List (List (List ℕ))
 session_rows number streams = stored_rows number streams ++ made_report_row ∷ []
+
+-- Its text, each row as `csv` writes it.
+abbrev pub session_text : ℕ → ℕ → List ℕ
+session_text number streams = text_of_rows (session_rows number streams)

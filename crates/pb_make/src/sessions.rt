@@ -9,7 +9,7 @@ ghost use Rattle.pb_make.specs.Bounds.{IsMade};
 ghost use Rattle.pb_make.specs.Draws.{state_after_draws};
 ghost use Rattle.pb_make.specs.Plant.{least_streams};
 ghost use Rattle.pb_make.specs.Readings.{readings_of, truth_at};
-ghost use Rattle.pb_make.specs.Rows.{made_critical_row, made_period_row, made_stream_row, reading_row_at, session_rows, unit_row};
+ghost use Rattle.pb_make.specs.Rows.{made_critical_row, made_period_row, made_stream_row, reading_row_at, session_text, unit_row};
 
 use crate::draws::Draws;
 use crate::plant::{MadeStream, made_plant, units_of};
@@ -24,7 +24,7 @@ use std::alloc::{AllocError, Global};
 pub fn make(alloc: Global, number: u32, streams: u32) -> Result<Vec<u8>, AllocError>
     requires least { least_streams ≤ streams }
     requires most { streams ≤ most_made_streams }
-    ensures value { IfOk result (λ text. text.items ≡ text_of_rows (session_rows number streams)) }
+    ensures value { IfOk result (λ text. text.items ≡ session_text number streams) }
 {
     let mut draws = Draws {
         state: u64::from(number),

@@ -25,11 +25,14 @@ edit_values effect = Missing ∷ Missing ∷ Missing ∷ []
 abbrev pub edit_row : StoredRow → OutputRow
 edit_row edit = row_of kind.Edit (Number (pos edit.at) ∷ edit_values edit.effect)
 
--- The rows of the history of a period of this name, given whether it is closed and its edits: the row of the period, with its name, its
--- state and how many edits follow, and the row of each edit.
+-- the row of the period: its name, its state, and how many edits follow
+abbrev pub period_row : List ℕ → Bool → ℕ → OutputRow
+period_row name closed edits =
+    row_of kind.History (Name name ∷ Word (truth_place closed) ∷ Number (pos edits) ∷ [])
+
+-- the rows of the history of a period of this name, given whether it is closed and its edits
 abbrev pub history_rows : List ℕ → Bool → List StoredRow → List OutputRow
-history_rows name closed edits =
-    row_of kind.History (Name name ∷ Word (truth_place closed) ∷ Number (pos (length edits)) ∷ []) ∷ map edit_row edits
+history_rows name closed edits = period_row name closed (length edits) ∷ map edit_row edits
 
 -- The word of an edit is one of its column, each word of the column is that of an edit, and no word appears twice.
 pub record EditWordsLaw : Type 0 where

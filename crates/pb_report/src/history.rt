@@ -1,16 +1,14 @@
 // The rows of a history.
 
-ghost use Rattle.std.specs.Prelude.{◌≡◌, ◌∷◌, [], map, pos, OnOk, OnErr};
-ghost use Rattle.pb_choices.specs.Places.{truth_place};
+ghost use Rattle.std.specs.Prelude.{◌≡◌, map, OnOk, OnErr};
 ghost use Rattle.pb_facts.specs.Fact.{id_of};
 ghost use Rattle.pb_form.specs.Given.{value_as};
 ghost use Rattle.pb_form.specs.Holds as holds;
 ghost use Rattle.pb_form.specs.Value as value;
 ghost use Rattle.pb_report.specs.Form.{AppendsRows};
 ghost use Rattle.pb_report.specs.Given.{given_row};
-ghost use Rattle.pb_report.specs.History.{EditWordsLaw, edit_row, history_rows};
+ghost use Rattle.pb_report.specs.History.{EditWordsLaw, edit_row, history_rows, period_row};
 ghost use Rattle.pb_report.specs.Output.{AddsRows};
-ghost use Rattle.pb_report.specs.Row.{row_of};
 
 use crate::form::Form;
 use crate::output::Output;
@@ -51,9 +49,7 @@ pub fn write_history(
 }
 
 fn period_values<'a>(period: &'a Name, closed: bool, edits: usize) -> [Value<'a>; 4]
-    ensures { given_row OutputKind.History result
-        ≡ row_of OutputKind.History (value.Name period.now
-        ∷ value.Word (truth_place closed) ∷ value.Number (pos edits) ∷ []) }
+    ensures { given_row OutputKind.History result ≡ period_row period.now closed edits }
 {
     [
         Value::Word(0),

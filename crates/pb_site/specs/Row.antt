@@ -28,8 +28,7 @@ arc_kind Plain = ArcKind.Plain
 abbrev pub IsDeclaredInRange : Declared → Type 0
 IsDeclaredInRange (Tank name base service) = IsBaseVariance base × IfSome service IsService
 IsDeclaredInRange (Strap tank mm ml) = IsLevel mm × IsVolume ml
-IsDeclaredInRange (Stream name from to kind base service) =
-    IsArcBase (arc_kind kind) base × IfSome service IsService
+IsDeclaredInRange (Stream name from to kind base service) = IsArcBase (arc_kind kind) base × IfSome service IsService
 IsDeclaredInRange (CritGlobal dof value) = (1 ≤ dof) × (dof ≤ most_freedom) × IsCriticalValue value
 IsDeclaredInRange (CritNodal value) = IsCriticalValue value
 IsDeclaredInRange (CritMeasure value) = IsCriticalValue value
@@ -76,8 +75,7 @@ names_include names name = list_any (same_name name) names
 -- The node of a name, given the names of the boundaries and those of the nodes, the environment's first. The node of a boundary is
 -- the environment; that of any other name is its place among the names of the nodes.
 abbrev pub node_among : List (List ℕ) → List (List ℕ) → List ℕ → ℕ
-node_among boundaries nodes name =
-    if names_include boundaries name then 0 else position_or_len (same_name name) nodes
+node_among boundaries nodes name = if names_include boundaries name then 0 else position_or_len (same_name name) nodes
 
 -- the arc that a declaration declares, given the names of the boundaries and nodes: a stream, or the inventory stream of a tank,
 -- from the tank to the environment
@@ -109,8 +107,7 @@ declares_tank tank row = false
 
 -- the point of the table of this tank that a declaration declares
 abbrev pub point_of : List ℕ → Declared → Option Point
-point_of tank (Strap name mm ml) =
-    if same_name name tank then Some (record { mm = mm; ml = ml }) else None
+point_of tank (Strap name mm ml) = if same_name name tank then Some (record { mm = mm; ml = ml }) else None
 point_of tank row = None
 
 -- the critical value of the global test with these degrees of freedom that a declaration declares
