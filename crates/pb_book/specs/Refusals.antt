@@ -17,7 +17,6 @@ use Rattle.pb_site.specs.Service.{is_eve, is_in_service_throughout, is_in_servic
 use Rattle.pb_site.specs.Row.{is_inventory}
 use Rattle.pb_site.specs.Site.{kind_of, service_in, table_of, version_of}
 use Rattle.pb_site.specs.Faults.{refers_to_unknown, is_duplicate_declaration, is_declaration_out_of_order, is_mismatched_declaration, is_plant_full}
-use Rattle.pb_facts.specs.declared.fact.Change.{Change}
 use Rattle.pb_facts.specs.declared.fact.Fact.{Fact}
 use Rattle.pb_facts.specs.declared.fact.Fact.TheVariants.{Reading, Transfer, Dip}
 use Rattle.pb_facts.specs.declared.facts.KeptFact.{KeptFact}

@@ -1,8 +1,7 @@
 // Why a row is refused: the causes in the order in which they are tested. Some of them come from the declared plant and from the
 // facts.
 
-ghost use Rattle.std.specs.Prelude.{◌≡◌, ◌&&◌, [], not, Option, Some};
-ghost use Rattle.std.specs.List.{list_any};
+ghost use Rattle.std.specs.Prelude.{◌≡◌, ◌&&◌, [], Option, Some};
 ghost use Rattle.pb_facts.specs.Changes.{changed, fits};
 ghost use Rattle.pb_facts.specs.Fact.{IsFactInRange, named_by};
 ghost use Rattle.pb_site.specs.declared.declared.ArcKind.{ArcKind};
@@ -10,8 +9,8 @@ ghost use Rattle.pb_site.specs.declared.declared.Version.TheVariants.{One};
 ghost use Rattle.pb_site.specs.Site.{kind_of, version_of};
 ghost use Rattle.pb_kinds.specs.declared.rows.Effect.TheVariants.{Books, Closes, Declares, Edits, Opens};
 ghost use Rattle.pb_kinds.specs.Ranges.{IsEffectInRange};
-ghost use Rattle.pb_book.specs.Causes.{cause_of_change, cause_of_edit, first_cause, fault_cause};
-ghost use Rattle.pb_book.specs.Refusals.{is_closed, is_of_other_kind, is_of_plant, is_out_of_service, is_outside_table, is_sealed_by, names_other, refusal_behind, serves_closed};
+ghost use Rattle.pb_book.specs.Causes.{cause_of_change, fault_cause, first_cause};
+ghost use Rattle.pb_book.specs.Refusals.{is_closed, is_of_other_kind, is_of_plant, is_out_of_service, is_outside_table, is_sealed_by, names_other, refusal_behind};
 
 use crate::answer::Refused;
 use pb_facts::{Assays, Change, Fact, Facts, MOST_ASSAYS};
@@ -73,18 +72,11 @@ fn is_sealed(version: Version, periods: &Periods, declared: &Declared) -> bool
 {
     match version {
         Version::One => is_of_plant(declared) && periods.some_closed(),
-        Version::Two => serves_closed(periods, declared),
-    }
-}
-
-// Whether it is a tank or a stream that is in service on a day of a closed period.
-fn serves_closed(periods: &Periods, declared: &Declared) -> bool
-    ensures { result ≡ serves_closed periods.now declared.now }
-{
-    match declared {
-        Declared::Tank { service, .. } => periods.closed_in_service(*service),
-        Declared::Stream { service, .. } => periods.closed_in_service(*service),
-        _ => false,
+        Version::Two => match declared {
+            Declared::Tank { service, .. } => periods.closed_in_service(*service),
+            Declared::Stream { service, .. } => periods.closed_in_service(*service),
+            _ => false,
+        },
     }
 }
 
@@ -217,18 +209,12 @@ fn judge_edit(site: &Site, facts: &Facts, id: &Name, edit: &Edit) -> Option<Refu
     ensures { result
         ≡ refusal_behind One site.now facts.now [] [] (Edits id.now edit.now []) }
 {
-    match facts.find(id) {
-        Some(place) => cause_of_edit(site, &facts.kept(place).fact, edit),
-        None => Some(Refused::Unknown),
-    }
-}
-
-// The first cause to refuse an edit of a live fact; there is none for a strike.
-fn cause_of_edit(site: &Site, fact: &Fact, edit: &Edit) -> Option<Refused>
-    ensures { result ≡ cause_of_edit site.now fact.now edit.now }
-{
+    let Some(place) = facts.find(id) else {
+        return Some(Refused::Unknown);
+    };
+    let fact = facts.kept(place).fact;
     match edit {
-        Edit::Change(change) => cause_of_change(site, fact, change),
+        Edit::Change(change) => cause_of_change(site, &fact, change),
         Edit::Strike => None,
     }
 }

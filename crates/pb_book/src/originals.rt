@@ -1,10 +1,8 @@
 // The facts as they came: those whose values an amendment changed are kept separately, and every other fact is returned as it
 // stands.
 
-ghost use Rattle.std.specs.Prelude.{◌≡◌, ◌<◌, ℕ, nat_eq, length, slice_get, Some, IsSome, OnOk, if◌then◌else◌};
+ghost use Rattle.std.specs.Prelude.{◌≡◌, ◌<◌, ℕ, nat_eq, length, Some, IsSome, OnOk, if◌then◌else◌};
 ghost use Rattle.std.specs.HashMap.{get, spare};
-ghost use Rattle.std.specs.Option.{option_map};
-ghost use Rattle.pb_facts.specs.declared.facts.KeptFact.{KeptFact};
 ghost use Rattle.pb_book.specs.Kept.{HasOriginal, told_at};
 
 use pb_facts::{Fact, Facts};
@@ -18,18 +16,8 @@ pub(crate) fn told_at(facts: &Facts, originals: &HashMap<u32, Fact>, place: u32)
 {
     match originals.get(&place) {
         Some(fact) => Some(*fact),
-        None => kept_at(facts, place),
-    }
-}
-
-// The fact at a place with its last values; `None` iff there is none.
-fn kept_at(facts: &Facts, place: u32) -> Option<Fact>
-    ensures { result ≡ option_map (λ (k : KeptFact). k.fact) (slice_get facts.now place) }
-{
-    if place < facts.len() {
-        Some(facts.kept(place).fact)
-    } else {
-        None
+        None if place < facts.len() => Some(facts.kept(place).fact),
+        None => None,
     }
 }
 

@@ -3,13 +3,13 @@
 ghost use Rattle.std.specs.Prelude.{◌≡◌, All, IfSome};
 ghost use Rattle.pb_site.specs.Row.{IsDeclaredInRange};
 ghost use Rattle.pb_kinds.specs.Ranges.{IsEffectInRange};
-ghost use Rattle.pb_book.specs.Kept.{closing, editing, effect_in, opening, row_at, settled_in, shelves_of, told_at};
+ghost use Rattle.pb_book.specs.Kept.{effect_in, row_at, settled_in, shelves_of, told_at};
 
 use crate::originals::told_at;
 use crate::rows::{Edited, Part, Place};
 use pb_facts::{Assays, Fact, Facts};
 use pb_kinds::{Effect, StoredRow};
-use pb_periods::{Period, Periods};
+use pb_periods::Periods;
 use pb_site::Declared;
 use std::collections::HashMap;
 
@@ -64,7 +64,11 @@ fn effect_in(
             None => None,
         },
         Part::Edited(i) => match edited.get(i as usize) {
-            Some(edited) => Some(editing(edited)),
+            Some(edited) => Some(Effect::Edits {
+                id: edited.id,
+                edit: edited.edit,
+                reason: edited.reason,
+            }),
             None => None,
         },
         Part::Closed(i) => {
@@ -95,7 +99,12 @@ pub(crate) fn settled_in(
         },
         Part::Opened(i) => {
             if i < periods.len() {
-                Some(opening(&periods.at(i)))
+                let period = periods.at(i);
+                Some(Effect::Opens {
+                    name: period.name,
+                    first: period.first,
+                    last: period.last,
+                })
             } else {
                 None
             }
@@ -108,27 +117,5 @@ pub(crate) fn settled_in(
             }
         }
         _ => None,
-    }
-}
-
-// What the row of a period does.
-fn opening(period: &Period) -> Effect
-    ensures { result ≡ opening period.now }
-{
-    Effect::Opens {
-        name: period.name,
-        first: period.first,
-        last: period.last,
-    }
-}
-
-// What an edit of a fact does.
-fn editing(edited: &Edited) -> Effect
-    ensures { result ≡ editing edited.now }
-{
-    Effect::Edits {
-        id: edited.id,
-        edit: edited.edit,
-        reason: edited.reason,
     }
 }

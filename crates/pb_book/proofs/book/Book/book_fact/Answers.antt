@@ -5,8 +5,6 @@ use Rattle.pb_book.specs.Kept.{rows_at, shelves_of, told_at}
 use Rattle.pb_book.specs.Refusals.{refusal_of}
 use Rattle.pb_book.proofs.FactLemmas.{refused_first}
 use Rattle.pb_book.proofs.book.Book.book_fact.Goals as goal
-use Rattle.pb_book.specs.Answer.{Stores, after_answer, said_of, unless_refused}
-use Rattle.pb_book.specs.declared.answer.Refused.{Refused}
 
 pub returns-in-Some-clause-answer : goal.returns-in-Some-clause-answer
 returns-in-Some-clause-answer c = λ _.
