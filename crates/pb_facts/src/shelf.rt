@@ -102,7 +102,8 @@ impl Shelf {
     /// After an `Err`, out of memory, the shelf is as it was.
     pub fn push_new(&mut self, fact: &Fact, number: u32) -> Result<bool, AllocError>
         requires room { length self.old.facts < most_facts }
-        requires number { position (same_name (stream_or_tank fact.now)) self.old.names ≡ Some number }
+        requires number { position (same_name (stream_or_tank fact.now)) self.old.names
+            ≡ Some number }
         ensures new { IfOk result
             (λ new. list_any (has_id (id_of fact.now)) self.old.facts ≡ not new) }
         ensures pushed { result ≡ Ok true → self.new.facts
