@@ -182,7 +182,7 @@ fn new_session(alloc: Global, eliminates: bool) -> Result<Box<Session>, AllocErr
 // A session takes a record.
 fn take_record(alloc: Global, session: &mut Session, row: &Row) -> Result<Answer, AllocError> {
     let mut added = Vec::new(alloc);
-    let refused = session.row(1, row, &mut added)?;
+    let refused = session.row(1, row, &mut added)?.is_some();
     Ok(Answer {
         is_report: asks_for_report(field(row, 0)) && !refused,
         added,

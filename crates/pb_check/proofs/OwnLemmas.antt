@@ -1,4 +1,4 @@
--- A stage that is shown and solved passes.
+-- A stage that is right passes, and so does one that is shown and solved.
 use Rattle.std.proofs.Common.{◌≡◌, ◌∙◌, ◌&&◌, ℕ, ℤ, Bool, List, Option, Some, None, is_some, slice_get, refl, sym, ap, subst, inl, inr, arith}
 use Rattle.std.specs.Prelude.{IfSome}
 use Rattle.std.proofs.lemmas.Bool.{cases_Bool}
@@ -28,6 +28,7 @@ use Rattle.pb_check.specs.declared.faults.Test.{Test}
 use Rattle.pb_check.specs.Asked.{HasClassAt, IsStateAt, found_gap}
 use Rattle.pb_check.specs.Places.{AreNodalRows, AreVerdicts, is_bounded, is_of_measured}
 use Rattle.pb_check.specs.Verdict.{IsPassed}
+use Rattle.pb_check.specs.Laws.{IsRight, RightLaw, SoundLaw}
 use Rattle.pb_check.proofs.ClassLemmas.{class_of, of_bits}
 use Rattle.pb_check.proofs.FirstLemmas.{each_fails}
 use Rattle.pb_check.proofs.GroupLemmas.{nodes_by_prices}
@@ -107,23 +108,39 @@ verdicts_if stage None shown = tt
 verdicts_if stage (Some tests) shown = (shown.overall, shown.nodal, shown.measure)
 
 -- ---- all tests
-pub shown_passed : AreGaps → OneStateLaw → (stage : Stage) (gap sweeps : ℕ) → IsShownStage stage
-    → IsSolution stage.graph gap sweeps stage.solved (printed_price stage) (printed_flows stage) → IsPassed stage gap sweeps
-shown_passed gaps one stage gap sweeps shown solution =
-    let same : printed_gap stage ≡ found_gap stage = gaps.only (deviations_of (printed_price stage) stage.graph.streams (printed_flows stage)) (printed_gap stage) shown.numbers.deviation in
-    λ test. passes same test
+pub shown_right : AreGaps → (stage : Stage) (gap sweeps : ℕ) → IsRight stage gap sweeps → IsPassed stage gap sweeps
+shown_right gaps stage gap sweeps right = passes
   where
-    passes : printed_gap stage ≡ found_gap stage → IsPassed stage gap sweeps
-    passes same Test.Class = λ j r there. has_class stage j r shown there
-    passes same Test.Witness = shown.shown
-    passes same Balance = shown.balanced
-    passes same Price = nodes_by_prices stage (record { shared = shown.fit.shared; fixed = shown.fit.fixed })
-    passes same Box = shown.fit.box
-    passes same Freedom = shown.numbers.freedom
-    passes same Test.Gap = same
-    passes same State = state_at one stage.graph gap sweeps stage.solved (printed_price stage) (printed_flows stage) (printed_gap stage) shown.limits same solution
-    passes same Test.Bounds = shown.numbers.bounded
-    passes same Statistic = (shown.numbers.from_below, shown.numbers.from_above)
-    passes same Nodal = rows_if stage stage.tests shown.tests
-    passes same Test.Verdict = verdicts_if stage stage.tests shown.tests
-    passes same Least = shown.numbers.least_bounded
+    shown : IsShownStage stage
+    shown = right.shown
+
+    passes : IsPassed stage gap sweeps
+    passes Test.Class = λ j r there. has_class stage j r shown there
+    passes Test.Witness = shown.shown
+    passes Balance = shown.balanced
+    passes Price = nodes_by_prices stage (record { shared = shown.fit.shared; fixed = shown.fit.fixed })
+    passes Box = shown.fit.box
+    passes Freedom = shown.numbers.freedom
+    passes Test.Gap = gaps.only (deviations_of (printed_price stage) stage.graph.streams (printed_flows stage)) (printed_gap stage) shown.numbers.deviation
+    passes State = right.state
+    passes Test.Bounds = shown.numbers.bounded
+    passes Statistic = (shown.numbers.from_below, shown.numbers.from_above)
+    passes Nodal = rows_if stage stage.tests shown.tests
+    passes Test.Verdict = verdicts_if stage stage.tests shown.tests
+    passes Least = shown.numbers.least_bounded
+
+pub solved_right : AreGaps → OneStateLaw → (stage : Stage) (gap sweeps : ℕ) → IsShownStage stage
+    → IsSolution stage.graph gap sweeps stage.solved (printed_price stage) (printed_flows stage) → IsPassed stage gap sweeps
+solved_right gaps one stage gap sweeps shown solution =
+    let same : printed_gap stage ≡ found_gap stage = gaps.only (deviations_of (printed_price stage) stage.graph.streams (printed_flows stage)) (printed_gap stage) shown.numbers.deviation in
+    shown_right gaps stage gap sweeps (record {
+      shown = shown;
+      state = state_at one stage.graph gap sweeps stage.solved (printed_price stage) (printed_flows stage) (printed_gap stage) shown.limits same solution;
+    })
+
+-- a stage that passes is right
+pub right_by : AreGaps → SoundLaw → RightLaw
+right_by gaps sound stage gap sweeps limits formed = (
+  (λ passed. record { shown = (sound stage gap sweeps limits formed passed).certified.shown; state = passed State }),
+  (λ right. shown_right gaps stage gap sweeps right),
+)

@@ -1,6 +1,6 @@
 // What is proved of the definitions alone. The contract of each function is a law; it calls the laws that its proof uses.
 
-ghost use Rattle.pb_check.specs.Laws.{SoundLaw, SolvedLaw};
+ghost use Rattle.pb_check.specs.Laws.{RightLaw, SoundLaw, SolvedLaw};
 
 use pb_gap::{gap_law, one_state_law};
 
@@ -15,4 +15,12 @@ pub fn solved_law()
 {
     gap_law();
     one_state_law();
+}
+
+/// A stage passes exactly when it is shown, which its printed numbers alone decide, and its state is what its printed gap says.
+pub fn right_law()
+    ensures { RightLaw }
+{
+    gap_law();
+    sound_law();
 }

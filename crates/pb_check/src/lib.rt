@@ -23,5 +23,5 @@ mod verdicts;
 
 pub use faults::{CheckFault, Fault, Place, Test};
 pub use judge::check;
-pub use laws::{solved_law, sound_law};
+pub use laws::{right_law, solved_law, sound_law};
 pub use verdicts::{one_verdict_law, place_law, some_verdict_law};

@@ -197,5 +197,5 @@ fn answer_record<W: Sink>(
     let mut text = Vec::new(alloc);
     let refused = session.row(at, fields, &mut text)?;
     write_all(sink, text.as_slice())?;
-    Ok(refused)
+    Ok(refused.is_some())
 }

@@ -66,7 +66,7 @@ middle_to flow sum high width same to =
     omega (arith, ints, same, to, middle, above)
 
 -- a stage has least bounds if a stream has
-has_least : (results : List StreamResult) (j : ℕ) (r : StreamResult) → slice_get results j ≡ Some r → is_some r.least ≡ true → have_least results ≡ true
+pub has_least : (results : List StreamResult) (j : ℕ) (r : StreamResult) → slice_get results j ≡ Some r → is_some r.least ≡ true → have_least results ≡ true
 has_least [] j r at is = cc at
 has_least (q ∷ results) zero r at is = rw (some_same at, is) refl
 has_least (q ∷ results) (suc j) r at is = or_true (is_some q.least) (have_least results) (has_least results j r at is)

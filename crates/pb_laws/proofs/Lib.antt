@@ -1,4 +1,9 @@
 mod FlowLemmas
+mod NestedLemmas
 mod NodalLemmas
 mod PeriodLemmas
 mod PlainTextLemmas
+mod AgreementLemmas
+mod MeteringLemmas
+mod OptionsLemmas
+mod WindowPartLemmas

@@ -3,3 +3,7 @@ pub mod Flows
 pub mod Nodal
 pub mod Closing
 pub mod PlainText
+pub mod Agreement
+pub mod Metering
+pub mod Options
+pub mod WindowParts

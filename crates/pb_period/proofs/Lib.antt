@@ -6,6 +6,7 @@ mod PlantLemmas
 mod TransferLemmas
 mod VarianceLemmas
 mod UntouchedLemmas
+mod OrderLemmas
 mod ClosedLemmas
 mod WindowLemmas
 pub mod GraphLaws

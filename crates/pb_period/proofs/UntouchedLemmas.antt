@@ -97,7 +97,7 @@ within_days P days each =
     each_day P (day_count days.first days.last) days.first
     (λ d from to. let before = some_days days.first (days.last +ℤ pos 1) d from to in each d from (omega (arith, ints, before)))
 
-same_total : (read other : ℤ → Option Amount) (days : List ℤ) → AllByRecursion (λ day. read day ≡ other day) days → read_total read days ≡ read_total other days
+pub same_total : (read other : ℤ → Option Amount) (days : List ℤ) → AllByRecursion (λ day. read day ≡ other day) days → read_total read days ≡ read_total other days
 same_total read other days same =
     ap₂ (λ (all : Bool) (amounts : List Amount). if all then Some (total_of amounts) else None) (all_read days same) (amounts_read days same)
   where
@@ -111,11 +111,11 @@ same_total read other days same =
 
 -- ---- pairs of a list
 
-pairs_tail : {A : Type 0} (R : A → A → Type 0) (x : A) (xs : List A) → AllPairs R (x ∷ xs) → AllPairs R xs
+pub pairs_tail : {A : Type 0} (R : A → A → Type 0) (x : A) (xs : List A) → AllPairs R (x ∷ xs) → AllPairs R xs
 pairs_tail R x xs pairs i j d lt within = pairs (suc i) (suc j) d (omega (arith, lt)) (omega (arith, within))
 
 -- what holds for each item after the first one
-heads : {A : Type 0} (R : A → A → Type 0) (P : A → Type 0) (x : A) (xs : List A) → ((y : A) → R x y → P y) → ((k : ℕ) (d : A) → k < length xs → R x (slice_index_or xs k d)) → AllByRecursion P xs
+pub heads : {A : Type 0} (R : A → A → Type 0) (P : A → Type 0) (x : A) (xs : List A) → ((y : A) → R x y → P y) → ((k : ℕ) (d : A) → k < length xs → R x (slice_index_or xs k d)) → AllByRecursion P xs
 heads R P x [] so each = tt
 heads R P x (y ∷ xs) so each = (so y (each 0 y (omega arith)), heads R P x xs so (λ k d lt. each (suc k) d (omega (arith, lt))))
 
@@ -188,7 +188,7 @@ opens_before service period = elim (cases_Bool (int_eq (day_of_opening service p
 ]
 
 -- the facts that touch a period
-abbrev touching : (Fact → Period → Bool) → Period → List Fact → List Fact
+abbrev pub touching : (Fact → Period → Bool) → Period → List Fact → List Fact
 touching touch period facts = filter (λ (fact : Fact). touch fact period) facts
 
 read_among : (version : Version) (declared : List Declared) (period : Period) (facts : List Fact) (stream : List ℕ) (day : ℤ) → period.first ≤ℤ day → day ≤ℤ period.last
@@ -271,29 +271,32 @@ all_by : {A : Type 0} (P Q : A → Type 0) (xs : List A) → ((x : A) → P x �
 all_by P Q [] each all = tt
 all_by P Q (x ∷ xs) each (here, rest) = (each x here, all_by P Q xs each rest)
 
--- the graph of a period by the facts that touch it
-same_graph : (version : Version) (declared : List Declared) (period : Period) (facts other : List Fact) → AreDistinct (arc_names declared)
-    → touching (touches_in version declared) period other ≡ touching (touches_in version declared) period facts
+-- the graph of a period by what the facts that touch it say of each arc
+pub same_graph : (version : Version) (declared : List Declared) (period : Period) (facts other : List Fact) → AreDistinct (arc_names declared)
+    → ((service : Option Service) (arc : Arc) → measured declared (touching (touches_in version declared) period other) (days_of period) service arc
+    ≡ measured declared (touching (touches_in version declared) period facts) (days_of period) service arc)
     → graph_by version declared other (days_of period) ≡ graph_by version declared facts (days_of period)
 same_graph One declared period facts other distinct same =
     let touch = touches_in One declared in
     let among : (fs : List Fact) → measured declared (touching touch period fs) (days_of period) None ≡ measured declared fs (days_of period) None =
     λ fs i arc. measured_among One declared period fs None arc refl refl i in
+    let alike : measured declared (touching touch period other) (days_of period) None ≡ measured declared (touching touch period facts) (days_of period) None = λ i arc. same None arc i in
     ap (λ (measure : Arc → Option Meas). let g : ProcessGraph = record { nodes = length (node_names declared); streams = map (stream_with measure) (arcs_of declared) } in g)
-    (sym (among other) ∙ ap (λ (fs : List Fact). measured declared fs (days_of period) None) same ∙ among facts)
+    (sym (among other) ∙ alike ∙ among facts)
 same_graph Two declared period facts other distinct same =
     let touch = touches_in Two declared in
     let days = days_of period in
     let nodes = nodes_on Two declared days.first days.last in
     let stream : List Fact → Arc → Stream = λ fs. stream_among nodes (measured_in Two declared fs days) in
+    let with_meas : Arc → Option Meas → Stream = λ arc m. record { from = place_among nodes arc.from; to = place_among nodes arc.to; meas = m } in
     let each : (fs : List Fact) → AllByRecursion (λ (arc : Arc). is_arc_in_service days.first days.last arc ≡ true → stream (touching touch period fs) arc ≡ stream fs arc) (arcs_of declared) =
     λ fs. all_by (HasOwnService (arcs_of declared)) (λ (arc : Arc). is_arc_in_service days.first days.last arc ≡ true → stream (touching touch period fs) arc ≡ stream fs arc) (arcs_of declared)
-    (λ arc own serves. ap (λ (m : Option Meas). let s : Stream = record { from = place_among nodes arc.from; to = place_among nodes arc.to; meas = m } in s)
-    (measured_among Two declared period fs arc.service arc own serves)) (own_services (arcs_of declared) distinct) in
+    (λ arc own serves. ap (with_meas arc) (measured_among Two declared period fs arc.service arc own serves)) (own_services (arcs_of declared) distinct) in
     let among : (fs : List Fact) → map (stream (touching touch period fs)) (arcs_on Two declared days.first days.last) ≡ map (stream fs) (arcs_on Two declared days.first days.last) =
     λ fs. map_kept (is_arc_in_service days.first days.last) (stream (touching touch period fs)) (stream fs) (arcs_of declared) (each fs) in
+    let alike : stream (touching touch period other) ≡ stream (touching touch period facts) = λ i arc. with_meas arc (same arc.service arc i) in
     ap (λ (streams : List Stream). let g : ProcessGraph = record { nodes = length nodes; streams = streams } in g)
-    (sym (among other) ∙ ap (λ (fs : List Fact). map (stream fs) (arcs_on Two declared days.first days.last)) same ∙ among facts)
+    (sym (among other) ∙ ap (λ (f : Arc → Stream). map f (arcs_on Two declared days.first days.last)) alike ∙ among facts)
 
 -- ---- the facts of one id
 
@@ -452,7 +455,8 @@ leaves rows stored period distinct apart spared =
     let same = touching_same touch (same_touch (version_of (declared_of new)) (declared_of new)) period (facts_of rows) stored.effect apart_now spared_now in
     let graph : graph_by (version_of (declared_of new)) (declared_of new) (live_facts (facts_after (facts_of rows) stored.effect)) days
     ≡ graph_by (version_of (declared_of new)) (declared_of new) (live_facts (facts_of rows)) days =
-    same_graph (version_of (declared_of new)) (declared_of new) period (live_facts (facts_of rows)) (live_facts (facts_after (facts_of rows) stored.effect)) distinct same in
+    same_graph (version_of (declared_of new)) (declared_of new) period (live_facts (facts_of rows)) (live_facts (facts_after (facts_of rows) stored.effect)) distinct
+    (λ service arc. ap (λ (fs : List Fact). measured (declared_of new) fs days service arc) same) in
     let whole : period_graph new days ≡ period_graph rows days =
     graph_is (version_of (declared_of new)) new days
     ∙ ap (λ (kept : List KeptFact). graph_by (version_of (declared_of new)) (declared_of new) (live_facts kept) days) facts

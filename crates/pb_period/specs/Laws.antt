@@ -1,5 +1,5 @@
 -- Statement. What holds for the graphs of accepted rows.
-use Rattle.std.specs.Prelude.{◌≡◌, ℕ, true, false, List, [], ◌∷◌, ◌++◌, length, slice_get, All, IfOk, Some, codes}
+use Rattle.std.specs.Prelude.{◌≡◌, ℕ, true, false, List, [], ◌∷◌, ◌++◌, length, slice_get, filter, All, IfOk, Some, codes}
 use Rattle.pb_rows.specs.declared.name.Names.{Names}
 use Rattle.pb_graph.specs.ProcessGraph.{IsProcessGraph, ProcessGraph}
 use Rattle.pb_window.specs.declared.window.Window.{Window}
@@ -7,7 +7,9 @@ use Rattle.pb_window.specs.Window.{IsWindow}
 use Rattle.pb_site.specs.declared.declared.Declared.{Declared}
 use Rattle.pb_site.specs.declared.declared.Version.TheVariants.{Two}
 use Rattle.pb_site.specs.Site.{AreDistinct, HasDistinctNames, version_of}
-use Rattle.pb_facts.specs.Facts.{NoRepeats}
+use Rattle.std.specs.List.Sorted.{IsPermutation}
+use Rattle.pb_facts.specs.declared.fact.Fact.{Fact}
+use Rattle.pb_facts.specs.Facts.{NoRepeats, live_facts}
 use Rattle.pb_kinds.specs.declared.rows.Effect.TheVariants.{Declares}
 use Rattle.pb_periods.specs.declared.period.Period.{Period}
 use Rattle.pb_book.specs.Accepted.{AreAccepted}
@@ -80,3 +82,19 @@ ClosedGraphsLaw =
     (rows : List StoredRow) (at : ℕ) (declared : Declared) (i : ℕ) (period : Period) → AreAccepted (with_row rows at (Declares declared))
     → version_of (declared_of rows) ≡ Two → slice_get (periods_of rows) i ≡ Some period → period.closed ≡ true
     → LeavesGraph rows (with_row rows at (Declares declared)) (days_of period)
+
+-- the live facts that touch a period, in order
+abbrev pub touching_facts : List StoredRow → Period → List Fact
+touching_facts rows period = filter (λ (fact : Fact). touching_of rows fact period) (live_facts (facts_of rows))
+
+-- rows that declare the same, and have the same live facts that touch a period, in whatever order
+pub record AgreeOn (rows other : List StoredRow) (period : Period) : Type 0 where
+  pub declared : declared_of other ≡ declared_of rows
+  pub facts : IsPermutation (touching_facts rows period) (touching_facts other period)
+
+-- They give the days of the period the same graph, with the same names, whatever else was stored: facts that don't touch the period,
+-- amendments, strikes, closings, assays and other periods.
+abbrev pub AgreeingLaw : Type 0
+AgreeingLaw =
+    (rows other : List StoredRow) (period : Period) → AreAccepted rows → NoRepeats (facts_of rows) → AgreeOn rows other period
+    → LeavesGraph rows other (days_of period)

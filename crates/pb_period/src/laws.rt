@@ -1,6 +1,6 @@
 // The laws of the graphs.
 
-ghost use Rattle.pb_period.specs.Laws.{ClosedGraphsLaw, GraphsLaw, PlainGraphsLaw, UntouchedLaw, WindowGraphsLaw};
+ghost use Rattle.pb_period.specs.Laws.{AgreeingLaw, ClosedGraphsLaw, GraphsLaw, PlainGraphsLaw, UntouchedLaw, WindowGraphsLaw};
 
 use pb_book::{accepted_law, plain_law};
 use pb_site::{days_law, plant_law};
@@ -39,4 +39,10 @@ pub fn untouched_law()
 /// The law that in a session of version 2 a stored declaration changes neither the graph of a closed period nor its names.
 pub fn closed_graphs_law()
     ensures { ClosedGraphsLaw }
+{}
+
+/// The law that sessions which declare the same, and have the same live facts that touch a period, in whatever order, give the period
+/// the same graph and the same names.
+pub fn agreeing_law()
+    ensures { AgreeingLaw }
 {}

@@ -14,5 +14,7 @@ mod window;
 
 pub use days::Days;
 pub use graph::{Assembly, assemble, design, names};
-pub use laws::{closed_graphs_law, graphs_law, plain_graphs_law, untouched_law, window_graphs_law};
+pub use laws::{
+    agreeing_law, closed_graphs_law, graphs_law, plain_graphs_law, untouched_law, window_graphs_law,
+};
 pub use window::{assemble_window, names_of_periods};

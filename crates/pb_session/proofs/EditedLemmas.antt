@@ -1,7 +1,7 @@
 -- An edited file stands for the edits.
-use Rattle.std.proofs.Common.{◌≡◌, ◌∙◌, ◌+◌, ◌<◌, ℕ, suc, Bool, false, List, [], ◌∷◌, ◌++◌, length, map, Option, Some, None, Result, Ok, Err, slice_get, position, refl, sym, ap, ap₂, subst, arith}
+use Rattle.std.proofs.Common.{◌≡◌, ◌∙◌, ◌+◌, ◌-◌, ◌<◌, ℕ, suc, ℤ, Bool, false, List, [], ◌∷◌, ◌++◌, length, map, Option, Some, None, Result, Ok, Err, slice_get, position, refl, sym, ap, ap₂, subst, subst₂, arith}
 use Rattle.std.specs.Prelude.{◌||◌, ◌↔◌, find, option_map}
-use Rattle.std.specs.List.{list_any, position_or_len}
+use Rattle.std.specs.List.{cons_option, list_any, position_or_len}
 use Rattle.std.proofs.lemmas.List.{append-nil, append_assoc, length-map}
 use Rattle.std.proofs.lemmas.Option.{slice_get-get_or, slice_get-map}
 use Rattle.std.proofs.Math.Seq.{get_or-append_seam, take-append_seam}
@@ -15,34 +15,39 @@ use Rattle.pb_site.specs.declared.declared.Declared.{Declared}
 use Rattle.pb_site.specs.declared.declared.Version.{Version}
 use Rattle.pb_site.specs.Site.{version_of}
 use Rattle.pb_book.specs.declared.answer.Accepted.{Accepted}
-use Rattle.pb_book.specs.declared.answer.Accepted.TheVariants.{Report, Component, Window}
+use Rattle.pb_book.specs.declared.answer.Accepted.TheVariants.{Report, Component, Window, Design, Advise}
 use Rattle.pb_book.specs.declared.answer.Refused.{Refused}
 use Rattle.pb_form.specs.declared.fault.FormFault.{FormFault}
 use Rattle.pb_facts.specs.declared.assays.Assay.{Assay}
 use Rattle.pb_kinds.specs.declared.rows.Request.{Request}
 use Rattle.pb_kinds.specs.declared.rows.Request.TheVariants as asked
 use Rattle.pb_kinds.specs.declared.rows.Effect.{Effect}
+use Rattle.pb_kinds.specs.declared.rows.Effect.TheVariants.{Declares, Opens, Books, Edits, Closes, Assays}
+use Rattle.pb_facts.specs.declared.fact.Fact.TheVariants.{Reading, Transfer, Dip}
+use Rattle.pb_facts.specs.Facts.{live_facts}
+use Rattle.pb_window.specs.Codes.{window_names}
+use Rattle.pb_site.specs.Site.{names_of}
 use Rattle.pb_periods.specs.declared.period.Period.{Period}
 use Rattle.pb_book.specs.Accepted.{AreAccepted, IsAcceptable}
 use Rattle.pb_kinds.specs.declared.costs.NamedCost.{NamedCost}
 use Rattle.pb_kinds.specs.Costs.{named_costs}
-use Rattle.pb_book.specs.Costs.{refusal_of_costs}
+use Rattle.pb_book.specs.Costs.{meter_costs, refusal_of_costs}
 use Rattle.pb_book.specs.Answer.{Answer, Says, Stores, after_answer, answer_if, answer_of, component_or_refused, is_refused, window_or_refused, if_known, unless_refused}
 use Rattle.pb_book.specs.declared.answer.Accepted.TheVariants as answered
 use Rattle.pb_periods.specs.Apart.{is_named}
 use Rattle.pb_book.specs.Assays.{assays_of}
 use Rattle.pb_facts.specs.Assays.{is_assay_of, is_assay_over}
-use Rattle.pb_book.specs.Plain.{ArePlain, PlainLaw, numbered, opened, plain_rows, plain_stored}
+use Rattle.pb_book.specs.Plain.{ArePlain, PlainLaw, booked, numbered, opened, plain_rows, plain_stored, settled, settled_rows}
 use Rattle.pb_book.specs.Refusals.{refusal_of}
-use Rattle.pb_book.specs.Windows.{refusal_of_window}
+use Rattle.pb_book.specs.Windows.{window_between}
 use Rattle.pb_kinds.specs.Requests.{request_in}
 use Rattle.pb_kinds.specs.declared.rows.StoredRow.{StoredRow}
-use Rattle.pb_book.specs.Rows.{declared_of, period_place, periods_of, version_at}
+use Rattle.pb_book.specs.Rows.{declared_of, facts_of, period_place, periods_of, version_at}
 use Rattle.pb_book.specs.Written.{WriteRows, WritesRow}
 use Rattle.pb_period.specs.Days.{days_of}
 use Rattle.pb_period.specs.Grades.{grades_of}
 use Rattle.pb_period.specs.Laws.{HaveSameGraphs, PlainGraphsLaw}
-use Rattle.pb_period.specs.PeriodGraph.{assembly_of, period_names}
+use Rattle.pb_period.specs.PeriodGraph.{assembly_of, design_graph, period_names}
 use Rattle.pb_period.specs.declared.graph.Assembly.{Assembly}
 use Rattle.pb_period.specs.declared.graph.Assembly.TheVariants.{Over, NoMemory}
 use Rattle.pb_report.specs.Component.{component_row}
@@ -50,13 +55,13 @@ use Rattle.pb_report.specs.Form.{text_in}
 use Rattle.pb_report.specs.Names.{name_at}
 use Rattle.pb_report.specs.Row.{OutputRow}
 use Rattle.pb_report.specs.Over.{over_row}
-use Rattle.pb_session.proofs.RowLemmas.{AnswersOf, answers}
 use Rattle.pb_session.specs.Criticals.{declared_critical}
 use Rattle.pb_session.specs.Edited.{EditedFileLaw, begun}
-use Rattle.pb_session.specs.Session.{Adds, AddsAccepted, AddsBy, Balances, BalancesIn, component_assembly, IsReport, IsSessionText, Reports, ReportsBy, SessionState, refuses_some, state_after}
+use Rattle.pb_session.specs.Session.{Adds, AddsAccepted, AddsBy, Balances, BalancesIn, component_assembly, IsAdviceText, IsDesign, IsReport, IsSessionText, Reports, ReportsBy, SessionState, Windows, assembly_between, refuses_some, state_after, window_head}
+use Rattle.pb_session.proofs.EditedWindowLemmas.{assembly_same, head_same, same_window, window_same}
 
 -- a session with these rows in place of its own
-abbrev with_rows : SessionState → List StoredRow → SessionState
+abbrev pub with_rows : SessionState → List StoredRow → SessionState
 with_rows state rows = record { options = state.options; form = state.form; rows = rows }
 
 -- ---- records that write accepted rows
@@ -142,53 +147,65 @@ position_map p f xs = rw (first_map p f xs, length-map xs f) refl
 same_place : (rows plain : List StoredRow) (name : List ℕ) → periods_of plain ≡ map opened (periods_of rows) → period_place plain name ≡ period_place rows name
 same_place rows plain name same = ap (position (is_named name)) same ∙ position_map (is_named name) opened (periods_of rows)
 
+-- ---- the same answers
+
 -- a row that is stored is never answered by what the book says
 not_said : (effect : Effect) (cause : Option Refused) (accepted : Accepted) → unless_refused (Stores effect) cause ≡ Says accepted → ⊥
 not_said effect (Some cause) accepted is = cc is
 not_said effect None accepted is = cc is
 
--- what is asked for one period
-abbrev IsOfOne : Accepted → Type 0
-IsOfOne (Window first last) = ⊥
-IsOfOne accepted = Unit {0}
-
-not_window : (rows : List StoredRow) (first last : Option ℕ) (accepted : Accepted) → IsOfOne accepted → window_or_refused rows first last ≡ Says accepted → ⊥
-not_window rows (Some first) (Some last) accepted one is = by (refusal_of_window rows first last) is
-  where
-    by : (cause : Option Refused) → unless_refused (Says (answered.Window first last)) cause ≡ Says accepted → ⊥
-    by (Some cause) same = cc same
-    by None same = let said : Window first last ≡ accepted = cc same in subst IsOfOne (sym said) one
-not_window rows (Some first) None accepted one is = cc is
-not_window rows None last accepted one is = cc is
-
--- what the book says about a request for one period, it says after the plain rows too
-same_said : (rows plain : List StoredRow) (accepted : Accepted) → IsOfOne accepted → (costs : List NamedCost) (request : Result Request FormFault) → ArePlain rows plain
+-- what the book says about a request, it says after the plain rows too
+same_said : (rows plain : List StoredRow) (accepted : Accepted) (costs : List NamedCost) (request : Result Request FormFault) → ArePlain rows plain
     → answer_if rows costs request ≡ Says accepted → answer_if plain costs request ≡ Says accepted
-same_said rows plain accepted one costs (Ok asked.Blank) are is = is
-same_said rows plain accepted one costs (Ok (asked.Store effect)) are is = absurd (not_said effect (refusal_of rows effect) accepted is)
-same_said rows plain accepted one costs (Ok asked.Design) are is = is
-same_said rows plain accepted one costs (Ok (asked.Report name)) are is = ap (if_known answered.Report) (same_place rows plain name are.periods) ∙ is
-same_said rows plain accepted one costs (Ok (asked.History name)) are is = ap (if_known answered.History) (same_place rows plain name are.periods) ∙ is
-same_said rows plain accepted one costs (Ok (asked.Component component name)) are is =
+same_said rows plain accepted costs (Ok asked.Blank) are is = is
+same_said rows plain accepted costs (Ok (asked.Store effect)) are is = absurd (not_said effect (refusal_of rows effect) accepted is)
+same_said rows plain accepted costs (Ok asked.Design) are is = is
+same_said rows plain accepted costs (Ok (asked.Report name)) are is = ap (if_known answered.Report) (same_place rows plain name are.periods) ∙ is
+same_said rows plain accepted costs (Ok (asked.History name)) are is = ap (if_known answered.History) (same_place rows plain name are.periods) ∙ is
+same_said rows plain accepted costs (Ok (asked.Component component name)) are is =
     ap₂ (component_or_refused component) (ap (list_any (is_assay_over component name)) are.assays) (same_place rows plain name are.periods) ∙ is
-same_said rows plain accepted one costs (Ok (asked.Window first last)) are is = absurd (not_window rows (period_place rows first) (period_place rows last) accepted one is)
-same_said rows plain accepted one costs (Ok asked.Advise) are is = ap (λ (ds : List Declared). unless_refused (Says answered.Advise) (refusal_of_costs ds costs)) are.declared ∙ is
-same_said rows plain accepted one costs (Err fault) are is = is
+same_said rows plain accepted costs (Ok (asked.Window first last)) are is =
+    ap₂ (window_or_refused plain) (same_place rows plain first are.periods) (same_place rows plain last are.periods)
+    ∙ same_window rows plain (period_place rows first) (period_place rows last) are ∙ is
+same_said rows plain accepted costs (Ok asked.Advise) are is = ap (λ (ds : List Declared). unless_refused (Says answered.Advise) (refusal_of_costs ds costs)) are.declared ∙ is
+same_said rows plain accepted costs (Err fault) are is = is
 
--- the version, if there is a period
-version_some : (rows : List StoredRow) (i : ℕ) → i < length (periods_of rows) → version_at rows ≡ Some (version_of (declared_of rows))
-version_some [] i within = absurd (omega (arith, within))
-version_some (stored ∷ rows) i within = refl
+-- the first of accepted rows is among the plain rows
+first_settled : (stored : StoredRow) (rest : List StoredRow) → IsAcceptable [] stored.effect → (effect : Effect) × (others : List Effect) × (plain_rows (stored ∷ rest) ≡ effect ∷ others)
+first_settled stored rest accepted = by stored.effect refl accepted.no_cause
+  where
+    front : (effect : Effect) → stored.effect ≡ effect → settled effect ≡ Some effect → (one : Effect) × (others : List Effect) × (plain_rows (stored ∷ rest) ≡ one ∷ others)
+    front effect same is = (
+      effect,
+      settled_rows rest ++ map booked (live_facts (facts_of (stored ∷ rest))),
+      ap (λ (o : Option Effect). cons_option o (settled_rows rest) ++ map booked (live_facts (facts_of (stored ∷ rest)))) (ap settled same ∙ is),
+    )
 
--- a record about which the book says something asks for the same after the plain rows, if there is a period
-plain_answer : (rows plain : List StoredRow) (i : ℕ) (accepted : Accepted) → IsOfOne accepted → (fields : List (List ℕ)) → ArePlain rows plain → i < length (periods_of rows)
+    by : (effect : Effect) → stored.effect ≡ effect → refusal_of [] stored.effect ≡ None → (one : Effect) × (others : List Effect) × (plain_rows (stored ∷ rest) ≡ one ∷ others)
+    by (Declares declared) same none = front (Declares declared) same refl
+    by (Opens name first last) same none = front (Opens name first last) same refl
+    by (Assays assay) same none = front (Assays assay) same refl
+    by (Books (Reading id stream day grams variance) late) same none = cc (sym (ap (refusal_of []) same) ∙ none)
+    by (Books (Transfer id stream first last grams variance) late) same none = cc (sym (ap (refusal_of []) same) ∙ none)
+    by (Books (Dip id tank day mm density variance) late) same none = cc (sym (ap (refusal_of []) same) ∙ none)
+    by (Edits id edit reason) same none = cc (sym (ap (refusal_of []) same) ∙ none)
+    by (Closes name) same none = cc (sym (ap (refusal_of []) same) ∙ none)
+
+-- the session has the same version after the plain rows
+same_version : (rows : List StoredRow) → AreAccepted rows → ArePlain rows (plain_stored rows) → version_at (plain_stored rows) ≡ version_at rows
+same_version [] accepted are = refl
+same_version (stored ∷ rest) accepted are =
+    let (effect, others, is) = first_settled stored rest (accepted 0 stored refl) in
+    ap (λ (effects : List Effect). version_at (numbered 1 effects)) is
+    ∙ ap (λ (effects : List Effect). Some (version_of (declared_of (numbered 1 effects)))) (sym is)
+    ∙ ap (λ (ds : List Declared). Some (version_of ds)) are.declared
+
+-- a record about which the book says something asks for the same after the plain rows
+plain_answer : (rows plain : List StoredRow) (accepted : Accepted) (fields : List (List ℕ)) → ArePlain rows plain → version_at plain ≡ version_at rows
     → answer_of rows fields ≡ Says accepted → answer_of plain fields ≡ Says accepted
-plain_answer rows plain i accepted one fields are within is =
-    let long = ap (λ (ps : List Period). length ps) are.periods ∙ length-map (periods_of rows) opened in
-    let version : version_at plain ≡ version_at rows =
-    version_some plain i (omega (arith, long, within)) ∙ ap (λ (ds : List Declared). Some (version_of ds)) are.declared ∙ sym (version_some rows i within) in
+plain_answer rows plain accepted fields are version is =
     ap (λ (v : Option Version). answer_if plain (named_costs fields) (request_in v fields)) version
-    ∙ same_said rows plain accepted one (named_costs fields) (request_in (version_at rows) fields) are is
+    ∙ same_said rows plain accepted (named_costs fields) (request_in (version_at rows) fields) are is
 
 -- the study of a graph depends only on the declarations
 report_as : (state : SessionState) (rows other : List StoredRow) (before : List OutputRow) (names : Names) (period : List ℕ) (graph : ProcessGraph) (text : List ℕ) → declared_of rows ≡ declared_of other
@@ -218,7 +235,7 @@ balances_in_as state rows other given same_given (Ok graph) answer same grades o
 balances_in_as state rows other given same_given (Err why) answer same grades of = of
 
 -- and so does a report, if the names are the same
-reports_by_as : (state : SessionState) (rows other : List StoredRow) (before : List OutputRow) (names same_names : Names) (period : List ℕ) (assembly : Result ProcessGraph Assembly) (text : List ℕ) → declared_of rows ≡ declared_of other
+pub reports_by_as : (state : SessionState) (rows other : List StoredRow) (before : List OutputRow) (names same_names : Names) (period : List ℕ) (assembly : Result ProcessGraph Assembly) (text : List ℕ) → declared_of rows ≡ declared_of other
     → names ≡ same_names → ReportsBy (with_rows state rows) before names period assembly text → ReportsBy (with_rows state other) before same_names period assembly text
 reports_by_as state rows other before names same_names period (Ok graph) text declared same report =
     subst (λ (n : Names). IsReport (with_rows state other) before n period graph text) same (report_as state rows other before names period graph text declared report)
@@ -280,6 +297,54 @@ balances_back state plain component (Some period) text are graphs (answer, of, b
           are.declared names by,
     )
 
+-- ---- a window after the plain rows
+
+windows_to : (state : SessionState) (plain : List StoredRow) (found other : Option Period) (text : List ℕ) → ArePlain state.rows plain
+    → Windows state found other text → Windows (with_rows state plain) (option_map opened found) (option_map opened other) text
+windows_to state plain None other text are report = absurd report
+windows_to state plain (Some first) None text are report = absurd report
+windows_to state plain (Some first) (Some last) text are report =
+    let rows = state.rows in
+    let names = sym (ap window_names (window_same rows plain first last are)) in
+    subst (λ (before : List OutputRow). ReportsBy (with_rows state plain) before (window_names (window_between plain (opened first) (opened last))) first.name (assembly_between plain (opened first) (opened last)) text)
+    (sym (head_same rows plain first last are))
+    (subst (λ (a : Result ProcessGraph Assembly). ReportsBy (with_rows state plain) (window_head rows first last) (window_names (window_between plain (opened first) (opened last))) first.name a text)
+    (sym (assembly_same rows plain first last are))
+    (reports_by_as state rows plain (window_head rows first last) (window_names (window_between rows first last)) (window_names (window_between plain (opened first) (opened last))) first.name
+    (assembly_between rows first last) text (sym are.declared) names report))
+
+windows_back : (state : SessionState) (plain : List StoredRow) (found other : Option Period) (text : List ℕ) → ArePlain state.rows plain
+    → Windows (with_rows state plain) (option_map opened found) (option_map opened other) text → Windows state found other text
+windows_back state plain None other text are report = absurd report
+windows_back state plain (Some first) None text are report = absurd report
+windows_back state plain (Some first) (Some last) text are report =
+    let rows = state.rows in
+    let names = ap window_names (window_same rows plain first last are) in
+    reports_by_as state plain rows (window_head rows first last) (window_names (window_between plain (opened first) (opened last))) (window_names (window_between rows first last)) first.name
+    (assembly_between rows first last) text are.declared names
+    (subst (λ (a : Result ProcessGraph Assembly). ReportsBy (with_rows state plain) (window_head rows first last) (window_names (window_between plain (opened first) (opened last))) first.name a text)
+    (assembly_same rows plain first last are)
+    (subst (λ (before : List OutputRow). ReportsBy (with_rows state plain) before (window_names (window_between plain (opened first) (opened last))) first.name (assembly_between plain (opened first) (opened last)) text)
+    (head_same rows plain first last are) report))
+
+-- ---- a design and advice after the plain rows
+
+design_as : (state : SessionState) (rows other : List StoredRow) (names : Names) (graph : ProcessGraph) (text : List ℕ) → IsDesign (with_rows state rows) names graph text → IsDesign (with_rows state other) names graph text
+design_as state rows other names graph text design =
+    record { limits = design.limits; named = design.named; classes = design.classes; are = design.are; rows = design.rows }
+
+advice_as : (state : SessionState) (rows other : List StoredRow) (names : Names) (graph : ProcessGraph) (costs : List ℤ) (text : List ℕ) → IsAdviceText (with_rows state rows) names graph costs text
+    → IsAdviceText (with_rows state other) names graph costs text
+advice_as state rows other names graph costs text advice = record {
+  limits = advice.limits;
+  named = advice.named;
+  each_costs = advice.each_costs;
+  advice = advice.advice;
+  is_advice = advice.is_advice;
+  cheapest = advice.cheapest;
+  rows = advice.rows;
+}
+
 found_plain : (rows plain : List StoredRow) (i : ℕ) → ArePlain rows plain → slice_get (periods_of plain) i ≡ option_map opened (slice_get (periods_of rows) i)
 found_plain rows plain i are = ap (λ (ps : List Period). slice_get ps i) are.periods ∙ slice_get-map opened (periods_of rows) i
 
@@ -316,16 +381,53 @@ balances_alike state plain component i costs are graphs = record {
       (subst (λ (found : Option Period). Balances (with_rows state plain) component found text) (found_plain state.rows plain i are) there);
 }
 
+windows_alike : (state : SessionState) (plain : List StoredRow) (first last : ℕ) (costs : List NamedCost) → ArePlain state.rows plain → AddsAlike state plain (Window first last) costs
+windows_alike state plain first last costs are =
+    let one = slice_get (periods_of state.rows) first in
+    let other = slice_get (periods_of state.rows) last in
+    let found : (slice_get (periods_of plain) first ≡ option_map opened one) × (slice_get (periods_of plain) last ≡ option_map opened other) =
+    (found_plain state.rows plain first are, found_plain state.rows plain last are) in
+    record {
+      to = λ text here.
+          subst (λ (o : Option Period). Windows (with_rows state plain) o (slice_get (periods_of plain) last) text) (sym found.0)
+          (subst (λ (o : Option Period). Windows (with_rows state plain) (option_map opened one) o text) (sym found.1) (windows_to state plain one other text are here));
+      back = λ text there.
+          windows_back state plain one other text are
+          (subst (λ (o : Option Period). Windows (with_rows state plain) (option_map opened one) o text) found.1
+          (subst (λ (o : Option Period). Windows (with_rows state plain) o (slice_get (periods_of plain) last) text) found.0 there));
+    }
+
+design_alike : (state : SessionState) (plain : List StoredRow) (costs : List NamedCost) → ArePlain state.rows plain → HaveSameGraphs state.rows plain → AddsAlike state plain Design costs
+design_alike state plain costs are graphs =
+    let names = ap names_of are.declared in
+    record {
+      to = λ text here. subst₂ (λ (n : Names) (g : ProcessGraph). IsDesign (with_rows state plain) n g text) (sym names) (sym graphs.design) (design_as state state.rows plain _ _ text here);
+      back = λ text there. subst₂ (λ (n : Names) (g : ProcessGraph). IsDesign state n g text) names graphs.design (design_as state plain state.rows _ _ text there);
+    }
+
+advice_alike : (state : SessionState) (plain : List StoredRow) (costs : List NamedCost) → ArePlain state.rows plain → HaveSameGraphs state.rows plain → AddsAlike state plain Advise costs
+advice_alike state plain costs are graphs =
+    let names = ap names_of are.declared in
+    let costs_same = ap (λ (ds : List Declared). meter_costs ds costs) are.declared in
+    record {
+      to = λ text here.
+          subst (λ (cs : List ℤ). IsAdviceText (with_rows state plain) (names_of (declared_of plain)) (design_graph plain) cs text) (sym costs_same)
+          (subst₂ (λ (n : Names) (g : ProcessGraph). IsAdviceText (with_rows state plain) n g (meter_costs (declared_of state.rows) costs) text) (sym names) (sym graphs.design) (advice_as state state.rows plain _ _ _ text here));
+      back = λ text there.
+          subst (λ (cs : List ℤ). IsAdviceText state (names_of (declared_of state.rows)) (design_graph state.rows) cs text) costs_same
+          (subst₂ (λ (n : Names) (g : ProcessGraph). IsAdviceText state n g (meter_costs (declared_of plain) costs) text) names graphs.design (advice_as state plain state.rows _ _ _ text there));
+    }
+
 -- ---- the edited file
 
 -- what is asked has the same text after the edited file as after the rows
-same_text : (state : SessionState) (plain : List StoredRow) (records : List (List (List ℕ))) (at i : ℕ) (accepted : Accepted) → IsOfOne accepted → (fields : List (List ℕ)) (text : List ℕ) → ArePlain state.rows plain
-    → StoreAll (begun state) 1 records (with_rows state plain) → i < length (periods_of state.rows) → AddsAlike state plain accepted (named_costs fields) → answer_of state.rows fields ≡ Says accepted
+same_text : (state : SessionState) (plain : List StoredRow) (records : List (List (List ℕ))) (accepted : Accepted) (at : ℕ) (fields : List (List ℕ)) (text : List ℕ) → ArePlain state.rows plain
+    → version_at plain ≡ version_at state.rows → StoreAll (begun state) 1 records (with_rows state plain) → AddsAlike state plain accepted (named_costs fields) → answer_of state.rows fields ≡ Says accepted
     → Adds state at fields text ↔ IsSessionText (begun state) 1 (records ++ fields ∷ []) text
-same_text state plain records at i accepted one fields text are all within alike is =
+same_text state plain records accepted at fields text are version all alike is =
     let end = with_rows state plain in
     let after = 1 + length records in
-    let other = plain_answer state.rows plain i accepted one fields are within is in (
+    let other = plain_answer state.rows plain accepted fields are version is in (
       λ adds. all.back (fields ∷ []) text (one_back end after fields text (moved state end at after accepted fields text is other (alike.to text) adds)),
       λ texts. moved end state after at accepted fields text other is (alike.back text) (one_to end after fields text (all.to (fields ∷ []) text texts)),
     )
@@ -335,12 +437,14 @@ edited_stands plain_law graphs_law state records accepted writes =
     let plain = plain_stored state.rows in
     let are = plain_law state.rows accepted in
     let graphs = graphs_law state.rows accepted in
+    let version = same_version state.rows accepted are in
     let all : StoreAll (begun state) 1 records (with_rows state plain) = store_all (begun state) 1 records (plain_rows state.rows) are.accepted writes in
     record {
       accepted = all.none;
-      reports = λ at i report text is.
-          same_text state plain records at i (Report i) tt report text are all (subst (AnswersOf state.rows) is (answers state.rows report)) (reports_alike state plain i (named_costs report) are graphs) is;
+      reports = λ at i row text is. same_text state plain records (Report i) at row text are version all (reports_alike state plain i (named_costs row) are graphs) is;
       balances = λ at component i row text is.
-          same_text state plain records at i (Component component i) tt row text are all (subst (AnswersOf state.rows) is (answers state.rows row))
-          (balances_alike state plain component i (named_costs row) are graphs) is;
+          same_text state plain records (Component component i) at row text are version all (balances_alike state plain component i (named_costs row) are graphs) is;
+      windows = λ first last at row text is. same_text state plain records (Window first last) at row text are version all (windows_alike state plain first last (named_costs row) are) is;
+      design = λ at row text is. same_text state plain records Design at row text are version all (design_alike state plain (named_costs row) are graphs) is;
+      advice = λ at row text is. same_text state plain records Advise at row text are version all (advice_alike state plain (named_costs row) are graphs) is;
     }

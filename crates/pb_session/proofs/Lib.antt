@@ -1,9 +1,11 @@
+mod AgreeingLemmas
 mod AppendingLemmas
 mod BalanceLemmas
 mod FirstStageLemmas
 mod ClosedLemmas
 mod CriticalLemmas
 mod EditedLemmas
+mod EditedWindowLemmas
 mod HistoryLemmas
 mod NamedLemmas
 mod WindowedLemmas

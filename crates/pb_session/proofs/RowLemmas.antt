@@ -20,9 +20,9 @@ use Rattle.pb_kinds.specs.Costs.{named_costs}
 use Rattle.pb_book.specs.Costs.{refusal_of_costs}
 use Rattle.pb_book.specs.Refusals.{refusal_of}
 use Rattle.pb_book.specs.Windows.{refusal_of_ends, window_refusal}
-use Rattle.pb_book.specs.Answer.{Answer, Refuses, Says, Stores, after_answer, answer_if, answer_of, answer_to, component_or_refused, is_refused, said_of, window_or_refused, if_known, unless_refused}
+use Rattle.pb_book.specs.Answer.{Answer, Refuses, Says, Stores, after_answer, answer_if, answer_of, answer_to, component_or_refused, said_of, window_or_refused, if_known, unless_refused}
 use Rattle.pb_book.specs.declared.answer.Accepted.TheVariants as answered
-use Rattle.pb_session.specs.Session.{AddsAccepted, AddsBy, SessionState}
+use Rattle.pb_session.specs.Session.{AddsAccepted, AddsBy, SessionState, cause_in}
 use Rattle.pb_session.specs.Accepted.{IsOfPeriods}
 use Rattle.std.specs.List.{list_any}
 use Rattle.pb_facts.specs.Assays.{is_assay_over}
@@ -36,7 +36,7 @@ abbrev said_err : Refused → Result Accepted NotAccepted
 said_err cause = Err (NotAccepted.Refused cause)
 
 -- an accepted record's answer isn't a refusal
-pub accepted_is : (answer : Answer) (accepted : Accepted) → said_ok accepted ≡ said_of answer → false ≡ is_refused answer
+pub accepted_is : (answer : Answer) (accepted : Accepted) → said_ok accepted ≡ said_of answer → None ≡ cause_in answer
 accepted_is (Refuses cause) accepted is = cc is
 accepted_is (Stores effect) accepted is = refl
 accepted_is (Says said) accepted is = refl

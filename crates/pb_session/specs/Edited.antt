@@ -1,6 +1,7 @@
--- Statement. A report after edits is the report of the edited file, and so is the balance of a component.
+-- Statement. A report after edits is the report of the edited file, and so are a window, the balance of a component, a design and advice.
 use Rattle.std.specs.Prelude.{◌≡◌, ◌↔◌, ℕ, false, List, [], ◌∷◌, ◌++◌}
-use Rattle.pb_book.specs.declared.answer.Accepted.TheVariants.{Report, Component}
+use Rattle.pb_book.specs.declared.answer.Accepted.{Accepted}
+use Rattle.pb_book.specs.declared.answer.Accepted.TheVariants.{Report, Component, Window, Design, Advise}
 use Rattle.pb_book.specs.Accepted.{AreAccepted}
 use Rattle.pb_book.specs.Answer.{Says, answer_of}
 use Rattle.pb_book.specs.Plain.{plain_rows}
@@ -29,11 +30,20 @@ BalancesAsAfter state records =
     (at : ℕ) (component : List ℕ) (i : ℕ) (row : List (List ℕ)) (text : List ℕ) → answer_of state.rows row ≡ Says (Component component i)
     → Adds state at row text ↔ IsSessionText (begun state) 1 (records ++ row ∷ []) text
 
--- no record of an edited file is refused, and each report and each balance after it is the same as after the edits
+-- a record after these about which the book says this has the same text as after the rows of the session
+abbrev pub SaysAsAfter : SessionState → List (List (List ℕ)) → Accepted → Type 0
+SaysAsAfter state records accepted =
+    (at : ℕ) (row : List (List ℕ)) (text : List ℕ) → answer_of state.rows row ≡ Says accepted
+    → Adds state at row text ↔ IsSessionText (begun state) 1 (records ++ row ∷ []) text
+
+-- no record of an edited file is refused, and each report, balance, window, design and advice after it is the same as after the edits
 pub record StandsForTheEdits (state : SessionState) (records : List (List (List ℕ))) : Type 0 where
   pub accepted : refuses_some (begun state) 1 records ≡ false
   pub reports : ReportsAsAfter state records
   pub balances : BalancesAsAfter state records
+  pub windows : (first last : ℕ) → SaysAsAfter state records (Window first last)
+  pub design : SaysAsAfter state records Design
+  pub advice : SaysAsAfter state records Advise
 
 -- this holds for all accepted rows, with any options and in either form
 abbrev pub EditedFileLaw : Type 0

@@ -5,6 +5,7 @@ pub mod Session
 pub mod FirstStage
 pub mod Laws
 pub mod Edited
+pub mod Agreeing
 pub mod Kept
 pub mod KeptLaws
 pub mod Closed

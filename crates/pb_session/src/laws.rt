@@ -1,5 +1,6 @@
 // Each record adds one text to the output, and each session has one text.
 
+ghost use Rattle.pb_session.specs.Agreeing.{AgreeingReportLaw, ClosingLaw};
 ghost use Rattle.pb_session.specs.Edited.{EditedFileLaw};
 ghost use Rattle.pb_session.specs.KeptLaws.{FewKeptLaw, KeptTextLaw, OneKeptLaw, SomeKeptLaw};
 ghost use Rattle.pb_session.specs.Laws.{CriticalsLaw, OneTextLaw, OneSessionTextLaw, SomeTextLaw, SomeSessionTextLaw};
@@ -15,7 +16,7 @@ use pb_classify::{one_classification_law, some_classification_law};
 use pb_elim::{
     certified_law, formed_law, least_throughout_law, one_study_law, some_study_law, tested_law,
 };
-use pb_period::{graphs_law, plain_graphs_law, window_graphs_law};
+use pb_period::{agreeing_law, graphs_law, plain_graphs_law, window_graphs_law};
 
 /// The law that what a record adds to the output is one text, and so is the output of a session: the classes of a design and their
 /// certificates leave no choice, nor does the advice for a graph at its costs, nor the study of a graph.
@@ -55,12 +56,22 @@ pub fn some_text_law()
 
 /// The law that a report after edits is the report of the edited file. An edited file has one record for each plain row: the
 /// declarations, periods, critical values and assays, and then the live facts with their last values. None of its records is
-/// refused, and a report or the balance of a component after them has the same text as after the rows of the session, with any
-/// options and in either form.
+/// refused, and a report, a window, the balance of a component, a design or advice after them has the same text as after the rows of
+/// the session, with any options and in either form.
 pub fn edited_file_law()
     ensures { EditedFileLaw }
 {
     plain_law();
+    plain_graphs_law();
+}
+
+/// The law that a report depends on what is declared and on the live facts that touch its period, in whatever order, and on nothing
+/// else that was stored: not on facts that touch other periods alone, on how facts came by their values, or on what is closed.
+pub fn agreeing_report_law()
+    ensures agreeing { AgreeingReportLaw }
+    ensures closing { ClosingLaw }
+{
+    agreeing_law();
     plain_graphs_law();
 }
 

@@ -68,7 +68,7 @@ struct Reported {
 }
 
 impl Session {
-    ghost use Rattle.pb_book.specs.Answer.{answer_of, is_refused};
+    ghost use Rattle.pb_book.specs.Answer.{answer_of};
     ghost use Rattle.pb_classify.specs.Classification.{IsClassification};
     ghost use Rattle.pb_study.specs.Options.{AreOptions};
     ghost use Rattle.pb_stage.specs.Printed.{printed_classes};
@@ -85,7 +85,7 @@ impl Session {
     ghost use Rattle.pb_session.specs.FirstStage.{Begins, IsFirstStage, TellsAStream};
     ghost use Rattle.pb_session.specs.Keeping.{HasCountsOf, IsBalanceAt, IsReportedAt, IsReportedOf, IsStudied};
     ghost use Rattle.pb_session.specs.Kept.{IsKeptAt, Keeps, KeepsAccepted, KeepsReportOf, most_kept, reported_after, reported_behind, reported_of};
-    ghost use Rattle.pb_session.specs.Session.{Adds, AddsAccepted, AreNamesOf, Balances, IsAdviceText, IsBalanceOf, IsDesign, IsHistoryText, IsReport, IsTextOf, Reports, Windows, state_after, window_head};
+    ghost use Rattle.pb_session.specs.Session.{Adds, AddsAccepted, AreNamesOf, Balances, cause_in, IsAdviceText, IsBalanceOf, IsDesign, IsHistoryText, IsReport, IsTextOf, Reports, Windows, state_after, window_head};
     ghost use Rattle.pb_session.specs.Windowed.{IsWindowAt};
 
     /// A session that has stored nothing.
@@ -139,14 +139,19 @@ impl Session {
         last_stage(&self.kept, &self.last)
     }
 
-    /// Takes the record with the number `at`, counted from 1, and appends to `out` what it adds to the output. Returns true iff the
-    /// record was refused. The study of a report is kept if it has one stage, and a stored row drops the kept studies of the
+    /// Takes the record with the number `at`, counted from 1, and appends to `out` what it adds to the output. Returns the cause if
+    /// the record was refused. The study of a report is kept if it has one stage, and a stored row drops the kept studies of the
     /// periods that it touches. In a session of version 2 a declaration doesn't change the graph of a closed period. After an `Err`
     /// (out of memory), the session, with all that it keeps, and `out` are as they were.
-    pub fn row(&mut self, at: u32, row: &Row, out: &mut Vec<u8>) -> Result<bool, AllocError>
+    pub fn row(
+        &mut self,
+        at: u32,
+        row: &Row,
+        out: &mut Vec<u8>,
+    ) -> Result<Option<Refused>, AllocError>
         ensures ok { OnOk result (AppendsText (Adds self.old.state at row.now) out.old out.new) }
-        ensures refused { IfOk result (λ refused.
-            refused ≡ is_refused (answer_of self.old.state.rows row.now)) }
+        ensures refused { IfOk result (λ cause.
+            cause ≡ cause_in (answer_of self.old.state.rows row.now)) }
         ensures stored { OnOk result (self.new.state ≡ state_after self.old.state at row.now) }
         ensures kept { OnOk result (Keeps self.old.state self.old.kept at row.now self.new.kept) }
         ensures reported { OnOk result (self.new.reported
@@ -161,11 +166,11 @@ impl Session {
             Ok(accepted) => {
                 drop_touched(&mut self.kept, &mut self.last, &self.book, &accepted);
                 self.write(accepted, row, out)?;
-                Ok(false)
+                Ok(None)
             }
             Err(NotAccepted::Refused(cause)) => {
                 self.refuse(at, cause, out)?;
-                Ok(true)
+                Ok(Some(cause))
             }
             Err(NotAccepted::NoMemory) => Err(AllocError),
         }

@@ -40,7 +40,7 @@ fn rows_of(alloc: Global, transfers: u32, last: &[u8]) -> Result<Rows, Fail> {
 
 // Whether a session refuses a row.
 fn is_refused(session: &mut Session, at: u32, row: &Row, out: &mut Vec<u8>) -> Result<bool, Fail> {
-    Ok(session.row(at, row, out)?)
+    Ok(session.row(at, row, out)?.is_some())
 }
 
 // Takes rows one after another, and returns whether the last one is refused.

@@ -1,5 +1,5 @@
-use Rattle.pb_check.proofs.OwnLemmas.{shown_passed}
+use Rattle.pb_check.proofs.OwnLemmas.{solved_right}
 use Rattle.pb_check.proofs.laws.solved_law.Goals as goal
 
 pub returns : goal.returns
-returns c = shown_passed c.gap_law.ensures.numbers c.one_state_law.ensures
+returns c = solved_right c.gap_law.ensures.numbers c.one_state_law.ensures

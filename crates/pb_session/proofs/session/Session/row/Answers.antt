@@ -1,4 +1,4 @@
-use Rattle.std.proofs.Common.{◌≡◌, ◌≢◌, ◌∙◌, ◌≤◌, List, Option, length, IfSome, OnErr, Result, Ok, Err, true, false, refl, sym, ap, ap₂, subst}
+use Rattle.std.proofs.Common.{◌≡◌, ◌≢◌, ◌∙◌, ◌≤◌, List, Option, Some, None, length, IfSome, OnErr, Result, Ok, Err, true, false, refl, sym, ap, ap₂, subst}
 use Rattle.std.specs.List.{AllByRecursion}
 use Rattle.pb_study.specs.declared.results.Stage.{Stage}
 use Rattle.pb_classify.specs.Classification.{IsClassification}
@@ -10,13 +10,13 @@ use Rattle.pb_book.specs.declared.answer.NotAccepted.TheVariants.{NoMemory}
 use Rattle.pb_kinds.specs.declared.rows.StoredRow.{StoredRow}
 use Rattle.pb_book.specs.declared.answer.Accepted.TheVariants.{Advise}
 use Rattle.pb_kinds.specs.Costs.{named_costs}
-use Rattle.pb_book.specs.Answer.{Answer, Refuses, Says, after, after_answer, answer_of, is_refused, said_of}
+use Rattle.pb_book.specs.Answer.{Answer, Refuses, Says, after, after_answer, answer_of, said_of}
 use Rattle.pb_period.proofs.GraphLaws.{closed_graphs_law, untouched_law}
 use Rattle.pb_session.specs.declared.kept.KeptStudy.{KeptStudy}
 use Rattle.pb_session.specs.Closed.{LeavesClosed}
 use Rattle.pb_session.specs.Keeping.{IsKeeping, IsKeptStudy, held_of, last_stage, left_by, saved_by}
 use Rattle.pb_session.specs.Kept.{Held, Keeps, KeepsAccepted, KeepsBy, most_kept, reported_after, reported_behind}
-use Rattle.pb_session.specs.Session.{AddsBy, Adds, SessionState, state_after}
+use Rattle.pb_session.specs.Session.{AddsBy, Adds, SessionState, cause_in, state_after}
 use Rattle.pb_session.proofs.KeepingLemmas.{graph_in, keeps_by, left_few, left_kept, left_other, left_stage, reported_still, said, said_ok, saved_other, state_with}
 use Rattle.pb_session.proofs.ClosedLemmas.{leaves_closed, none_joined}
 use Rattle.pb_session.proofs.KeptLemmas.{periods_in}
@@ -122,7 +122,7 @@ returns-in_ok-write-in-Ok-clause-refused c =
     let sure = accepted_sure c.in-Ok.accepted c.accept.result c.in-Ok.is in
     let said_is = sym c.in-Ok.is ∙ c.accept.ensures.answer sure in
     let here = accepted_is (answer_of c.self.inside.book c.args.row.now) c.in-Ok.accepted said_is in
-    subst (λ (h : Held). false ≡ is_refused (answer_of h.state.rows c.args.row.now)) c.self.view_is here
+    subst (λ (h : Held). None ≡ cause_in (answer_of h.state.rows c.args.row.now)) c.self.view_is here
 
 pub returns-in_ok-write-in-Ok-clause-stored : goal.returns-in_ok-write-in-Ok-clause-stored
 returns-in_ok-write-in-Ok-clause-stored c =
@@ -183,14 +183,14 @@ returns-in_ok-refuse-in-Err-Refused c =
     let answer_is : answer ≡ Refuses cause = refused_is answer cause (sym is_for ∙ c.accept.ensures.answer sure) in
     let (text, written, is) = c.in_ok-refuse-in-Err-Refused.ensures.ok in
     let here : Adds state c.args.at c.args.row.now text = subst (λ (a : Answer). AddsBy state c.args.at (named_costs c.args.row.now) a text) (sym answer_is) is in
-    let refused_now : true ≡ is_refused answer = sym (ap is_refused answer_is) in
+    let refused_now : Some cause ≡ cause_in answer = sym (ap cause_in answer_is) in
     let rows_stay : c.accept.new.self ≡ after c.self.inside.book c.args.at c.args.row.now = c.accept.ensures.stored sure in
     let stored : new.state ≡ state_after held.state c.args.at c.args.row.now = ap (state_with state) rows_stay in
     let keeps : Keeps held.state held.kept c.args.at c.args.row.now new.kept = subst (λ (a : Answer). KeepsBy state held.kept c.args.at a held.kept) (sym answer_is) refl in
     let reports : new.reported ≡ reported_after held.state held.reported (answer_of held.state.rows c.args.row.now) = sym (ap (reported_after state held.reported) answer_is) in
     record {
       ok = (text, written, subst (λ (h : Held). Adds h.state c.args.at c.args.row.now text) c.self.view_is here);
-      refused = subst (λ (h : Held). true ≡ is_refused (answer_of h.state.rows c.args.row.now)) c.self.view_is refused_now;
+      refused = subst (λ (h : Held). Some cause ≡ cause_in (answer_of h.state.rows c.args.row.now)) c.self.view_is refused_now;
       stored = subst (λ (h : Held). new.state ≡ state_after h.state c.args.at c.args.row.now) c.self.view_is stored;
       kept = subst (λ (h : Held). Keeps h.state h.kept c.args.at c.args.row.now new.kept) c.self.view_is keeps;
       reported = subst (λ (h : Held). new.reported ≡ reported_after h.state h.reported (answer_of h.state.rows c.args.row.now)) c.self.view_is reports;
