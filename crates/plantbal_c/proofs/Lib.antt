@@ -1,0 +1,4 @@
+pub mod AsBox
+pub mod BlockLemmas
+pub mod FieldLemmas
+pub mod HandleSteps

@@ -1,0 +1,9 @@
+-- Statement
+pub mod Status
+pub mod Asked
+pub mod Block
+pub mod Fields
+pub mod Opened
+-- Inside
+pub mod Next
+pub mod Owned

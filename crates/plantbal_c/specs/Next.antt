@@ -1,0 +1,11 @@
+-- Inside. What a session that C holds does with the next record of a block.
+use Rattle.std.specs.Prelude.{◌≡◌, ◌∷◌, [], ℕ, List, Option, Some, None}
+use Rattle.pb_rows.specs.RecordsLeft.{RecordsLeft}
+use Rattle.plantbal_c.specs.Opened.{Opened}
+use Rattle.plantbal_c.specs.Block.{TakesOne}
+
+-- the first record that was left is taken, and its answer has this number; or none was left, and nothing changes
+abbrev pub AnswersNext : Opened → Opened → RecordsLeft → RecordsLeft → Option ℕ → Type 0
+AnswersNext old new records_old records_new (Some code) =
+    (row : List (List ℕ)) × (records_old.left ≡ row ∷ records_new.left) × TakesOne old new row code
+AnswersNext old new records_old records_new None = (records_old.left ≡ []) × (new ≡ old)

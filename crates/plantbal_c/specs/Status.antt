@@ -1,0 +1,30 @@
+-- Statement. How a call from C ended: the numbers of the statuses.
+use Rattle.std.specs.Prelude.{ℕ}
+
+-- everything was done; of a run or a check, nothing is wrong
+abbrev pub done : ℕ
+done = 0
+
+-- the same, and a record was refused or a block is wrong
+abbrev pub done_refused : ℕ
+done_refused = 1
+
+-- an argument is outside its limits, and nothing was done
+abbrev pub usage : ℕ
+usage = 2
+
+-- there are more bytes or more records than the limit
+abbrev pub too_large : ℕ
+too_large = 5
+
+-- memory ran out
+abbrev pub no_memory : ℕ
+no_memory = 6
+
+-- the handle holds no session or, for a call that makes one, it already holds one; nothing was done
+abbrev pub bad_handle : ℕ
+bad_handle = 7
+
+-- the buffer is too small, and nothing was done
+abbrev pub small_buffer : ℕ
+small_buffer = 8

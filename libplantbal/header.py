@@ -1,0 +1,269 @@
+"""What C and Python know of the library, out of the exports of the crate plantbal_c.
+
+A prototype follows from an export's signature, its comment from the export's, the numbers of the
+statuses from the constants of status.rt, and those of the causes from pb_book. A slice is passed as
+a pointer and a length, and an allocator isn't passed. A type without a rule stops the maker. The
+files are made and checked by packaging/derived.
+"""
+
+from __future__ import annotations
+
+import re
+import textwrap
+from dataclasses import dataclass
+from pathlib import Path
+
+TOP = Path(__file__).resolve().parent.parent
+CRATE = TOP / "crates" / "plantbal_c" / "src"
+HEADER = TOP / "libplantbal" / "plantbal.h"
+EXPORTS = TOP / "libplantbal" / "exports.map"
+PYTHON = TOP / "python" / "plantbal" / "_declarations.py"
+SYMBOLS = TOP / "packaging" / "libplantbal0.symbols"
+# The version of the symbols, and the release that brought them: functions that are added later get
+# the next ones.
+VERSION = "PLANTBAL_0"
+SINCE = "0.21.0"
+
+EXPORT = re.compile(
+    r"((?:^/// .*\n)+)^#\[unsafe\(no_mangle\)\]\n"
+    r'^pub extern "C" fn (\w+)\(\s*([^()]*?),?\s*\)(?: -> (\w+))?\s*\n',
+    re.M,
+)
+STRUCT = re.compile(
+    r"((?:^/// .*\n)+)^#\[repr\(C\)\]\n(?:^#\[derive.*\n)*^pub struct (\w+) \{\n([^{}]*)^\}",
+    re.M,
+)
+FIELD = re.compile(r"((?:^ +/// .*\n)*)^ +pub (\w+): (\w+),$", re.M)
+STATUS = re.compile(r"((?:^/// .*\n)+)^pub\(crate\) const (\w+): u8 = (\d+);", re.M)
+CAUSE = re.compile(r"((?:^ +/// .*\n)+)^ +(\w+),$", re.M)
+CONSTANT = re.compile(r"(?m)^pub const (\w+): u32 = ([\d_]+);")
+CODE = re.compile(r"Refused::(\w+) => (\d+),")
+
+NUMBERS = {
+    "u8": "uint8_t",
+    "u32": "uint32_t",
+    "i32": "int32_t",
+    "u64": "uint64_t",
+    "i64": "int64_t",
+    "usize": "size_t",
+    "bool": "bool",
+}
+# The handle: an array of one, so that C passes it by its place and can't assign it.
+HANDLE = "SessionHandle"
+
+
+@dataclass(frozen=True)
+class Export:
+    """An exported function: what its comment says, its name, parameters and result in C."""
+
+    comment: str
+    name: str
+    parameters: list[str]
+    result: str
+
+    def prototype(self) -> str:
+        """Return the declaration, wrapped to 100 columns."""
+        head = f"{self.result} {self.name}("
+        whole = head + ", ".join(self.parameters) + ");"
+        if len(whole) <= 100:
+            return whole
+        return head + "\n    " + ",\n    ".join(self.parameters) + ");"
+
+
+def c_name(rust: str) -> str:
+    """Return the name in C of a struct: PlantbalOptions is plantbal_options."""
+    return re.sub(r"(?<!^)(?=[A-Z])", "_", rust).lower()
+
+
+def c_parameters(name: str, rust: str) -> list[str]:
+    """Return the parameters in C for one in Rattle."""
+    if rust == "Global":
+        return []
+    if rust in NUMBERS:
+        return [f"{NUMBERS[rust]} {name}"]
+    if rust == f"&mut {HANDLE}":
+        return [f"plantbal_session {name}"]
+    slice_of = re.fullmatch(r"&(mut )?\[(\w+)\]", rust)
+    if slice_of:
+        const = "" if slice_of[1] else "const "
+        element = "void" if slice_of[2] == "u8" else NUMBERS[slice_of[2]]
+        return [f"{const}{element} *{name}", f"size_t {name}_length"]
+    pointer = re.fullmatch(r"&(mut )?(\w+)", rust)
+    if pointer:
+        const = "" if pointer[1] else "const "
+        return [f"{const}{NUMBERS.get(pointer[2]) or c_name(pointer[2])} *{name}"]
+    raise SystemExit(f"header: no rule for the parameter {name}: {rust}")
+
+
+def words(comment: str) -> str:
+    """Return a comment of Rattle as one line of text."""
+    lines = [line.strip().removeprefix("///").strip() for line in comment.splitlines()]
+    return " ".join(lines).replace("`", "")
+
+
+def block(text: str, indent: str = "") -> str:
+    """Return a text as a comment of C, wrapped to 100 columns."""
+    lines = textwrap.wrap(text, 100 - len(indent) - 6)
+    if len(lines) == 1:
+        return f"{indent}/* {lines[0]} */"
+    return f"{indent}/* " + f"\n{indent}   ".join(lines) + " */"
+
+
+def exports() -> list[Export]:
+    """Return the exports in the order of the modules and of the functions in each."""
+    found = []
+    for module in re.findall(r"(?m)^mod (\w+);", (CRATE / "lib.rt").read_text("utf-8")):
+        for path in [CRATE / f"{module}.rt", *sorted((CRATE / module).glob("*.rt"))]:
+            source = path.read_text("utf-8")
+            for comment, name, parameters, result in EXPORT.findall(source):
+                passed: list[str] = []
+                for parameter in re.split(r",\s*", parameters):
+                    passed += c_parameters(*parameter.split(": ", 1))
+                returned = NUMBERS[result] if result else "void"
+                found.append(Export(words(comment), name, passed, returned))
+            declared = len(re.findall(r"no_mangle", source))
+            if declared != len(EXPORT.findall(source)):
+                raise SystemExit(f"header: {path.name} has exports that can't be read")
+    return found
+
+
+def usual() -> str:
+    """Return the options that a run has if its words ask for nothing else, in C."""
+    source = (TOP / "crates" / "pb_limits" / "src" / "lib.rt").read_text("utf-8")
+    numbers = {name: int(number.replace("_", "")) for name, number in CONSTANT.findall(source)}
+    return f"{{{numbers['DEFAULT_GAP']}, {numbers['DEFAULT_SWEEPS']}, 0, 0, 0}}"
+
+
+def structs() -> list[str]:
+    """Return the declarations of the structs that C fills or reads."""
+    found = []
+    for path in sorted(CRATE.rglob("*.rt")):
+        for comment, name, body in STRUCT.findall(path.read_text("utf-8")):
+            if name == HANDLE:
+                continue
+            lines = [block(words(comment)), f"typedef struct {c_name(name)} {{"]
+            for about, field, kind in FIELD.findall(body):
+                lines.append(block(words(about), "    "))
+                lines.append(f"    {NUMBERS[kind]} {field};")
+            found.append("\n".join([*lines, f"}} {c_name(name)};"]))
+    return found
+
+
+def status_numbers() -> list[tuple[str, str, str]]:
+    """Return what each status says, its name and its number."""
+    found = STATUS.findall((CRATE / "status.rt").read_text("utf-8"))
+    return [(words(comment), name, number) for comment, name, number in found]
+
+
+def statuses() -> str:
+    """Return the enumeration of the statuses."""
+    lines = ["/* How a call ended. The numbers to 6 are those with which the program exits. */"]
+    lines.append("enum plantbal_status {")
+    for comment, name, number in status_numbers():
+        lines.append(block(comment, "    "))
+        lines.append(f"    PLANTBAL_{name} = {number},")
+    return "\n".join([*lines, "};"])
+
+
+def causes() -> str:
+    """Return the enumeration of the causes for which records are refused."""
+    source = (TOP / "crates" / "pb_book" / "src" / "answer.rt").read_text("utf-8")
+    numbers = dict(CODE.findall(source))
+    body = source[source.index("pub enum Refused {") :]
+    lines = [
+        "/* The codes of records: why one is refused, or 0. The first cause that holds counts. */"
+    ]
+    lines += ["enum plantbal_cause {", "    PLANTBAL_ACCEPTED = 0,"]
+    for comment, name in CAUSE.findall(body[: body.index("\n}")]):
+        lines.append(block(words(comment), "    "))
+        upper = re.sub(r"(?<!^)(?=[A-Z])", "_", name).upper()
+        lines.append(f"    PLANTBAL_CAUSE_{upper} = {numbers[name]},")
+    return "\n".join([*lines, "};"])
+
+
+HEAD = """\
+/* plantbal.h: plant mass balance, in process. Made by packaging/derived write. What each call promises is proved; what the caller owes stands in
+   plantbal(3): true pointers and lengths, none of them null, buffers that don't overlap, one call
+   at a time for each session, and no copy of a session's words. */
+#ifndef PLANTBAL_H
+#define PLANTBAL_H
+
+#include <stdbool.h>
+#include <stddef.h>
+#include <stdint.h>
+
+#ifdef __cplusplus
+extern "C" {
+#endif
+"""
+
+HELD = """\
+typedef struct plantbal_handle {
+    void *at;
+    bool live;
+} plantbal_session[1];
+"""
+
+SESSION = f"""\
+/* What a caller holds of a session. It begins as PLANTBAL_SESSION, and the caller never reads or
+   writes its words. As an array it is passed by its place, and can't be assigned. */
+{HELD}#define PLANTBAL_SESSION {{{{0, false}}}}
+"""
+
+TAIL = """\
+#ifdef __cplusplus
+}
+#endif
+
+#endif
+"""
+
+
+def header() -> str:
+    """Return the text of plantbal.h."""
+    parts = [HEAD, statuses() + "\n", causes() + "\n", SESSION]
+    parts += [text + "\n" for text in structs()]
+    parts.append(
+        "/* The options that a run has if its words ask for nothing else. */\n"
+        f"#define PLANTBAL_OPTIONS {usual()}\n"
+    )
+    parts += [f"{block(export.comment)}\n{export.prototype()}\n" for export in exports()]
+    return "\n".join([*parts, TAIL])
+
+
+def export_map() -> str:
+    """Return the text of exports.map: the version of each symbol, and nothing else is exported."""
+    names = "".join(f"        {name};\n" for name in sorted(it.name for it in exports()))
+    return f"{VERSION} {{\n    global:\n{names}    local:\n        *;\n}};\n"
+
+
+def declarations() -> str:
+    """Return the text of the module of Python: what cffi reads, and the statuses."""
+    text = HELD + "".join(re.sub(r" */\*.*?\*/\n", "", it, flags=re.S) + "\n" for it in structs())
+    text += "".join(f"{export.prototype()}\n" for export in exports())
+    statuses = "".join(
+        f"    # {comment}\n    {name} = {number}\n" for comment, name, number in status_numbers()
+    )
+    return (
+        '"""What cffi reads of libplantbal: made by packaging/derived write."""\n\n'
+        "from enum import IntEnum\n\n"
+        f'DECLARATIONS = """\\\n{text}"""\n\n\n'
+        'class Status(IntEnum):\n    """How a call ended."""\n\n' + statuses
+    )
+
+
+def symbols() -> str:
+    """Return the text of Debian's list of symbols, with the release since which each is there."""
+    names = [VERSION, *sorted(it.name for it in exports())]
+    lines = "".join(f" {name}@{VERSION} {SINCE}\n" for name in names)
+    return f"libplantbal.so.0 libplantbal0 #MINVER#\n{lines}"
+
+
+def files() -> dict[Path, str]:
+    """Return the text of each file that is made."""
+    return {
+        HEADER: header(),
+        EXPORTS: export_map(),
+        PYTHON: declarations(),
+        SYMBOLS: symbols(),
+    }

@@ -1,0 +1,93 @@
+// The program's runs and checks through the library: reads standard input, writes standard output, and ends with the status.
+//
+//     drive run|check|block|records|fields [gap sweeps eliminate tests form]
+//
+// `run` and `check` are one call each. `block` hands all records over in one block, `records` in blocks of one code each, and
+// `fields` gives each line that has no quotes as fields.
+#include "plantbal.h"
+#include <stdio.h>
+#include <stdlib.h>
+#include <string.h>
+
+static unsigned char *input;
+static size_t length;
+
+static void read_all(void) {
+    size_t room = 1 << 16, got;
+    input = malloc(room);
+    while ((got = fread(input + length, 1, room - length, stdin)) > 0) {
+        length += got;
+        if (length == room) input = realloc(input, room *= 2);
+    }
+}
+
+// Writes what a session has to hand over, by a buffer of its length.
+static int write_output(plantbal_session session) {
+    size_t count = 0;
+    int status = plantbal_session_output(session, &count, 0, &count);
+    if (status != PLANTBAL_SMALL_BUFFER) return status;
+    void *text = malloc(count);
+    status = plantbal_session_output(session, text, count, &count);
+    fwrite(text, 1, count, stdout);
+    free(text);
+    return status;
+}
+
+// Gives all records in blocks with this much room for codes. Returns 1 if one was refused.
+static int give_blocks(plantbal_session session, size_t room) {
+    unsigned char *codes = malloc(room);
+    size_t skip = 0, taken, refused = 0;
+    do {
+        if (plantbal_session_rows(session, input, length, skip, codes, room, &taken)) exit(100);
+        for (size_t i = 0; i < taken; i++) refused |= codes[i];
+        skip += taken;
+        if (room < 1000 && write_output(session)) exit(101);
+    } while (taken == room);
+    free(codes);
+    return refused != 0;
+}
+
+// Gives each line as fields, without its end. Lines without fields are no records.
+static int give_fields(plantbal_session session) {
+    size_t *ends = malloc((length + 1) * sizeof *ends), refused = 0;
+    unsigned char *text = malloc(length + 1), code;
+    for (unsigned char *at = input, *end = input + length; at < end; at++) {
+        size_t fields = 0, size = 0;
+        for (; at < end && *at != '\n' && *at != '\r'; at++) {
+            if (*at == ',') ends[fields++] = size;
+            else text[size++] = *at;
+        }
+        if (fields == 0 && size == 0) continue;
+        ends[fields++] = size;
+        if (plantbal_session_row(session, text, size, ends, fields, &code)) exit(102);
+        refused |= code;
+    }
+    free(ends);
+    free(text);
+    return refused != 0;
+}
+
+int main(int argc, char **argv) {
+    plantbal_options options = PLANTBAL_OPTIONS;
+    uint32_t *words[] = {&options.gap, &options.sweeps, &options.eliminate, &options.tests, &options.form};
+    for (int i = 2; i < argc && i < 7; i++) *words[i - 2] = (uint32_t)strtoul(argv[i], NULL, 10);
+    plantbal_session session = PLANTBAL_SESSION;
+    int status;
+    read_all();
+    if (strcmp(argv[1], "run") == 0) {
+        status = plantbal_run(&options, input, length, session);
+    } else if (strcmp(argv[1], "check") == 0) {
+        status = plantbal_check(input, length, session);
+    } else {
+        status = plantbal_session_new(&options, session);
+        if (status == PLANTBAL_DONE) {
+            if (strcmp(argv[1], "block") == 0) status = give_blocks(session, length + 1);
+            else if (strcmp(argv[1], "records") == 0) status = give_blocks(session, 1);
+            else status = give_fields(session);
+        }
+    }
+    if (status <= PLANTBAL_DONE_REFUSED && write_output(session)) return 103;
+    plantbal_session_free(session);
+    free(input);
+    return status;
+}

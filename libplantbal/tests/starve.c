@@ -1,0 +1,104 @@
+// Each allocation of a run and of a session is refused in turn. A run then says so and leaves nothing; a session goes on with the next
+// record, and gives the same output in the end. Nothing is left allocated.
+#include "plantbal.h"
+#include <dlfcn.h>
+#include <stdio.h>
+#include <stdlib.h>
+#include <string.h>
+
+static long left = -1, live;
+
+static int is_refused(void) { return left > 0 && --left == 0; }
+
+void *malloc(size_t size) {
+    static void *(*real)(size_t);
+    if (!real) real = (void *(*)(size_t))dlsym(RTLD_NEXT, "malloc");
+    if (is_refused()) return NULL;
+    void *made = real(size);
+    live += made != NULL;
+    return made;
+}
+
+void *realloc(void *old, size_t size) {
+    static void *(*real)(void *, size_t);
+    if (!real) real = (void *(*)(void *, size_t))dlsym(RTLD_NEXT, "realloc");
+    if (is_refused()) return NULL;
+    void *made = real(old, size);
+    live += old == NULL && made != NULL;
+    return made;
+}
+
+void free(void *old) {
+    static void (*real)(void *);
+    if (!real) real = (void (*)(void *))dlsym(RTLD_NEXT, "free");
+    live -= old != NULL;
+    real(old);
+}
+
+static unsigned char input[1 << 18], wanted[1 << 20], got[1 << 20], codes[1 << 16];
+static size_t length, count;
+
+static int fail(const char *what, long at) {
+    printf("starve: %s, at allocation %ld\n", what, at);
+    return 1;
+}
+
+// Refuses each allocation of a run in turn.
+static int starve_run(const plantbal_options *options) {
+    for (long at = 1;; at++) {
+        plantbal_session answer = PLANTBAL_SESSION;
+        long before = live;
+        left = at;
+        int status = plantbal_run(options, input, length, answer);
+        int was_refused = left == 0;
+        left = -1;
+        if (was_refused && status != PLANTBAL_NO_MEMORY) return fail("another status", at);
+        if (!was_refused) {
+            if (plantbal_session_output(answer, wanted, sizeof wanted, &count)) return fail("no output", at);
+            plantbal_session_free(answer);
+            printf("starve: %ld allocations of a run\n", at - 1);
+        }
+        if (live != before) return fail("blocks are left", at);
+        if (!was_refused) return 0;
+    }
+}
+
+// Refuses each allocation of a session in turn, and gives what wasn't taken again.
+static int starve_session(const plantbal_options *options) {
+    size_t whole = count;
+    long again = 0;
+    for (long at = 1;; at++) {
+        plantbal_session session = PLANTBAL_SESSION;
+        long before = live;
+        size_t skip = 0, taken, size;
+        int status;
+        left = at;
+        while (plantbal_session_new(options, session) == PLANTBAL_NO_MEMORY) {}
+        while ((status = plantbal_session_rows(session, input, length, skip, codes, sizeof codes, &taken)) == PLANTBAL_NO_MEMORY) {
+            skip += taken;
+            again++;
+        }
+        int was_refused = left == 0;
+        left = -1;
+        if (status) return fail("another status of a block", at);
+        if (plantbal_session_output(session, got, 10, &size) != PLANTBAL_SMALL_BUFFER) return fail("a small buffer", at);
+        if (plantbal_session_output(session, got, sizeof got, &size) || size != whole || memcmp(got, wanted, size)) return fail("another output", at);
+        plantbal_session_free(session);
+        plantbal_session_free(session);
+        if (live != before) return fail("blocks of a session are left", at);
+        if (!was_refused) {
+            printf("starve: %ld allocations of a session, %ld blocks given again\n", at - 1, again);
+            return 0;
+        }
+    }
+}
+
+int main(int argc, char **argv) {
+    plantbal_options options = PLANTBAL_OPTIONS;
+    FILE *file = argc > 1 ? fopen(argv[1], "rb") : NULL;
+    if (!file) return 2;
+    length = fread(input, 1, sizeof input, file);
+    fclose(file);
+    setvbuf(stdout, NULL, _IONBF, 0);
+    return starve_run(&options) || starve_session(&options);
+}

@@ -1,0 +1,98 @@
+// Wrong use that the library answers: handles that hold nothing or already hold a session, numbers outside their limits, small and
+// empty buffers, places of fields that aren't in order.
+#include "plantbal.h"
+#include <stdio.h>
+#include <string.h>
+
+static int faults;
+
+static void is(const char *what, long got, long wanted) {
+    if (got != wanted) {
+        printf("wrong_use: %s: %ld, not %ld\n", what, got, wanted);
+        faults++;
+    }
+}
+
+static const char rows[] = "unit,A\nunit,A\nfrob\n";
+
+static void empty_handles(void) {
+    plantbal_session none = PLANTBAL_SESSION;
+    unsigned char codes[4], code = 9;
+    size_t count = 7, ends[] = {4, 5};
+    is("rows without a session", plantbal_session_rows(none, rows, sizeof rows - 1, 0, codes, 4, &count), PLANTBAL_BAD_HANDLE);
+    is("none is taken", (long)count, 0);
+    is("a row without a session", plantbal_session_row(none, "unitA", 5, ends, 2, &code), PLANTBAL_BAD_HANDLE);
+    is("output without a session", plantbal_session_output(none, codes, 4, &count), PLANTBAL_BAD_HANDLE);
+    plantbal_session_free(none);
+    plantbal_session_free(none);
+}
+
+static void one_session(void) {
+    plantbal_options options = PLANTBAL_OPTIONS;
+    plantbal_session session = PLANTBAL_SESSION;
+    unsigned char codes[4] = {9, 9, 9, 9}, code = 9, text[64];
+    size_t taken = 9, count, ends[] = {4, 5}, back[] = {4, 3}, beyond[] = {4, 6};
+    is("a session", plantbal_session_new(&options, session), PLANTBAL_DONE);
+    is("a second one", plantbal_session_new(&options, session), PLANTBAL_BAD_HANDLE);
+    is("a run into it", plantbal_run(&options, rows, sizeof rows - 1, session), PLANTBAL_BAD_HANDLE);
+    is("a check into it", plantbal_check(rows, sizeof rows - 1, session), PLANTBAL_BAD_HANDLE);
+    is("no bytes", plantbal_session_rows(session, rows, 0, 0, codes, 4, &taken), PLANTBAL_DONE);
+    is("no record", (long)taken, 0);
+    is("no room", plantbal_session_rows(session, rows, sizeof rows - 1, 0, codes, 0, &taken), PLANTBAL_DONE);
+    is("still no record", (long)taken, 0);
+    is("room for two", plantbal_session_rows(session, rows, sizeof rows - 1, 0, codes, 2, &taken), PLANTBAL_DONE);
+    is("two", (long)taken, 2);
+    is("the others", plantbal_session_rows(session, rows, sizeof rows - 1, 2, codes + 2, 2, &taken), PLANTBAL_DONE);
+    is("one", (long)taken, 1);
+    is("the codes", memcmp(codes, "\0\7\1\11", 4), 0);
+    is("more passed over than there are", plantbal_session_rows(session, rows, sizeof rows - 1, (size_t)-1, codes, 4, &taken), PLANTBAL_DONE);
+    is("none left", (long)taken, 0);
+    is("places that go back", plantbal_session_row(session, "unitB", 5, back, 2, &code), PLANTBAL_USAGE);
+    is("a place beyond the text", plantbal_session_row(session, "unitB", 5, beyond, 2, &code), PLANTBAL_USAGE);
+    is("a row", plantbal_session_row(session, "unitB", 5, ends, 2, &code), PLANTBAL_DONE);
+    is("its code", code, 0);
+    is("a row without fields", plantbal_session_row(session, "", 0, ends, 0, &code), PLANTBAL_DONE);
+    is("a small buffer", plantbal_session_output(session, text, 5, &count), PLANTBAL_SMALL_BUFFER);
+    is("the length", (long)count, (long)strlen("refused,2,7,duplicate\nrefused,3,1,kind\n"));
+    is("the output", plantbal_session_output(session, text, sizeof text, &count), PLANTBAL_DONE);
+    is("its bytes", memcmp(text, "refused,2,7,duplicate\nrefused,3,1,kind\n", count), 0);
+    is("no more output", plantbal_session_output(session, text, 0, &count), PLANTBAL_DONE);
+    is("it is empty", (long)count, 0);
+    plantbal_session_free(session);
+    plantbal_session_free(session);
+    is("after it is freed", plantbal_session_output(session, text, sizeof text, &count), PLANTBAL_BAD_HANDLE);
+    is("another in its place", plantbal_session_new(&options, session), PLANTBAL_DONE);
+    plantbal_session_free(session);
+}
+
+static void limits(void) {
+    static const struct {
+        const char *what;
+        plantbal_options options;
+        int wanted;
+    } cases[] = {
+        {"no gap", {0, 5000, 0, 0, 0}, PLANTBAL_USAGE},
+        {"the least gap", {1, 0, 0, 0, 0}, PLANTBAL_DONE},
+        {"too great a gap", {1000001, 5000, 0, 0, 0}, PLANTBAL_USAGE},
+        {"too many sweeps", {10, 100001, 0, 0, 0}, PLANTBAL_USAGE},
+        {"too many rounds", {10, 5000, 21, 0, 0}, PLANTBAL_USAGE},
+        {"JSON", {10, 5000, 0, 0, 1}, PLANTBAL_DONE},
+        {"another form", {10, 5000, 0, 0, 2}, PLANTBAL_USAGE},
+        {"all bits", {~0u, ~0u, ~0u, ~0u, ~0u}, PLANTBAL_USAGE},
+        {"any number for tests", {10, 5000, 0, ~0u, 0}, PLANTBAL_DONE},
+    };
+    for (size_t i = 0; i < sizeof cases / sizeof *cases; i++) {
+        plantbal_session session = PLANTBAL_SESSION;
+        is(cases[i].what, plantbal_session_new(&cases[i].options, session), cases[i].wanted);
+        plantbal_session_free(session);
+        is(cases[i].what, plantbal_run(&cases[i].options, "", 0, session), cases[i].wanted);
+        plantbal_session_free(session);
+    }
+}
+
+int main(void) {
+    empty_handles();
+    one_session();
+    limits();
+    return faults != 0;
+}
