@@ -21,7 +21,7 @@ if TYPE_CHECKING:
     from plantbal.conversion import convert
     from plantbal.faults import Fault, InputFault, ProgramFault, Refusal, ToolMissing
     from plantbal.lint import lint_session
-    from plantbal.lintrules import Finding
+    from plantbal.lint import Finding
     from plantbal.output import Output, read_report
     from plantbal.program import find_program
     from plantbal.runs import check, run
@@ -52,7 +52,7 @@ __all__ = [
 
 _HOMES = {
     "Fault": "faults",
-    "Finding": "lintrules",
+    "Finding": "lint",
     "InputFault": "faults",
     "Output": "output",
     "ProgramFault": "faults",

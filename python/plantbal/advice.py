@@ -4,19 +4,19 @@ from __future__ import annotations
 
 import argparse
 import sys
-from collections.abc import Iterable, Iterator, Mapping
+from collections.abc import Iterable, Iterator, Mapping, Sequence
 from dataclasses import dataclass
 from pathlib import Path
 
 from plantbal.asks import some
 from plantbal.cells import Reader, check_locale
 from plantbal.explain import explain_bytes, is_report
-from plantbal.faults import Fault, InputFault, Place, read_bytes
+from plantbal.faults import Fault, InputFault, Place
 from plantbal.files import write_bytes, write_text
+from plantbal.forms import read_session
 from plantbal.options import add_program
 from plantbal.picture import advised, svg
 from plantbal.program import call
-from plantbal.records import read_records
 from plantbal.report import Values, advice_of, parse_rows
 from plantbal.schema import schema
 from plantbal.session import Session
@@ -52,8 +52,8 @@ class Advice:
         What a meter costs on each stream that has none.
     """
 
-    rows: list[Values]
-    meters: list[Values]
+    rows: Sequence[Values]
+    meters: Sequence[Values]
     costs: dict[str, int]
 
     @property
@@ -90,14 +90,11 @@ def plant_of(source: str, data: bytes) -> Session:
         place = Place(file=source)
         raise InputFault("this is an output", place=place, remedy="name the session")
     session = Session(strict=False)
-    for record in read_records(data):
-        place = Place(file=source, line=record.line, record=record.number)
-        session.row(*record.fields, place=place)
+    session.take(source, data)
     refused = any(each.row[0] in _PLANT for each in session.refused)
     if not session.streams or refused:
         found = explain_bytes(source, data)
-        asks_nothing = "it asks for nothing"  # which isn't wrong here
-        whole = [told for told in found.whole if not told.sentence.startswith(asks_nothing)]
+        whole = [told for told in found.whole if not told.asks_nothing]  # which isn't wrong here
         for told in [*whole, *found.rows]:
             raise Fault(told.headline, text=told.row)
         raise InputFault("it has no stream", place=Place(file=source), remedy="is it a session?")
@@ -210,7 +207,7 @@ def add_arguments(parser: argparse.ArgumentParser) -> None:
 
 def run(options: argparse.Namespace) -> int:
     """Write which streams to meter."""
-    source, data = read_bytes(options.session)
+    source, data = read_session(options.session)
     plant = plant_of(source, data)
     costs = read_costs(options.costs, plant, options.locale) if options.costs else {}
     plain = [name for name, kind in plant.streams.items() if kind == "plain"]

@@ -3,7 +3,9 @@
 from __future__ import annotations
 
 import datetime
+from collections.abc import Sequence
 from decimal import ROUND_CEILING, Context, Decimal, Inexact, InvalidOperation
+from itertools import repeat
 from math import isqrt
 
 from plantbal.faults import Fault
@@ -76,6 +78,18 @@ def grams_of(tonnes: Tonnes, what: str = "TONNES") -> int:
             remedy="at most six decimals",
         )
     return whole
+
+
+def many_grams(tonnes: Sequence[Decimal]) -> list[int] | None:
+    """Return tonnes as whole grams, all at once; None if one of them isn't such an amount."""
+    try:
+        if max(map(Decimal.adjusted, tonnes), default=0) > 100:
+            return None
+        grams = list(map(_EXACT.scaleb, tonnes, repeat(6)))
+        whole = list(map(int, grams))
+    except (Inexact, InvalidOperation, OverflowError, ValueError):
+        return None
+    return whole if whole == grams else None
 
 
 def whole_of(number: int | str, what: str) -> str:

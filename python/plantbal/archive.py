@@ -10,9 +10,11 @@ import sys
 from dataclasses import replace
 from pathlib import Path
 
+from plantbal.believed import judge
 from plantbal.build import build_of
 from plantbal.bundle import (
     MANIFEST,
+    MOST_BYTES,
     OUTPUT,
     SESSION,
     SUMMARY,
@@ -24,10 +26,11 @@ from plantbal.bundle import (
 )
 from plantbal.changed import digest, digests_of_parts
 from plantbal.faults import Fault, Place, ProgramFault, read_bytes
-from plantbal.files import write_bytes
-from plantbal.held import Ledger
-from plantbal.lintbook import day_text
-from plantbal.options import add_run
+from plantbal.linked import named_book, named_bundle
+from plantbal.model.forms import day_text
+from plantbal.model.ledger import Ledger
+from plantbal.newfile import write_new
+from plantbal.options import add_run, add_timeout
 from plantbal.output import Output, parse_report
 from plantbal.program import STATUSES, call, find_program, words_of
 from plantbal.progress import Progress
@@ -40,8 +43,9 @@ SESSION is a file; `-` is standard input. The program is run, and the bundle is 
   output.csv     the program's output for it
   summary.txt    what you need to know, and the flows of the period in tonnes
   manifest.json  the period, its days, the time, the words, the program's digest, its version
-                 and where that is from, and the digest of each file, and of each fifty lines of
-                 session and output
+                 and where that is from, the digest of each file, and of each fifty lines of
+                 session and output, and, if they are named, the head of the book and the digest
+                 of the bundle before
   SHA256SUMS     the digests of all these, for `sha256sum --check`
 
 The zip ends with a comment that has the digest of all bytes before it.
@@ -150,6 +154,11 @@ def add_arguments(parser: argparse.ArgumentParser) -> None:
     parser.add_argument("--out", metavar="FILE", help="the bundle (default: PLANT_PERIOD.zip)")
     time = "when it is archived, such as 2024-05-02T06:00:00Z (default: now)"
     parser.add_argument("--time", metavar="TIME", help=time)
+    book = "the book that the session is from: the bundle names the head of its chain"
+    parser.add_argument("--book", metavar="FOLDER", help=book)
+    before = "the plant's bundle before this one, which it names by its digest"
+    parser.add_argument("--before", metavar="BUNDLE", help=before)
+    add_timeout(parser)
     add_run(parser)
 
 
@@ -162,13 +171,44 @@ def _write(path: str, data: bytes) -> bool:
         If it is there with other bytes.
     """
     target = Path(path)
-    if target.exists():
-        if target.read_bytes() == data:
-            return False
-        what = "it is there already, with other bytes, and an archive isn't written over"
-        raise Fault(what, place=Place(file=path), remedy="name another file by --out")
-    write_bytes(target, data)
-    return True
+    if write_new(target, data):
+        return True
+    if read_bytes(target)[1] == data:
+        return False
+    what = "it is there already, with other bytes, and an archive isn't written over"
+    raise Fault(what, place=Place(file=path), remedy="name another file by --out")
+
+
+def plant_of(options: argparse.Namespace) -> str:
+    """Return what the plant is called: by its word, or by the name of the session's file.
+
+    Raises
+    ------
+    Fault
+        If it isn't one line of printable text: it would look like other lines of the summary.
+    """
+    stem = "plant" if options.session == "-" else Path(options.session).name.split(".")[0]
+    plant: str = options.plant or stem
+    if not plant.isprintable():
+        remedy = "say --plant NAME, in one line of letters, digits, signs and spaces"
+        raise Fault(f"the plant can't be called {plant!r}", text=plant, remedy=remedy)
+    return plant
+
+
+def _fits(files: dict[str, bytes]) -> dict[str, bytes]:
+    """Return files that a bundle may have.
+
+    Raises
+    ------
+    Fault
+        If one is larger than a bundle's may be.
+    """
+    for name, data in files.items():
+        if len(data) > MOST_BYTES[name]:
+            what = f"{name} has {len(data):,} bytes, and in a bundle it may have"
+            remedy = "archive a session that asks for fewer reports"
+            raise Fault(f"{what} {MOST_BYTES[name]:,}", remedy=remedy)
+    return files
 
 
 def run(options: argparse.Namespace) -> int:
@@ -177,7 +217,7 @@ def run(options: argparse.Namespace) -> int:
 
     if options.session == "-" and sys.stdin.isatty():
         print("reading standard input, up to Ctrl-D", file=sys.stderr)
-    made = time_of(options.time)
+    made, plant = time_of(options.time), plant_of(options)
     source, session = read_bytes(options.session)
     words = words_of(
         tests=not options.no_tests,
@@ -188,14 +228,15 @@ def run(options: argparse.Namespace) -> int:
     program = find_program(options.program)
     try:
         with Progress(options.prog, session) as progress:
-            status, written = call(words, session, program=program, watch=progress.watch())
+            status, written = call(
+                words, session, program=program, timeout=options.timeout, watch=progress.watch()
+            )
     except ProgramFault as fault:
         print(f"{options.prog}: {source}: {fault}", file=sys.stderr)
         return fault.status if fault.status in STATUSES else 1
+    judge(written, f"the output of {source}", program)
     output = parse_report(written.decode("utf-8"), f"the output of {source}", status)
     period = period_of(output, options.period)
-    stem = "plant" if options.session == "-" else Path(options.session).name.split(".")[0]
-    plant = options.plant or stem
     stated = Manifest(
         archive=VERSION,
         plant=plant,
@@ -209,8 +250,10 @@ def run(options: argparse.Namespace) -> int:
         reports=[],
         refused=0,
         files={},
+        book=named_book(options.book),
+        before=named_bundle(options.before),
     )
-    files = bundle_files(session, written, stated)
+    files = _fits(bundle_files(session, written, stated))
     path = options.out or f"{re.sub('[^A-Za-z0-9_.-]', '_', plant)}_{period}.zip"
     state = "" if _write(path, packed(files)) else ", as it was before"
     for line in output.why:

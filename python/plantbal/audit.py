@@ -24,15 +24,18 @@ from plantbal.bundle import (
 )
 from plantbal.changed import digest, where
 from plantbal.faults import Fault, InputFault, Place, ProgramFault, ToolMissing, read_bytes
-from plantbal.held import Ledger, Pair, answers_of, pairs_of, refused_differ
-from plantbal.options import add_program
+from plantbal.held import Pair, answers_of, pairs_of, refused_differ
+from plantbal.model.ledger import Ledger
+from plantbal.options import add_program, add_timeout
 from plantbal.output import Output, parse_report
 from plantbal.program import call, find_program, words_of
 from plantbal.progress import Progress
 from plantbal.report import Block
 from plantbal.runwords import words_read, words_shown
+from plantbal.studies import studies_of
 from plantbal.summary import blocks_named, said_of
 from plantbal.verdicts import explain_check
+from plantbal.verify import second_verdict
 
 HELP = """
 BUNDLE is what `plantbal-desk archive` wrote; or REPORT is an output of the program, as CSV or as
@@ -50,7 +53,8 @@ Each sentence begins with `good:`, `note:` (you may want to know it) or `wrong:`
 Without a bundle the words are those of --words, or else those that the report shows.
 
 With --no-program the program isn't run and need not be there; the checker in plain Python and the
-comparison with the session remain. A note says what isn't compared then.
+comparison with the session remain. A note says what isn't compared then. With --timeout the program
+is stopped after that many seconds; the audit then doesn't hold.
 
 The status is 1 if anything is wrong, and with --strict also if there is a note; otherwise it is 0.
 
@@ -59,6 +63,11 @@ examples:
   plantbal-desk audit april.out.csv april.csv
 """
 _SHORT = 120
+NOT_COMPARED = (
+    "the program wasn't run, so these aren't compared: gap and sweeps, which measurements are"
+    " tested and by what, designs, advice, what was taken, the heads of windows and balances,"
+    " histories"
+)
 
 
 @dataclass
@@ -315,8 +324,10 @@ def session_held(audit: Audit, given: Given, path: str) -> None:
 # ---- a report and its session
 
 
-def run_again(audit: Audit, given: Given, program: str | None, prog: str) -> None:
-    """Run the program again, and compare what it writes."""
+def run_again(
+    audit: Audit, given: Given, program: str | None, prog: str, seconds: float | None = None
+) -> None:
+    """Run the program again, for some seconds at most, and compare what it writes."""
     found = find_program(program)
     own = digest(found.read_bytes())
     if given.program and own != given.program:
@@ -324,7 +335,9 @@ def run_again(audit: Audit, given: Given, program: str | None, prog: str) -> Non
         audit.add("note", f"{given.source}: {what} {given.program}: it is another build or version")
     try:
         with Progress(prog, given.data) as progress:
-            written = call(given.words, given.data, program=found, watch=progress.watch())[1]
+            written = call(
+                given.words, given.data, program=found, timeout=seconds, watch=progress.watch()
+            )[1]
     except ProgramFault as fault:
         audit.add("wrong", f"{given.session}: {fault}")
         return
@@ -340,16 +353,29 @@ def run_again(audit: Audit, given: Given, program: str | None, prog: str) -> Non
     audit.add("wrong", f"{given.report}: {differs.place}: {what}: {rest}")
 
 
-def check_twice(audit: Audit, given: Given, program: str | None, with_program: bool) -> list[str]:
+def check_twice(
+    audit: Audit,
+    given: Given,
+    program: str | None,
+    with_program: bool,
+    seconds: float | None = None,
+) -> list[str]:
     """Check a report by the program and in plain Python, and return the verdict on each block."""
     rows = list(checker.findings(given.output))
     said = "".join(f"{','.join(row)}\n" for row in rows).encode("ascii")
     if with_program:
-        other = call(["check"], given.output, program=program)[1]
+        try:
+            other = call(["check"], given.output, program=program, timeout=seconds)[1]
+        except ProgramFault as fault:
+            audit.add("wrong", f"{given.report}: {fault}")
+            other = said
         if other != said:
             found = differs_at(said, other)
             what = f"the checker in plain Python says {found.one}, and plantbal check {found.other}"
             audit.add("wrong", f"{given.report}: finding {found.line}: {what}: one of the two errs")
+        same, sentence = second_verdict(given.output, said, seconds)
+        if sentence:
+            audit.add("good" if same else "wrong", f"{given.report}: {sentence}")
     if not rows and not any(answer.over for answer in answers_of(given.output)):
         what = "a report has blocks from `report` to `end`" if given.output else "the file is empty"
         audit.add("wrong", f"{given.report}: there is no block to check: {what}")
@@ -372,7 +398,7 @@ def hold(audit: Audit, given: Given, verdicts: list[str], checks: str) -> None:
         audit.add("wrong", f"{given.report}: {what}")
     held: list[bool] = []
     loose: list[bool] = []
-    for pair in pairs_of(ledger.seen, answers):
+    for pair in pairs_of(studies_of(ledger), answers):
         held += _pair_held(audit, given, pair)
         is_loose = pair.seen.component != "" and pair.mass is None
         loose += [is_loose] * len(pair.answer.blocks)
@@ -480,6 +506,7 @@ def add_arguments(parser: argparse.ArgumentParser) -> None:
     parser.add_argument("--words", metavar="WORDS", help="the words of the run, as one word")
     parser.add_argument("--no-program", action="store_true", help="don't run the program")
     parser.add_argument("--strict", action="store_true", help="status 1 on notes too")
+    add_timeout(parser)
     add_program(parser)
 
 
@@ -531,12 +558,12 @@ def run(options: argparse.Namespace) -> int:
         )
         audit.add("note", f"{given.report}: {what} are usual: see whether this was meant")
     if options.no_program:
-        what = "the program wasn't run, so these aren't compared: gap and sweeps, which measurements"
-        rest = "are tested and by what, what was taken, the heads of windows and balances, histories"
-        audit.add("note", f"{given.report}: {what} {rest}")
+        audit.add("note", f"{given.report}: {NOT_COMPARED}")
     else:
-        run_again(audit, given, options.program, options.prog)
-    verdicts = check_twice(audit, given, options.program, not options.no_program)
+        run_again(audit, given, options.program, options.prog, options.timeout)
+    verdicts = check_twice(
+        audit, given, options.program, not options.no_program, options.timeout
+    )
     checks = "the checker in plain Python says yes" if options.no_program else "both checks say yes"
     hold(audit, given, verdicts, checks)
     wrong, notes = audit.count("wrong"), audit.count("note")

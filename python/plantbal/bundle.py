@@ -13,18 +13,32 @@ from pathlib import Path
 from typing import Any
 
 from plantbal.changed import digest
+from plantbal.container import layout_fault
 from plantbal.faults import InputFault, Place, read_bytes
+from plantbal.limits import SESSION_BYTES
 
 SESSION, OUTPUT, SUMMARY = "session.csv", "output.csv", "summary.txt"
 MANIFEST, DIGESTS = "manifest.json", "SHA256SUMS"
 NAMES = (SESSION, OUTPUT, SUMMARY, MANIFEST, DIGESTS)
-VERSION = 3
+VERSION = 4
 # What a manifest has of the program, by the version of its form.
 _BUILD = ("sha256", "version", "commit")
-_PROGRAM = {1: _BUILD, 2: (*_BUILD, "from"), 3: (*_BUILD, "from")}
+_FROM = (*_BUILD, "from")
+_PROGRAM: dict[int, tuple[str, ...]] = {1: _BUILD, 2: _FROM, 3: _FROM, 4: _FROM}
 _SEALED = 3  # from this version on a manifest has the digests of parts, and a zip one of its own
+_CHAINED = 4  # from this version on a manifest names the head of a book, and the bundle before it
+# What it has of these two, if anything.
+_HEAD = ("number", "head")
+_LINKS = {"book": _HEAD, "before": ("sha256", *_HEAD)}
 _SEAL = "SHA-256 of the bytes before this comment: "
-_MOST_BYTES = 1 << 30
+# The most bytes of a file: a session has no more for the program either.
+MOST_BYTES = {
+    SESSION: SESSION_BYTES,
+    OUTPUT: 1 << 28,
+    SUMMARY: 1 << 26,
+    MANIFEST: 1 << 26,
+    DIGESTS: 1 << 16,
+}
 _WHEN = (1980, 1, 1, 0, 0, 0)
 _BROKEN = (
     zipfile.BadZipFile,
@@ -80,6 +94,12 @@ class Manifest:
         The SHA-256 of each file.
     parts : dict
         The SHA-256 of each fifty lines of the session and of the output; not before version 3.
+    book : dict
+        The ``head`` of the book that the session is from, and its ``number``; empty if it is from
+        none. Not before version 4.
+    before : dict
+        The ``sha256`` of the plant's bundle before this one, and the ``number`` and the ``head``
+        that are in it; empty if none was named. Not before version 4.
     """
 
     archive: int
@@ -95,6 +115,8 @@ class Manifest:
     refused: int
     files: dict[str, str]
     parts: dict[str, list[str]] = field(default_factory=dict)
+    book: dict[str, str] = field(default_factory=dict)
+    before: dict[str, str] = field(default_factory=dict)
 
     @property
     def is_sealed(self) -> bool:
@@ -106,6 +128,8 @@ class Manifest:
         items = asdict(self)
         if not self.is_sealed:
             del items["parts"]
+        if self.archive < _CHAINED:
+            del items["book"], items["before"]
         return (json.dumps(items, indent=2) + "\n").encode("utf-8")
 
     @classmethod
@@ -122,6 +146,9 @@ class Manifest:
         except ValueError as error:
             place = Place(file=MANIFEST, line=getattr(error, "lineno", None))
             raise InputFault(f"this isn't JSON: {error}", place=place) from error
+        except RecursionError as error:
+            what = "its lists are nested deeper than any manifest's"
+            raise InputFault(what, place=Place(file=MANIFEST)) from error
         wanted: dict[str, type | tuple[type, type]] = {
             **dict.fromkeys(("plant", "period", "first", "last", "made", "words", "desk"), str),
             **dict.fromkeys(("archive", "refused"), int),
@@ -131,6 +158,8 @@ class Manifest:
         place = Place(file=MANIFEST)
         if isinstance(found, dict) and "parts" in found:  # before version 3 it has none
             wanted["parts"] = dict
+        if isinstance(found, dict) and "book" in found:  # before version 4 it has none
+            wanted |= dict.fromkeys(_LINKS, dict)
         if not isinstance(found, dict) or set(found) != set(wanted):
             said = ", ".join(wanted)
             raise InputFault("its items aren't those of a manifest", place=place, remedy=said)
@@ -147,9 +176,15 @@ class Manifest:
             raise InputFault("its item 'program' isn't of its form", place=place, remedy=remedy)
         # In the order in which they are written, so that another order is a difference.
         found["program"] = {name: found["program"][name] for name in names}
-        if ("parts" in found) != (found["archive"] >= _SEALED):
+        since = {"parts": _SEALED, "book": _CHAINED}
+        if any((name in found) != (found["archive"] >= at) for name, at in since.items()):
             said = ", ".join(wanted)
             raise InputFault("its items aren't those of its version", place=place, remedy=said)
+        for name, inner in _LINKS.items() if "book" in found else ():
+            if found[name] and tuple(found[name]) != inner:
+                remedy = f"it has {', '.join(inner)}"
+                what = f"its item {name!r} isn't of its form"
+                raise InputFault(what, place=place, remedy=remedy)
         return cls(**found)
 
 
@@ -221,7 +256,7 @@ class Unpacked:
     wrong : list of str
         What is wrong with the zip.
     note : str
-        What may be looked at in a zip without a digest of its own.
+        What may be looked at in a zip that is packed otherwise than here.
     is_sealed : bool
         Whether it has one.
     """
@@ -257,16 +292,19 @@ def unpacked(path: str | Path) -> Unpacked:
             for entry in entries:
                 wrong += [f"{entry.filename}: its entry's {what}" for what in _entry_faults(entry)]
                 files[entry.filename] = _read(bundle, entry, source)
+            if not wrong and (fault := layout_fault(entries, bundle.start_dir, data)):
+                wrong.append(f"{fault}: some unpackers may find other files in it")
     except _BROKEN as error:
         raise InputFault(
             f"this zip can't be read: {error}",
             place=Place(file=source),
             remedy="it was cut or changed: ask for it again",
         ) from error
-    if comment or packed(files, sealed=False) == data:
+    if wrong or packed(files, sealed=bool(comment)) == data:
         return Unpacked(files, wrong, is_sealed=bool(comment))
-    note = "the zip's own bytes aren't those that are packed here; its files count"
-    return Unpacked(files, wrong, note)
+    note = "the zip's own bytes aren't those that are packed here, but its files are the same for"
+    rest = "each reader of zips: nothing stands before, between or after them"
+    return Unpacked(files, wrong, f"{note} {rest}", is_sealed=bool(comment))
 
 
 def _comment_faults(comment: bytes, data: bytes) -> list[str]:
@@ -279,11 +317,15 @@ def _comment_faults(comment: bytes, data: bytes) -> list[str]:
 
 
 def _read(bundle: zipfile.ZipFile, entry: zipfile.ZipInfo, source: str) -> bytes:
-    place = Place(file=source, sheet=entry.filename)
-    if entry.file_size > _MOST_BYTES:
-        raise InputFault("this file is too large for a bundle", place=place)
+    """Return a file of a bundle, of which no more is unpacked than a bundle may have."""
+    place, most = Place(file=source, sheet=entry.filename), MOST_BYTES[entry.filename]
     try:
-        return bundle.read(entry)
+        with bundle.open(entry) as file:
+            data = file.read(most + 1) if entry.file_size <= most else b""
+        if len(data) <= most >= entry.file_size:
+            return data
+        what = f"it has more than the {most:,} bytes that this file of a bundle may have"
+        raise InputFault(what, place=place, remedy="archive writes no such bundle")
     except _BROKEN as error:
         raise InputFault(
             f"this file can't be read: {error}",

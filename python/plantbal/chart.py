@@ -8,8 +8,9 @@ from collections.abc import Callable
 from pathlib import Path
 from typing import Any, BinaryIO
 
-from plantbal.faults import Fault, ToolMissing, read_bytes
+from plantbal.faults import Fault, ToolMissing
 from plantbal.files import replacing
+from plantbal.forms import read_session
 from plantbal.output import read_all
 from plantbal.trend import Line, Trend, trend_of
 
@@ -373,7 +374,7 @@ def run(options: argparse.Namespace) -> int:
         raise Fault(
             f"{options.out} ends with {form!r}", text=options.out, remedy="say .svg, .png or .pdf"
         )
-    session = b"\n".join(read_bytes(path)[1] for path in options.session)
+    session = b"\n".join(read_session(path)[1] for path in options.session)
     output = read_all(options.outputs or ["-"], "report")
     trend = trend_of(output, session, options.component)
     lines = chosen(trend, options.most, options.stream)

@@ -13,7 +13,8 @@ from types import SimpleNamespace
 
 from plantbal.faults import Fault, InputFault, ProgramFault, decoded, read_bytes
 from plantbal.files import unwritten, write_text
-from plantbal.options import add_program, add_run, add_sweeps
+from plantbal.forms import session_to_run
+from plantbal.options import add_program, add_run, add_sweeps, add_timeout
 from plantbal.output import Output, parse_report, read_report
 from plantbal.program import STATUSES
 from plantbal.progress import Progress
@@ -27,6 +28,7 @@ from plantbal.report import (
     refuse_parts,
     subjects_of,
 )
+from plantbal.rows import Numbers
 from plantbal.runs import check, run
 
 OUTPUT_HELP = """
@@ -84,13 +86,14 @@ def _add_session(parser: argparse.ArgumentParser) -> None:
 
 def _add_run(parser: argparse.ArgumentParser) -> None:
     _add_session(parser)
+    add_timeout(parser)
     add_run(parser)
 
 
 def _run(options: argparse.Namespace) -> int:
     write = writer_of(options.out)
     _say_reading(options.session)
-    source, data = read_bytes(options.session)
+    source, data = session_to_run(options.session)
     try:
         with Progress(options.prog, data) as progress:
             output = run(
@@ -100,7 +103,9 @@ def _run(options: argparse.Namespace) -> int:
                 gap=options.gap,
                 sweeps=options.sweeps,
                 program=options.program,
+                timeout=options.timeout,
                 watch=progress.watch(),
+                judged=True,
             )
     except ProgramFault as fault:
         print(f"{options.prog}: {source}: {fault}", file=sys.stderr)
@@ -125,7 +130,7 @@ def say_rows(options: argparse.Namespace, source: str, data: bytes, output: Outp
     found = explain_bytes(source, data)
     for told in [*found.whole, *found.rows[:FIRST]]:
         print(told, file=sys.stderr)
-    more = len(found.rows) - FIRST
+    more = max(0, len(found.rows) - FIRST) + found.more
     if more > 0:
         what = "row is" if more == 1 else "rows are"
         named = "" if source == "standard input" else f" {source}"
@@ -144,7 +149,7 @@ def periods_of(data: bytes, output: Output) -> list[str]:
         Its output.
     """
     last = last_blocks(output.blocks_in_order)
-    refused = {int(row["at"]) for row in output.rows if row["row"] == "refused"}
+    refused = Numbers(output.rows)
     over = {
         str(subject): f"no {subject.what}: the total of {stream} is beyond the limits"
         for subject, stream in over_of(output.rows, subjects_of(data, refused)).items()
@@ -181,7 +186,7 @@ def _solve(options: argparse.Namespace) -> int:
 
     write = writer_of(options.out)
     _say_reading(options.session)
-    source, data = read_bytes(options.session)
+    source, data = session_to_run(options.session)
     output = solve(data, gap=options.gap, sweeps=options.sweeps, program=options.program)
     write(output)
     status = say(options, output)

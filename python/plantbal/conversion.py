@@ -6,10 +6,11 @@ import argparse
 import re
 import sys
 from collections.abc import Iterable
-from dataclasses import dataclass
+from dataclasses import dataclass, field
 from pathlib import Path
 
 from plantbal.cells import MISSING, Reader, check_locale
+from plantbal.conversion_account import SheetAccount
 from plantbal.conversion_facts import Converter
 from plantbal.faults import Fault, InputFault, Place
 from plantbal.lint import say_brief
@@ -35,7 +36,8 @@ WORKBOOK is an xlsx file, or a folder of CSV files, each of which is the sheet o
   windows    first, last: periods to reconcile together as well, from the first to the last
   rows       rows of a session, unchanged, such as amend, strike and close
 
-Columns may be in any order; titles above, a row of units, sums below and remarks are skipped.
+Columns may be in any order; titles above, sums below, remarks and other columns are skipped, and
+standard error says so; a column or row of figures or units that isn't read is a fault.
 Units are t, kt, kg, g, lb, klb, and with a density m3, L, mL, bbl; densities are in kg/m3 and
 levels in mm unless a unit comes after them. An error is `1.5 %`, `0.2 t`, or both with `or`
 between; a tank's may be `3 mm`. A grade has its unit after it, %, ppm or g/t, and an error in
@@ -64,11 +66,14 @@ class Conversion:
         All that is wrong, each with its place.
     notes : list of str
         What was rounded, passed over or is missing.
+    account : list of SheetAccount
+        What became of the rows of each sheet.
     """
 
     session: Session
     faults: list[Fault]
     notes: list[str]
+    account: list[SheetAccount] = field(default_factory=list)
 
     @property
     def ok(self) -> bool:
@@ -111,7 +116,7 @@ def convert(
     missing : iterable of str
         Further words that stand for a missing figure.
     skip : iterable of str
-        Heads of columns of readings that are left out.
+        Heads of columns that are left out.
     limits : bool
         Whether errors are limits that hold 95 times in 100, of which half is taken.
     design : bool
@@ -137,11 +142,12 @@ def convert(
         work.read_rows()
         work.ask()
         work.check_whole(design)
+        work.say_unread()
         if not work.faults:  # what is missing would mostly follow from these
             work.check_days()
             work.say_rounded()
     work.faults += work.session.refused
-    return Conversion(work.session, work.faults, work.notes)
+    return Conversion(work.session, work.faults, work.notes, work.account.of_sheets())
 
 
 def add_arguments(parser: argparse.ArgumentParser) -> None:

@@ -11,6 +11,7 @@ from decimal import Decimal
 from fractions import Fraction
 
 from plantbal.cells import GRADES, GRAMS, VOLUMES, Reader, rounded_down
+from plantbal.conversion_account import Fate
 from plantbal.conversion_plant import Stream
 from plantbal.conversion_readings import Readings
 from plantbal.conversion_tables import Row
@@ -30,7 +31,7 @@ class Converter(Readings):
     reader : Reader
         How its cells are written.
     skip : tuple of str
-        Heads of columns of readings to leave out.
+        Heads of columns to leave out.
     """
 
     def __init__(self, sheets: list[Sheet], reader: Reader, skip: tuple[str, ...] = ()) -> None:
@@ -214,6 +215,7 @@ class Converter(Readings):
         """Read rows of a session as they are, with numbers and days as a spreadsheet left them."""
         for sheet in self.sheets["rows"]:
             for cells in sheet.rows():
+                self.account.put(Fate.READ, cells)
                 if [cell.text for cell in cells] == ["version", "2"] and len(self.session):
                     continue  # it has begun so
                 with self.kept():

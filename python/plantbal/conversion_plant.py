@@ -4,7 +4,7 @@ from __future__ import annotations
 
 import difflib
 import re
-from collections.abc import Iterable
+from collections.abc import Iterable, Sequence
 from dataclasses import dataclass, field
 from fractions import Fraction
 
@@ -70,10 +70,12 @@ class Plant(Tables):
         The workbook.
     reader : Reader
         How its cells are written.
+    skip : tuple of str
+        Heads of columns to leave out.
     """
 
-    def __init__(self, sheets: list[Sheet], reader: Reader) -> None:
-        super().__init__(sheets, reader)
+    def __init__(self, sheets: list[Sheet], reader: Reader, skip: Sequence[str] = ()) -> None:
+        super().__init__(sheets, reader, skip)
         self.streams: dict[str, Stream] = {}
         self.tags: dict[str, Stream] = {}
         self.tanks: dict[str, Tank] = {}

@@ -7,7 +7,8 @@ import re
 
 from plantbal.cells import GRAMS, VOLUMES, Error, Reader, day_order, is_rate, unit_of
 from plantbal.conversion_plant import Plant, Stream
-from plantbal.conversion_tables import TOTALS
+from plantbal.conversion_account import Fate, is_unit
+from plantbal.conversion_tables import HEADS_WITHIN, TOTALS
 from plantbal.faults import Fault, InputFault
 from plantbal.workbook import Cell, Sheet
 
@@ -29,7 +30,7 @@ class Readings(Plant):
     reader : Reader
         How its cells are written.
     skip : tuple of str
-        Heads of columns of readings to leave out.
+        Heads of columns to leave out.
 
     Attributes
     ----------
@@ -42,8 +43,7 @@ class Readings(Plant):
     """
 
     def __init__(self, sheets: list[Sheet], reader: Reader, skip: tuple[str, ...] = ()) -> None:
-        super().__init__(sheets, reader)
-        self.skip = {head.casefold() for head in skip}
+        super().__init__(sheets, reader, skip)
         self.days: dict[str, dict[datetime.date, Cell]] = {}
         self.listed: set[str] = set()
         self.whole = True
@@ -85,6 +85,8 @@ class Readings(Plant):
             lines = list(sheet.rows())
             with self.kept():
                 at, form = self._form(lines)
+                if form:
+                    self.account.put(Fate.HEADS, lines[at])
                 if form == "long":
                     self._read_long(lines[at], lines[at + 1 :])
                 elif form == "wide":
@@ -108,7 +110,7 @@ class Readings(Plant):
     def _form(self, lines: list[list[Cell]]) -> tuple[int, str]:
         """Return which row has the heads, and whether they are wide, long or days across."""
         known = set(self.tags) | set(self.streams) | self.bad
-        for at, cells in enumerate(lines[:40]):
+        for at, cells in enumerate(lines[:HEADS_WITHIN]):
             texts = [cell.text.casefold() for cell in cells]
             if all(set(_LONG[head]) & set(texts) for head in ("day", "tag", "value")):
                 return at, "long"
@@ -125,6 +127,7 @@ class Readings(Plant):
             for name, words in _LONG.items():
                 if cell.text.casefold() in words:
                     at.setdefault(name, column)
+        self.say_columns(heads, lines, set(at.values()))
         for cells in lines:
             row = {
                 name: cells[column] if column < len(cells) else self._beside(cells, column)
@@ -132,6 +135,7 @@ class Readings(Plant):
             }
             if self._is_total(cells) or all(self.reader.is_missing(c) for c in row.values()):
                 continue
+            self.account.put(Fate.READ, cells)
             day = self._day(row["day"])
             stream = self.named(row["tag"], "tag")
             if stream is None:
@@ -143,9 +147,15 @@ class Readings(Plant):
                 unit = self.reader.unit(row.get("unit"), GRAMS | VOLUMES, "")
                 self.reading(stream, row["value"], day, unit)
 
-    def _columns(self, heads: list[Cell], lines: list[list[Cell]]) -> dict[int, Stream]:
-        """Return the stream of each column of readings; columns without a figure may be others."""
+    def _columns(
+        self, heads: list[Cell], lines: list[list[Cell]]
+    ) -> tuple[dict[int, Stream], set[int]]:
+        """Return the stream of each column of readings, and the columns that were taken for such.
+
+        Columns without a figure may be others.
+        """
         found: dict[int, Stream] = {}
+        tried: set[int] = set()
         first: dict[str, Cell] = {}
         for column, cell in enumerate(heads[1:], 1):
             if not cell.text or cell.text.casefold() in self.skip:
@@ -157,6 +167,7 @@ class Readings(Plant):
                 continue  # the days, or nothing
             if not known and not any(re.match("[+-]?[0-9]", each.text) for each in figures):
                 continue
+            tried.add(column)
             stream = self.named(cell, "")
             if stream is None:
                 if not known and cell.text not in self.bad:
@@ -168,7 +179,7 @@ class Readings(Plant):
             else:
                 found[column] = stream
                 first[stream.name] = cell
-        return found
+        return found, tried
 
     def _units_row(self, cells: list[Cell], columns: dict[int, Stream]) -> dict[int, str] | None:
         """Return the units of a row below the heads, or None if it is none."""
@@ -201,8 +212,9 @@ class Readings(Plant):
 
     def _read_wide(self, heads: list[Cell], lines: list[list[Cell]]) -> set[str]:
         """Read a sheet with days down, and return the tags and streams that it has."""
-        columns = self._columns(heads, lines)
+        columns, tried = self._columns(heads, lines)
         at = self._day_column(columns, lines)
+        self.say_columns(heads, lines, {at, *tried, *_headless(heads, lines)})
         units: dict[int, str] = {}
         seen: dict[datetime.date, Cell] = {}
         for cells in lines:
@@ -216,13 +228,15 @@ class Readings(Plant):
                 row = self._units_row(cells, columns)
                 if row is not None:
                     units = row
+                    self.account.put(Fate.HEADS, cells)
                     continue
             if self._is_total(cells) or (first.value is None and not figures):
                 continue
             if not figures and isinstance(first.value, str) and not self._maybe_day(first):
                 if not re.search(r"[0-9][./-][0-9]", first.text):
-                    self.notes.append(f"{first.place()} the row {first.text!r} is passed over")
+                    self.pass_row(cells, first)
                     continue
+            self.account.put(Fate.READ, cells)
             day = self._day(first)
             if day is not None and day in seen:
                 other = str(seen[day].place()).rstrip(":")
@@ -230,10 +244,9 @@ class Readings(Plant):
                 continue
             if day is not None:
                 seen[day] = first
-            for beside, cell in enumerate(cells[at + 1 :], at + 1):
-                headless = beside >= len(heads) or not heads[beside].text
-                if headless and re.match("[+-]?[0-9]", cell.text):
-                    self.fault(cell, "this column has no head", "write its tag over it")
+            for beside in _headless(heads, [cells]):
+                if beside > at:
+                    self.fault(cells[beside], "this column has no head", "write its tag over it")
             for column, cell in figures.items():
                 self.reading(columns[column], cell, day, units.get(column, ""))
         if not seen:
@@ -253,11 +266,13 @@ class Readings(Plant):
                     self.fault(cell, f"{day} stands twice", "leave one of both out")
                 elif day is not None:
                     days[column] = day
+        self._say_across(heads, lines, first)
         for cells in lines:
             known = [cell for cell in cells[:first] if cell.text in {*self.tags, *self.streams}]
             figures = any(not self.reader.is_missing(cell) for cell in cells[first:])
             if self._is_total(cells) or (not known and not figures):
                 continue
+            self.account.put(Fate.READ, cells)
             stream = self.named((known or cells)[0], "tag")
             if stream is None:
                 continue
@@ -267,6 +282,18 @@ class Readings(Plant):
                 if column < len(cells) and not self.reader.is_missing(cells[column]):
                     unit = unit_of(units[0]) if units else ""
                     self.reading(stream, cells[column], day, unit)
+
+    def _say_across(self, heads: list[Cell], lines: list[list[Cell]], first: int) -> None:
+        """Say which columns of a sheet with days across aren't read; the days begin at one."""
+        read = {column for column, cell in enumerate(heads) if column >= first and cell.text}
+        for cells in lines:
+            for column, cell in enumerate(cells[:first]):
+                if cell.text in {*self.tags, *self.streams} or is_unit(cell):
+                    read.add(column)
+        for cell in heads[first:]:
+            if cell.text.casefold() in TOTALS:
+                self.notes.append(f"{cell.place()} the column {cell.text!r} is passed over")
+        self.say_columns(heads, lines, read)
 
     def _check_order(self) -> None:
         """Say if days follow each other only when day and month are exchanged."""
@@ -287,6 +314,17 @@ class Readings(Plant):
             own_locale = self.reader.locale
             what = f"read as {own_locale}, days from {texts[0].text} on don't follow each other"
             self.fault(texts[0], what, f"read as {other} they do: say --locale {other}")
+
+
+def _headless(heads: list[Cell], lines: list[list[Cell]]) -> set[int]:
+    """Return the columns that have a figure and no head."""
+    found = set()
+    for cells in lines:
+        for column, cell in enumerate(cells):
+            headless = column >= len(heads) or not heads[column].text
+            if headless and re.match("[+-]?[0-9]", cell.text):
+                found.add(column)
+    return found
 
 
 def _run(days: set[datetime.date]) -> bool:

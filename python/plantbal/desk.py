@@ -11,6 +11,7 @@ from dataclasses import dataclass
 from typing import Any, NoReturn, Protocol, cast
 
 from plantbal.faults import Fault, ToolMissing
+from plantbal.plain import plain_streams
 
 # Each is imported by the calls that need it, and is Debian's package python3-NAME.
 LIBRARIES = frozenset(
@@ -60,8 +61,8 @@ class Command:
 
 COMMANDS: tuple[Command, ...] = (
     Command("run", "commands:RUN", "run a session, and say what has to be looked at"),
-    Command("lint", "lint", "say what in a session is accepted but looks wrong"),
-    Command("explain", "explain", "say for each refused row what is wrong with it"),
+    Command("lint", "lint.command", "say what in a session is accepted but looks wrong"),
+    Command("explain", "explain.command", "say for each refused row what is wrong with it"),
     Command("check", "commands:CHECK", "check a report, in CSV or as JSON lines"),
     Command("archive", "archive", "put a month into a bundle with digests"),
     Command("audit", "audit", "say whether a bundle, or a report and its session, holds"),
@@ -74,6 +75,7 @@ COMMANDS: tuple[Command, ...] = (
     Command("tables", "tables", "tables of flows, classes, suspects, imbalances"),
     Command("uncertainty", "uncertainty", "how good each flow is, and which meters it rests on"),
     Command("advise", "advice", "which streams to meter so that each is observable, at least cost"),
+    Command("balance", "balance.command", "reconcile flows and grades together, with both errors"),
     Command("recovery", "recovery", "where a component goes, its recovery, and a chart of it"),
     Command("draw", "picture", "draw a report, a design, or which streams to meter"),
     Command("chart", "chart", "chart the periods of one or more reports"),
@@ -181,6 +183,12 @@ def _options(parser: argparse.ArgumentParser, words: Sequence[str]) -> argparse.
 def call(parser: argparse.ArgumentParser, words: Sequence[str]) -> int:
     """Run a command by its words, and return its status."""
     options = _options(parser, words)
+    with plain_streams():
+        return _called(options)
+
+
+def _called(options: argparse.Namespace) -> int:
+    """Run a command, and say what is at fault."""
     try:
         status: int = options.run(options)
         sys.stdout.flush()

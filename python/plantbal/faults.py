@@ -3,9 +3,17 @@
 from __future__ import annotations
 
 import errno
+import os
+import stat
 import sys
 from dataclasses import dataclass
 from pathlib import Path
+from typing import TYPE_CHECKING, BinaryIO
+
+from plantbal import limits
+
+if TYPE_CHECKING:
+    from plantbal.model.causes import Refused
 
 # What to do about a file that can't be read, by the system's number of the fault.
 _UNREAD = {
@@ -14,6 +22,8 @@ _UNREAD = {
     errno.ENOTDIR: "check its name",
     errno.EACCES: "ask for the right to read it",
 }
+# How much of a file is read at once.
+_PART = 1 << 20
 
 
 @dataclass(frozen=True, kw_only=True)
@@ -153,6 +163,10 @@ class Refusal(Fault):
         The row as it would be written.
     head, said : str
         Which row it is, such as ``reading c2``, and what is wrong with it, each by itself.
+    refused : Refused
+        The answer of the model: which rule refuses it, and what that compared.
+    says_form : bool
+        Whether the remedy says what the field has to be, rather than what to write in its place.
     """
 
     def __init__(
@@ -161,6 +175,7 @@ class Refusal(Fault):
         *,
         code: int,
         word: str,
+        refused: Refused,
         column: str = "",
         row: tuple[str, ...] = (),
         head: str = "",
@@ -168,8 +183,11 @@ class Refusal(Fault):
         place: Place | None = None,
         text: str = "",
         remedy: str = "",
+        says_form: bool = False,
     ) -> None:
         super().__init__(what, place=place, text=text, remedy=remedy)
+        self.refused = refused
+        self.says_form = says_form
         self.code = code
         self.word = word
         self.column = column
@@ -178,24 +196,75 @@ class Refusal(Fault):
         self.said = said or what
 
 
-def read_bytes(path: str | Path) -> tuple[str, bytes]:
+def read_bytes(path: str | Path, most: int = limits.INPUT_BYTES) -> tuple[str, bytes]:
     """Return how a file is called in what is said, and its bytes; ``-`` is standard input.
+
+    Parameters
+    ----------
+    path : str or Path
+        The file.
+    most : int
+        How many bytes it may have.
 
     Raises
     ------
     InputFault
-        If it can't be read.
+        If it can't be read, is a folder, a pipe or a device, or has more bytes.
+    """
+    source, data = read_beginning(path, most + 1)
+    if len(data) > most:
+        raise too_large(source, most)
+    return source, data
+
+
+def read_beginning(path: str | Path, count: int) -> tuple[str, bytes]:
+    """Return how a file is called in what is said, and as many of its bytes at most.
+
+    Raises
+    ------
+    InputFault
+        If it can't be read, or is a folder, a pipe or a device.
     """
     if str(path) == "-":
-        return "standard input", sys.stdin.buffer.read()
+        return "standard input", _read_from(sys.stdin.buffer, count)
     try:
-        return str(path), Path(path).read_bytes()
-    except OSError as error:
+        # without O_NONBLOCK a pipe that nobody writes to is waited for
+        with open(os.open(path, os.O_RDONLY | os.O_NONBLOCK | os.O_CLOEXEC), "rb") as file:
+            found = os.fstat(file.fileno())
+            if stat.S_ISDIR(found.st_mode):
+                raise IsADirectoryError(errno.EISDIR, os.strerror(errno.EISDIR))
+            if not stat.S_ISREG(found.st_mode):
+                raise InputFault(
+                    "it is a pipe or a device, and no file",
+                    place=Place(file=str(path)),
+                    remedy="name a file, or `-` for standard input",
+                )
+            data = file.read(min(found.st_size, count))
+            return str(path), data + _read_from(file, count - len(data))
+    except (OSError, ValueError) as error:  # a name with a NUL is a ValueError
         raise unread(path, error) from error
 
 
-def unread(path: str | Path, error: OSError) -> InputFault:
+def _read_from(file: BinaryIO, count: int) -> bytes:
+    """Return what is left of a file, and no more than a count of bytes."""
+    parts = []
+    while count > 0 and (part := file.read(min(count, _PART))):
+        parts.append(part)
+        count -= len(part)
+    return b"".join(parts)
+
+
+def too_large(source: str, most: int) -> InputFault:
+    """Return the fault of a file with more bytes than are read."""
+    return InputFault(
+        f"it has more than {most:,} bytes", place=Place(file=source), remedy="split it"
+    )
+
+
+def unread(path: str | Path, error: OSError | ValueError) -> InputFault:
     """Return the fault of a file that can't be read."""
+    if isinstance(error, ValueError):
+        error = OSError(errno.ENOENT, "there is no file of this name")
     return InputFault(
         error.strerror or "it can't be read",
         place=Place(file=str(path)),
@@ -203,15 +272,15 @@ def unread(path: str | Path, error: OSError) -> InputFault:
     )
 
 
-def read_text(path: str | Path) -> tuple[str, str]:
+def read_text(path: str | Path, most: int = limits.INPUT_BYTES) -> tuple[str, str]:
     """Return how a file is called, and its text in UTF-8 without a byte order mark.
 
     Raises
     ------
     InputFault
-        If it can't be read, or is no UTF-8 text.
+        If it can't be read, has more bytes, or is no UTF-8 text.
     """
-    source, data = read_bytes(path)
+    source, data = read_bytes(path, most)
     return source, decoded(source, data)
 
 

@@ -4,9 +4,17 @@ from __future__ import annotations
 
 import datetime
 from collections.abc import Callable, Iterable
+from decimal import Decimal
 from typing import TYPE_CHECKING, Any
 
-from plantbal.amounts import day_text, decimal_of, grams_of, variance_of, whole_of
+from plantbal.amounts import (
+    day_text,
+    decimal_of,
+    grams_of,
+    many_grams,
+    variance_of,
+    whole_of,
+)
 from plantbal.faults import Fault, InputFault, Place
 from plantbal.memory import uncollected
 from plantbal.session import ENV, dates_of_service, grade_of, grade_variance, most_streams
@@ -14,7 +22,7 @@ from plantbal.session import ENV, dates_of_service, grade_of, grade_variance, mo
 if TYPE_CHECKING:
     import pandas
 
-    from plantbal.session import Session
+    from plantbal.session.rows import SessionRows
 
 Convert = Callable[[Any], str]
 
@@ -139,7 +147,8 @@ class Table:
             days, places = numpy.unique(moments, return_inverse=True)
             if (days == days.astype("datetime64[D]")).all():
                 texts = numpy.array([day_text(day) for day in pandas.DatetimeIndex(days)], object)
-                return list(texts[places])
+                found: list[str] = texts[places].tolist()
+                return found
         return self.texts(head, lambda value: day_text(value, head))
 
     def services(self) -> list[tuple[str, ...]]:
@@ -160,6 +169,11 @@ class Table:
         head = self.need("grams", "tonnes")
         if head == "grams":
             return self.wholes(head)
+        values = self.frame[head].tolist()
+        if set(map(type, values)) == {Decimal}:
+            grams = many_grams(values)
+            if grams is not None:
+                return list(map(str, grams))
         return self.texts(head, lambda value: str(grams_of(value, head)))
 
     def variances(self) -> list[str]:
@@ -186,18 +200,18 @@ class Table:
         return [f"{place}_{day}" for place, day in zip(places, days)]
 
 
-def _take(session: Session, table: Table, kind: str, *columns: list[str]) -> None:
+def _take(session: SessionRows, table: Table, kind: str, *columns: list[str]) -> None:
     for number, fields in enumerate(zip(*columns)):
         session.row(kind, *fields, place=table.place(number))
 
 
-def _take_served(session: Session, table: Table, kind: str, *columns: list[str]) -> None:
+def _take_served(session: SessionRows, table: Table, kind: str, *columns: list[str]) -> None:
     """Take rows that may have dates of service."""
     for number, (fields, service) in enumerate(zip(zip(*columns), table.services())):
         session.row(kind, *fields, *service, place=table.place(number))
 
 
-def _take_streams(session: Session, table: Table) -> None:
+def _take_streams(session: SessionRows, table: Table) -> None:
     kinds = table.names("kind") if table.has("kind") else ["metered"] * len(table.frame)
     head = table.need("variance", "deviation_grams", "deviation_tonnes")
     # A plain stream has no variance, so its field may be missing.
@@ -219,7 +233,7 @@ def _take_streams(session: Session, table: Table) -> None:
     )
 
 
-def _take_critical(session: Session, table: Table) -> None:
+def _take_critical(session: SessionRows, table: Table) -> None:
     tests = table.names("test")
     head = table.need("thousandths", "value")
     if head == "thousandths":
@@ -242,7 +256,7 @@ def _thousandths(value: Any, head: str) -> str:
 
 @uncollected()
 def fill(
-    session: Session,
+    session: SessionRows,
     *,
     boundaries: Iterable[str] | None,
     units: Iterable[str] | pandas.DataFrame | None,

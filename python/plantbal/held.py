@@ -1,263 +1,17 @@
-"""A report held against its session: what each `report` row saw, computed from the facts, and what
-the output says of it."""
+"""A report held against its session: the study of each row that asks for flows, and what the output
+says of it."""
 
 from __future__ import annotations
 
 from collections.abc import Iterator, Mapping
 from dataclasses import dataclass, field, replace
 
-from plantbal.lintbook import Assay, Book, Fact, Stream
+from plantbal.model.ledger import Ledger
 from plantbal.records import Record, read_records
 from plantbal.schema import schema
-from plantbal.session import ENV, Period
-from plantbal.topology import Arc
+from plantbal.studies import Measured, Study
 
-MOST_VALUE, MOST_VARIANCE = 10**15, 10**22
 PPM = 10**6
-
-
-@dataclass(frozen=True, slots=True)
-class Measured:
-    """What the facts of a period give a stream.
-
-    Attributes
-    ----------
-    arc : Arc
-        The stream.
-    value, variance : int or None
-        Its value in grams and the variance, if it has them.
-    lines : tuple of int
-        The lines of the facts.
-    """
-
-    arc: Arc
-    value: int | None
-    variance: int | None
-    lines: tuple[int, ...] = ()
-
-    @property
-    def over(self) -> bool:
-        """Whether a report can't be made with it."""
-        return abs(self.value or 0) > MOST_VALUE or (self.variance or 0) > MOST_VARIANCE
-
-    def facts(self) -> str:
-        """Return in words where its facts stand."""
-        if not self.lines:
-            return "no fact of the session"
-        first, last = min(self.lines), max(self.lines)
-        where = (
-            f"line {first}"
-            if first == last
-            else f"{len(self.lines)} facts, lines {first} to {last}"
-        )
-        return f"the session ({where})"
-
-
-@dataclass(frozen=True, slots=True)
-class Seen:
-    """What an accepted `report`, `window` or `component` row of a session saw.
-
-    Attributes
-    ----------
-    period : Period
-        The period; of a window the first one.
-    line : int
-        Its line.
-    nodes : list of str
-        The nodes in their order.
-    streams : dict of str to Measured
-        The streams in their order; of a component those of mass.
-    critical : dict of (str, int) to int
-        The critical values by their test and its degrees of freedom; 0 if these aren't asked.
-    component : str
-        The component whose balance is asked for, if one is.
-    grades : dict of str to Assay
-        The grades of the component by the streams that have one.
-    last : str
-        The last period of a window, if one is asked for.
-    places : list of tuple of str
-        The code, the period and the name of each node and stream of a window, in their order.
-    """
-
-    period: Period
-    line: int
-    nodes: list[str]
-    streams: dict[str, Measured]
-    critical: dict[tuple[str, int], int]
-    component: str = ""
-    grades: dict[str, Assay] = field(default_factory=dict)
-    last: str = ""
-    places: list[tuple[str, str, str]] = field(default_factory=list)
-
-    @property
-    def subject(self) -> str:
-        """What is asked for, as `plantbal.report.Block.subject` says it."""
-        if self.component:
-            return f"{self.component} in {self.period.name}"
-        return f"{self.period.name} to {self.last}" if self.last else self.period.name
-
-    @property
-    def over(self) -> str:
-        """The first stream whose total is beyond the limits, or nothing."""
-        return next((name for name, each in self.streams.items() if each.over), "")
-
-
-@dataclass
-class Ledger(Book):
-    """A session's accepted rows, and what each row saw that asks for flows.
-
-    Attributes
-    ----------
-    seen : list of Seen
-        What the `report`, `window` and `component` rows saw, in their order.
-    closed : dict of str to int
-        The closed periods, and the lines of their `close` rows.
-    """
-
-    seen: list[Seen] = field(default_factory=list)
-    closed: dict[str, int] = field(default_factory=dict)
-    values: dict[tuple[str, int], int] = field(default_factory=dict)
-    _by_day: dict[tuple[bool, int], list[Fact]] = field(default_factory=dict)
-
-    def _take(self, row: list[str], line: int) -> None:
-        if row[0] == "critical":
-            self.values[row[1], int(row[2]) if row[1] == "global" else 0] = int(row[-1])
-        elif row[0] == "close":
-            self.closed[row[1]] = line
-        super()._take(row, line)
-
-    def _take_report(self, name: str, line: int) -> None:
-        super()._take_report(name, line)
-        self.seen.append(self._seen_of(self.periods[name], line))
-
-    def _seen_of(self, period: Period, line: int) -> Seen:
-        """Return what the facts so far give the streams of a period."""
-        facts: dict[str, list[Fact]] = {stream: [] for stream in self.streams}
-        for fact in self._touching(period):
-            facts[fact.of].append(fact)
-        streams = {
-            each.arc.name: self._measured(each, period, facts[each.arc.name])
-            for each in self.served(period)
-        }
-        return Seen(period, line, self.nodes_in(period), streams, dict(self.values))
-
-    def _take_component(self, component: str, period: str, line: int) -> None:
-        super()._take_component(component, period, line)
-        grades = {
-            name: assay
-            for (of, name, when), assay in self.assays.items()
-            if (of, when) == (component, period)
-        }
-        seen = self._seen_of(self.periods[period], line)
-        self.seen.append(replace(seen, component=component, grades=grades))
-
-    def _take_window(self, first: str, last: str, line: int) -> None:
-        super()._take_window(first, last, line)
-        periods = self.window_of(first, last)
-        seen = [self._seen_of(period, line) for period in periods]
-        nodes = [
-            (f"n{turn}.{place}", period.period.name, name)
-            for turn, period in enumerate(seen, 1)
-            for place, name in enumerate(period.nodes)
-            if place
-        ]
-        code = {(when, name): each for each, when, name in nodes}
-        flows, places = self._window_flows(seen, code)
-        for name, arc, when, content in self._contents(periods, code):
-            flows[arc.name] = content
-            places.append((arc.name, when, name))
-        codes = [ENV, *(each for each, _, _ in nodes)]
-        values = dict(self.values)
-        whole = Seen(periods[0], line, codes, flows, values, last=last, places=nodes + places)
-        self.seen.append(whole)
-
-    def _window_flows(
-        self, seen: list[Seen], code: dict[tuple[str, str], str]
-    ) -> tuple[dict[str, Measured], list[tuple[str, str, str]]]:
-        """Return the flows of a window by their codes, and what each code stands for."""
-        flows: dict[str, Measured] = {}
-        places = []
-        for turn, each in enumerate(seen, 1):
-            when = each.period.name
-            for place, (name, found) in enumerate(each.streams.items()):
-                if self.streams[name].kind != "tank":
-                    ends = [code.get((when, end), ENV) for end in (found.arc.from_, found.arc.to)]
-                    arc = Arc(f"s{turn}.{place}", *ends)
-                    flows[arc.name] = replace(found, arc=arc)
-                    places.append((arc.name, when, name))
-        return flows, places
-
-    def _contents(
-        self, periods: list[Period], code: dict[tuple[str, str], str]
-    ) -> Iterator[tuple[str, Arc, str, Measured]]:
-        """Give what tanks hold between the periods of a window: tank, stream, period, content."""
-        dips = {(fact.of, fact.first): fact for fact in self.live() if fact.kind == "dip"}
-        for number, stream in enumerate(self.streams.values()):
-            if stream.kind != "tank":
-                continue
-            tank = stream.arc.name
-            for turn in range(len(periods) + 1):
-                before, after = (
-                    periods[at] if 0 <= at < len(periods) and stream.is_in(periods[at]) else None
-                    for at in (turn - 1, turn)
-                )
-                if before is None and after is None:
-                    continue
-                ends = [code[each.name, tank] if each else ENV for each in (before, after)]
-                arc = Arc(f"c{turn}.{number}", *ends)
-                first = after or periods[0]
-                day = stream.ends_of(before)[1] if before else stream.ends_of(first)[0]
-                dip = dips.get((tank, day))
-                found = Measured(arc, None, None)
-                if dip is not None:
-                    variance = stream.base + dip.variance
-                    found = Measured(arc, self.content(dip), variance, (dip.line,))
-                yield tank, arc, periods[max(turn - 1, 0)].name, found
-
-    def _take_fact(self, row: list[str], line: int) -> None:
-        super()._take_fact(row, line)
-        fact = self.facts[row[1]]
-        self._by_day.setdefault((fact.kind == "transfer", fact.first), []).append(fact)
-
-    def _touching(self, period: Period) -> Iterator[Fact]:
-        """Give the live facts of a period's days and of the day before the first."""
-        longest = schema().limits["most_days_of_transfer"]
-        for transfer, first in ((False, period.first - 1), (True, period.first - longest)):
-            for day in range(first, period.last + 1):
-                for fact in self._by_day.get((transfer, day), ()):
-                    if not fact.struck and fact.last >= period.first - 1:
-                        yield fact
-
-    def _measured(self, stream: Stream, period: Period, facts: list[Fact]) -> Measured:
-        """Return what the facts of a stream give it in a period."""
-        if stream.kind == "tank":
-            return self._tank(stream, period, facts)
-        found = [fact for fact in facts if fact.last >= period.first]
-        lines = tuple(fact.line for fact in found)
-        days = len(stream.days_in(period))
-        if stream.kind == "plain" or (stream.kind == "metered" and len(found) < days):
-            return Measured(stream.arc, None, None, lines)
-        grams = sum(share(fact.grams, fact, period) for fact in found)
-        variance = stream.base + sum(share(fact.variance, fact, period) for fact in found)
-        return Measured(stream.arc, grams, variance, lines)
-
-    def _tank(self, stream: Stream, period: Period, facts: list[Fact]) -> Measured:
-        dips = {fact.first: fact for fact in facts}
-        opening, closing = map(dips.get, stream.ends_of(period))
-        lines = tuple(dip.line for dip in (opening, closing) if dip)
-        if opening is None or closing is None:
-            return Measured(stream.arc, None, None, lines)
-        grams = self.content(closing) - self.content(opening)
-        variance = stream.base + opening.variance + closing.variance
-        return Measured(stream.arc, grams, variance, lines)
-
-
-def share(total: int, fact: Fact, period: Period) -> int:
-    """Return a period's part of a fact's total, which is spread evenly over the fact's days."""
-    days = fact.last - fact.first + 1
-    before = max(0, period.first - fact.first)
-    upto = min(days, period.last - fact.first + 1)
-    return total * upto // days - total * before // days
 
 
 # ---- what an output says
@@ -375,12 +129,12 @@ def number_of(text: str) -> int | None:
         return None
 
 
-def carried(seen: Seen, flows: Mapping[str, tuple[int, bool]]) -> dict[str, Measured]:
+def carried(seen: Study, flows: Mapping[str, tuple[int, bool]]) -> dict[str, Measured]:
     """Return what the streams carry of a component, by the flows of the period's last round.
 
     Parameters
     ----------
-    seen : Seen
+    seen : Study
         What the `component` row saw.
     flows : mapping
         The flow of each stream, and whether it is unobservable.
@@ -396,14 +150,14 @@ def carried(seen: Seen, flows: Mapping[str, tuple[int, bool]]) -> dict[str, Meas
     return found
 
 
-def block_differs(block: list[Record], seen: Seen, taken: list[str]) -> Iterator[Differs]:
+def block_differs(block: list[Record], seen: Study, taken: list[str]) -> Iterator[Differs]:
     """Give the places at which a block isn't of what its row saw.
 
     Parameters
     ----------
     block : list of Record
         The block.
-    seen : Seen
+    seen : Study
         What the row saw.
     taken : list of str
         The streams that were taken before the block, so that they count as not measured.
@@ -452,7 +206,7 @@ def _stream_differs(
             yield Differs(record.line, f"{what}, and {why}{end}")
 
 
-def _critical_differ(block: list[Record], seen: Seen) -> Iterator[Differs]:
+def _critical_differ(block: list[Record], seen: Study) -> Iterator[Differs]:
     """Give the test rows whose critical value isn't that of the session."""
     dof = 0
     for record in block:
@@ -498,7 +252,7 @@ class Pair:
 
     Attributes
     ----------
-    seen : Seen
+    seen : Study
         What the row saw.
     answer : Answer
         What the output says.
@@ -506,7 +260,7 @@ class Pair:
         Of a balance, a report of the same facts of its period, by whose flows it can be held.
     """
 
-    seen: Seen
+    seen: Study
     answer: Answer
     mass: Answer | None = None
 
@@ -566,7 +320,7 @@ class Pair:
             yield from block_differs(block, seen, self.answer.taken[:number])
 
 
-def pairs_of(seen: list[Seen], answers: list[Answer]) -> list[Pair]:
+def pairs_of(seen: list[Study], answers: list[Answer]) -> list[Pair]:
     """Return what a session asks for beside what an output says of it, in order."""
     found: list[Pair] = []
     for one, answer in zip(seen, answers):

@@ -6,6 +6,7 @@ import calendar
 import datetime
 import re
 from collections.abc import Mapping, Sequence
+from dataclasses import dataclass
 from decimal import Decimal, InvalidOperation
 
 Scale = tuple[str, int, str]
@@ -68,13 +69,34 @@ def _with_unit(text: str, units: Mapping[str, int]) -> Decimal | None:
     return None if exact is None or unit not in units else exact * units[unit]
 
 
+@dataclass(frozen=True, slots=True)
+class Meant:
+    """What was probably meant by a field.
+
+    Attributes
+    ----------
+    text : str
+        What to do about it; empty if nothing is known.
+    writes : bool
+        Whether it says what to write in place of the field.
+    """
+
+    text: str = ""
+    writes: bool = False
+
+
+def _write(text: str) -> Meant:
+    """Return what to write in place of a field, or nothing for no text."""
+    return Meant(f"write {text}", True) if text else Meant()
+
+
 def number_meant(
     text: str,
     low: int,
     high: int,
     scales: Sequence[Scale] = (),
     units: Mapping[str, int] | None = None,
-) -> str:
+) -> Meant:
     """Return what was probably meant by a text that is no whole number of a range, or nothing.
 
     Parameters
@@ -93,12 +115,12 @@ def number_meant(
     if found is not None:
         number, odd = found
         if not low <= number <= high:
-            return ""
+            return Meant()
         for greater, count, own in scales if odd == "without the point" else ():
             if low <= number * count <= high:  # to whole tonnes one writes a point, to grams none
                 many = number * count
-                return f"write {many} if it is in {greater}, and {number} if it is in {own}"
-        return "" if str(number) == text else f"write {number}, {odd}"
+                return _write(f"{many} if it is in {greater}, and {number} if it is in {own}")
+        return Meant() if str(number) == text else _write(f"{number}, {odd}")
     plain = text.strip(_SPACES)
     if re.fullmatch(r"[-+]?([0-9]+|[0-9]{1,3}(\.[0-9]{3})+),[0-9]+", plain):
         plain = plain.replace(".", "").replace(",", ".")
@@ -107,18 +129,18 @@ def number_meant(
         assert exact is not None
         scaled = exact * count
         if scaled == int(scaled) and low <= scaled <= high:
-            return f"if {text.strip()} is in {greater}, write {int(scaled)}, in {own}"
+            return Meant(f"if {text.strip()} is in {greater}, write {int(scaled)}, in {own}")
     if re.fullmatch(r"[0-9]{4}-[0-9]{2}-[0-9]{2}", plain):
-        return "a day stands there: are the fields in their order?"
+        return Meant("a day stands there: are the fields in their order?")
     counted = _with_unit(plain, units or {})
     if counted is not None and counted == int(counted) and low <= counted <= high:
-        return f"write {int(counted)}, without the unit"
+        return _write(f"{int(counted)}, without the unit")
     unit = (_UNIT.search(plain) or [""])[0].strip().casefold()
     if "kg" in (units or {}) and unit in ("m3", "l", "ml", "bbl"):
-        return "an amount is in grams: multiply this volume by its density"
+        return Meant("an amount is in grams: multiply this volume by its density")
     if re.fullmatch(r"-?[0-9][0-9.,]* ?(kg|t|g|mm|cm|m3|m|l|ml)", plain):
-        return "take the unit of measure out"
-    return ""
+        return Meant("take the unit of measure out")
+    return Meant()
 
 
 def _day(year: int, month: int, day: int) -> str:
@@ -129,32 +151,33 @@ def _day(year: int, month: int, day: int) -> str:
         return ""
 
 
-def day_meant(text: str) -> str:
+def day_meant(text: str) -> Meant:
     """Return what was probably meant by a text that is no day, or nothing."""
     plain = text.strip()
     timed = re.fullmatch(r"(.{8,10})[T ][0-9]{1,2}:[0-9]{2}(:[0-9]{2})?.*", plain)
     if timed:
         inner = timed.group(1)
         found = inner if re.fullmatch(r"[0-9]{4}-[0-9]{2}-[0-9]{2}", inner) else ""
-        return f"write {found}, without the time" if found else day_meant(inner)
+        return _write(f"{found}, without the time") if found else day_meant(inner)
     parts = re.fullmatch(r"([0-9]{1,4})[-./ ]([0-9]{1,2})[-./ ]([0-9]{1,4})", plain)
     if parts:
         one, two, three = (int(part) for part in parts.groups())
         if len(parts.group(1)) == 4:
             found = _day(one, two, three)
             if found:
-                return f"write {found}" if found != text else ""
+                return _write(found) if found != text else Meant()
             if 1 <= two <= 12:
                 count = calendar.monthrange(one, two)[1] if one else 0
-                return f"{calendar.month_name[two]} {one} has {count} days" if count else ""
-            return f"write {_day(one, three, two)}" if _day(one, three, two) else ""
+                said = f"{calendar.month_name[two]} {one} has {count} days"
+                return Meant(said) if count else Meant()
+            return _write(_day(one, three, two))
         year = three + (2000 if len(parts.group(3)) == 2 else 0)
         either = [day for day in (_day(year, two, one), _day(year, one, two)) if day]
-        return f"write {' or '.join(dict.fromkeys(either))}" if either else ""
+        return _write(" or ".join(dict.fromkeys(either)))
     if re.fullmatch(r"(19|20|21)[0-9]{6}", plain):
         found = _day(int(plain[:4]), int(plain[4:6]), int(plain[6:]))
-        return f"write {found}" if found else ""
+        return _write(found)
     if re.fullmatch(r"[1-7][0-9]{4}", plain):
         day = datetime.date(1899, 12, 30) + datetime.timedelta(days=int(plain))
-        return f"write {day.isoformat()}, if this is a spreadsheet's number of a day"
-    return ""
+        return _write(f"{day.isoformat()}, if this is a spreadsheet's number of a day")
+    return Meant()

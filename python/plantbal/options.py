@@ -5,10 +5,32 @@ from __future__ import annotations
 import argparse
 
 
+def seconds_of(text: str) -> float:
+    """Return a number of seconds.
+
+    Raises
+    ------
+    argparse.ArgumentTypeError
+        If it is none.
+    """
+    try:
+        if 0 < float(text) < float("inf"):
+            return float(text)
+    except ValueError:
+        pass
+    raise argparse.ArgumentTypeError(f"{text!r} isn't a number of seconds: write 600")
+
+
 def add_program(parser: argparse.ArgumentParser) -> None:
     """Add the word that names the program."""
     where = "the program (default: that of PLANTBAL, of the path, or of this checkout)"
     parser.add_argument("--program", metavar="PATH", help=where)
+
+
+def add_timeout(parser: argparse.ArgumentParser, *, condition: str = "") -> None:
+    """Add the word that says how long the program may take, perhaps only under a condition."""
+    timeout = f"{condition}stop the program after that many seconds (default: it isn't stopped)"
+    parser.add_argument("--timeout", metavar="SECONDS", type=seconds_of, help=timeout)
 
 
 def add_sweeps(parser: argparse.ArgumentParser) -> None:
@@ -44,7 +66,7 @@ def add_reading(parser: argparse.ArgumentParser) -> None:
         metavar="HEAD",
         action="append",
         default=[],
-        help="a column of the readings to leave out",
+        help="a column to leave out",
     )
     parser.add_argument(
         "--limits",

@@ -4,6 +4,7 @@ from __future__ import annotations
 
 from collections.abc import Iterable, Sequence
 from functools import cached_property
+from itertools import chain
 from numbers import Integral
 from pathlib import Path
 from typing import TYPE_CHECKING, Any
@@ -11,6 +12,8 @@ from typing import TYPE_CHECKING, Any
 from plantbal.amounts import tonnes_of
 from plantbal.faults import Fault, ToolMissing, read_text
 from plantbal.files import replacing, write_text
+from plantbal.judged import judge_rows
+from plantbal.inert import keep_text, printable
 from plantbal.report import Block, Values, blocks_of, csv_of, last_blocks, parse_rows, read_rows
 from plantbal.schema import Column, schema
 
@@ -109,7 +112,7 @@ class Output:
 
     def __init__(
         self,
-        rows: list[Values],
+        rows: Sequence[Values],
         *,
         source: str = "output",
         status: int | None = None,
@@ -136,7 +139,7 @@ class Output:
         said = []
         if self.status is not None and self.status not in (0, 1):
             said.append(f"the program ended with status {self.status}")
-        refused = len(self._of_kind("refused"))
+        refused = sum(row["row"] == "refused" for row in self.rows)
         if refused or self.left_out:
             count = refused + self.left_out
             rows = "1 row of the session was" if count == 1 else f"{count} rows of the session were"
@@ -534,7 +537,11 @@ class Output:
                             for v in flat[column]
                         ):
                             flat[column] = _texts(flat[column])
+                        elif flat[column].dtype == object:
+                            flat[column] = [printable(value) for value in flat[column]]
                     flat.to_excel(book, sheet_name=name, index=False, freeze_panes=(1, 0))
+                    for cell in chain.from_iterable(book.sheets[name].iter_rows()):
+                        keep_text(cell)
                     _widen(book.sheets[name], flat)
 
 
@@ -610,7 +617,9 @@ def read_report(path: str | Path) -> Output:
         If it can't be read, or a row is none of the program's; the fault has file and line.
     """
     source, text = read_text(path)
-    return Output(parse_rows(source, text), source=source)
+    rows = parse_rows(source, text)
+    judge_rows(rows, source, checks=True)
+    return Output(rows, source=source)
 
 
 def read_whole(path: str | Path, *wanted: str) -> Output:

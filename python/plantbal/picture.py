@@ -5,9 +5,10 @@ from __future__ import annotations
 
 import argparse
 import subprocess
-from collections.abc import Callable, Iterable, Mapping
+from collections.abc import Callable, Iterable, Mapping, Sequence
 
 from plantbal.amounts import tonnes_text
+from plantbal import limits
 from plantbal.faults import Fault, ToolMissing
 from plantbal.files import write_bytes
 from plantbal.report import Block, Values, advice_of, blocks_of, designs_of, read_rows
@@ -91,7 +92,7 @@ class Picture:
     def __init__(
         self,
         title: str,
-        streams: list[Values],
+        streams: Sequence[Values],
         nodes: Iterable[str] = (),
         suspects: Iterable[str] = (),
         prefix: str = "",
@@ -242,7 +243,7 @@ def picture_of(block: Block, prefix: str = "") -> Picture:
     return Picture(block.title, block.streams, nodes, taken, prefix, shown=block.shown)
 
 
-def advised(rows: list[Values], outside: Mapping[str, str] | None = None) -> Picture:
+def advised(rows: Sequence[Values], outside: Mapping[str, str] | None = None) -> Picture:
     """Return the picture of the last design with the streams that the last advice says to meter.
 
     Parameters
@@ -270,7 +271,7 @@ def advised(rows: list[Values], outside: Mapping[str, str] | None = None) -> Pic
 
 
 def chosen(
-    rows: list[Values],
+    rows: Sequence[Values],
     period: str | None,
     number: int | None,
     component: str = "",
@@ -313,13 +314,29 @@ def chosen(
 
 
 def svg(dot: str) -> bytes:
-    """Return the picture that Graphviz makes."""
+    """Return the picture that Graphviz makes.
+
+    Raises
+    ------
+    ToolMissing
+        If there is no Graphviz.
+    Fault
+        If it fails, or takes longer than `plantbal.limits` has.
+    """
+    seconds = limits.DRAWING_SECONDS
     try:
         return subprocess.run(
-            ["dot", "-Tsvg"], input=dot.encode(), stdout=subprocess.PIPE, check=True
+            ["dot", "-Tsvg"],
+            input=dot.encode(),
+            stdout=subprocess.PIPE,
+            check=True,
+            timeout=seconds,
         ).stdout
     except FileNotFoundError as error:
         raise ToolMissing("`dot`", "graphviz") from error
+    except subprocess.TimeoutExpired as error:
+        remedy = "draw a smaller part, or say --dot and have the text drawn by another program"
+        raise Fault(f"dot isn't done after {seconds:g} seconds", remedy=remedy) from error
     except subprocess.CalledProcessError as error:
         raise Fault(f"dot ended with the status {error.returncode}") from error
 

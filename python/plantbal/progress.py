@@ -9,6 +9,7 @@ from collections.abc import Callable
 from types import TracebackType
 from typing import TextIO
 
+from plantbal.plain import beneath
 from plantbal.records import read_records
 
 _ROW = re.compile(rb"^(report|stream|measure|end),", re.MULTILINE)
@@ -33,7 +34,7 @@ class Progress:
         self, prog: str, session: bytes, to: TextIO | None = None, after: float = 2.0
     ) -> None:
         self.prog, self.after = prog, after
-        self.to = to if to is not None else sys.stderr
+        self.to = to if to is not None else beneath(sys.stderr)
         self.reports = reports_asked(session) if self.to.isatty() else 0
         self.begin = self.last = time.monotonic()
         self.rows, self.ended = {b"report": 0, b"stream": 0, b"measure": 0}, 0

@@ -12,8 +12,10 @@ from typing import TYPE_CHECKING, Any
 
 from plantbal.amounts import tonnes_text
 from plantbal.chart import BAND, DARK, ENDINGS, HATCHED, INK, REJECTED, begin_drawing, save
-from plantbal.faults import Fault, read_bytes
+from plantbal.faults import Fault
+from plantbal.forms import read_session
 from plantbal.files import replacing
+from plantbal.inert import inert_frame
 from plantbal.output import Output, read_whole
 from plantbal.report import Block, last_blocks
 from plantbal.uncertainty import answers_of, text_of
@@ -468,7 +470,7 @@ def _chart(options: argparse.Namespace, output: Output, shares: Sequence[Share])
     if len(components) > 1:
         what = f"there are balances of {', '.join(components)}"
         raise Fault(what, remedy="say which one is charted: --component NAME")
-    session = read_bytes(options.session)[1] if options.session else b""
+    session = read_session(options.session)[1] if options.session else b""
     trend = trend_of(output, session, components[0])
     products = products_of(shares, options.product)
     with replacing(options.chart) as made:
@@ -498,7 +500,7 @@ def run(options: argparse.Namespace) -> int:
         import pandas
 
         if options.form == "csv":
-            text = pandas.DataFrame(_data(rows)).to_csv(index=False)
+            text = inert_frame(pandas.DataFrame(_data(rows))).to_csv(index=False)
         else:
             left = {"component", "period", "stream", "way"}
             text = text_of(pandas.DataFrame(_lines(rows)), left)

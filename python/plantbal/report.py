@@ -9,17 +9,22 @@ import re
 import sys
 from collections.abc import Collection, Iterable, Iterator, Mapping, Sequence
 from dataclasses import dataclass, field
+from itertools import islice
 from pathlib import Path
 
+from plantbal import limits
 from plantbal.faults import InputFault, Place, read_text
+from plantbal.judged import judge_rows
 from plantbal.memory import uncollected
 from plantbal.records import read_records
+from plantbal.rows import Rows
+from plantbal.rows import Values as Values
 from plantbal.schema import Row, schema
 
 # A field with a power of ten; no name has a plus sign.
 _POWER = re.compile(r"(?<=,)-?[0-9]+(?:\.[0-9]+)?[eE]\+[0-9]+(?=[,\r\n])")
-# A row by its columns; `row` has its kind. A stream of an older report has no least bounds.
-Values = dict[str, str]
+_ROWS_AT_ONCE = 10_000  # that are written to a text
+_PART = 1 << 20  # characters whose lines are in memory at once
 _AS_WRITTEN = "give the file as plantbal wrote it: this one was cut off, or edited"
 _REPORT = "report,PERIOD"
 _ASKING = {"component": "component,COMPONENT,PERIOD", "design": "design"}
@@ -81,6 +86,9 @@ def _row_of_json(source: str, line: int, text: str) -> Values:
     place = Place(file=source, line=line)
     try:
         found = json.loads(text)
+    except RecursionError as error:
+        what = "no JSON object of a row: brackets stand within brackets"
+        raise InputFault(what, place=place, text=text[:200], remedy=_AS_WRITTEN) from error
     except ValueError as error:
         column = getattr(error, "colno", 1)
         place = Place(file=source, line=line, column=column)
@@ -106,8 +114,8 @@ def _row_of_json(source: str, line: int, text: str) -> Values:
     if not all(isinstance(value, str) for value in found.values()):
         said = "a value is no text"
         raise InputFault(said, place=place, text=text[:200], remedy=_AS_WRITTEN)
-    values: Values = found
-    return values
+    names = row.names if len(found) == len(row.names) + 1 else row.older
+    return {"row": row.kind, **{name: found[name] for name in names}}
 
 
 def _lines_of(text: str, passed: Mapping[str, int]) -> Iterator[tuple[int, list[str]]]:
@@ -127,13 +135,23 @@ def _lines_of(text: str, passed: Mapping[str, int]) -> Iterator[tuple[int, list[
             if fields and len(fields) - 1 != passed.get(fields[0]):
                 yield reader.line_num, fields
         return
-    for number, line in enumerate(text.split("\n"), 1):
+    for number, line in enumerate(lines_of(text), 1):
         if line and line.count(",") != passed.get(line.partition(",")[0]):
             yield number, line.split(",")
 
 
+def lines_of(text: str) -> Iterator[str]:
+    """Give the lines of a text between LFs; only a part of them is in memory at once."""
+    begin = 0
+    while begin <= len(text):
+        end = text.find("\n", begin + _PART)
+        end = len(text) if end < 0 else end
+        yield from text[begin:end].split("\n")
+        begin = end + 1
+
+
 @uncollected()
-def parse_rows(source: str, text: str, kinds: Collection[str] | None = None) -> list[Values]:
+def parse_rows(source: str, text: str, kinds: Collection[str] | None = None) -> Sequence[Values]:
     """Return the rows of an output: CSV, or JSON lines if it begins with a brace.
 
     Parameters
@@ -151,25 +169,33 @@ def parse_rows(source: str, text: str, kinds: Collection[str] | None = None) -> 
         If a row is none of the program's.
     """
     if text.startswith("{"):
-        lines = enumerate(text.splitlines(), 1)
-        rows = [_row_of_json(source, number, line) for number, line in lines if line]
+        lines = enumerate(lines_of(text), 1)
+        rows = (_row_of_json(source, number, line) for number, line in lines if line.strip())
         return [row for row in rows if kinds is None or row["row"] in kinds]
     if kinds is None:
         _refuse_powers(source, 1, text)
     output = schema().output
     keys = {kind: ("row", *row.names) for kind, row in output.items()}
     unwanted = [] if kinds is None else [kind for kind in output if kind not in kinds]
-    found: list[Values] = []
+    found = Rows()
+    plain = found.plain()
     for number, fields in _lines_of(text, {kind: len(output[kind].names) for kind in unwanted}):
-        names = keys.get(fields[0], ())
+        kind = fields[0]
+        names = keys.get(kind, ())
         if len(names) != len(fields):
             names = _names_of(source, number, fields)
-        if kinds is None:
-            found.append(dict(zip(names, fields)))
-        elif fields[0] in kinds:
+        if kinds is not None:
+            if kind not in kinds:
+                continue
             _refuse_powers(source, number, ",".join([*fields, ""]))
-            found.append(dict(zip(names, fields)))
-    return found
+        if kind == "refused":
+            if found.take_refused(fields):
+                continue
+            plain = found.plain()
+        elif found.refused > limits.REFUSED_KEPT:
+            plain = found.plain()
+        plain.append(dict(zip(names, fields)))
+    return found.whole()
 
 
 def _refuse_powers(source: str, line: int, text: str) -> None:
@@ -186,7 +212,7 @@ def _refuse_powers(source: str, line: int, text: str) -> None:
         )
 
 
-def read_rows(path: str | Path, *wanted: str) -> list[Values]:
+def read_rows(path: str | Path, *wanted: str) -> Sequence[Values]:
     """Return the rows of an output; ``-`` is standard input.
 
     Parameters
@@ -203,6 +229,7 @@ def read_rows(path: str | Path, *wanted: str) -> list[Values]:
     """
     source, text = read_text(path)
     rows = parse_rows(source, text)
+    judge_rows(rows, source)
     refuse_parts(source, rows)
     if wanted and not any(row["row"] in wanted for row in rows):
         asking = _ASKING.get(wanted[0], _REPORT)
@@ -231,7 +258,7 @@ def refuse_other(source: str, text: str) -> None:
         _names_of(source, 1, first)
 
 
-def refuse_parts(source: str, rows: list[Values], *, checks: bool = False) -> None:
+def refuse_parts(source: str, rows: Sequence[Values], *, checks: bool = False) -> None:
     """Refuse an output that is empty or cut off, or is a check's although this isn't meant.
 
     Parameters
@@ -289,9 +316,12 @@ def fields_of(values: Values) -> list[str]:
 
 def csv_of(rows: Iterable[Values]) -> str:
     """Return rows as the program writes them in CSV."""
-    out = io.StringIO()
-    csv.writer(out, lineterminator="\n").writerows(map(fields_of, rows))
-    return out.getvalue()
+    parts, each = [], iter(rows)
+    while some := list(islice(each, _ROWS_AT_ONCE)):
+        out = io.StringIO()
+        csv.writer(out, lineterminator="\n").writerows(map(fields_of, some))
+        parts.append(out.getvalue())
+    return "".join(parts)
 
 
 @dataclass(frozen=True, slots=True)
@@ -527,13 +557,13 @@ def blocks_of(rows: Iterable[Values]) -> list[Block]:
     return found
 
 
-def designs_of(rows: list[Values]) -> list[list[Values]]:
+def designs_of(rows: Sequence[Values]) -> list[Sequence[Values]]:
     """Return the streams of each design in order."""
     places = [place for place, row in enumerate(rows) if row["row"] == "design"]
     return [rows[place + 1 : place + 1 + int(rows[place]["streams"])] for place in places]
 
 
-def advice_of(rows: list[Values]) -> list[Values] | None:
+def advice_of(rows: Sequence[Values]) -> Sequence[Values] | None:
     """Return the meters of the last advice, or None if there is no advice."""
     places = [place for place, row in enumerate(rows) if row["row"] == "advise"]
     if not places:

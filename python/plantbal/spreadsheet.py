@@ -14,12 +14,14 @@ from dataclasses import dataclass, field
 from fractions import Fraction
 from itertools import groupby
 
+from plantbal import limits
 from plantbal.amounts import GRAMS_A_TONNE
 from plantbal.faults import InputFault, Place, read_text
 from plantbal.files import write_text
 from plantbal.lint import brief, lint_session
 from plantbal.schema import schema
 from plantbal.session import rows_of_kind
+from plantbal.workbook import csv_rows
 
 HELP = """
 READINGS is a CSV file with a row for each day: the day in the first column, then a column for each
@@ -87,11 +89,11 @@ class Sheet:
 
     def __init__(self, path: str) -> None:
         self.path = path
-        _, text = read_text(path)
+        _, text = read_text(path, limits.WORKBOOK_BYTES)
         first = text.split("\n", 1)[0]
         part = ";" if ";" in first else "\t" if "\t" in first else ","
-        reader = csv.reader(io.StringIO(text, newline=""), delimiter=part)
-        rows = [(reader.line_num, [cell.strip() for cell in row]) for row in reader]
+        given = csv_rows(text, part, path)
+        rows = [(row.last, [cell.strip() for cell in row.fields]) for row in given]
         rows = [(line, row) for line, row in rows if any(row)]
         if not rows:
             raise InputFault(
@@ -116,6 +118,8 @@ def cell_of(row: list[str], column: int) -> str:
 
 def read_decimal(text: str, mark: str) -> Fraction | None:
     """Return a decimal number with this mark, or None."""
+    if len(text) > limits.DIGITS:
+        return None
     if not re.fullmatch(rf"-?[0-9]+({re.escape(mark)}[0-9]+)?", text):
         return None
     return Fraction(text.replace(mark, "."))
@@ -345,17 +349,18 @@ class ReadingSheet:
 
 def read_before(path: str) -> tuple[list[list[str]], set[str]]:
     """Return the rows of a file of further rows, and the nodes and boundaries that they declare."""
-    source, text = read_text(path)
+    source, text = read_text(path, limits.SESSION_BYTES)
     rows = []
-    reader = csv.reader(io.StringIO(text, newline=""))
-    for row in filter(any, reader):
-        if not rows_of_kind(row[0]):
+    for row in csv_rows(text, ",", source):
+        if not any(row.fields):
+            continue
+        if not rows_of_kind(row.fields[0]):
             raise InputFault(
-                f"a session has no row of the kind {row[0]!r}",
-                place=Place(file=source, line=reader.line_num),
+                f"a session has no row of the kind {row.fields[0]!r}",
+                place=Place(file=source, line=row.last),
                 remedy="write rows of a session there, with commas between fields",
             )
-        rows.append(row)
+        rows.append(row.fields)
     kinds = ("unit", "tank", "boundary")
     return rows, {row[1] for row in rows if row[0] in kinds and len(row) > 1}
 

@@ -6,7 +6,7 @@ from collections.abc import Iterator, Sequence
 
 from plantbal.amounts import tonnes_text
 from plantbal.bundle import OUTPUT, SESSION, Manifest
-from plantbal.held import Ledger
+from plantbal.model.ledger import Ledger
 from plantbal.output import Output
 from plantbal.report import Block, Values, last_blocks
 
@@ -45,6 +45,11 @@ def said_of(block: Block) -> str:
         "notest": "nothing to test",
     }
     return f"{said}; {verdicts.get(block.whole['verdict'], block.whole['verdict'])}"
+
+
+def one_line(text: str) -> str:
+    """Return a text in one line, so that none of a stranger's looks like a line of the summary."""
+    return "".join(each if each.isprintable() else ascii(each)[1:-1] for each in text)
 
 
 def _columns(row: Values) -> tuple[str, ...]:
@@ -111,4 +116,4 @@ def summary_text(manifest: Manifest, ledger: Ledger, output: Output) -> str:
         if last and not block.window and block.period == manifest.period:
             lines += ["", f"The flows of {name}:", ""]
             lines += table([_HEADS, *map(_columns, block.streams)])
-    return "\n".join(lines) + "\n"
+    return "".join(f"{one_line(line)}\n" for line in lines)

@@ -4,13 +4,14 @@ from __future__ import annotations
 
 import argparse
 import sys
-from collections.abc import Iterator
+from collections.abc import Iterator, Sequence
 from dataclasses import dataclass
 from decimal import Decimal
 from typing import TYPE_CHECKING
 
 from plantbal.amounts import tonnes_of
 from plantbal.faults import Fault, ToolMissing
+from plantbal.inert import inert_frame
 from plantbal.report import Block, Values, blocks_of, last_blocks, read_rows
 
 if TYPE_CHECKING:
@@ -61,7 +62,7 @@ class Choice:
     component: str = ""
     window: bool = False
 
-    def of(self, rows: list[Values]) -> list[Block]:
+    def of(self, rows: Sequence[Values]) -> list[Block]:
         """Return the rounds that are chosen, in order.
 
         Raises
@@ -85,7 +86,7 @@ class Choice:
             raise Fault(f"there is no {what} in what was read", remedy=remedy)
         return found
 
-    def latest(self, rows: list[Values]) -> list[Block]:
+    def latest(self, rows: Sequence[Values]) -> list[Block]:
         """Return the last round of each period."""
         return list(last_blocks(self.of(rows)).values())
 
@@ -99,7 +100,7 @@ def _lines(block: Block) -> Iterator[tuple[str, str, Values]]:
             yield spot.period, spot.name, stream
 
 
-def frame(rows: list[Values], choice: Choice = Choice()) -> pandas.DataFrame:
+def frame(rows: Sequence[Values], choice: Choice = Choice()) -> pandas.DataFrame:
     """Return a row for each stream of each period."""
     try:
         import pandas
@@ -132,7 +133,7 @@ def pivot(streams: pandas.DataFrame, what: str) -> pandas.DataFrame:
 
 
 def with_deviations(
-    table: pandas.DataFrame, rows: list[Values], choice: Choice = Choice()
+    table: pandas.DataFrame, rows: Sequence[Values], choice: Choice = Choice()
 ) -> pandas.DataFrame:
     """Return a table of flows with a column ± beside each period: the standard deviation in
     tonnes."""
@@ -158,7 +159,7 @@ def with_deviations(
     return table
 
 
-def contents(rows: list[Values]) -> pandas.DataFrame:
+def contents(rows: Sequence[Values]) -> pandas.DataFrame:
     """Return what the tanks of the last window hold, in tonnes, with standard deviations."""
     import pandas
 
@@ -229,7 +230,7 @@ def run(options: argparse.Namespace) -> int:
     if options.what == "contents":
         if options.component:
             raise Fault("contents are those of a window", remedy="leave --component out")
-        sys.stdout.write(contents(rows).to_csv())
+        sys.stdout.write(inert_frame(contents(rows)).to_csv())
     elif options.what in ("suspects", "imbalance"):
         blocks = choice.of(rows)
         lines = suspects(blocks) if options.what == "suspects" else imbalances(blocks)
@@ -238,5 +239,5 @@ def run(options: argparse.Namespace) -> int:
         table = pivot(frame(rows, choice), options.what)
         if options.what == "flows":
             table = with_deviations(table, rows, choice)
-        sys.stdout.write(table.to_csv())
+        sys.stdout.write(inert_frame(table).to_csv())
     return 0

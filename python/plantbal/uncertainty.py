@@ -13,6 +13,7 @@ from typing import TYPE_CHECKING, Any
 
 from plantbal.amounts import tonnes_text
 from plantbal.faults import InputFault, ToolMissing
+from plantbal.inert import inert_frame
 from plantbal.output import Output, read_whole
 from plantbal.report import Block, Values, last_blocks
 from plantbal.solver import Labels, Plant, plant_of
@@ -395,7 +396,7 @@ def run(options: argparse.Namespace) -> int:
     output = read_whole(options.output, "report")
     table = last_of_each_period(output)
     if options.form == "csv":
-        text = table.to_csv(index=False)
+        text = inert_frame(table).to_csv(index=False)
     elif options.form == "json":
         text = table.to_json(orient="records", indent=1, force_ascii=False) + "\n"
     else:

@@ -11,6 +11,7 @@ from pathlib import Path
 from plantbal.asks import ReportBlock, asked, places_of, some
 from plantbal.explain import Explanation, Field, Text, Told, picture, shown
 from plantbal.faults import InputFault, Place, read_bytes
+from plantbal.judged import judge_rows
 from plantbal.program import call
 from plantbal.records import Record
 from plantbal.report import Values, parse_rows
@@ -446,6 +447,7 @@ def explain_check(
             place=Place(file=name),
             remedy="plantbal check < REPORT writes it",
         )
+    judge_rows(rows, name, checks=True)
     text = Text(source, data)
     blocks, found, number = _blocks(text), list[Told](), 0
     for row in rows:

@@ -1,4 +1,8 @@
-"""Workbooks: the sheets of an xlsx file or a folder of CSV files, as cells with their places."""
+"""Workbooks: the sheets of an xlsx file or a folder of CSV files, as cells with their places.
+
+No row is lost in silence: a quote out of place is a fault with its line, and a sheet's `notes` say
+what a reader of the workbook might not expect, such as hidden rows.
+"""
 
 from __future__ import annotations
 
@@ -6,19 +10,22 @@ import csv
 import datetime
 import io
 import re
-from collections.abc import Iterator
+import sys
+from collections.abc import Iterator, Sequence
 from dataclasses import dataclass, field
 from decimal import Decimal
 from pathlib import Path
-from typing import Any
 
-from plantbal.faults import InputFault, Place, ToolMissing, read_bytes
+from plantbal import limits
+from plantbal.faults import InputFault, Place, read_bytes, unread
 
 # How the letters of columns begin: Z is the 26th.
 _LETTERS = 26
 # Days are counted from here by Excel, and by workbooks that count from 1904.
 EPOCH = datetime.date(1899, 12, 30)
 EPOCH_1904 = datetime.date(1904, 1, 1)
+_TABLES = (".csv", ".txt", ".tsv")
+_WORKBOOKS = (".xlsx", ".xlsm", ".xls", ".xlsb", ".ods")
 
 
 @dataclass(frozen=True, slots=True)
@@ -96,6 +103,8 @@ class Sheet:
         Whether it is a CSV file.
     epoch : date
         The day from which days are counted.
+    notes : list of str
+        What is to be said of how it was read.
     """
 
     file: str
@@ -139,53 +148,183 @@ def read_workbook(path: str | Path) -> list[Sheet]:
     Raises
     ------
     InputFault
-        If it can't be read.
+        If it can't be read, or holds more than `plantbal.limits` has.
     """
     place = Path(path)
-    if place.is_dir():
-        files = sorted(
-            file for file in place.iterdir() if file.suffix.lower() in (".csv", ".txt", ".tsv")
-        )
-        if not files:
-            raise InputFault(
-                "there is no CSV file in this folder",
-                place=Place(file=str(path)),
-                remedy="write streams.csv, readings.csv and so on into it",
-            )
-        return [read_csv(file) for file in files]
-    if place.suffix.lower() in (".csv", ".txt", ".tsv"):
+    try:
+        if place.is_dir():
+            return _read_folder(place)
+    except OSError as error:
+        raise unread(path, error) from error
+    if place.suffix.lower() in _TABLES:
         return [read_csv(place)]
-    return _read_xlsx(place)
+    from plantbal.workbook_xlsx import read_xlsx
+
+    return read_xlsx(place)
+
+
+def _read_folder(folder: Path) -> list[Sheet]:
+    """Return the CSV files of a folder; of a workbook in it, that it isn't read."""
+    entries = []
+    for entry in folder.iterdir():
+        entries.append(entry)
+        if len(entries) > limits.FOLDER_FILES:
+            raise InputFault(
+                f"this folder has more than {limits.FOLDER_FILES:,} files",
+                place=Place(file=str(folder)),
+                remedy="name a folder with the files of one workbook",
+            )
+    sheets = [read_csv(file) for file in sorted(entries) if file.suffix.lower() in _TABLES]
+    if not sheets:
+        raise InputFault(
+            "there is no CSV file in this folder",
+            place=Place(file=str(folder)),
+            remedy="write streams.csv, readings.csv and so on into it",
+        )
+    note = "it isn't read: of a folder only CSV files are"
+    for file in sorted(entries):
+        if file.suffix.lower() in _WORKBOOKS and not file.name.startswith((".", "~")):
+            sheets.append(Sheet(str(file), file.stem, [], is_csv=True, notes=[note]))
+    return sheets
+
+
+def without_end(values: list[Value]) -> list[Value]:
+    """Return values without empty ones at the end."""
+    while values and values[-1] is None:
+        values.pop()
+    return values
+
+
+class Held:
+    """Counts what the sheets of a workbook hold, and refuses one that holds too much.
+
+    Attributes
+    ----------
+    cells : int
+        The cells so far, each row from its first column to its last one with a value.
+    """
+
+    def __init__(self) -> None:
+        self.cells = 0
+
+    def take(self, place: Place, values: Sequence[Value]) -> None:
+        """Count the cells of a row.
+
+        Raises
+        ------
+        InputFault
+            If it has too many columns, the workbook too many cells, or a cell too long a text.
+        """
+        self.cells += len(values)
+        longest = max((len(value) for value in values if isinstance(value, str)), default=0)
+        for count, most, what in (
+            (len(values), limits.COLUMNS, "columns in a row"),
+            (self.cells, limits.CELLS, "cells in the workbook"),
+            (longest, limits.CELL_CHARACTERS, "characters in a cell"),
+        ):
+            if count > most:
+                raise InputFault(
+                    f"there are more than {most:,} {what}",
+                    place=place,
+                    remedy="give the plant's workbook, of which no sheet has as many",
+                )
 
 
 # ---- CSV
 
 
 def read_csv(path: Path) -> Sheet:
-    """Return a CSV file as a sheet, whatever parts its fields."""
-    name, data = read_bytes(path)
+    """Return a CSV file as a sheet, whatever parts its fields.
+
+    Raises
+    ------
+    InputFault
+        If it can't be read, or a double quote in it isn't closed.
+    """
+    name, data = read_bytes(path, limits.WORKBOOK_BYTES)
     text, notes = _decoded(name, data)
     first, _, rest = text.partition("\n")
     marked = re.fullmatch(r"sep=(.)\r?", first.lower())
     part = marked.group(1) if marked else _parting(text)
-    reader = csv.reader(io.StringIO(rest if marked else text, newline=""), delimiter=part)
-    lines: list[tuple[int, list[Value]]] = []
-    at = 1
-    for row in reader:
-        values: list[Value] = [field.strip(" \t\u00a0\u202f") or None for field in row]
+    sheet = Sheet(name, path.stem, [], is_csv=True, notes=notes)
+    held = Held()
+    for row in csv_rows(rest if marked else text, part, name, 1 + bool(marked)):
+        values: list[Value] = [each.strip(" \t\u00a0\u202f") or None for each in row.fields]
         if any(value is not None for value in values):
-            lines.append((at + bool(marked), _without_end(values)))
-        at = reader.line_num + 1
-    return Sheet(name, path.stem, lines, is_csv=True, notes=notes)
+            sheet.lines.append((row.first, without_end(values)))
+            held.take(sheet.place(row.first), values)
+            _say_lines(sheet, row, part)
+    return sheet
+
+
+@dataclass(frozen=True, slots=True)
+class CsvRow:
+    """A row of a CSV file: its fields, and the first and the last line that it stands in."""
+
+    fields: list[str]
+    first: int
+    last: int
+
+
+def csv_rows(text: str, part: str, name: str, begin: int = 1) -> Iterator[CsvRow]:
+    """Give the rows of a CSV text that begins in a line.
+
+    Raises
+    ------
+    InputFault
+        If a double quote isn't closed, or stands within a field.
+    """
+    csv.field_size_limit(sys.maxsize)
+    at = begin
+    try:
+        reader = csv.reader(io.StringIO(text, newline=""), delimiter=part, strict=True)
+        for fields in reader:
+            last = begin + reader.line_num - 1
+            yield CsvRow(fields, at, last)
+            at = last + 1
+    except (csv.Error, TypeError) as error:  # a quote can't part fields
+        raise InputFault(
+            "a double quote in this row isn't closed, or stands within a field: "
+            "rows after it would be lost",
+            place=Place(file=name, line=at),
+            remedy="take it out, or write it twice within double quotes",
+        ) from error
+
+
+def _say_lines(sheet: Sheet, row: CsvRow, part: str) -> None:
+    """Say that a field goes over several lines.
+
+    Raises
+    ------
+    InputFault
+        If one of them has the fields of a row.
+    """
+    if row.first == row.last:
+        return
+    fields = len(sheet.lines[0][1])
+    for text in row.fields:
+        inner = re.split(r"\r\n|\r|\n", text)[1:]
+        if any(line.count(part) + 1 >= max(2, fields) for line in inner):
+            raise InputFault(
+                f"a field within double quotes goes to line {row.last}, with rows in it",
+                place=sheet.place(row.first),
+                remedy="take the double quote out, or write it twice within double quotes",
+            )
+    sheet.notes.append(f"line {row.first}: a field within double quotes goes to line {row.last}")
 
 
 def _decoded(name: str, data: bytes) -> tuple[str, list[str]]:
     """Return the text of a file, and what is to be said of its encoding."""
+    place = Place(file=name)
     if data.startswith((b"\xff\xfe", b"\xfe\xff")):
-        return data.decode("utf-16"), []
+        try:
+            return data.decode("utf-16"), []
+        except UnicodeDecodeError as error:
+            what = "this is UTF-16 that is cut off or damaged"
+            raise InputFault(what, place=place, remedy='save it as "CSV UTF-8"') from error
     if b"\0" in data:
         raise InputFault(
-            "this is no text", place=Place(file=name), remedy='save it as "CSV UTF-8" or as xlsx'
+            "this is no text", place=place, remedy='save it as "CSV UTF-8" or as xlsx'
         )
     try:
         return data.decode("utf-8-sig"), []
@@ -200,64 +339,3 @@ def _parting(text: str) -> str:
         if 2 * sum(part in line for line in lines) > len(lines):
             return part
     return ","
-
-
-def _without_end(values: list[Value]) -> list[Value]:
-    """Return values without empty ones at the end."""
-    while values and values[-1] is None:
-        values.pop()
-    return values
-
-
-# ---- xlsx
-
-
-def _read_xlsx(path: Path) -> list[Sheet]:
-    name, data = read_bytes(path)
-    if not data.startswith(b"PK"):
-        old = data.startswith(b"\xd0\xcf\x11\xe0")
-        raise InputFault(
-            "this is a workbook of the old form" if old else "this is no xlsx workbook",
-            place=Place(file=name),
-            remedy="save it as xlsx, or give a folder of CSV files",
-        )
-    try:
-        import openpyxl
-    except ImportError as error:
-        raise ToolMissing("openpyxl", "python3-openpyxl") from error
-    try:
-        values = openpyxl.load_workbook(io.BytesIO(data), data_only=True)
-        written = openpyxl.load_workbook(io.BytesIO(data), data_only=False)
-    except Exception as error:  # openpyxl raises whatever its parts raise
-        raise InputFault(
-            f"this workbook can't be read ({error})",
-            place=Place(file=name),
-            remedy="open it and save it as xlsx again",
-        ) from error
-    epoch = EPOCH_1904 if values.epoch.year == EPOCH_1904.year else EPOCH
-    sheets = []
-    for sheet in values.worksheets:
-        lines: list[tuple[int, list[Value]]] = []
-        for row, other in zip(sheet.iter_rows(), written[sheet.title].iter_rows()):
-            found = _without_end([_value(cell, twin) for cell, twin in zip(row, other)])
-            if found:
-                lines.append((row[0].row, found))
-        sheets.append(Sheet(name, sheet.title, lines, epoch=epoch))
-    return sheets
-
-
-def _value(cell: Any, written: Any) -> Value:
-    """Return what stands in a cell of openpyxl; numbers become Decimals as the file has them."""
-    value = cell.value
-    if value is None:
-        return NoValue() if written.data_type == "f" else None
-    if isinstance(value, (bool, datetime.datetime, datetime.time)):
-        return value
-    if isinstance(value, (int, float)):
-        # `repr` gives the digits of the file, of which a cell has at most 17
-        number = Decimal(repr(value))
-        percent = "%" in str(cell.number_format or "")
-        return Percent((number * 100).normalize()) if percent else number
-    if isinstance(value, datetime.date):
-        return datetime.datetime.combine(value, datetime.time())
-    return str(value).strip() or None

@@ -58,20 +58,29 @@ def folder(room: Path, sheets: Sheets) -> Path:
 
 
 def files_of(folder: Path) -> dict[str, str]:
-    """The files of a book but for its lock; the journal without its times."""
+    """The files of a book but for its lock; the journal without its times and digests of lines."""
     found = {}
     for path in sorted(folder.rglob("*")):
-        if path.is_file() and path.name != ".lock" and not path.name.startswith("..pending."):
+        if path.is_file() and path.name != ".lock":
             text = text_of(path)
             if path.name == "journal.csv":
-                text = "\n".join(line.partition(",")[2] for line in text.splitlines())
+                rows = csv.DictReader(io.StringIO(text))
+                text = "\n".join(f"{row | UNLIKE}" for row in rows)
+            if path.name == ".checks":
+                lines = text.splitlines()
+                text = "\n".join(each for each in lines if not each.startswith("journal"))
             found[str(path.relative_to(folder))] = text
     return found
 
 
+# What two journals of the same actions have otherwise.
+UNLIKE = {"when": "", "before": "", "digest": ""}
+
+
 def journal_of(folder: Path) -> list[list[str]]:
-    """The lines of a book's journal without their times."""
-    return [row[1:] for row in csv.reader(io.StringIO(text_of(folder / "journal.csv")))]
+    """The lines of a book's journal: who, action, of, what, why, rows."""
+    rows = csv.reader(io.StringIO(text_of(folder / "journal.csv")))
+    return [row[3:9] for row in rows]
 
 
 def typed(*words: object) -> int:

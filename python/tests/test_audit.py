@@ -29,9 +29,11 @@ from plantbal.bundle import (
 )
 from plantbal.changed import digest, digests_of_parts, where
 from plantbal.faults import Fault, InputFault
-from plantbal.held import Ledger, Pair, answers_of, refused_differ
+from plantbal.held import Pair, answers_of, refused_differ
+from plantbal.model.ledger import Ledger
 from plantbal.program import call
 from plantbal.runwords import words_read
+from plantbal.studies import studies_of
 
 QUICK = settings(max_examples=15, deadline=None, suppress_health_check=list(HealthCheck))
 TIME = ("--time", "2024-05-02T06:00:00Z")
@@ -163,7 +165,7 @@ def test_each_session_agrees_with_its_output(path: Path, program: Path) -> None:
     ledger, answers = Ledger(path.name, data), answers_of(output)
     assert not list(refused_differ(output, ledger))
     assert len(ledger.seen) == len(answers)
-    for pair in map(Pair, ledger.seen, answers):
+    for pair in map(Pair, studies_of(ledger), answers):
         assert not list(pair.differ())
 
 
@@ -171,7 +173,7 @@ def test_a_made_plant_agrees(program: Path) -> None:
     data = call(["make", "--streams", "60"], b"", program=program)[1]
     output = call(["run"], data, program=program)[1]
     ledger = Ledger("made", data)
-    assert not list(Pair(ledger.seen[0], answers_of(output)[0]).differ())
+    assert not list(Pair(studies_of(ledger)[0], answers_of(output)[0]).differ())
 
 
 def test_an_elimination_and_a_report_of_json(say: Desk, tmp_path: Path, program: Path) -> None:
@@ -227,9 +229,9 @@ CHANGES = [
     (SUMMARY, b"T06:00:00Z", b"T07:00:00Z", "summary.txt: line 2"),
     (MANIFEST, b'"refused": 2', b'"refused": 1', "manifest.json: line 21"),
     (MANIFEST, b"T06:00:00Z", b"T07:00:00Z", "manifest.json: line 7, character 24: 7 stands there"),
-    (MANIFEST, b'"archive": 3', b'"archive": 4', "it says that it is of version 4"),
-    (MANIFEST, b'"archive": 3', b'"archive": 1', "its item 'program' isn't of its form"),
-    (MANIFEST, b'"archive": 3', b'"archive": 2', "its items aren't those of its version"),
+    (MANIFEST, b'"archive": 4', b'"archive": 5', "it says that it is of version 5"),
+    (MANIFEST, b'"archive": 4', b'"archive": 1', "its item 'program' isn't of its form"),
+    (MANIFEST, b'"archive": 4', b'"archive": 2', "its items aren't those of its version"),
     (MANIFEST, b"--gap 10", b"--gap 11", "writes 'report,2024-04,0,"),
     (MANIFEST, b"run --gap", b"rum --gap", "aren't those of a run"),
     (MANIFEST, b'"period": "2024-06"', b'"period": "2024-07"', "the session has no period 2024-07"),

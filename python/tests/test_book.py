@@ -38,9 +38,9 @@ def test_new_and_add(book: Type, tmp_path: Path) -> None:
         "SILO,,,1250 kg/m3,3 mm",
     ]
     assert journal_of(tmp_path / "mill") == [
-        ["who", "what", "why", "rows"],
-        ["anna", "new 2024 plant", "", "2024: 1 to 9"],
-        ["anna", "add april", "", "2024: 10 to 19"],
+        ["who", "action", "of", "what", "why", "rows"],
+        ["anna", "new", "2024", "plant", "", "2024: 1 to 9"],
+        ["anna", "add", "", "april", "", "2024: 10 to 19"],
     ]
 
 
@@ -74,7 +74,8 @@ def test_a_changed_figure_wants_a_reason(book: Type, tmp_path: Path) -> None:
     assert "2024.csv: amended: 1\nF-1_2024-04-02: 1,200 t becomes 1,210 t\n" in said.out
     variance = (12_100_000) ** 2
     assert rows_of(tmp_path)[-1] == f"amend,F-1_2024-04-02,1210000000,{variance},second look"
-    assert journal_of(tmp_path / "mill")[-1] == ["anna", "add april", "second look", "2024: 20"]
+    last = ["anna", "add", "", "april", "second look", "2024: 20"]
+    assert journal_of(tmp_path / "mill")[-1] == last
 
 
 def test_a_reason_is_asked_for(
@@ -95,7 +96,7 @@ def test_a_reason_is_asked_for(
     assert asked[0] == asked[1] == "F-1_2024-04-01: 1,200 t becomes 1,210 t. Why? "
     assert asked[2] == "P-1_2024-04-01: 1,199.5 t becomes 1,200 t. Why? [typed wrong] "
     assert [row.rsplit(",", 1)[1] for row in rows_of(tmp_path)[-2:]] == ["typed wrong"] * 2
-    assert journal_of(tmp_path / "mill")[-1][2] == "typed wrong"
+    assert journal_of(tmp_path / "mill")[-1][4] == "typed wrong"
     monkeypatch.undo()
     monkeypatch.setattr("plantbal.book.adding._may_ask", lambda: True)
     before = files_of(tmp_path / "mill")
@@ -488,9 +489,10 @@ def test_report_close_and_late(book: Type, tmp_path: Path) -> None:
     said = book("status")
     assert "2024-04: closed, changed since its report: plantbal-desk book report" in said.out
     assert "with 3 edits" in book("report", "2024-04").out
-    assert sorted(path.name for path in (tmp_path / "mill/reports").iterdir()) == [
-        "2024-04.1.csv",
+    reports = tmp_path / "mill/reports"
+    assert sorted(str(path.relative_to(reports)) for path in reports.rglob("*.csv")) == [
         "2024-04.csv",
+        "earlier/2024-04.1.csv",
     ]
     assert text_of(tmp_path / "mill/reports/2024-04.csv").splitlines()[-3:] == [
         "edit,74,amend,truck-04,a digit short",
@@ -542,9 +544,15 @@ def test_a_book_that_was_changed_by_hand(book: Type, tmp_path: Path) -> None:
     before = path.read_text(encoding="utf-8")
     path.write_text(before + "reading,x,FEED,2024-04-09,1.5,1\n", encoding="utf-8")
     said = book("status")
+    assert "2024.csv: line 20: 1 line stands after what action 2 (add april" in said.err
+    assert "put the file back as it was" in said.err
+    assert book("accept", "2024.csv", "--why", "a try").status == 0
+    said = book("status")
     assert "2024.csv: line 20, record 20: reading x: GRAMS is '1.5' (refused 4, number)" in said.err
     assert "rows of a book are written by its commands alone" in said.err
     path.write_text(before + "amend,F-1_2024-04-01,1,1,wh", encoding="utf-8")
+    assert book("status").status == 1
+    assert book("accept", "2024.csv", "--why", "another").status == 0
     assert "2024.csv: line 20: its last line has no end" in book("status").err
     assert "there is a book in" in book("new", "2025", tmp_path / "plant").err
 

@@ -15,7 +15,7 @@ from books import PLANT, files_of, folder, journal_of, month, typed
 from conftest import TOP, Desk
 
 from plantbal.book.lock import locked
-from plantbal.book.store import Action, Book
+from plantbal.book.store import Act, Action, Book
 from plantbal.faults import Fault
 
 
@@ -163,7 +163,7 @@ def test_another_program_writes_between(
     typed(*moments["new"], "--book", tmp_path / "mill")
     kept = Book(tmp_path / "mill")
     with kept.opened():
-        kept.do(Action("nothing"))
+        kept.do(Action(Act.ADD))
         text = '[{"file": "2024.csv", "from": 5, "text": "unit,X\\n"}]'
         (tmp_path / "mill" / ".pending").write_text(text, encoding="utf-8")
     said = say("book", "status", "--book", tmp_path / "mill")

@@ -139,10 +139,14 @@ def test_a_plant_that_was_spoilt(book: Type, tmp_path: Path) -> None:
     path = tmp_path / "mill" / "plant.csv"
     plant = path.read_text(encoding="utf-8")
     path.write_text(plant + "unit,WET MILL\n", encoding="utf-8")
+    assert "plant.csv: line 10: 1 line stands after what action 1 (new" in book("next", "2025").err
+    assert book("accept", "plant.csv", "--why", "a new mill").status == 0
     said = book("next", "2024-2")
     assert "plant.csv: line 10, record 10: unit WET MILL: NAME is 'WET MILL'" in said.err
     path.write_text(plant + "close,2024-04\n", encoding="utf-8")
-    assert book("next", "2024-2").status == 1
+    assert book("accept", "plant.csv", "--why", "closed").status == 0
+    said = book("next", "2024-2")
+    assert said.status == 1 and "plant.csv: line 10, record 10: close 2024-04" in said.err
 
 
 def test_a_ticket_that_moves_from_year_to_year(two: Type, tmp_path: Path) -> None:

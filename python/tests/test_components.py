@@ -453,21 +453,36 @@ def test_what_cannot_be(say: Desk, tmp_path: Path, old: str, new: str, said: str
         assert found.impossible[0] in err
 
 
-def test_where_it_is_said(say: Desk, tmp_path: Path) -> None:
+# A unit whose product B carries what the assays of A and C leave over.
+LEFT_OVER = """unit,U
+stream,A,env,U,metered,1
+stream,B,U,env,metered,1
+stream,C,U,env,metered,1
+period,jun03,2024-06-03,2024-06-03
+reading,a,A,2024-06-03,150000000,100
+reading,b,B,2024-06-03,10000000,100
+reading,c,C,2024-06-03,140000000,100
+assay,cu,A,jun03,900000,1
+assay,cu,C,jun03,GRADE,1
+report,jun03
+component,cu,jun03
+"""
+
+
+def test_where_it_is_said(say: Desk, tmp_path: Path, program: Path) -> None:
     """The statement's verdict of the balance has it, and the fleet wants a person."""
     said = "CONCENTRATE carries 351.204 t of cu in 342.960 t, more than there is of it"
-    out, program = tmp_path / "out.csv", tmp_path / "stub"
+    out = tmp_path / "out.csv"
     out.write_text(with_flow(FLOWS[0], "351204000,351203990,351204010"))
     made = read(page(parse_rows("out", text_of(out)))).text
     assert "but the flow of CONCENTRATE can't be" in made and f"{said}: look at the assays" in made
     assert "can't be" not in read(page(parse_rows("out", text_of(OUT)))).text
-    program.write_text('#!/bin/sh\nread which\ncat "$which"\n')
-    program.chmod(0o755)
     sessions = tmp_path / "sessions"
     sessions.mkdir()
-    for name, output in (("bad", out), ("good", OUT)):
-        (sessions / f"{name}.csv").write_text(f"{output}\ncomponent,cu,jun03\n")
+    for name, grade in (("bad", "500000"), ("good", "900000")):
+        (sessions / f"{name}.csv").write_text(LEFT_OVER.replace("GRADE", grade))
     found = say("fleet", "--program", program, "--out", tmp_path / "nights", sessions)
+    said = "B carries 65.000 t of cu in 10.000 t, more than there is of it"
     assert found.status == 1 and f"bad, cu in jun03: {said}" in found.err
     looks = pandas.read_csv(io.StringIO(found.out)).set_index(["site", "period"])["look"].dropna()
     assert list(looks.index) == [("bad", "cu in jun03")] and looks.iloc[0].startswith(said)

@@ -51,7 +51,7 @@ def test_help_of(command: desk.Command) -> None:
     assert command.word in text
 
 
-@pytest.mark.parametrize("module", ["plantbal", "plantbal.session", "plantbal.trend"])
+@pytest.mark.parametrize("module", ["plantbal", "plantbal.session.builder", "plantbal.trend"])
 def test_examples_of_docstrings(module: str) -> None:
     found = doctest.testmod(importlib.import_module(module))
     assert found.attempted > 0 and found.failed == 0
@@ -65,10 +65,18 @@ def test_public_names() -> None:
     for path in sorted((TOP / "python" / "plantbal").rglob("*.py")):
         tree = ast.parse(path.read_text(encoding="utf-8"))
         assert ast.get_docstring(tree), path
+        # what is within a function is its own, and these two are said of all effects by their class
+        within = {
+            inner
+            for node in ast.walk(tree)
+            if isinstance(node, ast.FunctionDef)
+            for inner in ast.walk(node)
+            if inner is not node
+        }
         for node in ast.walk(tree):
             if isinstance(node, ast.FunctionDef | ast.ClassDef) and not node.name.startswith("_"):
-                inner = "store" == node.name
-                assert inner or ast.get_docstring(node), f"{path.name}: {node.name}"
+                said = node in within or node.name in ("store", "refused", "of")
+                assert said or ast.get_docstring(node), f"{path.name}: {node.name}"
 
 
 def test_import_is_quick() -> None:

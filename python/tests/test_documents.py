@@ -81,6 +81,10 @@ FORMED = {
     "unused_parameters": "fn takes(a: u32, _b: u32) -> u32 {\n    twice(a)\n}",
     "unreachable_places": "fn reaches(a: u32) -> u32 {\n    unreachable!()\n}",
     "functions_of_one_operator": "fn product(a: u32, b: u32) -> u32 {\n    a * b\n}",
+    "out_of_memory_where_no_failure_was_caught": "fn gives_up(a: u32) -> Result<u32, AllocError> {\n"
+    "    if a > 50 {\n        return Err(AllocError);\n    }\n    twice(a)\n}",
+    "out_of_memory_after_a_caught_failure": "fn hands_on(a: u32) -> Result<u32, AllocError> {\n"
+    "    match half(a) {\n        Ok(b) => Ok(b),\n        Err(Half::NoMemory) => Err(AllocError),\n    }\n}",
 }
 # A law that cites laws, a trait's parameter, a value thrown away, and an operator over a field.
 UNFORMED = (

@@ -24,6 +24,7 @@ from plantbal.fleet.given import Given, days_of, has_critical, sha256_of
 from plantbal.fleet.keep import checksums
 from plantbal.fleet.rows import HEADS
 from plantbal.fleet.sites import sites
+from plantbal.inert import inert
 from plantbal.report import Subject, over_of, parse_rows, subjects_of
 
 SITE = """unit,U
@@ -105,14 +106,16 @@ def test_engine(program: Path, plants: Path, tmp_path: Path, words: list[str]) -
 
 
 def test_too_large(program: Path, tmp_path: Path, say: Desk) -> None:
-    """A session that is a byte too long has a row, and no output that looks like one."""
-    folder = folder_of(tmp_path / "sessions", {"a.csv": b"\n" * 67_108_865})
+    """A session that is a byte too long has a row, and isn't even read."""
+    folder = folder_of(tmp_path / "sessions", {"a.csv": b""})
+    os.truncate(folder / "a.csv", 67_108_865)
     out = tmp_path / "out"
     found = say("fleet", "--program", program, "--out", out, "--date", NIGHT, folder)
     row = row_of(found.out, "a")
-    assert (found.status, row["state"], row["status"]) == (1, "TooLarge", "5")
-    assert "fleet: a: the program ended with status 5, TooLarge; " in found.err
-    assert {path.name for path in out.glob("a/**/*")} == {NIGHT, "stderr.txt", "run.json"}
+    assert (found.status, row["state"], row["status"]) == (1, "TooLarge", "")
+    said = f"fleet: a: {folder / 'a.csv'}: it has more than 67,108,864 bytes: split it"
+    assert said in found.err, found.err
+    assert not (out / "a").exists()
 
 
 def test_what_is_kept(program: Path, tmp_path: Path, say: Desk) -> None:
@@ -621,10 +624,10 @@ def test_which_files(tmp_path: Path) -> None:
     chosen = sites(folder, out=out)
     assert [site.name for site in chosen.sites] == ["B", "a", "c"]
     assert chosen.left == [
-        f"{folder}/nights of last year: this folder has a session, which isn't run: say "
-        "--recursive for it too",
-        f"{folder}/north: this folder has 2 sessions, which aren't run: say --recursive for them "
-        "too",
+        f"{folder}/nights of last year: this folder has a session or more, which aren't run: say "
+        "--recursive for them",
+        f"{folder}/north: this folder has a session or more, which aren't run: say --recursive for "
+        "them",
         f"{folder}: 3 files aren't run, since a session's name ends with .csv: april.xlsx, e.txt, "
         "f.csv.part",
     ]
@@ -653,7 +656,7 @@ def test_odd_names(program: Path, tmp_path: Path, say: Desk) -> None:
     out = tmp_path / "the nights"
     found = say("fleet", "--program", program, "--out", out, folder)
     assert found.status == 0, found.err
-    assert [row["site"] for row in rows_of(found.out)] == sorted(ODD)
+    assert [row["site"] for row in rows_of(found.out)] == [inert(name) for name in sorted(ODD)]
     subprocess.run(["sha256sum", "--quiet", "--check", "latest/SHA256SUMS"], cwd=out, check=True)
     assert "&#34;quoted&#34;" in text_of(out / "index.html")
 
@@ -764,7 +767,7 @@ WRONG = {
     "no cluster": ({"--scheduler": "tcp://127.0.0.1:9"}, 1, "tcp://127.0.0.1:9 doesn't answer"),
     "jobs": ({"--jobs": "0"}, 2, "'0' is no number from 1 on"),
     "date": ({"--date": "yesterday"}, 2, "'yesterday' is no night: write 2026-11-29"),
-    "timeout": ({"--timeout": "soon"}, 2, "'soon' is no number of seconds: write 600"),
+    "timeout": ({"--timeout": "soon"}, 2, "'soon' isn't a number of seconds: write 600"),
     "words": ({"--engine": "parallel", "--send": None}, 2, "--send are words for dask"),
     "unknown": ({"--night": "1"}, 2, "unrecognized arguments: --night"),
 }

@@ -15,9 +15,11 @@ from mistakes import BASE, MISTAKES, Mistake
 import plantbal
 from plantbal.fleet.command import lint_plants
 from plantbal.fleet.rows import Plant, Row
+from plantbal.fleet.taking import Taker
 from plantbal.fleet.sites import sites
 from plantbal.lint import brief, lint_session, summary
-from plantbal.lintrules import RULES, SEVERITIES, near_pairs, one_letter_apart
+from plantbal.lint.findings import RULES, SEVERITIES
+from plantbal.lint.plant import near_pairs, one_letter_apart
 from plantbal.program import call
 from plantbal.report import Block, blocks_of, parse_rows
 from plantbal.session import LIMITS
@@ -572,7 +574,8 @@ def test_fleet(tmp_path: Path) -> None:
     (tmp_path / "bad.csv").write_text(changed("report,d1\n", ""), encoding="ascii")
     chosen = sites(tmp_path).sites
     plants = [Plant(site.name, [Row(site.name)]) for site in chosen]
-    lint_plants(plants, chosen)
+    with Taker(count=1) as taker:
+        lint_plants(taker, plants, chosen)
     found = {plant.site: plant.rows[0].warnings for plant in plants}
     assert found == {"bad": "1 error: nothing-asked", "good": ""}
 

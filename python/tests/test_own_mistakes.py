@@ -152,7 +152,7 @@ OF_TAGS = {
     "garbage": (GARBAGE, "this is no UTF-8 text"),
     "a session": (SESSION, NO_TAGS),
     "a report": (REPORT, NO_TAGS),
-    "JSON lines": (JSON, NO_TAGS),
+    "JSON lines": (JSON, "line 1: a double quote in this row isn't closed, or stands within a field"),
     "workbook": (WORKBOOK, NO_TAGS),
 }
 OF_READINGS = but(OF_TAGS, workbook="") | {
@@ -213,6 +213,7 @@ INPUTS = [
     Input(("advise", str(example("crude_unit_meters.csv")), "FILE"), OF_COSTS),
     Input(("chart", "FILE"), OF_REPORTS),
     Input(("recovery", "FILE"), OF_BALANCES),
+    Input(("balance", "FILE", "may1"), OF_PLANTS),
     Input(("page", "FILE"), OF_PAGES),
     Input(("from-scipy", "FILE"), OF_REPORTS),
     Input(("explain", str(example("refinery_day.csv")), "FILE"), OF_OUTPUTS),
@@ -298,6 +299,7 @@ FULL = [
     ("from-scipy", example("refinery_day.out.csv")),
     ("advise", example("crude_unit_meters.csv")),
     ("recovery", example("flotation_copper.out.csv")),
+    ("balance", example("flotation_copper.csv"), "jun04"),
 ]
 
 

@@ -69,7 +69,7 @@ def test_bash_completes_plantbal(typed: list[str], wanted: list[str]) -> None:
     assert said_by_bash("plantbal", *typed) == wanted
 
 
-BOOK = set("new add show amend strike report window close status next".split())
+BOOK = set("new add show amend strike report window close status next verify head accept".split())
 
 
 def test_bash_completes_plantbal_desk() -> None:
@@ -101,7 +101,7 @@ def test_completions_are_read_by_their_shells(command: str) -> None:
 def test_completions_are_where_zsh_looks(prefix: str, folder: str) -> None:
     words = ["make", "-n", "-C", str(TOP), "install-desk", f"PREFIX={prefix}"]
     done = subprocess.run(words, stdout=subprocess.PIPE, check=True, text=True)
-    assert f"{prefix}/share/zsh/{folder}/_plantbal-desk" in done.stdout
+    assert f"{prefix}/share/zsh/{folder}/_plantbal-desk" in done.stdout.replace(chr(34), "")
     looks = [needed("zsh"), "-f", "-c", "print -l $fpath"]
     done = subprocess.run(looks, stdout=subprocess.PIPE, check=True, text=True)
     assert f"{prefix}/share/zsh/{folder}" in done.stdout.splitlines()
@@ -132,9 +132,10 @@ def test_fish_completes(typed: str, wanted: set[str]) -> None:
     assert {line.split("\t")[0] for line in done.stdout.splitlines()} == wanted
 
 
-@pytest.mark.parametrize(
-    "page", ["plantbal.1", "plantbal-desk.1", "plantbal-session.5", "plantbal-report.5"]
-)
+PAGES = "plantbal.1 plantbal-verify.1 plantbal-desk.1 plantbal-session.5 plantbal-report.5"
+
+
+@pytest.mark.parametrize("page", PAGES.split())
 def test_pages_have_no_fault(page: str) -> None:
     done = subprocess.run(
         [needed("mandoc"), "-T", "lint", "-W", "warning", TOP / "docs" / page],
@@ -147,7 +148,9 @@ def test_pages_have_no_fault(page: str) -> None:
 PACKAGES = {
     "babel": "python3-babel",
     "cloudpickle": "python3-distributed",
+    "cffi": "python3-cffi",
     "dask": "python3-distributed",
+    "defusedxml": "python3-defusedxml",
     "distributed": "python3-distributed",
     "graphviz": "python3-graphviz",
     "jinja2": "python3-jinja2",
@@ -174,8 +177,16 @@ def imported(path: Path) -> set[str]:
 
 
 def test_each_import_has_its_package() -> None:
-    control = (TOP / "packaging" / "python3-plantbal.control").read_text(encoding="utf-8")
-    named = set(re.findall(r"python3-[a-z0-9]+", control))
+    named = {
+        package
+        for word in ("depends", "recommends", "suggests")
+        for package in subprocess.run(
+            [TOP / "packaging" / "needs", "control", word],
+            stdout=subprocess.PIPE,
+            check=True,
+            text=True,
+        ).stdout.split(", ")
+    }
     for path in sorted((TOP / "python" / "plantbal").rglob("*.py")):
         for module in sorted(imported(path)):
             assert PACKAGES.get(module) in named, f"{path.name} imports {module}"

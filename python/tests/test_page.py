@@ -17,7 +17,7 @@ from plantbal.faults import InputFault
 from plantbal.page.account import account_of
 from plantbal.page.command import page
 from plantbal.page.head import program_text
-from plantbal.page.ledger import Ledger
+from plantbal.model.ledger import Ledger
 from plantbal.page.render import certificate, soft, worded
 from plantbal.page.statement import Line, Worth
 from plantbal.page.verdict import plus_minus
@@ -196,7 +196,7 @@ def test_edits_are_those_of_the_history() -> None:
         elif row["row"] == "edit":
             list(found.values())[-1].append((row["at"], row["word"]))
     for period, edits in found.items():
-        assert [(str(c.record), c.word) for c in ledger.changes_of(period)] == edits
+        assert [(str(edit.at.record), edit.word) for edit in ledger.edits_of(period)] == edits
 
 
 def test_refused_rows_in_sentences() -> None:
@@ -420,7 +420,7 @@ CANT = {
     STREAM.replace("redundant", "red"): "class of a stream row is 'red': it has to be one of",
     STREAM.replace("5,4", "5,"): "A has a value without a variance",
     f"{STREAM}\n{STREAM}": "record 2: the stream A is there already",
-    "design,2,2\nclass,A,env,U,no,observable,cut,U,+A": "its last design is cut off",
+    "design,2,2\nclass,A,env,U,no,observable,cut,U,+A": "the design is cut off",
     "design,2,2\nrefused,1,1,kind": "record 2: the design before this row is cut off",
 }
 

@@ -10,6 +10,7 @@ import pytest
 from conftest import Desk, example, text_of
 from hypothesis import HealthCheck, given, settings
 from hypothesis import strategies as st
+from sessions import DAYS, NAMES, PLANT, PLANT_2, WRONG
 
 from plantbal import Fault, Output, Session, check, find_program, run
 from plantbal.faults import ProgramFault, ToolMissing
@@ -18,35 +19,6 @@ from plantbal.records import read_records
 from plantbal.schema import Column, Row, schema
 
 QUICK = settings(max_examples=40, deadline=None, suppress_health_check=list(HealthCheck))
-# Names of a column, those that are declared more often.
-NAMES = {
-    "name": ["W", "X", "q", "U", "S", "env", "p", "J"],
-    "from": ["env", "U", "V", "T", "W", "J"],
-    "to": ["env", "U", "V", "T", "S", "Y", "L"],
-    "stream": ["S", "R", "B", "P", "T", "Q", "Z", "N", "C"],
-    "tank": ["T", "T", "U", "S", "K", "Y", "Y"],
-    "period": ["p", "p", "o", "q"],
-    "first": ["p", "p", "o", "q"],
-    "last": ["o", "o", "p", "q"],
-    "component": ["cu", "cu", "au"],
-    "id": ["a", "b", "c", "d"],
-}
-DAYS = ["2024-01-30", "2024-01-31", "2024-01-31", "2024-02-01", "2024-05-31", "2025-02-28"]
-WRONG = [
-    "",
-    "x y",
-    "-0",
-    "01",
-    "1.0",
-    "2024-02-30",
-    "1899-12-31",
-    "é",
-    "a" * 33,
-    "+1",
-    " 1",
-    '"',
-    "9" * 50,
-]
 
 
 def field_of(column: Column) -> st.SearchStrategy[str]:
@@ -95,38 +67,6 @@ def record() -> st.SearchStrategy[list[str]]:
     )
     whole = st.sampled_from(rows).flatmap(fields_of)
     return st.integers(0, 29).flatmap(lambda n: other if n == 0 else whole)
-
-
-PLANT = """unit,U
-unit,V
-tank,T,5
-strap,T,0,0
-strap,T,1000,1000000
-stream,S,env,U,metered,5
-stream,R,U,V,metered,5
-stream,B,V,env,batch,5
-stream,P,U,V,plain,0
-period,p,2024-01-31,2024-01-31
-period,o,2024-02-01,2024-02-02
-critical,nodal,3841
-reading,a,S,2024-01-31,5,5
-dip,b,T,2024-01-31,500,5,5
-""".splitlines()
-
-
-# The same in version 2, with boundaries and dates of service.
-PLANT_2 = [
-    "version,2",
-    "boundary,J",
-    "boundary,L",
-    *PLANT,
-    "stream,C,J,V,plain,0",
-    "tank,Y,5,2024-01-31,2024-02-01",
-    "strap,Y,0,0",
-    "strap,Y,1000,1000000",
-    "stream,Z,J,Y,metered,5,2024-02-01,2024-05-31",
-    "stream,N,Y,L,batch,5,2024-01-31,2024-02-01",
-]
 
 
 def lines_of(records: list[list[str]]) -> str:

@@ -19,12 +19,14 @@ from test_program import QUICK, judged, refusals
 
 from plantbal import Session, convert
 from plantbal.faults import Refusal
-from plantbal.held import Ledger, Pair, answers_of, refused_differ
+from plantbal.held import Pair, answers_of, refused_differ
+from plantbal.model.ledger import Ledger
 from plantbal.lint import lint_session
 from plantbal.output import parse_report
 from plantbal.page.command import page
 from plantbal.program import call
 from plantbal.report import parse_rows
+from plantbal.studies import studies_of
 from plantbal.tables import frame, pivot, with_deviations
 from plantbal.trend import trend_of
 
@@ -114,18 +116,18 @@ def test_refusals_that_are_kept(tmp_path: Path, name: str) -> None:
 
 def test_each_report_has_what_is_in_service() -> None:
     ledger = Ledger("t", TERMINAL.read_bytes())
-    assert [(seen.period.name, list(seen.streams)) for seen in ledger.seen] == [
+    assert [(seen.period.name, list(seen.streams)) for seen in studies_of(ledger)] == [
         ("feb", SERVED[:5]),
         ("mar", SERVED),
         ("jun", SERVED),
         ("feb", SERVED[:5]),
     ]
-    assert [seen.nodes for seen in ledger.seen[:2]] == [
+    assert [seen.nodes for seen in studies_of(ledger)[:2]] == [
         ["env", "MANIFOLD", "TK1"],
         ["env", "MANIFOLD", "TK1", "TK2"],
     ]
     answers = answers_of(WRITTEN.encode())
-    for pair in map(Pair, ledger.seen, answers):
+    for pair in map(Pair, studies_of(ledger), answers):
         assert not list(pair.differ())
 
 
@@ -179,7 +181,7 @@ def test_random_services(
     output = call(["run", "--sweeps", "0"], data, program=program)[1]
     ledger, answers = Ledger("s", data), answers_of(output)
     assert not list(refused_differ(output, ledger))
-    for pair in map(Pair, ledger.seen, answers):
+    for pair in map(Pair, studies_of(ledger), answers):
         assert not list(pair.differ())
 
 

@@ -242,7 +242,7 @@ def test_book(say: Desk, tmp_path: Path, program: Path) -> None:
     assert (found.status, found.err) == (0, "")
     assert "may2 to may3: converged, accepted by the global test" in found.out
     assert "TK_RUN after may2: 5,775.462 t ± 9.724 t, by the flows around it\n" in found.out
-    report = book / "reports" / "may2_to_may3.csv"
+    report = book / "reports" / "may2+may3.csv"
     assert text_of(report).startswith("window,may2,may3,2\n")
     assert text_of(asked).endswith("window,may2,may3\n")
     assert text_of(asked)[: -len("window,may2,may3\n")] == text_of(book / "2024.csv")

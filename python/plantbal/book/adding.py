@@ -14,17 +14,15 @@ from plantbal.book.ledger import FACT_KINDS, PLANT_KINDS, Fact, Ledger, rows_tex
 from plantbal.book.meters import meters_of, meters_text, read_meters
 from plantbal.book.reading import ANOTHER_VALUE, converted, raise_all
 from plantbal.book.said import FIRST, added, changed, counted, doubts, lacking
-from plantbal.book.store import METERS, PLANT, Action, Book
+from plantbal.book.store import METERS, PLANT, Act, Action, Book
 from plantbal.book.years import Years
 from plantbal.conversion_facts import Converter
 from plantbal.faults import Fault, InputFault, Refusal
+from plantbal.model.causes import Cause, Reason
 from plantbal.options import add_reading
 from plantbal.records import text_of
 from plantbal.session import Period
 from plantbal.workbook import Cell
-
-# The codes of what would change a closed period, and of what is of one.
-_SEALED, _CLOSED = 10, 11
 
 
 def add_arguments(parser: argparse.ArgumentParser) -> None:
@@ -46,7 +44,7 @@ def run(options: argparse.Namespace) -> int:
     """Add a workbook, and say what that was."""
     book = Book(options.book)
     name = Path(options.workbook).name
-    with book.opened():
+    with book.opened(reading=options.dry_run):
         years = Years(book)
         year = years.named(options.year)
         meters = read_meters(book.path(METERS))
@@ -61,7 +59,7 @@ def run(options: argparse.Namespace) -> int:
         changes.put(reasons, options.strike)
         raise_all(options.prog, put_assays(years, work))
 
-        action = Action(f"add {name}", reasons.said(), options.who)
+        action = Action(Act.ADD, what=name, why=reasons.said(), who=options.who)
         for ledger in years.used:
             action.add(ledger)
         if plant and year is years.last:
@@ -186,7 +184,7 @@ def put_assays(years: Years, work: Converter) -> list[Fault]:
             _put_assay(years, row, cells)
         except Refusal as refusal:
             refusal.place = (cells.get(refusal.column) or cells["period"]).place()
-            if refusal.code == _CLOSED:
+            if refusal.code == Cause.CLOSED:
                 refusal.remedy = "enter assays before plantbal-desk book close: take it out"
             faults.append(refusal)
         except InputFault as fault:
@@ -271,7 +269,7 @@ def _instead(row: tuple[str, ...], refusal: Refusal) -> str:
         return f"dates of service and boundaries come with the next year: {then}"
     if row[0] == "critical":
         return ANOTHER_VALUE
-    if refusal.code == _SEALED and "SINCE" in refusal.remedy:
+    if refusal.refused.reason is Reason.DAYS_SEALED:
         return "write a day after the closed periods into its column since"
     return f"what is new of the plant comes before the first close, or with the next year: {then}"
 

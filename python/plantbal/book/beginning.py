@@ -9,14 +9,17 @@ import argparse
 from collections.abc import Iterable
 from pathlib import Path
 
+from plantbal.book.forms import JOURNAL, is_year, is_year_file, year_file
 from plantbal.book.ledger import PLANT_KINDS, rows_text
 from plantbal.book.meters import Meter, meters_of, meters_text
 from plantbal.book.reading import reader_of, say_faults, sheets_of
 from plantbal.book.said import counted, listed
-from plantbal.book.store import METERS, PLANT, Action, Book, is_year
+from plantbal.book.store import METERS, PLANT, Act, Action, Book
 from plantbal.conversion import Conversion
 from plantbal.conversion_facts import Converter
+from plantbal.conversion_tables import PLANT_SHEETS
 from plantbal.faults import Fault, InputFault, Place
+from plantbal.believed import program_digest
 from plantbal.options import add_program, add_reading
 from plantbal.program import call
 from plantbal.report import parse_rows
@@ -36,20 +39,44 @@ def run(options: argparse.Namespace) -> int:
     rows, meters, notes = plant_of(options, options.workbook)
     book = Book(options.book)
     with book.opened(new=True):
-        if book.years:
-            raise Fault(
-                f"there is a book in {book.folder.resolve()} already",
-                remedy="plantbal-desk book add WORKBOOK adds to it",
-            )
-        action = Action(f"new {options.year} {Path(options.workbook).name}", who=options.who)
+        check_nothing_is_there(book, options.year)
+        action = Action(Act.NEW, options.year, Path(options.workbook).name, who=options.who)
+        action.program = program_digest(options.program)
         action.written = {PLANT: rows_text(rows), METERS: meters_text(meters)}
-        action.written[f"{options.year}.csv"] = rows_text(rows)
+        action.written[year_file(options.year)] = rows_text(rows)
         action.rows = [f"{options.year}: 1 to {len(rows)}"]
         classes = classes_of(rows, options.program)
         book.do(action)
     lines = [f"{options.year}.csv: {counted(len(rows), 'row')} of the plant", *classes, *notes]
     print("\n".join(lines))
     return 0
+
+
+def check_nothing_is_there(book: Book, year: str) -> None:
+    """Refuse to make a book where one is, or where something of one is left.
+
+    A file whose name begins with a year counts only if it is that year's, or a session.
+
+    Raises
+    ------
+    Fault
+        If it is so.
+    """
+    if book.has(JOURNAL):
+        raise Fault(
+            f"there is a book in {book.folder.resolve()} already",
+            remedy="plantbal-desk book add WORKBOOK adds to it",
+        )
+    for name in book.remains():
+        kind = book.text(name).partition("\n")[0].partition(",")[0]
+        if is_year_file(name) and name != year_file(year) and kind not in PLANT_KINDS:
+            continue
+        raise InputFault(
+            "it is there already, and isn't written over",
+            place=Place(file=str(book.path(name))),
+            remedy="if it is of a book whose journal is lost, put back journal.csv from a backup; "
+            "otherwise move it away, or name another folder by --book",
+        )
 
 
 def check_year(name: str) -> None:
@@ -81,6 +108,7 @@ def plant_of(
         what, remedy = "there is no sheet streams", "plantbal-desk template writes one"
         raise InputFault(what, place=Place(file=workbook), remedy=remedy)
     work.read_plant()
+    work.say_unread(PLANT_SHEETS)
     work.faults += work.session.refused
     found = Conversion(work.session, work.faults, work.notes)
     say_faults(options.prog, found, "nothing is made")

@@ -14,11 +14,17 @@ The book is the current folder, or that of --book. It has
   plant.csv     the rows of the plant, with which the next year begins
   meters.csv    tags, units, densities and errors of meters and gauges
   2024.csv      the session of a year; rows are added to it, and never changed
-  reports/      the last report of each period, with its history, and of each window
-  journal.csv   a line for each action: when, who, what, why, and which rows it added
+  reports/      the last report of each period, with its history, and of each window; those that
+                went out before are in reports/earlier/
+  journal.csv   a line for each action: when, who, what, why, which rows it added, and the digests
+                of the line before it and of each file that it left
 
-A command is carried out as a whole or not at all, at whatever moment it is stopped; the next
-command finishes what was begun. Two commands at the same time wait for each other.
+A command is carried out as a whole or not at all, at whatever moment it is stopped; the next one
+that writes finishes what was begun. Two commands at the same time wait for each other. Each command
+first tests the files against the journal, and stops if one was changed by other means.
+
+A command writes into a folder of its user, into one that a group shares, or into one that
+PLANTBAL_TRUST names (several with colons between them).
 
 examples:
   plantbal-desk book new 2024 plant.xlsx
@@ -68,6 +74,9 @@ COMMANDS: Sequence[Inner] = (
     Inner("close", "editing:CLOSE", "close a period with its report"),
     Inner("status", "overview", "say what is open, what is missing, and how full the year is"),
     Inner("next", "following", "begin the next year"),
+    Inner("verify", "verifying:VERIFY", "test every file of the book against its journal"),
+    Inner("head", "verifying:HEAD", "print the head of its chain, to be kept elsewhere"),
+    Inner("accept", "verifying:ACCEPT", "take a file as it is, with a reason, and say so for good"),
 )
 
 
@@ -80,7 +89,7 @@ def add_arguments(parser: argparse.ArgumentParser) -> None:
         handler.add_arguments(made)
         made.add_argument("--book", metavar="FOLDER", default=".", help="the book's folder")
         made.add_argument(
-            "--who", metavar="NAME", default="", help="who does it (default: the login)"
+            "--who", metavar="NAME", default="", help="who does it, beside the user's own name"
         )
         made.set_defaults(inner=handler.run)
 

@@ -7,23 +7,24 @@ from dataclasses import dataclass, replace
 from fractions import Fraction
 from types import SimpleNamespace
 
+from plantbal.book.forms import report_file
 from plantbal.book.ledger import Fact, Ledger
 from plantbal.book.meters import Meter, read_meters, taken
 from plantbal.book.naming import Names, cell_of, day_of
 from plantbal.book.reporting import (
     balances_said,
-    file_of,
     keep,
     report_of,
     state_of,
     suspects_of,
 )
 from plantbal.book.said import lacks, unassayed
-from plantbal.book.store import METERS, Action, Book
+from plantbal.book.store import METERS, Act, Action, Book
 from plantbal.book.years import Years
 from plantbal.cells import Reader, check_locale
 from plantbal.conversion_plant import Tank
 from plantbal.faults import Fault, Refusal
+from plantbal.believed import program_digest
 from plantbal.options import add_run
 
 
@@ -115,9 +116,7 @@ def _amend(options: argparse.Namespace) -> int:
         if (new.values, new.variance) == (fact.values, fact.variance):
             print(f"{fact.id} is {fact.said()} already")
             return 0
-        action = Action(
-            f"amend {fact.id} {new.said()}", why=options.why, who=options.who
-        )
+        action = Action(Act.AMEND, fact.id, new.said(), options.why, options.who)
         for ledger, there in places:
             _put(ledger, new.amendment(there.id, options.why))
             action.add(ledger)
@@ -142,7 +141,7 @@ def _say_stale(book: Book, places: list[tuple[Ledger, Fact]]) -> None:
         first, last = fact.first.toordinal(), fact.last.toordinal()
         for name, period in ledger.periods.items():
             touched = first <= period.last and last >= period.first - eve
-            if touched and book.path(file_of(name)).is_file():
+            if touched and book.path(report_file(name)).is_file():
                 print(f"{name}: its report is older: plantbal-desk book report {name}")
 
 
@@ -166,7 +165,7 @@ def _strike(options: argparse.Namespace) -> int:
         if named.struck:
             print(f"{fact.id} is struck already")
             return 0
-        action = Action(f"strike {fact.id}", why=options.why, who=options.who)
+        action = Action(Act.STRIKE, fact.id, why=options.why, who=options.who)
         for ledger, there in named.places:
             _put(ledger, ("strike", there.id, options.why))
             action.add(ledger)
@@ -213,11 +212,11 @@ def _close(options: argparse.Namespace) -> int:
                 f"{name} isn't closed: {'; '.join(why)}",
                 remedy="put that right first, or close it with --anyway",
             )
-        action = Action(f"close {name}", who=options.who)
+        action = Action(Act.CLOSE, name, who=options.who, program=program_digest(options.program))
         action.add(ledger)
         keep(book, action, ledger, name, report, closed=False)
         book.do(action)
-        print(f"{name} is closed, with the report {book.path(file_of(name))}")
+        print(f"{name} is closed, with the report {book.path(report_file(name))}")
     return 0
 
 

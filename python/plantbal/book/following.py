@@ -18,9 +18,10 @@ from plantbal.book.ledger import Fact, Ledger, plain, rows_text
 from plantbal.book.meters import meters_text, read_meters
 from plantbal.book.naming import day_of
 from plantbal.book.said import counted
-from plantbal.book.store import METERS, PLANT, Action, Book
+from plantbal.book.store import METERS, PLANT, Act, Action, Book
 from plantbal.book.years import Years, calendar_year, periods_of
 from plantbal.faults import Fault, InputFault, Place, Refusal
+from plantbal.believed import program_digest
 from plantbal.options import add_program, add_reading
 from plantbal.records import read_records
 
@@ -49,7 +50,8 @@ def run(options: argparse.Namespace) -> int:
             what = f"{options.year} doesn't come after {old.name}, the last year"
             raise Fault(what, text=options.year, remedy="say a later one")
         first = first_day(options, book.text(f"{old.name}.csv"), old)
-        action = Action(f"next {options.year}", who=options.who)
+        action = Action(Act.NEXT, options.year, who=options.who)
+        action.program = program_digest(options.program)
         new, notes = begun(options, book, action, first)
         contents = carry(old, new, first - _DAY, options.program)
         classes = classes_of(new.plant, options.program) if options.plant else []
@@ -112,7 +114,7 @@ def begun(
         rows, meters, notes = plant_of(options, options.plant)
         kept = read_meters(book.path(METERS)) | {meter.name: meter for meter in meters}
         file, text = options.plant, rows_text(rows)
-        action.what += f" {Path(options.plant).name}"
+        action.what = Path(options.plant).name
         action.written = {PLANT: text, METERS: meters_text(kept.values())}
     new = Ledger.read(options.year, file, text, first, datetime.date.max)
     for record in read_records(text.encode("utf-8")):

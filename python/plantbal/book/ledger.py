@@ -4,8 +4,7 @@ from __future__ import annotations
 
 import datetime
 import re
-from collections import defaultdict
-from collections.abc import Iterable, Iterator, Sequence
+from collections.abc import Iterable, Iterator, Mapping, Sequence
 from dataclasses import dataclass, replace
 from decimal import Decimal
 from math import isqrt
@@ -13,24 +12,20 @@ from math import isqrt
 from plantbal.amounts import tonnes_of
 from plantbal.faults import Fault, InputFault, Place, Refusal
 from plantbal.memory import uncollected
-from plantbal.records import read_records, text_of, without_empty_end
-from plantbal.session import (
-    Period,
-    Service,
-    Session,
-    day_of_number,
-    dip_days,
-    is_served,
-    period_days,
-    service_of,
-)
+from plantbal.model import facts
+from plantbal.model.booking import Amends, Books, BooksAssay, Strikes
+from plantbal.model.causes import Cause
+from plantbal.model.effects import DeclaresStream, DeclaresTank, Effect
+from plantbal.model.file import Rows, Step
+from plantbal.model.periods import Period
+from plantbal.model.plant import Service, dip_days, is_served
+from plantbal.records import text_of, without_empty_end
+from plantbal.session import Session
 
 PLANT_KINDS = ("version", "boundary", "unit", "tank", "strap", "stream", "critical")
 FACT_KINDS = ("reading", "transfer", "dip")
 _DAY = datetime.timedelta(1)
 _AGAIN = re.compile(r"\.[0-9]+$")  # how the id ends of what was struck and came again
-# The codes of a fact that touches a closed period, and of one that is too many.
-_CLOSED, _FULL = 11, 13
 
 
 @dataclass(frozen=True)
@@ -56,6 +51,13 @@ class Fact:
     last: datetime.date
     values: tuple[int, ...]
     variance: int
+
+    @classmethod
+    def booked(cls, fact: facts.Fact) -> Fact:
+        """Return a fact of a session's model."""
+        days = datetime.date.fromordinal(fact.first), datetime.date.fromordinal(fact.last)
+        values = (fact.mm, fact.density) if fact.kind == "dip" else (fact.grams,)
+        return cls(fact.kind, fact.id, fact.of, *days, values, fact.variance)
 
     @classmethod
     def of(cls, row: Sequence[str]) -> Fact:
@@ -115,6 +117,28 @@ def plain(number: Decimal) -> str:
     return text.rstrip("0").rstrip(".") if "." in text else text
 
 
+class Booked(Mapping[str, Fact]):
+    """The facts of a session that aren't struck, by their ids.
+
+    A year has many, of which a command looks at few: each is made when it is asked for.
+    """
+
+    def __init__(self, there: facts.Facts) -> None:
+        self._there = there
+
+    def __getitem__(self, identity: str) -> Fact:
+        found = self._there.find(identity)
+        if found is None or found.struck:
+            raise KeyError(identity)
+        return Fact.booked(found)
+
+    def __iter__(self) -> Iterator[str]:
+        return (fact.id for fact in self._there.live())
+
+    def __len__(self) -> int:
+        return len(self._there) - self._there.struck
+
+
 class Ledger:
     """A year of a book.
 
@@ -131,12 +155,10 @@ class Ledger:
         Its rows.
     plant : list of tuple of str
         The rows that declare the plant.
-    facts : dict of str to Fact
+    facts : Booked
         The facts that aren't struck, by their ids, with their last values.
     struck : dict of str to Fact
         Those that are.
-    assays : dict of (str, str, str) to (int, int)
-        The grade and its variance, by component, stream and period.
     edits : dict of str to list of (int, Fact)
         Of each fact that was amended or struck the numbers of these rows, and what it was before.
     added : list of tuple of str
@@ -149,18 +171,16 @@ class Ledger:
         self.last = last
         self.session = Session()
         self.plant: list[tuple[str, ...]] = []
-        self.facts: dict[str, Fact] = {}
+        self.facts = Booked(self.session.state.facts)
         self.struck: dict[str, Fact] = {}
         self.edits: dict[str, list[tuple[int, Fact]]] = {}
         self.added: list[tuple[str, ...]] = []
         self.count = 0
-        self._slots: dict[tuple[str, datetime.date], str] = {}
         self._lost: dict[tuple[str, datetime.date], list[Fact]] = {}
         self._declared: list[tuple[Service, int]] = []
-        self._latest: defaultdict[datetime.date, int] = defaultdict(int)
-        self._latest_dip: defaultdict[datetime.date, int] = defaultdict(int)
-        self.assays: dict[tuple[str, str, str], tuple[int, int]] = {}
-        self._latest_assay: defaultdict[str, int] = defaultdict(int)
+        self._latest: dict[int, int] = {}
+        self._latest_dip: dict[int, int] = {}
+        self._latest_assay: dict[str, int] = {}
 
     @classmethod
     def read(
@@ -189,16 +209,13 @@ class Ledger:
             place = Place(file=file, line=len(text.splitlines()))
             remedy = "was it changed by hand? Take back what was changed"
             raise InputFault("its last line has no end", place=place, remedy=remedy)
-        with uncollected():
-            for record in read_records(text.encode("utf-8")):
-                place = Place(file=file, line=record.line, record=record.number)
-                ledger.count = record.number
-                try:
-                    ledger._take(record.fields, place)
-                except Refusal as refusal:
-                    refusal.remedy += "; rows of a book are written by its commands alone"
-                    raise
-        ledger.added.clear()
+        try:
+            with uncollected():
+                for step in ledger.session.taking(file, text.encode("utf-8")):
+                    ledger._took(step)
+        except Refusal as refusal:
+            refusal.remedy += "; rows of a book are written by its commands alone"
+            raise
         return ledger
 
     # ---- rows
@@ -211,71 +228,63 @@ class Ledger:
         Refusal
             If the program would refuse it.
         """
+        effect = self.session.take_row(fields)
+        assert effect is not None, "the session is strict"
         self.count += 1
-        try:
-            self._take(fields, None)
-        except Refusal:
-            self.count -= 1
-            raise
+        self.added.append(without_empty_end(fields))
+        self._keep(effect, self.added[-1])
 
     def put_fact(self, fact: Fact) -> bool:
         """Add a fact, and return whether it comes late."""
         try:
             self.put(*fact.row())
         except Refusal as refusal:
-            if refusal.code == _FULL:
+            if refusal.code == Cause.FULL:
                 refusal.remedy = "begin another part of the year: plantbal-desk book next"
-            if refusal.code != _CLOSED:
+            if refusal.code != Cause.CLOSED:
                 raise
             self.put("late", *fact.row())
             return True
         return False
 
-    def _take(self, fields: Sequence[str], place: Place | None) -> None:
-        fields = without_empty_end(tuple(fields))
-        self.session.row(*fields, place=place)
-        if not fields:
-            return
-        self.added.append(fields)
-        kind = fields[1] if fields[0] == "late" else fields[0]
-        if kind in PLANT_KINDS:
+    def _took(self, step: Step | Rows) -> None:
+        """Keep what rows do that were read."""
+        if isinstance(step, Step):
+            self.count = step.at.record
+            if step.effect is not None:
+                self._keep(step.effect, without_empty_end(step.fields))
+        elif step.run is not None:
+            self.count = step.record + len(step.rows) - 1
+            self._latest.update(zip(step.run.days, range(step.record, self.count + 1)))
+
+    def _keep(self, effect: Effect, fields: tuple[str, ...]) -> None:
+        """Keep what a row does, as the row of the last number."""
+        if isinstance(effect, Books):
+            self._touch(effect.fact)
+        elif isinstance(effect, BooksAssay):
+            self._latest_assay[effect.period] = self.count
+        elif isinstance(effect, (Amends, Strikes)):
+            self._edit(self.session.state.edits[-1])
+        elif fields and fields[0] in PLANT_KINDS:
             self.plant.append(fields)
-            if kind in ("tank", "stream"):
-                self._declared.append((service_of(fields), self.count))
-        elif kind in FACT_KINDS:
-            self._keep(Fact.of(fields))
-        elif kind == "assay":
-            component, stream, period, *grade = fields[1:]
-            self.assays[component, stream, period] = int(grade[0]), int(grade[1])
-            self._latest_assay[period] = self.count
-        elif kind == "amend":
-            fact = self.facts[fields[1]]
-            self.edits.setdefault(fact.id, []).append((self.count, fact))
-            *values, variance = map(int, fields[2:-1])
-            self._keep(replace(fact, values=tuple(values), variance=variance))
-        elif kind == "strike":
-            fact = self.facts.pop(fields[1])
+            if isinstance(effect, (DeclaresTank, DeclaresStream)):
+                self._declared.append((effect.service, self.count))
+
+    def _edit(self, edit: facts.Edit) -> None:
+        assert edit.before is not None
+        fact = Fact.booked(edit.before)
+        self.edits.setdefault(fact.id, []).append((self.count, fact))
+        self._touch(edit.before)
+        if edit.after is None:
             self.struck[fact.id] = fact
-            self.edits.setdefault(fact.id, []).append((self.count, fact))
-            self._touch(fact)
             if fact.kind != "transfer":
-                del self._slots[fact.place, fact.first]
                 self._lost.setdefault((fact.place, fact.first), []).append(fact)
 
-    def _keep(self, fact: Fact) -> None:
-        self.facts[fact.id] = fact
-        if fact.kind != "transfer":
-            self._slots[fact.place, fact.first] = fact.id
-        self._touch(fact)
-
-    def _touch(self, fact: Fact) -> None:
+    def _touch(self, fact: facts.Fact) -> None:
         if fact.kind == "dip":
             self._latest_dip[fact.first] = self.count
-            return
-        day = fact.first
-        while day <= fact.last:
-            self._latest[day] = self.count
-            day += _DAY
+        else:
+            self._latest.update(dict.fromkeys(range(fact.first, fact.last + 1), self.count))
 
     def added_text(self) -> str:
         """Return the rows that were added, as they stand in the file."""
@@ -295,14 +304,20 @@ class Ledger:
         return {period.name: period for period in found}
 
     @property
+    def assays(self) -> dict[tuple[str, str, str], tuple[int, int]]:
+        """The grade and its variance, by component, stream and period."""
+        assays = self.session.state.assays
+        return {key: (assay.ppm, assay.variance) for key, assay in assays.items()}
+
+    @property
     def sealed(self) -> bool:
         """Whether a period is closed, so that the plant can't change any more."""
         return any(period.closed for period in self.session.periods)
 
     def on(self, place: str, day: datetime.date) -> Fact | None:
         """Return the reading or the dip of a day, or None."""
-        found = self._slots.get((place, day))
-        return self.facts[found] if found is not None else None
+        found = self.session.state.facts.on(place, day.toordinal())
+        return None if found is None else Fact.booked(found)
 
     def ticket(self, identity: str, others: frozenset[str] = frozenset()) -> Fact | None:
         """Return the transfer of a ticket; if it was struck, the one that was booked in its place.
@@ -370,16 +385,11 @@ class Ledger:
         assays : bool
             Whether the balances of its components count too.
         """
-        first, last = period_days(period)
         days = period.first, period.last
         served = [(at, number) for at, number in self._declared if is_served(at, *days)]
-        numbers = [number for _, number in served]
         ends = {day for service, _ in served for day in dip_days(service, *days)}
-        for day_number in ends | set(dip_days(None, *days)):
-            numbers.append(self._latest_dip.get(day_of_number(day_number), 0))
-        day = first
-        while day <= last:
-            numbers.append(self._latest.get(day, 0))
-            day += _DAY
+        ends |= set(dip_days(None, *days))
+        numbers = [number for _, number in served]
+        numbers += [self._latest_dip.get(day, 0) for day in ends]
+        numbers += [self._latest.get(day, 0) for day in range(period.first, period.last + 1)]
         return max([*numbers, self._latest_assay.get(period.name, 0) if assays else 0])
-

@@ -5,11 +5,11 @@ from __future__ import annotations
 import argparse
 import datetime
 
+from plantbal.book.forms import old_window_file, report_file, window_file, year_file
 from plantbal.book.ledger import Ledger
 from plantbal.book.meters import Meter, read_meters
-from plantbal.book.reporting import file_of
-from plantbal.book.said import counted, lacks, unassayed
-from plantbal.book.store import METERS, Book, Line
+from plantbal.book.said import counted, lacks, unassayed, waiting_said
+from plantbal.book.store import METERS, Act, Book, Line
 from plantbal.book.years import Years
 from plantbal.schema import schema
 
@@ -25,11 +25,11 @@ def add_arguments(parser: argparse.ArgumentParser) -> None:
 def run(options: argparse.Namespace) -> int:
     """Say how the book stands."""
     book = Book(options.book)
-    with book.opened():
+    with book.opened(reading=True):
         years = Years(book)
         meters = read_meters(book.path(METERS))
         journal = book.journal()
-        lines = []
+        lines = waiting_said(book)
         for ledger in years.all():
             lines += year_lines(book, ledger, journal, meters, options.all)
         for old, new in zip(years.all(), years.all()[1:]):
@@ -53,9 +53,7 @@ def year_lines(
         lines.append(f"{name}: {'closed' if period.closed else 'open'}, {behind or 'reported'}")
         if not period.closed:
             lines += lacks(ledger, period, meters)
-            lines += [
-                line for line in unassayed(ledger, period, none=True) if line not in lines
-            ]
+            lines += [line for line in unassayed(ledger, period, none=True) if line not in lines]
     for first, last in dict.fromkeys(windows_of(journal)):
         if first in periods and last in periods:
             behind = window_behind(book, ledger, journal, first, last)
@@ -65,20 +63,15 @@ def year_lines(
 
 def windows_of(journal: list[Line]) -> list[tuple[str, str]]:
     """Return the first and the last period of each window that was asked for."""
-    words = [line.what.split(" ") for line in journal]
-    return [(each[1], each[2]) for each in words if each[0] == "window" and len(each) == 3]
+    of = [line.of.partition(" ") for line in journal if line.act == Act.WINDOW]
+    return [(first, last) for first, _, last in of]
 
 
-def window_behind(
-    book: Book, ledger: Ledger, journal: list[Line], first: str, last: str
-) -> str:
+def window_behind(book: Book, ledger: Ledger, journal: list[Line], first: str, last: str) -> str:
     """Return what is to be said of a window, or nothing if it has all that is booked."""
-    if not book.path(file_of(f"{first}_to_{last}")).is_file():
+    if not any(book.has(name(first, last)) for name in (window_file, old_window_file)):
         return ""
-    before = 0
-    for line in journal:
-        if line.what == f"window {first} {last}":
-            before = int(line.rows.rsplit(" ", 1)[1])
+    before = seen_by(journal, ledger, f"{first} {last}", Act.WINDOW)
     ends = ledger.periods[first].first, ledger.periods[last].last
     inside = [each for each in ledger.periods.values() if ends[0] <= each.first <= ends[1]]
     if max(ledger.touched(period, assays=False) for period in inside) > before:
@@ -86,14 +79,20 @@ def window_behind(
     return ""
 
 
+def seen_by(journal: list[Line], ledger: Ledger, of: str, *acts: Act) -> int:
+    """Return how many rows of a year the last report of something has seen."""
+    found = 0
+    for line in journal:
+        if line.act in acts and line.of == of and year_file(ledger.name) in line.files:
+            found = line.files[year_file(ledger.name)].lines or 0
+    return found
+
+
 def report_behind(book: Book, ledger: Ledger, journal: list[Line], name: str) -> str:
     """Return what is to be said of a period's report, or nothing if it has all that is booked."""
-    if not book.path(file_of(name)).is_file():
+    if not book.has(report_file(name)):
         return "not reported yet"
-    before = 0
-    for line in journal:
-        if line.what in (f"report {name}", f"close {name}"):
-            before = int(line.rows.rsplit(" ", 1)[1])
+    before = seen_by(journal, ledger, name, Act.REPORT, Act.CLOSE)
     if ledger.touched(ledger.periods[name]) > before:
         return f"changed since its report: plantbal-desk book report {name}"
     return ""

@@ -111,10 +111,11 @@ def converted(
         edits = list(_edits(work))
         if not edits:
             work.read_rows()
-        work.say_rounded()
         for sheet in work.sheets["windows"]:
-            what = "the sheet is passed over: plantbal-desk book window asks for a window"
-            work.notes.append(f"{sheet.place()} {what}")
+            work.pass_sheet(sheet, "plantbal-desk book window asks for a window")
+        if not edits:
+            work.say_unread()
+        work.say_rounded()
     work.faults += [*work.session.refused, *edits]
     if work.faults:
         work.faults = [*_left_out(work, *taken(plant, meters)), *work.faults]
@@ -134,8 +135,7 @@ def _read_plant(
     if not work.sheets["streams"]:
         work.take_plant(plant, streams, tanks)
         for sheet in [each for kind in _PLANT for each in work.sheets[kind]]:
-            what = "the sheet is passed over: without a sheet streams the plant is the book's"
-            work.notes.append(f"{sheet.place()} {what}")
+            work.pass_sheet(sheet, "without a sheet streams the plant is the book's")
         work.read_critical()
         booked = {row[:-1] for row in plant if row[0] == "critical"}
         for fault in work.faults:

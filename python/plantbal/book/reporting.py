@@ -6,13 +6,15 @@ import argparse
 from collections.abc import Sequence
 from decimal import Decimal
 
+from plantbal.book.forms import earlier_file, old_earlier_file, report_file, year_file
 from plantbal.book.ledger import Ledger, plain
 from plantbal.book.meters import read_meters
 from plantbal.book.said import counted, lacks
-from plantbal.book.store import METERS, REPORTS, Action, Book
+from plantbal.book.store import METERS, Act, Action, Book
 from plantbal.book.years import Years
 from plantbal.faults import Fault
 from plantbal.files import write_text
+from plantbal.believed import judge, program_digest
 from plantbal.options import add_run
 from plantbal.output import Output, parse_report
 from plantbal.program import call, words_of
@@ -70,6 +72,7 @@ def written_of(options: argparse.Namespace, asked: str, what: str) -> tuple[str,
         sweeps=options.sweeps,
     )
     status, output = call(words, asked.encode("ascii"), program=options.program)
+    judge(output, f"the report of {what}", options.program)
     written = output.decode("ascii")
     return written, parse_report(written, f"the report of {what}", status)
 
@@ -126,11 +129,6 @@ def suspects_of_block(block: Block) -> list[str]:
     return [f"{block.subject}: suspects: {', '.join(names[:_MOST])}{more}"]
 
 
-def file_of(period: str) -> str:
-    """Return the name of a period's report in its book."""
-    return f"{REPORTS}/{period}.csv"
-
-
 def keep(book: Book, action: Action, ledger: Ledger, period: str, text: str, closed: bool) -> bool:
     """Have an action write a report, and keep the one before it if its period was closed then.
 
@@ -139,18 +137,43 @@ def keep(book: Book, action: Action, ledger: Ledger, period: str, text: str, clo
     bool
         Whether it is another than the one that is there.
     """
-    name = file_of(period)
+    name = report_file(period)
     before = book.text(name)
-    if before == text:
+    if before and before != text:
+        # Older versions gave the report of `2024-04.1` the name of an earlier one of `2024-04`.
+        of = reported_in(before)
+        if closed or of not in ("", period):
+            action.written[free_name(book, of or period)] = before
+    return keep_as(book, action, ledger, name, text)
+
+
+def keep_as(book: Book, action: Action, ledger: Ledger, name: str, text: str) -> bool:
+    """Have an action write a report under a name.
+
+    Returns
+    -------
+    bool
+        Whether it is another than the one that is there.
+    """
+    if book.text(name) == text:
         return False
-    if before and closed:
-        number = 1
-        while book.path(f"{REPORTS}/{period}.{number}.csv").exists():
-            number += 1
-        action.written[f"{REPORTS}/{period}.{number}.csv"] = before
     action.written[name] = text
-    action.rows.append(f"{ledger.name}: up to {ledger.count}")
+    action.seen.append(year_file(ledger.name))
     return True
+
+
+def reported_in(text: str) -> str:
+    """Return the period of the first report in a text."""
+    rows = (line.split(",") for line in text.split("\n") if line.startswith("report,"))
+    return next((row[1] for row in rows), "")
+
+
+def free_name(book: Book, period: str) -> str:
+    """Return the name for an earlier report of a period: the first number that none has."""
+    number = 1
+    while book.has(earlier_file(period, number)) or book.has(old_earlier_file(period, number)):
+        number += 1
+    return earlier_file(period, number)
 
 
 def run(options: argparse.Namespace) -> int:
@@ -167,7 +190,8 @@ def run(options: argparse.Namespace) -> int:
             ledger = years.of_period(name)
             components = ledger.session.components_in(name)
             text, output = report_of(options, book.text(f"{ledger.name}.csv"), name, components)
-            action = Action(f"report {name}", who=options.who)
+            action = Action(Act.REPORT, name, who=options.who)
+            action.program = program_digest(options.program)
             new = keep(book, action, ledger, name, text, ledger.periods[name].closed)
             if new:
                 book.do(action)
@@ -177,7 +201,9 @@ def run(options: argparse.Namespace) -> int:
                 print(line)
             edits = len([row for row in output.rows if row["row"] == "edit"])
             history = f", with {counted(edits, 'edit')}" if edits else ""
-            print(f"{name}: {book.path(file_of(name))}{history}" + ("" if new else ", as it was"))
+            print(
+                f"{name}: {book.path(report_file(name))}{history}" + ("" if new else ", as it was")
+            )
             status = status if output.ok else 1
         if options.session:
             texts = {years.of_period(name).name: "" for name in periods}

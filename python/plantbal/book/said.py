@@ -7,11 +7,12 @@ from collections import Counter
 from collections.abc import Collection, Iterable
 
 from plantbal.book.changes import Changes
+from plantbal.book.forms import JOURNAL
 from plantbal.book.ledger import PLANT_KINDS, Fact, Ledger
 from plantbal.book.meters import Meter
+from plantbal.book.store import Book
 from plantbal.conversion_facts import days_of, spans, tank_days
-from plantbal.lint import lint_session
-from plantbal.lintrules import RULES
+from plantbal.lint import RULES, lint_session
 from plantbal.session import Period, day_of_number, in_service, is_served, period_days
 
 FIRST = 12  # things of which each is shown; the others are counted
@@ -29,6 +30,18 @@ _EDITED = {"amend": "amended", "strike": "struck", "close": "closed"}
 def counted(count: int, word: str) -> str:
     """Return how many of something there are: `1 fact`, `1,200 facts`."""
     return f"{count:,} {word}{'' if count == 1 else 's'}"
+
+
+def waiting_said(book: Book) -> list[str]:
+    """Return what is to be said of an action that waits, if one does."""
+    if not book.waits:
+        return []
+    names = listed([entry.file for entry in book.waits if entry.file != JOURNAL])
+    what = book.journal()[-1].said()
+    return [
+        f"{what} was stopped, and is shown as if it were done; the next command that writes to "
+        f"the book does what is left of it, to {names}"
+    ]
 
 
 def listed(names: list[str]) -> str:

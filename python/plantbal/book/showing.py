@@ -9,6 +9,7 @@ from decimal import Decimal
 from plantbal.book.ledger import Fact, Ledger, plain
 from plantbal.book.meters import Meter, read_meters
 from plantbal.book.naming import Names, day_of
+from plantbal.book.said import waiting_said
 from plantbal.book.store import METERS, Book
 from plantbal.book.years import Years
 from plantbal.cells import GRAMS, VOLUMES
@@ -29,7 +30,7 @@ def run(options: argparse.Namespace) -> int:
     first = day_of(options.first, options.locale) or datetime.date.min
     last = day_of(options.last, options.locale) or datetime.date.max
     book = Book(options.book)
-    with book.opened():
+    with book.opened(reading=True):
         years = Years(book)
         meters = read_meters(book.path(METERS))
         place = Names(years, meters).place(options.name)
@@ -42,7 +43,7 @@ def run(options: argparse.Namespace) -> int:
     }
     if not found:
         raise Fault(f"nothing of {options.name} is booked on these days", text=options.name)
-    for _, line in sorted(found.items()):
+    for line in [*waiting_said(book), *(line for _, line in sorted(found.items()))]:
         print(line)
     return 0
 

@@ -1,10 +1,11 @@
 """The folder of a book: its files, and actions that are done as a whole or not at all.
 
-An action may change several files: a year's session, that of the year after it, the journal. So it
-is first written down as a whole in one file, `.pending`, which comes by a rename. Then each file is
-written anew beside itself and renamed, and in the end `.pending` is removed. Whoever opens the book
-next finishes what `.pending` says. So the book is as before the action until `.pending` is there,
-and as after it from then on, at whatever moment the process is stopped.
+An action may change several files: a year's session, that of the year after it, the journal. So all
+of them are first written beside their places; then the action is written down as a whole in one
+file, `.pending`, which comes by a rename; then each file takes its place by a rename, and in the
+end `.pending` is removed. Whoever next writes to the book finishes what `.pending` says. So the
+book is as before the action until `.pending` is there, and as after it from then on, at whatever
+moment the process is stopped. Whoever only reads sees it as after, and changes nothing.
 
 No file is appended to in place: an append that is cut may leave a row that is cut within its reason
 or its last number, and the program accepts it as another row. A rename can't be cut. What it costs
@@ -13,36 +14,50 @@ is one more writing of the year's file, at most some 20 MB.
 
 from __future__ import annotations
 
-import csv
-import datetime
-import getpass
-import io
-import json
-import os
-import re
-from collections.abc import Iterator
+from collections.abc import Iterator, Mapping
 from contextlib import contextmanager
 from dataclasses import dataclass, field
 from pathlib import Path
 
+from plantbal import limits
+from plantbal.book.chain import Chain, checks_of, checks_text, read_checks, state_of
+from plantbal.book.forms import (
+    CHECKS,
+    EARLIER,
+    JOURNAL,
+    LOCK,
+    METERS,
+    PENDING,
+    PLANT,
+    REPORTS,
+    is_begun,
+    is_own,
+    is_year_file,
+    there,
+    year_file,
+)
+from plantbal.book.journal import (
+    HEAD_TEXT,
+    Act,
+    Kept,
+    Line,
+    following,
+    now,
+    printable,
+    read_journal,
+)
 from plantbal.book.ledger import Ledger
 from plantbal.book.lock import locked
-from plantbal.faults import Fault, InputFault, Place, read_text
-from plantbal.files import unwritten, write_text
+from plantbal.book.owners import check_folder, check_links, link_in, user_said
+from plantbal.book.pending import Entry, pending_text, read_pending
+from plantbal.book.writing import Writing, sync
+from plantbal.faults import Fault, InputFault, Place, decoded, read_bytes
+from plantbal.files import unwritten
 
-PLANT = "plant.csv"
-METERS = "meters.csv"
-JOURNAL = "journal.csv"
-REPORTS = "reports"
-_PENDING = ".pending"
-_LOCK = ".lock"
-_YEAR = re.compile(r"[0-9]{4}[A-Za-z0-9_-]*")
-# Files that are written and have no name yet: those of this folder, and those of its reports.
-_BEGUN = re.compile(
-    rf"\.(?:plant|meters|journal|\.pending|{_YEAR.pattern})\.[a-z0-9_]{{8}}(?:\.csv)?"
-)
-_BEGUN_REPORT = re.compile(r"\.[A-Za-z0-9_.-]+\.[a-z0-9_]{8}\.csv")
-_JOURNAL_HEADS = ("when", "who", "what", "why", "rows")
+__all__ = ["METERS", "PLANT", "REPORTS", "Act", "Action", "Book", "Head", "Line"]
+
+_MOST_FILES = 500  # that one line of the journal names
+_LOST = "its journal is lost: put back journal.csv, from a backup"
 
 
 @dataclass
@@ -51,43 +66,66 @@ class Action:
 
     Attributes
     ----------
+    act : Act
+        What it is.
+    of : str
+        What it is done to: a year, a period, the two periods of a window, a fact, a file.
     what : str
-        What it is, as the journal says it.
+        What else there is to say of it: the workbook, the new value.
     why : str
         The reason, if there is one.
     who : str
-        Who does it; the name of the login if it is empty.
+        Who does it, as the words of the command say it.
+    program : str
+        The SHA-256 of the program that it ran, if it ran one.
     appended : dict of str to str
         What comes after the present end of files.
     written : dict of str to str
         Files that are written as a whole.
     rows : list of str
         Which rows of which year it adds, as the journal says it.
+    seen : list of str
+        Files that it has read and leaves as they are, such as the year of a report.
+    gone : list of str
+        Files that aren't there any more, which it accepts.
     """
 
-    what: str
+    act: Act
+    of: str = ""
+    what: str = ""
     why: str = ""
     who: str = ""
+    program: str = ""
     appended: dict[str, str] = field(default_factory=dict)
     written: dict[str, str] = field(default_factory=dict)
     rows: list[str] = field(default_factory=list)
+    seen: list[str] = field(default_factory=list)
+    gone: list[str] = field(default_factory=list)
 
     def add(self, ledger: Ledger) -> None:
         """Take the rows that were added to a ledger."""
         if ledger.added:
-            self.appended[f"{ledger.name}.csv"] = ledger.added_text()
+            self.appended[year_file(ledger.name)] = ledger.added_text()
             self.rows.append(ledger.added_said())
 
 
 @dataclass(frozen=True)
-class Line:
-    """A line of the journal."""
+class Head:
+    """The end of a book's chain: how many actions there were, and the digest of the last.
 
-    when: str
-    who: str
-    what: str
-    why: str
-    rows: str
+    Attributes
+    ----------
+    number : int
+        How many actions the journal has.
+    digest : str
+        The digest of the last.
+    """
+
+    number: int
+    digest: str
+
+    def __str__(self) -> str:
+        return f"{self.number} {self.digest}"
 
 
 class Book:
@@ -99,59 +137,147 @@ class Book:
         The folder.
     seconds : float
         The most seconds to wait for another command that is at work in it.
+
+    Attributes
+    ----------
+    waits : list of Entry
+        What an action that was stopped has yet to do, while the book is only read.
     """
 
     def __init__(self, folder: str | Path, seconds: float = 10) -> None:
         self.folder = Path(folder)
         self.seconds = seconds
+        self.waits: list[Entry] = []
+        self._journal: list[Line] | None = None
+        self._is_old = False
 
     # ---- opening
 
     @contextmanager
-    def opened(self, new: bool = False) -> Iterator[None]:
-        """Keep other commands out of the book, and finish what one before was stopped in.
+    def opened(
+        self, *, new: bool = False, reading: bool = False, tested: bool = True
+    ) -> Iterator[None]:
+        """Keep other commands out of the book, and test its files against its journal.
 
         Parameters
         ----------
         new : bool
             Whether the book needn't be there yet.
+        reading : bool
+            Whether it is only read: then other readers needn't wait, no right to write is wanted,
+            and what a stopped command has left is seen as if it were done.
+        tested : bool
+            Whether the files are to be as the journal says.
 
         Raises
         ------
         Fault
-            If there is no book, or another command is at work in it.
+            If there is no book, another command is at work in it, or a file was changed.
         """
         if new:
             try:
                 self.folder.mkdir(parents=True, exist_ok=True)
             except OSError as error:
                 raise unwritten(self.folder, error) from error
-        elif not self._is_there():
-            raise Fault(
-                f"there is no book in {self.folder.resolve()}",
-                remedy="go to its folder or name it by --book, "
-                "or make one: plantbal-desk book new 2024 WORKBOOK",
-            )
-        with locked(self.folder / _LOCK, self.seconds):
-            self._tidy()
-            self._finish()
+        else:
+            self._check_is_there()
+        if not reading:
+            check_folder(self.folder)
+        with locked(self.folder / LOCK, self.seconds, shared=reading):
+            self._journal = None
+            self.waits = read_pending(self.folder)
+            if not reading:
+                self._tidy()
+                self._finish()
+            if not new and self._bytes(JOURNAL) is None:
+                what = "there is no journal.csv"
+                raise InputFault(what, place=Place(file=str(self.folder)), remedy=_LOST)
+            if tested:
+                self.test()
             yield
+
+    def _check_is_there(self) -> None:
+        """Raise if there is no book.
+
+        Raises
+        ------
+        Fault
+            If it is so, or its journal is lost.
+        """
+        if any((self.folder / name).is_file() for name in (JOURNAL, PENDING)):
+            return
+        found = self.remains()
+        if found:
+            what = f"{found[0]} is of a book, and there is no journal.csv"
+            raise InputFault(what, place=Place(file=str(self.folder)), remedy=_LOST)
+        raise Fault(
+            f"there is no book in {self.folder.resolve()}",
+            remedy="go to its folder or name it by --book, "
+            "or make one: plantbal-desk book new 2024 WORKBOOK",
+        )
+
+    def remains(self) -> list[str]:
+        """Return the names of what is there of a book: of its files, or of one that was lost."""
+        names = [name for name in (JOURNAL, PENDING) if self.path(name).exists()]
+        return names + [name for name in there(self.folder) if name not in names]
 
     def _tidy(self) -> None:
         """Remove files that were begun and never got their names."""
-        for folder, names in ((self.folder, _BEGUN), (self.folder / REPORTS, _BEGUN_REPORT)):
-            for path in folder.glob(".*"):
-                if names.fullmatch(path.name):
+        for inner in ("", REPORTS, EARLIER):
+            if inner and link_in(self.folder, inner) is not None:
+                continue  # nothing is removed elsewhere
+            for path in (self.folder / inner).glob(".*"):
+                if is_begun(inner, path.name) and (path.is_file() or path.is_symlink()):
                     path.unlink(missing_ok=True)
 
-    def _is_there(self) -> bool:
-        return any((self.folder / name).is_file() for name in (JOURNAL, _PENDING))
+    def test(self) -> None:
+        """Raise at the first file that isn't as the journal says.
+
+        Raises
+        ------
+        InputFault
+            If there is one; its place is where it differs.
+        """
+        if self._bytes(JOURNAL) is None:
+            return
+        for difference in self.chain().differences():
+            raise difference.fault(self.folder)
+
+    def chain(self) -> Chain:
+        """Return what the journal says of the book's files."""
+        return Chain(self.journal(), self._bytes, self._checks, self.folder)
+
+    def _checks(self) -> str:
+        """Return the digits of the lines of files, or nothing if they can't be read."""
+        checks = self.path(CHECKS)
+        try:
+            return read_bytes(checks)[1].decode("ascii", "replace") if checks.is_file() else ""
+        except InputFault:
+            return ""
+
+    # ---- what is there
 
     @property
     def years(self) -> list[str]:
         """The names of the years, in order, as the journal says that they were begun."""
-        begun = (line.what.split(" ") for line in self.journal())
-        return sorted(words[1] for words in begun if words[0] in ("new", "next"))
+        return sorted(line.of for line in self.journal() if line.act in (Act.NEW, Act.NEXT))
+
+    @property
+    def head(self) -> Head:
+        """The end of its chain.
+
+        Raises
+        ------
+        Fault
+            If it has none yet: it is of an older version.
+        """
+        lines = self.journal()
+        if self._is_old:
+            raise Fault(
+                f"the journal of {self.folder.resolve()} is of an older version, without digests",
+                remedy="the next command that writes to the book begins them",
+            )
+        return Head(lines[-1].number, lines[-1].digest)
 
     def path(self, name: str) -> Path:
         """Return a file of the book."""
@@ -159,13 +285,43 @@ class Book:
 
     def text(self, name: str) -> str:
         """Return the text of a file, which is empty if it isn't there."""
-        path = self.folder / name
-        return read_text(path)[1] if path.is_file() else ""
+        data = self._bytes(name)
+        return decoded(str(self.path(name)), data) if data is not None else ""
+
+    def has(self, name: str) -> bool:
+        """Say whether a file is there."""
+        return self._bytes(name) is not None
 
     def journal(self) -> list[Line]:
-        """Return the lines of the journal."""
-        rows = list(csv.reader(io.StringIO(self.text(JOURNAL), newline="")))
-        return [Line(*row) for row in rows[1:] if len(row) == len(_JOURNAL_HEADS)]
+        """Return the lines of the journal.
+
+        Raises
+        ------
+        InputFault
+            If it isn't one, or its chain is broken.
+        """
+        if self._journal is None:
+            data = self._bytes(JOURNAL)
+            if data is None:
+                return []
+            try:
+                text = data.decode("utf-8")
+            except UnicodeDecodeError as error:
+                place = Place(file=str(self.path(JOURNAL)))
+                what = "this is no UTF-8 text"
+                raise InputFault(what, place=place, remedy="put it back, from a backup") from error
+            self._journal, self._is_old = read_journal(str(self.path(JOURNAL)), text)
+        return self._journal
+
+    def _bytes(self, name: str) -> bytes | None:
+        """Return the bytes of a file, as they are once what waits is done."""
+        path = self.folder / name
+        most = limits.SESSION_BYTES if is_year_file(name) else limits.INPUT_BYTES
+        data = read_bytes(path, most)[1] if path.is_file() else None
+        for entry in self.waits:
+            if entry.file == name:
+                data = entry.whole(data or b"", path)
+        return data
 
     # ---- actions
 
@@ -176,79 +332,156 @@ class Book:
         ----------
         action : Action
             The action. The journal gets a line about it.
+
+        Raises
+        ------
+        Fault
+            If it can't be done. The fault says whether it is going to be.
         """
-        now = datetime.datetime.now(datetime.timezone.utc).strftime("%Y-%m-%dT%H:%M:%SZ")
-        line = (now, action.who or _login(), action.what, action.why, "; ".join(action.rows))
-        appended = dict(action.appended)
-        appended[JOURNAL] = _csv([line] if self.text(JOURNAL) else [_JOURNAL_HEADS, line])
-        files = [
-            {"file": name, "from": len(self._bytes(name)), "text": text}
-            for name, text in appended.items()
-        ]
-        files += [
-            {"file": name, "from": None, "text": text} for name, text in action.written.items()
-        ]
-        write_text(self.folder / _PENDING, json.dumps(files))
-        _sync(self.folder)
-        self._finish()
+        entries = self._entries_of(action)
+        check_links(self.folder, [entry.file for entry in entries])
+        self._check_known(entries)
+        text = pending_text(entries)
+        try:
+            writing = self._writing(entries)
+        except Fault as fault:
+            raise _said(fault, "nothing was booked") from fault
+        try:
+            self._write_down(text)
+        except Fault as fault:
+            writing.drop()
+            raise _said(fault, self._dropped()) from fault
+        self._place(writing)
+
+    def _write_down(self, text: bytes) -> None:
+        """Write down what waits."""
+        writing = Writing({self.folder / PENDING: text})
+        try:
+            writing.place()
+        finally:
+            writing.drop()
+
+    def _entries_of(self, action: Action) -> list[Entry]:
+        """Return what an action does to each file, with its line in the journal."""
+        appended = {name: text.encode("utf-8") for name, text in action.appended.items()}
+        written = {name: text.encode("utf-8") for name, text in action.written.items()}
+        sizes = {name: len(self._bytes(name) or b"") for name in appended}
+        entries = [Entry(name, sizes[name], data) for name, data in appended.items()]
+        entries += [Entry(name, None, data) for name, data in written.items()]
+        whole = {each.file: each.whole(self._bytes(each.file) or b"", Path()) for each in entries}
+        files = {name: Kept.of(data) for name, data in whole.items()}
+        files |= {name: Kept.of(self._bytes(name)) for name in action.seen if name not in files}
+        files |= {name: Kept.of(None) for name in action.gone}
+        lines = list(self.journal())
+        is_new = not lines
+        if self._is_old and not is_new:
+            lines += self._beginning(lines)
+        texts = (action.of, action.what, action.why, "; ".join(action.rows), action.program)
+        of, what, why, rows, program = map(printable, texts)
+        who = printable(action.who)
+        last = Line(0, now(), user_said(), who, action.act, of, what, why, rows, program, files)
+        lines.append(following(lines, last))
+        data = self._bytes(JOURNAL)
+        if is_new or self._is_old or data is None:
+            journal = HEAD_TEXT + "".join(line.text for line in lines)
+            return [*entries, Entry(JOURNAL, None, journal.encode("utf-8"))]
+        return [*entries, Entry(JOURNAL, len(data), lines[-1].text.encode("utf-8"))]
+
+    def _beginning(self, before: list[Line]) -> list[Line]:
+        """Return the lines with which the chain of an older version's book begins."""
+        names = [name for name in there(self.folder) if name != JOURNAL]
+        check_links(self.folder, names)
+        lines = list(before)
+        for at in range(0, len(names), _MOST_FILES):
+            files = {name: Kept.of(self._bytes(name)) for name in names[at : at + _MOST_FILES]}
+            what = f"the digests begin here: nothing before this was kept by them, {len(before):,} "
+            what += "actions of an older version"
+            line = Line(0, now(), user_said(), "", Act.BEGIN, what=what, files=files)
+            lines.append(following(lines, line))
+        return lines[len(before) :]
+
+    def _check_known(self, entries: list[Entry]) -> None:
+        """Refuse to write over a file that the journal doesn't know.
+
+        Raises
+        ------
+        InputFault
+            If one is there.
+        """
+        known = state_of(self.journal())
+        if self._is_old or not known:
+            return
+        for entry in entries:
+            if entry.file != JOURNAL and entry.file not in known and self.has(entry.file):
+                raise InputFault(
+                    "no action of this book has written it, and it isn't written over",
+                    place=Place(file=str(self.path(entry.file))),
+                    remedy="move it away, and type this again",
+                )
+
+    def _writing(self, entries: list[Entry]) -> Writing:
+        """Write what files are to have beside them, with the digits of their lines."""
+        contents: dict[Path, bytes] = {}
+        digits = read_checks(self._checks())
+        for entry in entries:
+            path = self.folder / entry.file
+            contents[path] = entry.whole(self._bytes(entry.file) or b"", path)
+            digits[entry.file] = checks_of(contents[path])
+        contents[self.path(CHECKS)] = checks_text(digits).encode("ascii")
+        return Writing(contents)
 
     def _finish(self) -> None:
         """Do what a pending action says, whichever part of it was done before."""
-        pending = self.folder / _PENDING
-        if not pending.is_file():
+        if not self.waits:
             return
-        for entry in json.loads(pending.read_text(encoding="utf-8")):
-            name, start, text = entry["file"], entry["from"], entry["text"]
-            path = self.folder / name
-            path.parent.mkdir(exist_ok=True)
-            if start is None:
-                write_text(path, text)
-                continue
-            there = self._bytes(name)
-            whole = there[:start] + text.encode("utf-8")
-            if there == whole:
-                continue
-            if len(there) != start:
-                raise InputFault(
-                    f"another program has changed it, and {len(text.splitlines())} rows wait",
-                    place=Place(file=str(path)),
-                    remedy=f"put it back as it was with {start:,} bytes; {pending} has the rows",
-                )
-            write_text(path, whole.decode("utf-8"))
-        for folder in (self.folder, self.folder / REPORTS):
-            _sync(folder)
-        pending.unlink()
-        _sync(self.folder)
+        entries, self.waits = self.waits, []
+        try:
+            writing = self._writing(entries)
+        except Fault as fault:
+            raise _said(fault, self._waiting(started=True)) from fault
+        self._place(writing)
 
-    def _bytes(self, name: str) -> bytes:
-        path = self.folder / name
-        return path.read_bytes() if path.is_file() else b""
+    def _place(self, writing: Writing) -> None:
+        """Have the files of an action take their places, and end it.
 
+        Raises
+        ------
+        Fault
+            If one can't; the fault says what becomes of the action.
+        """
+        self._journal = None
+        try:
+            writing.place()
+        except Fault as fault:
+            writing.drop()
+            if not writing.placed:
+                raise _said(fault, self._dropped()) from fault
+            raise _said(fault, self._waiting(started=True)) from fault
+        try:
+            (self.folder / PENDING).unlink()
+            sync(self.folder)
+        except (OSError, Fault):
+            pass  # all is done; the next command finds it so, and removes what is left
 
-def _sync(folder: Path) -> None:
-    """Have a folder's renames written to the disk; Windows, on which this was never run, can't."""
-    if os.name == "nt" or not folder.is_dir():
-        return
-    handle = os.open(folder, os.O_RDONLY)
-    try:
-        os.fsync(handle)
-    finally:
-        os.close(handle)
+    def _dropped(self) -> str:
+        """Take back an action of which nothing is done yet, and return what is to be said."""
+        try:
+            (self.folder / PENDING).unlink(missing_ok=True)
+            sync(self.folder)
+        except (OSError, Fault):
+            return self._waiting(started=False)
+        return "nothing was booked"
 
-
-def is_year(name: str) -> bool:
-    """Say whether a name is that of a year: four digits, and more letters and digits if wanted."""
-    return _YEAR.fullmatch(name) is not None
-
-
-def _csv(rows: list[tuple[str, ...]]) -> str:
-    out = io.StringIO()
-    csv.writer(out, lineterminator="\n").writerows(rows)
-    return out.getvalue()
+    def _waiting(self, started: bool) -> str:
+        """Return what is to be said of an action that waits."""
+        path = self.folder / PENDING
+        waits = f"the action waits in {path}: the next command that writes to the book does it"
+        if started:
+            return f"{waits}; part of it is done, so it can't be dropped, but amended after that"
+        return f"{waits}; to drop it, remove that file before"
 
 
-def _login() -> str:
-    try:
-        return getpass.getuser()
-    except (OSError, KeyError, ImportError):
-        return ""
+def _said(fault: Fault, then: str) -> Fault:
+    """Return a fault that says, too, what becomes of the action."""
+    remedy = f"{fault.remedy}; {then}" if fault.remedy else then
+    return InputFault(fault.what, place=fault.place, text=fault.text, remedy=remedy)

@@ -7,18 +7,19 @@ import argparse
 from collections.abc import Iterator
 
 from plantbal.amounts import tonnes_text
+from plantbal.book.forms import window_file, year_file
 from plantbal.book.overview import window_behind
 from plantbal.book.reporting import (
-    file_of,
-    keep,
+    keep_as,
     state_of_block,
     suspects_of_block,
     written_of,
 )
-from plantbal.book.store import Action, Book
+from plantbal.book.store import Act, Action, Book
 from plantbal.book.years import Years
 from plantbal.faults import Fault, Refusal
 from plantbal.files import write_text
+from plantbal.believed import program_digest
 from plantbal.options import add_run
 from plantbal.report import Block
 from plantbal.uncertainty import uncertainty_of
@@ -49,18 +50,19 @@ def run(options: argparse.Namespace) -> int:
         except Refusal as refusal:
             raise Fault(refusal.said, text=refusal.text, remedy=refusal.remedy) from refusal
         asked = f"{book.text(f'{ledger.name}.csv')}window,{first},{last}\n"
-        name = f"{first}_to_{last}"
+        name = window_file(first, last)
         text, output = written_of(options, asked, f"{first} to {last}")
-        action = Action(f"window {first} {last}", who=options.who)
-        new = keep(book, action, ledger, name, text, closed=False)
+        action = Action(Act.WINDOW, f"{first} {last}", who=options.who)
+        action.program = program_digest(options.program)
+        new = keep_as(book, action, ledger, name, text)
         if not new and window_behind(book, ledger, book.journal(), first, last):
-            action.rows.append(f"{ledger.name}: up to {ledger.count}")
-        if action.rows:
+            action.seen = [year_file(ledger.name), name]
+        if action.seen:
             book.do(action)
         for block in output.blocks_in_order[-1:]:
             for line in (state_of_block(block), *suspects_of_block(block), *undipped(block)):
                 print(line)
-        print(f"{first} to {last}: {book.path(file_of(name))}" + ("" if new else ", as it was"))
+        print(f"{first} to {last}: {book.path(name)}" + ("" if new else ", as it was"))
         if options.session:
             write_text(options.session, asked)
     return 0 if output.ok else 1

@@ -3,20 +3,19 @@
 from __future__ import annotations
 
 import datetime
-import re
 from collections import defaultdict
 from collections.abc import Iterable
 from dataclasses import dataclass
 
 from plantbal.book.ledger import Fact, Ledger
-from plantbal.book.store import Book
+from plantbal.book.store import Act, Book
 from plantbal.faults import Fault
 
 _DAY = datetime.timedelta(1)
 # Before the first period of a year may stand days of the year before it, such as the 26th of
 # December, but no others: so a year that is typed wrong is noticed.
 _BEFORE = datetime.timedelta(31)
-_TYPED = ("amend ", "strike ")
+_TYPED = (Act.AMEND, Act.STRIKE)
 
 
 @dataclass(frozen=True)
@@ -104,9 +103,9 @@ class Years:
         self.typed: defaultdict[str, set[int]] = defaultdict(set)
         self._ledgers: dict[str, Ledger] = {}
         for line in book.journal():
-            if line.what.startswith(_TYPED):
-                for name, number in re.findall(r"([^ ;]+): ([0-9]+)", line.rows):
-                    self.typed[name].add(int(number))
+            if line.act in _TYPED:
+                for name, numbers in line.added.items():
+                    self.typed[name].update(numbers)
 
     def __getitem__(self, name: str) -> Ledger:
         """Return the ledger of a year."""
@@ -192,9 +191,7 @@ class Years:
 
     def open_periods(self) -> list[str]:
         """Return the periods that aren't closed, in the order in which they were declared."""
-        return [
-            name for span in self.spans for name, closed in span.periods.items() if not closed
-        ]
+        return [name for span in self.spans for name, closed in span.periods.items() if not closed]
 
     def outside(self, facts: Iterable[Fact]) -> list[Fault]:
         """Return what is to be said of facts that belong to no year."""

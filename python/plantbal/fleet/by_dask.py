@@ -14,6 +14,7 @@ from typing import Any
 from plantbal.faults import Fault, ToolMissing
 from plantbal.fleet import job as calls
 from plantbal.fleet.engines import Asked, Begin, Ended, Job
+from plantbal.fleet.limits import JOB_MEMORY, OUTPUT_BYTES, SENT_BYTES
 
 _ANSWERS = 20  # seconds that a scheduler has to answer in
 
@@ -167,10 +168,11 @@ class _Cluster:
         """Hand in a job by its paths, or with its bytes, and return its future."""
         command, timeout = self._asked.command, self._asked.timeout
         call: Callable[..., Any] = calls.run_here
-        given: list[object] = [command, str(job.session), str(job.output), timeout]
+        limited = calls.limits(JOB_MEMORY, SENT_BYTES if self._asked.send else OUTPUT_BYTES)
+        given: list[object] = [command, str(job.session), str(job.output), timeout, limited]
         if self._asked.send:
             call = calls.run_sent
-            given = [command, job.session.read_bytes(), job.output.name, timeout]
+            given = [command, job.session.read_bytes(), job.output.name, timeout, limited]
         if self._asked.scheduler is None:
             call, given = _in_this_process, [call.__name__, *given]
         with warnings.catch_warnings():

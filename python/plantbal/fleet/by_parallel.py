@@ -17,7 +17,8 @@ from typing import IO
 
 from plantbal.faults import Fault, ToolMissing
 from plantbal.fleet.engines import Asked, Begin, Came, Ended, Job
-from plantbal.fleet.job import JOB, SAID, ended, times
+from plantbal.fleet.job import JOB, SAID, ended, limits, times
+from plantbal.fleet.limits import JOB_MEMORY, OUTPUT_BYTES
 
 HEADS = "Seq Host Starttime JobRuntime Send Receive Exitval Signal Command".split()
 _PAUSES = 0.01, 0.2  # seconds after which the log is looked at again, the fewest and the most
@@ -25,6 +26,7 @@ _TROUBLE = 255  # parallel's own; up to 101 it is how many jobs failed
 # Sessions that one job of parallel may run one after another, and their bytes: without tests, half
 # a second of work at most.
 _MOST_SHARING, _MOST_BYTES = 12, 1 << 22
+_LIMITS = limits(JOB_MEMORY, OUTPUT_BYTES)
 _LONG = ("--tests", "--eliminate")  # words with which a session may take minutes
 
 
@@ -161,7 +163,7 @@ def _command(asked: Asked, some: Sequence[Job]) -> bytes:
         said = "; ".join(f'{files}; eval "$PLANTBAL_JOB"' for files in each)
     else:
         err, session, output = map(_quoted, (some[0].part / SAID, some[0].session, some[0].output))
-        said = f"exec {shlex.join(asked.command)} 2>{err} <{session} >{output}"
+        said = f"exec 2>{err}; {_LIMITS}; exec {shlex.join(asked.command)} <{session} >{output}"
     return said.encode("utf-8", "surrogateescape") + b"\0"
 
 
@@ -193,7 +195,12 @@ def _started(asked: Asked, said: int) -> subprocess.Popen[bytes]:
             stdin=subprocess.PIPE,
             stdout=subprocess.DEVNULL,
             stderr=None if shows else said,
-            env={**os.environ, "PARALLEL_SHELL": "/bin/sh", "PLANTBAL_JOB": script},
+            env={
+                **os.environ,
+                "PARALLEL_SHELL": "/bin/sh",
+                "PLANTBAL_JOB": script,
+                "PLANTBAL_LIMITS": _LIMITS,
+            },
             pass_fds=() if asked.lock is None else (asked.lock,),
         )
     except FileNotFoundError as error:

@@ -19,10 +19,12 @@ from pathlib import Path
 from plantbal.faults import Fault, InputFault
 from plantbal.files import write_text
 from plantbal.fleet.engines import WHY, Asked, Ended, Engine, Job
-from plantbal.fleet.given import Given, sha256_of
+from plantbal.fleet.given import Given, SessionTooLarge, sha256_of
 from plantbal.fleet.night import Kept, Night, Run, alone
 from plantbal.fleet.rows import Plant, failed, summary
 from plantbal.fleet.sites import NIGHT, Site, sites
+from plantbal.fleet.taking import Taker
+from plantbal.options import seconds_of
 from plantbal.program import find_program
 
 HELP = """
@@ -47,7 +49,7 @@ The table goes to standard output too, with a row for each period's last report:
 Windows and balances of components have rows of their own, their `period` such as may to june and
 cu in may; a window's `suspects` are codes of its streams, which `look` names. `state` is
 converged, unconverged, over (a total beyond the limits), none (no report), unreadable (the output
-isn't plantbal's), yes or no (of a check). For a plant without an output it is the name of the
+isn't plantbal's), refused (it doesn't agree with itself), yes or no (of a check). For a plant without an output it is the name of the
 program's status of 2 to 6, ended (another status), timeout, lost (by a machine of the cluster),
 nosession or nooutput (files that can't be read or written). `verdict` is that of the global test,
 which needs --tests or --eliminate N among WORDS; `suspects` are given only if it rejects and no
@@ -81,7 +83,7 @@ def add_arguments(parser: argparse.ArgumentParser) -> None:
     processors = "N sessions at once (default: as many as there are processors)"
     add("--jobs", metavar="N", type=_count, help=processors)
     timeout = "stop a session after that many seconds"
-    add("--timeout", metavar="SECONDS", type=_seconds, help=timeout)
+    add("--timeout", metavar="SECONDS", type=seconds_of, help=timeout)
     add("--retries", metavar="N", type=_count, default=1, help="try a failing one N times in all")
     add("--scheduler", metavar="ADDRESS", help="the scheduler of a dask cluster")
     add("--send", action="store_true", help="send bytes to the cluster, not paths")
@@ -104,15 +106,6 @@ def _count(text: str) -> int:
     return int(text)
 
 
-def _seconds(text: str) -> float:
-    try:
-        if 0 < float(text) < float("inf"):
-            return float(text)
-    except ValueError:
-        pass
-    raise argparse.ArgumentTypeError(f"{text!r} is no number of seconds: write 600")
-
-
 @dataclass
 class Fleet:
     """A night that is being run.
@@ -129,6 +122,8 @@ class Fleet:
         What is asked of each of these, and how it ended.
     sums : dict of Site to dict of str to str
         The digests of the files of each that is kept.
+    taker : Taker
+        What takes in what came of a plant.
     plants : dict of str to Plant
         What came of each.
     begun : set of Site
@@ -137,6 +132,7 @@ class Fleet:
 
     night: Night
     sites: list[Site]
+    taker: Taker = field(default_factory=Taker)
     given: dict[Site, Given] = field(default_factory=dict)
     runs: dict[Site, Run] = field(default_factory=dict)
     sums: dict[Site, dict[str, str]] = field(default_factory=dict)
@@ -156,6 +152,9 @@ class Fleet:
         if site not in self.runs:
             try:
                 self.given[site] = Given.read(site.path)
+            except SessionTooLarge as fault:
+                self.plants[site.name] = failed(site, "TooLarge", str(fault))
+                return False
             except InputFault as fault:
                 self.plants[site.name] = failed(site, "nosession", str(fault))
                 return False
@@ -200,10 +199,17 @@ class Fleet:
 
     def take(self, site: Site, kept: Kept) -> None:
         """Take in what is kept of a plant."""
-        from plantbal.fleet.gather import gather
-
         self.runs[site], self.sums[site] = kept.run, kept.sums
-        self.plants[site.name] = gather(self.night, site, kept, self.given[site])
+
+        def taken(plant: Plant) -> None:
+            if not plant.is_believed:
+                try:
+                    self.sums[site] = self.night.refuse(site, self.sums[site])
+                except OSError as error:
+                    plant.why.append(f"its output stays where it is: {error}")
+            self.plants[site.name] = plant
+
+        self.taker.plant(self.night, site, kept, self.given[site], taken)
 
     def run(self, engine: Engine, asked: Asked, again: bool) -> None:
         """Run what has no output yet; sessions are read, and outputs taken in, while others run."""
@@ -213,14 +219,17 @@ class Fleet:
                 known = [site for site in self.sites if not again and self.night.has_run(site)]
                 whole = zip(known, pool.map(self.is_done, known))
                 done = [site for site, is_done in whole if is_done]
-                todo = [site for site in self.sites if site.name not in self.plants]
+                known_now = {*self.plants, *(site.name for site in done)}
+                todo = [site for site in self.sites if site.name not in known_now]
                 jobs = sorted(map(self.job, todo), key=lambda job: job.size, reverse=True)
                 every = engine(asked, jobs, self.begin, [self.job(site) for site in done])
                 pool.submit(_load)
                 with closing(every):
                     for ended in every:
                         self.came(ended)
+                self.taker.finish()
         finally:
+            self.taker.stop()
             for site in self.begun:
                 self.night.drop(site)
 
@@ -230,8 +239,8 @@ class Fleet:
 
 
 def _load() -> None:
-    """Load what takes in outputs, and what writes the night."""
-    from plantbal.fleet import gather, index, keep  # noqa: F401
+    """Load what writes the night."""
+    from plantbal.fleet import index, keep  # noqa: F401
 
     index.template()
     gc.freeze()  # all this stays, and the garbage collector needn't go through it again
@@ -245,19 +254,18 @@ def _size_of(site: Site) -> int:
         return 0
 
 
-def lint_plants(plants: list[Plant], chosen: list[Site]) -> None:
+def lint_plants(taker: Taker, plants: list[Plant], chosen: list[Site]) -> None:
     """Add to plants what lint finds in their sessions; its errors are in their outputs, too."""
-    from plantbal.lint import brief, lint_session
-
-    path_of = {site.name: site.path for site in chosen}
+    site_of = {site.name: site for site in chosen}
     for plant in plants:
-        if plant.rows[0].state == "nosession":
+        if plant.rows[0].state in ("nosession", "TooLarge"):
             continue  # it can't be read, or may be a pipe
-        try:
-            findings = lint_session(path_of[plant.site])
-        except Fault:
-            continue  # the plant's row says so
-        plant.rows = [replace(row, warnings=brief(findings)) for row in plant.rows]
+
+        def found(said: str, plant: Plant = plant) -> None:
+            plant.rows = [replace(row, warnings=said) for row in plant.rows]
+
+        taker.lint(site_of[plant.site], found)
+    taker.finish()
 
 
 @contextmanager
@@ -276,6 +284,23 @@ def _stopped_by_sigterm() -> Iterator[None]:
         yield
     finally:
         signal.signal(signal.SIGTERM, before)
+
+
+def today() -> datetime.date:
+    """Return the day of this machine's clock."""
+    return datetime.date.today()
+
+
+def _say_future(say: Callable[[str], None], night: Night) -> bool:
+    """Say which nights lie in the future, and return whether any does."""
+    from plantbal.fleet.keep import in_future
+
+    found = in_future(night, today())
+    for name in found:
+        what = f"the night {name} lies in the future, and latest stays at it until that day"
+        remedy = f"if a clock was wrong, move nights/{name} and each SITE/{name} away"
+        say(f"{what}: {remedy}, and run this night with --again")
+    return bool(found)
 
 
 def _now() -> str:
@@ -305,14 +330,14 @@ def run(options: argparse.Namespace) -> int:
     chosen = sites(folder, recursive=options.recursive, out=out)
     for left in chosen.left:
         say(left)
-    name = options.date or datetime.date.today().isoformat()
+    name = options.date or today().isoformat()
     digest = "" if elsewhere else sha256_of(program)
     fleet = Fleet(Night(out, name, program, digest, options.words or ["run"]), chosen.sites)
     for site, said in chosen.wrong.items():
         fleet.plants[site.name] = failed(site, "nosession", said)
     engine = _engine(elsewhere or options.send or options.engine == "dask")
     begun = _now()
-    with _stopped_by_sigterm(), alone(out) as lock:
+    with _stopped_by_sigterm(), alone(out) as lock, fleet.taker:
         asked = Asked(
             command=[str(program), *fleet.night.words],
             log=fleet.night.folder / "joblog",
@@ -338,7 +363,7 @@ def run(options: argparse.Namespace) -> int:
             fleet.plants[site_name] = failed(site, "nosession", said)
         plants = fleet.in_order()
         if options.lint:
-            lint_plants(plants, chosen.sites)
+            lint_plants(fleet.taker, plants, chosen.sites)
         for plant in plants:
             plant.tell()
         times, unkept = Times(begun, _now()), list[Exception]()
@@ -348,10 +373,11 @@ def run(options: argparse.Namespace) -> int:
         except (Fault, OSError) as error:  # the disk is full, mostly: what is known is said
             unkept.append(error)
     write_text("-", table(plants))
+    is_late = _say_future(say, fleet.night)
     status = _say_all(say, plants, None if unkept else out / "index.html")
     for fault in unkept:
         raise fault
-    return status
+    return 1 if is_late else status
 
 
 def _program(named: str | None, elsewhere: bool) -> Path:

@@ -6,22 +6,34 @@ from collections.abc import Collection, Mapping
 from contextlib import suppress
 from dataclasses import dataclass, replace
 from functools import cached_property
+from itertools import islice
 from pathlib import Path
 
+from plantbal.believed import judge
 from plantbal.faults import InputFault, decoded, read_bytes
 from plantbal.fleet.engines import WHY
 from plantbal.fleet.given import Given, days_of, has_critical
 from plantbal.fleet.job import SAID
+from plantbal.fleet.limits import (
+    JUDGED_BYTES,
+    OUTPUT_BYTES,
+    REFUSED_EXPLAINED,
+    REFUSED_KNOWN,
+    ROWS_AFTER,
+    SAID_BYTES,
+)
 from plantbal.fleet.night import Kept, Night
+from plantbal.fleet.outline import Outline, outline_of
 from plantbal.fleet.rows import Plant, Row, failed
 from plantbal.fleet.sites import Site
 from plantbal.program import STATUSES
+from plantbal.records import read_records
 from plantbal.report import (
     Block,
     Subject,
     Values,
     blocks_of,
-    cut_beside_blocks,
+    csv_of,
     over_of,
     parse_rows,
     subjects_of,
@@ -34,12 +46,6 @@ _VERDICTS = {
 }
 # The bytes of a session in which its periods are looked for first.
 _HEAD = 1 << 16
-# The rows of an output that say something of the plant as a whole.
-_TOLD = frozenset(
-    "refused over window place component report taken solved global measure end yes no unreadable"
-    " design class advise meter".split()
-)
-
 # The rows for which the program ends with 1.
 _FOUND = frozenset(["refused", "no", "unreadable"])
 
@@ -52,17 +58,17 @@ class Told:
     ----------
     site : Site
         The plant.
-    rows : list of dict
-        The rows of the output that say something of the plant as a whole.
+    outline : Outline
+        What is kept of the output.
     """
 
     site: Site
-    rows: list[Values]
+    outline: Outline
 
-    @cached_property
+    @property
     def refused(self) -> set[int]:
-        """The numbers of the refused rows of the session."""
-        return {int(row["at"]) for row in self.rows if row["row"] == "refused"}
+        """The numbers of the first refused rows of the session."""
+        return self.outline.refused
 
     @cached_property
     def session(self) -> bytes:
@@ -70,7 +76,12 @@ class Told:
         return read_bytes(self.site.path)[1] if self.site.path.exists() else b""
 
     def days(self, periods: Collection[str]) -> dict[str, str]:
-        """Return the first and the last day of periods: mostly they stand in the first rows."""
+        """Return the first and the last day of periods: mostly they stand in the first rows.
+
+        If more rows are refused than are known, none are returned.
+        """
+        if self.outline.refused_count > REFUSED_KNOWN:
+            return {}
         if not self.refused:
             with suppress(OSError), self.site.path.open("rb") as file:
                 head = file.read(_HEAD)
@@ -82,9 +93,9 @@ class Told:
     @cached_property
     def over(self) -> dict[Subject, str]:
         """What has no flows since a total is beyond the limits, and the stream of that total."""
-        if not any(row["row"] == "over" for row in self.rows):
+        if "over" not in self.outline.kinds:
             return {}
-        return over_of(self.rows, subjects_of(self.session, self.refused))
+        return over_of(self.outline.answers, subjects_of(self.session, self.refused))
 
     @cached_property
     def has_critical(self) -> bool:
@@ -110,16 +121,25 @@ def gather(night: Night, site: Site, kept: Kept, given: Given) -> Plant:
     if run.status is None:
         return failed(site, "stopped", WHY["stopped"])
     if run.status not in (0, 1):
-        return failed(site, *_of_status(night.folder_of(site) / SAID, run.status), run)
-    source = str(night.output_of(site))
+        return failed(site, *_of_status(night, site, kept), run)
+    path = night.output_of(site)
     try:
-        rows = parse_rows(source, decoded(source, kept.output), _TOLD)
+        outline = outline_of(path)
     except InputFault as fault:
         return failed(site, "unreadable", str(fault), run)
-    plant = _of_rows(Told(site, rows))
-    if any(row["row"] == "component" for row in rows):
-        _of_components(plant, parse_rows(source, decoded(source, kept.output)))
-    if run.status == 1 and not _FOUND & {row["row"] for row in rows}:
+    plant = _of_outline(Told(site, outline))
+    if kept.size <= JUDGED_BYTES:
+        if all(row.state != "unreadable" for row in plant.rows):  # that is said by itself
+            try:
+                _judge(night, path)
+            except InputFault as fault:
+                return replace(failed(site, "refused", str(fault), run), is_believed=False)
+    else:
+        what = f"its output has more than the {JUDGED_BYTES:,} bytes that a check reads"
+        plant.why.append(f"{what}, so it isn't judged: ask for fewer reports")
+    if outline.has_components:
+        _of_components(plant, path, kept.size)
+    if run.status == 1 and not _FOUND & outline.kinds:
         plant.why.append("the program ended with status 1, and no row of its output says why")
     plant.rows = [
         replace(row, status=str(run.status), seconds=f"{run.seconds:.3f}") for row in plant.rows
@@ -132,27 +152,47 @@ def gather(night: Night, site: Site, kept: Kept, given: Given) -> Plant:
     return plant
 
 
-def _of_status(said: Path, status: int) -> tuple[str, str]:
+def _judge(night: Night, output: Path) -> None:
+    """Judge an output of `run` by its own numbers.
+
+    Raises
+    ------
+    InputFault
+        If it doesn't agree with itself.
+    """
+    if night.words[:1] != ["run"]:
+        return
+    source, data = read_bytes(output)
+    if data.startswith(b"{"):
+        data = csv_of(parse_rows(source, decoded(source, data))).encode("utf-8")
+    judge(data, source, night.program)
+
+
+def _of_status(night: Night, site: Site, kept: Kept) -> tuple[str, str]:
     """Return the state of a plant by a status other than 0 and 1, and a sentence."""
+    status = kept.run.status or 0
     name, remedy = STATUSES.get(status, ("ended", ""))
     if status > 128:
         remedy = f"signal {status - 128} stopped it"
         remedy += "; often that means that memory ran out" if status == 128 + 9 else ""
+    if kept.size >= OUTPUT_BYTES:
+        remedy = f"its output has more than {OUTPUT_BYTES:,} bytes: ask for fewer reports"
     try:
-        lines = said.read_text(encoding="utf-8", errors="replace").split("\n")
+        with (night.folder_of(site) / SAID).open("rb") as file:
+            said = file.read(SAID_BYTES)
     except OSError:
-        lines = []
-    first = lines[0].strip()
+        said = b""
+    first = said.decode("utf-8", "replace").partition("\n")[0].strip()
     first = "" if first == name else first
     what = f"the program ended with status {status}" + (f", {name}" if status in STATUSES else "")
     return name, "; ".join(filter(None, (what, first, remedy)))
 
 
-def _of_rows(told: Told) -> Plant:
+def _of_outline(told: Told) -> Plant:
     """Return what an output says of a plant."""
-    site, rows = told.site, told.rows
+    site, outline = told.site, told.outline
     plant = Plant(site.name)
-    blocks = {block.asked: block for block in blocks_of(rows)}
+    blocks = {block.asked: block for block in blocks_of(outline.rows)}
     over = told.over
     subjects = dict.fromkeys([*blocks, *over])
     days = told.days({name for each in subjects for name in (each.period, each.last) if name})
@@ -164,10 +204,10 @@ def _of_rows(told: Told) -> Plant:
             row, said = _of_block(told, blocks[each])
         plant.rows.append(replace(row, days=_days_of(each, days), refused="0"))
         plant.why_of[str(each)] = said
-    for what in cut_beside_blocks(rows):
+    for what in outline.cut():
         plant.rows.append(Row(site.name, state="unreadable"))
         plant.why.append(f"{what} is cut off")
-    _of_check(plant, rows)
+    _of_check(plant, outline)
     if told.refused or not plant.rows:
         _of_refused(plant, told)
     return plant
@@ -228,12 +268,15 @@ def _of_solution(told: Told, block: Block, solved: Values) -> list[str]:
     return said
 
 
-def _of_components(plant: Plant, rows: list[Values]) -> None:
+def _of_components(plant: Plant, output: Path, size: int) -> None:
     """Say which streams carry more of a component than there is of them."""
     from plantbal.carried import impossible
 
+    if size > JUDGED_BYTES:
+        return  # it isn't judged, which is said
     try:
-        for found in impossible(blocks_of(rows)):
+        source, data = read_bytes(output)
+        for found in impossible(blocks_of(parse_rows(source, decoded(source, data)))):
             plant.why_of.setdefault(found.subject, []).append(found.said)
     except InputFault as fault:
         plant.why.append(str(fault))
@@ -243,14 +286,11 @@ def _thousandths(text: str) -> str:
     return f"{int(text) / 1000:.3f}" if text else ""
 
 
-def _of_check(plant: Plant, rows: list[Values]) -> None:
+def _of_check(plant: Plant, outline: Outline) -> None:
     """Add the rows of a check: of each period whether all its blocks pass."""
-    states: dict[str, str] = {}
-    for row in rows:
-        if row["row"] in ("yes", "no") and states.get(row["period"]) != "no":
-            states[row["period"]] = row["row"]
-    plant.rows += [Row(plant.site, period, state=state) for period, state in states.items()]
-    for row in rows:
+    states = outline.states.items()
+    plant.rows += [Row(plant.site, period, state=state) for period, state in states]
+    for row in outline.failed:
         if row["row"] == "no":
             test = schema().tests[int(row["code"])]
             where = f" at {row['name']}" if row["name"] else ""
@@ -264,19 +304,19 @@ def _of_check(plant: Plant, rows: list[Values]) -> None:
 
 def _of_refused(plant: Plant, told: Told) -> None:
     """Say why the first row is refused, or why there is no report."""
-    from plantbal.explain import Explanation, explain
+    from plantbal.explain import Explanation, explain_bytes
 
-    site, count = told.site, len(told.refused)
+    site, count = told.site, told.outline.refused_count
     try:
-        found = explain(site.path)
-    except InputFault:
+        found = explain_bytes(str(site.path), _about_first(told))
+    except (InputFault, MemoryError):  # of a session with more rows than can be explained here
         found = Explanation([], [], 0)
     # That a session asks for nothing isn't why its first row is refused.
-    asks = [each for each in found.whole if not each.sentence.startswith("it asks for nothing")]
+    asks = [each for each in found.whole if not each.asks_nothing]
     first = next(iter([*asks, *found.rows, *found.whole]), None)
     said = first.headline if first else ""
     if count:
-        rows = "1 row is refused" if count == 1 else f"{count} rows are refused, the first"
+        rows = "1 row is refused" if count == 1 else f"{count:,} rows are refused, the first"
         plant.why.insert(0, f"{rows}: {said}" if said else rows.removesuffix(", the first"))
     if not plant.rows and not count and subjects_of(told.session, told.refused):
         plant.rows.append(Row(site.name, state="unreadable", refused="0"))
@@ -287,3 +327,13 @@ def _of_refused(plant: Plant, told: Told) -> None:
             plant.why.append(said or "there is no report; add a row report,PERIOD to the session")
     if count:
         plant.rows = [replace(row, refused=str(count), first_refusal=said) for row in plant.rows]
+
+
+def _about_first(told: Told) -> bytes:
+    """Return the session, or of one with very many refused rows those up to the first of these."""
+    if told.outline.refused_count <= REFUSED_EXPLAINED:
+        return told.session
+    first = min(told.refused)
+    records = islice(read_records(told.session), first + ROWS_AFTER)
+    line = max((record.line for record in records), default=0)
+    return b"\n".join(told.session.split(b"\n", line)[:line])

@@ -14,11 +14,26 @@ from itertools import chain, islice
 from pathlib import Path
 
 from plantbal.faults import InputFault, Place
+from plantbal.limits import SESSION_BYTES
 from plantbal.records import read_records
 
 # In nanoseconds. Some file systems keep times in steps of two seconds, and a second change within a
 # step may leave no trace.
 _STEP = 2_000_000_000
+
+
+class SessionTooLarge(InputFault):
+    """A session with more bytes than the program takes.
+
+    Parameters
+    ----------
+    path : Path
+        The file.
+    """
+
+    def __init__(self, path: Path) -> None:
+        what = f"it has more than {SESSION_BYTES:,} bytes"
+        super().__init__(what, place=Place(file=str(path)), remedy="split it")
 
 
 @dataclass(frozen=True, slots=True)
@@ -45,6 +60,8 @@ class Given:
 
         Raises
         ------
+        SessionTooLarge
+            If it has more bytes than a session may have; then it isn't read.
         InputFault
             If it can't be read.
         """
@@ -55,6 +72,8 @@ class Given:
                 raise OSError(errno.EINVAL, "it is a pipe or a device, and no file")
             with path.open("rb") as file:
                 found = os.fstat(file.fileno())
+                if found.st_size > SESSION_BYTES:
+                    raise SessionTooLarge(path)
                 digest = hashlib.file_digest(file, "sha256").hexdigest()
         except OSError as error:
             raise _unread(path, error) from error

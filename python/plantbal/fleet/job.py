@@ -17,16 +17,32 @@ SAID, STATUS = "stderr.txt", "run.json"
 # be there and empty, it leaves that file, SAID and STATUS. STATUS has the program's status, and
 # later becomes the record of the run. It is made first and written at the end, and OUTPUT is made
 # last: so the folder is as old as the program's start, and STATUS as its end. The job ends with a
-# fault if the program wasn't done.
+# fault if the program wasn't done. The program has the limits that PLANTBAL_LIMITS sets.
 JOB = f"""
 session=$1 output=$2 part=${{2%/*}}
 shift 2
 : >"$part/{STATUS}"
-(exec "$@" <"$session" >"$output") 2>"$part/{SAID}"
+(eval "$PLANTBAL_LIMITS"; exec "$@" <"$session" >"$output") 2>"$part/{SAID}"
 status=$?
 echo "$status" >"$part/{STATUS}"
 [ "$status" -le 1 ]
 """
+
+
+def limits(memory: int, size: int) -> str:
+    """Return what sets a shell's limits, and those of the program that it becomes.
+
+    A file that gets too large is a fault of writing then, and no signal.
+
+    Parameters
+    ----------
+    memory : int
+        The most bytes of memory.
+    size : int
+        The most bytes of a file.
+    """
+    lines = f"ulimit -v {memory >> 10}", f"ulimit -f {size >> 9}", "ulimit -c 0"
+    return f"trap '' XFSZ; {'; '.join(lines)}"
 
 
 # The jobs that run in this process, and whether more may begin.
@@ -34,7 +50,9 @@ _RUNNING: set[subprocess.Popen[bytes]] = set()
 _STOPPED: set[str] = set()
 
 
-def run_here(command: list[str], session: str, output: str, timeout: float | None) -> bool:
+def run_here(
+    command: list[str], session: str, output: str, timeout: float | None, limited: str
+) -> bool:
     """Run a session into a folder that this machine sees, and return whether it ended in time.
 
     Parameters
@@ -45,10 +63,13 @@ def run_here(command: list[str], session: str, output: str, timeout: float | Non
         The files of the session and of its output.
     timeout : float or None
         The most seconds that it may take.
+    limited : str
+        What sets its limits, as `limits` returns it.
     """
     job = subprocess.Popen(
         ["sh", "-c", JOB, "job", session, output, *command],
         stdin=subprocess.DEVNULL,
+        env={**os.environ, "PLANTBAL_LIMITS": limited},
         start_new_session=True,
     )
     _RUNNING.add(job)
@@ -84,7 +105,7 @@ def go_on() -> None:
 
 
 def run_sent(
-    command: list[str], session: bytes, name: str, timeout: float | None
+    command: list[str], session: bytes, name: str, timeout: float | None, limited: str
 ) -> dict[str, bytes] | None:
     """Run the bytes of a session, and return the files that it leaves; None if it took too long.
 
@@ -98,13 +119,15 @@ def run_sent(
         What the file of its output is called.
     timeout : float or None
         The most seconds that it may take.
+    limited : str
+        What sets its limits, as `limits` returns it.
     """
     with tempfile.TemporaryDirectory(prefix="plantbal-") as folder:
         given = Path(folder, "session")
         given.write_bytes(session)
         part = Path(folder, "part")
         part.mkdir()
-        if not run_here(command, str(given), str(part / name), timeout):
+        if not run_here(command, str(given), str(part / name), timeout, limited):
             return None
         found = {path.name: path.read_bytes() for path in part.iterdir()}
         found[STATUS] = " ".join(map(str, ended(str(part)))).encode("ascii")

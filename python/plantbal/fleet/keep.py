@@ -2,8 +2,8 @@
 
 from __future__ import annotations
 
-import csv
-import io
+import datetime
+import os
 import sqlite3
 import subprocess
 from collections.abc import Collection, Iterable, Iterator, Mapping, Sequence
@@ -17,6 +17,7 @@ from plantbal.fleet.given import sha256_of
 from plantbal.fleet.night import Night, Run, link
 from plantbal.fleet.rows import HEADS, Plant
 from plantbal.fleet.sites import Site
+from plantbal.inert import csv_text
 
 _NUMBERS = {
     "dof": "INTEGER",
@@ -52,13 +53,8 @@ class Times:
 
 
 def table(plants: Iterable[Plant]) -> str:
-    """Return the table of plants as CSV."""
-    text = io.StringIO()
-    writer = csv.writer(text, lineterminator="\n")
-    writer.writerow(HEADS)
-    for plant in plants:
-        writer.writerows(row.values() for row in plant.rows)
-    return text.getvalue()
+    """Return the table of plants as CSV, which a spreadsheet may open."""
+    return csv_text([HEADS, *(row.values() for plant in plants for row in plant.rows)])
 
 
 Sums = Mapping[Site, Mapping[str, str]]
@@ -91,10 +87,30 @@ def keep(
     with database(night.out / "fleet.sqlite") as base:
         _insert(base, night, plants, times)
     # The disk takes the files of all plants at once, in less time than those of each by itself.
-    subprocess.run(["sync", "--file-system", night.folder], check=False)
+    _flush(night.folder)
     newest = night.out / "latest"
     if not newest.exists() or newest.readlink().name <= night.name:
         link(str(newest), f"nights/{night.name}")
+
+
+def _flush(folder: Path) -> None:
+    """Wait until the disk has all files of the file system that a folder is on.
+
+    Raises
+    ------
+    InputFault
+        If it hasn't.
+    """
+    done = subprocess.run(
+        ["sync", "--file-system", folder], stderr=subprocess.PIPE, text=True, check=False
+    )
+    if done.returncode:
+        said = done.stderr.strip() or f"sync ended with status {done.returncode}"
+        raise InputFault(
+            f"the night may not be on the disk: {said}",
+            place=Place(file=str(folder)),
+            remedy="see whether the disk is full or failing, and run the fleet again",
+        )
 
 
 def _files(night: Night, ordered: Iterable[Site], sums: Sums) -> Iterator[tuple[str, str]]:
@@ -163,6 +179,13 @@ def gone(night: Night, sites: Collection[str]) -> dict[str, str]:
         )
         return {site: before for site, before in rows if site not in sites}
     return {}  # it is none: whoever writes to it says so
+
+
+def in_future(night: Night, today: datetime.date) -> list[str]:
+    """Return the nights that lie in the future, to whose files `latest` leads until their days."""
+    nights = night.out / "nights"
+    names = os.listdir(nights) if nights.is_dir() else []
+    return sorted(name for name in names if name[:10] > today.isoformat())
 
 
 def _insert(base: sqlite3.Connection, night: Night, plants: Sequence[Plant], times: Times) -> None:

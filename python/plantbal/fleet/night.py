@@ -22,14 +22,14 @@ import hashlib
 import json
 import os
 import shutil
-from collections.abc import Iterator
+from collections.abc import Iterable, Iterator
 from contextlib import contextmanager, suppress
 from dataclasses import dataclass, fields, replace
 from pathlib import Path
 
 from plantbal.faults import Fault, InputFault, Place
 from plantbal.fleet.engines import Came
-from plantbal.fleet.given import Given
+from plantbal.fleet.given import Given, sha256_of
 from plantbal.fleet.job import SAID, STATUS, ended
 from plantbal.fleet.sites import Site
 
@@ -85,20 +85,20 @@ class Run:
 
 @dataclass(frozen=True, slots=True)
 class Kept:
-    """What is kept of a plant, so that none of its files is read twice.
+    """What is kept of a plant.
 
     Attributes
     ----------
     run : Run
         Its run.
-    output : bytes
-        What the program wrote; empty unless it ended with 0 or 1.
+    size : int
+        How many bytes the program wrote, also if they weren't kept.
     sums : dict of str to str
         The digests of its files, by their names.
     """
 
     run: Run
-    output: bytes
+    size: int
     sums: dict[str, str]
 
 
@@ -172,11 +172,10 @@ class Night:
             run = Run(**json.loads((folder / STATUS).read_bytes()))
             if run.asked != asked.asked or run.status not in (0, 1):
                 return None
-            names = (self.output_name, SAID, STATUS)
-            files = {name: (folder / name).read_bytes() for name in names}
-        except (OSError, ValueError, TypeError):
+            size = (folder / self.output_name).stat().st_size
+            found = Kept(run, size, _sums(folder, (self.output_name, SAID, STATUS)))
+        except (OSError, InputFault, ValueError, TypeError):
             return None
-        found = Kept(run, files[self.output_name], _sums(files))
         return found if found.sums[self.output_name] == run.output_sha256 else None
 
     def begin(self, site: Site) -> None:
@@ -223,10 +222,11 @@ class Night:
         """
         part, output_name = str(self.part_of(site)), self.output_name
         came = came or came_of(part)
+        output = Path(part, output_name)
+        size = output.stat().st_size if output.exists() else 0
         if came.status not in (0, 1):
-            Path(part, output_name).unlink(missing_ok=True)
-        files = {name: _read(f"{part}/{name}") for name in os.listdir(part) if name != STATUS}
-        output, sums = files.get(output_name, b""), _sums(files)
+            output.unlink(missing_ok=True)
+        sums = _sums(Path(part), [name for name in os.listdir(part) if name != STATUS])
         run = replace(
             asked,
             status=came.status,
@@ -237,7 +237,7 @@ class Night:
         said = run.to_json()
         with open(f"{part}/{STATUS}", "wb", buffering=0) as file:
             file.write(said)
-        sums |= _sums({STATUS: said})
+        sums[STATUS] = hashlib.sha256(said).hexdigest()
         put(part, str(self.folder_of(site)))
         newest = f"{self.out}/{site.name}/latest"
         if came.status in (0, 1):
@@ -245,7 +245,25 @@ class Night:
                 link(newest, self.name)
         elif os.path.islink(newest) and os.readlink(newest) == self.name:
             self._lead_back(Path(newest))
-        return Kept(run, output, sums)
+        return Kept(run, size, sums)
+
+    def refuse(self, site: Site, sums: dict[str, str]) -> dict[str, str]:
+        """Take its name from an output that isn't believed, and return the digests by their names.
+
+        Parameters
+        ----------
+        site : Site
+            The plant.
+        sums : dict of str to str
+            The digests of its files, by their names.
+        """
+        output = self.output_of(site)
+        refused = output.with_name(f"refused-{output.name}")
+        os.replace(output, refused)
+        newest = self.out / site.name / "latest"
+        if newest.is_symlink() and os.readlink(newest) == self.name:
+            self._lead_back(newest)
+        return {refused.name if name == output.name else name: sums[name] for name in sums}
 
     def _lead_back(self, newest: Path) -> None:
         """Lead a plant's link to the last night with an output, now that this one has lost its own."""
@@ -257,15 +275,9 @@ class Night:
             newest.unlink()
 
 
-def _sums(files: dict[str, bytes]) -> dict[str, str]:
-    """Return the digests of files."""
-    return {name: hashlib.sha256(data).hexdigest() for name, data in files.items()}
-
-
-def _read(path: str) -> bytes:
-    """Return the bytes of a file."""
-    with open(path, "rb", buffering=0) as file:
-        return file.read()
+def _sums(folder: Path, names: Iterable[str]) -> dict[str, str]:
+    """Return the digests of files in a folder."""
+    return {name: sha256_of(folder / name) for name in names}
 
 
 def came_of(part: str) -> Came:

@@ -19,7 +19,8 @@ class Row:
         The plant, what the report is of (``may``, of a window ``may to june``, of a balance
         ``cu in may``), and its first and last day.
     state : str
-        ``converged``, ``unconverged``, ``over``, ``none``, ``unreadable``; ``yes`` or ``no`` of a
+        ``converged``, ``unconverged``, ``over``, ``none``, ``unreadable``, ``refused`` (the output
+        doesn't agree with itself); ``yes`` or ``no`` of a
         check; the name of a status of 2 to 6, ``ended`` of any other, ``timeout``, ``lost``,
         ``nosession``, ``nooutput``.
     dof, statistic, critical, verdict : str
@@ -80,12 +81,15 @@ class Plant:
         Sentences on the plant.
     why_of : dict of str to list of str
         Sentences on its periods.
+    is_believed : bool
+        Whether its output agrees with itself; otherwise it isn't kept under its name.
     """
 
     site: str
     rows: list[Row] = field(default_factory=list)
     why: list[str] = field(default_factory=list)
     why_of: dict[str, list[str]] = field(default_factory=dict)
+    is_believed: bool = True
 
     @property
     def needs(self) -> bool:

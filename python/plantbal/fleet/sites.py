@@ -6,10 +6,11 @@ import os
 import re
 from collections import defaultdict
 from collections.abc import Iterator
-from dataclasses import dataclass
+from dataclasses import dataclass, field
 from pathlib import Path
 
 from plantbal.faults import InputFault, Place
+from plantbal.fleet.limits import DEPTH, FOLDERS
 
 # What the folder of the nights has beside the sites.
 RESERVED = ("nights", "latest", "index.html", "fleet.sqlite")
@@ -42,7 +43,7 @@ class Chosen:
     sites : list of Site
         Those that are run.
     wrong : dict of Site to str
-        Those that can't be run under their names, and why.
+        Those that can't be run under their names, the folders that can't be read, and why.
     left : list of str
         What is said of the other files.
     """
@@ -62,36 +63,89 @@ def _some(names: list[str]) -> str:
     return ", ".join(sorted(names)[:_SHOWN]) + (f" and {more} more" if more > 0 else "")
 
 
-def _walk(folder: Path, out: Path | None, recursive: bool, left: list[str]) -> Iterator[Path]:
-    """Give the sessions in a folder, and note what else there is; hidden files are passed over."""
-    others = []
-    for entry in sorted(os.scandir(folder), key=lambda each: each.name):
-        path = folder / entry.name
-        if entry.name.startswith(".") or (entry.is_dir() and path.resolve() == out):
-            continue
-        if entry.is_dir() and not _is_session(entry.name):
-            if recursive:
-                yield from _walk(path, out, recursive, left)
-            elif count := _count(path):
-                some, what = f"{count} sessions, which aren't", "them"
-                if count == 1:
-                    some, what = "a session, which isn't", "it"
-                left.append(f"{path}: this folder has {some} run: say --recursive for {what} too")
-        elif _is_session(entry.name):
-            yield path
-        else:
-            others.append(entry.name)
-    if others:
-        what = "a file isn't" if len(others) == 1 else f"{len(others)} files aren't"
-        left.append(f"{folder}: {what} run, since a session's name ends with .csv: {_some(others)}")
+@dataclass
+class _Walk:
+    """A walk through the folders of sessions; links to folders aren't followed.
+
+    Attributes
+    ----------
+    out : Path or None
+        The folder of the nights, which is passed over.
+    recursive : bool
+        Whether the folders inside are walked through, too.
+    left : list of str
+        What is said of what isn't run.
+    unread : dict of Path to str
+        The folders inside that can't be read, and why.
+    """
+
+    out: Path | None
+    recursive: bool
+    left: list[str] = field(default_factory=list)
+    unread: dict[Path, str] = field(default_factory=dict)
+    folders: int = 0
+
+    def sessions(self, folder: Path, depth: int = 0) -> Iterator[Path]:
+        """Give the sessions in a folder, and note what else there is; hidden files are passed over.
+
+        Raises
+        ------
+        OSError
+            If the folder can't be read.
+        """
+        self.folders += 1
+        others, linked = [], []
+        for entry in sorted(os.scandir(folder), key=lambda each: each.name):
+            path = folder / entry.name
+            if entry.name.startswith("."):
+                continue
+            if _is_session(entry.name):
+                yield path
+            elif entry.is_dir(follow_symlinks=False):
+                if path.resolve() != self.out:
+                    yield from self._inside(path, depth + 1)
+            elif entry.is_symlink() and path.is_dir():
+                linked.append(entry.name)
+            else:
+                others.append(entry.name)
+        if linked:
+            what = "a link to a folder isn't" if len(linked) == 1 else "links to folders aren't"
+            self.left.append(f"{folder}: {what} followed: {_some(linked)}")
+        if others:
+            what = "a file isn't" if len(others) == 1 else f"{len(others)} files aren't"
+            said = f"{what} run, since a session's name ends with .csv: {_some(others)}"
+            self.left.append(f"{folder}: {said}")
+
+    def _inside(self, folder: Path, depth: int) -> Iterator[Path]:
+        """Give the sessions of a folder inside, or note that it has one."""
+        if self.recursive:
+            if depth > DEPTH or self.folders >= FOLDERS:
+                what = f"{DEPTH} within each other" if depth > DEPTH else f"{FOLDERS:,}"
+                self.unread[folder] = f"it isn't looked into: there are more folders than {what}"
+                return
+            try:
+                yield from self.sessions(folder, depth)
+            except OSError as error:
+                self.unread[folder] = error.strerror or "it can't be read"
+        elif _has_session(folder):
+            said = "this folder has a session or more, which aren't run: say --recursive for them"
+            self.left.append(f"{folder}: {said}")
 
 
-def _count(folder: Path) -> int:
-    """Return how many sessions are in a folder and its own folders."""
-    try:
-        return sum(1 for _ in _walk(folder, None, True, []))
-    except OSError:
-        return 1  # nobody knows: it is said
+def _has_session(folder: Path) -> bool:
+    """Return whether a session is in a folder or its own folders, as far as can be known."""
+    seen = 0
+    waiting = [folder]
+    while waiting and seen < FOLDERS:
+        seen += 1
+        try:
+            entries = [each for each in os.scandir(waiting.pop()) if not each.name.startswith(".")]
+        except OSError:
+            return True  # nobody knows: it is said
+        if any(_is_session(each.name) for each in entries):
+            return True
+        waiting += [Path(each.path) for each in entries if each.is_dir(follow_symlinks=False)]
+    return bool(waiting)
 
 
 def sites(folder: Path, *, recursive: bool = False, out: Path | None = None) -> Chosen:
@@ -111,28 +165,35 @@ def sites(folder: Path, *, recursive: bool = False, out: Path | None = None) -> 
     InputFault
         If it can't be read, or has no session.
     """
-    left: list[str] = []
-    place = Place(file=str(folder))
+    walk, place = _Walk(out and out.resolve(), recursive), Place(file=str(folder))
     try:
-        paths = list(_walk(folder, out and out.resolve(), recursive, left))
+        paths = list(walk.sessions(folder))
     except OSError as error:
         raise InputFault(error.strerror or "it can't be read", place=place) from error
-    if not paths:
+    if not paths and not walk.unread:
         raise InputFault(
             "there is no session, no file that ends with .csv",
             place=place,
-            remedy="; ".join(left) or "put each plant's session there as SITE.csv",
+            remedy="; ".join(walk.left) or "put each plant's session there as SITE.csv",
         )
     named = defaultdict[str, list[Path]](list)
     for path in paths:
         named[path.relative_to(folder).as_posix()[: -len(".csv")]].append(path)
     found, wrong = list[Site](), dict[Site, str]()
+    for path, said in walk.unread.items():
+        name = _shown(path.relative_to(folder).as_posix())
+        wrong[Site(name, path)] = f"{_shown(str(path))}: {said}"
     for name, some in sorted(named.items()):
         if fault := _name_fault(name, some):
-            wrong[Site(name if name.isprintable() else ascii(name)[1:-1], some[0])] = str(fault)
+            wrong[Site(_shown(name), some[0])] = str(fault)
         else:
             found.append(Site(name, some[0]))
-    return Chosen(found, wrong, left)
+    return Chosen(found, wrong, walk.left)
+
+
+def _shown(name: str) -> str:
+    """Return a name as it can be written in a line."""
+    return name if name.isprintable() else ascii(name)[1:-1]
 
 
 def _name_fault(name: str, paths: list[Path]) -> InputFault | None:

@@ -8,7 +8,8 @@ from decimal import Decimal
 from typing import TYPE_CHECKING
 
 from plantbal.carried import Impossible, impossible
-from plantbal.page.ledger import Asked, Dips, Ledger
+from plantbal.model.forms import day_text
+from plantbal.model.ledger import Ledger, Seen
 from plantbal.page.statement import (
     Account,
     Edit,
@@ -24,7 +25,7 @@ from plantbal.page.verdict import Lost, Verdict, names_of, plus_minus, verdict_o
 from plantbal.report import Block, Values, Window, advice_of, blocks_of, designs_of
 
 if TYPE_CHECKING:
-    from plantbal.lintrules import Finding
+    from plantbal.lint import Finding
 
 
 # A space that stands within a name.
@@ -76,7 +77,22 @@ def line_of(row: Values, statistic: str = "", mark: str = "", worth: Worth | Non
     )
 
 
-def tanks_of(lines: Iterable[Line], dips: Mapping[str, Dips]) -> list[Tank]:
+# What a tank held by its dips at the beginning and the end of a period, in grams; None without one.
+Contents = tuple[int | None, int | None]
+
+
+def contents_of(ledger: Ledger, seen: Seen) -> dict[str, Contents]:
+    """Return what the tanks of a report held by its dips."""
+    if not seen.is_report:
+        return {}
+    found = {}
+    for tank, dips in seen.view.dips.items():
+        opening, closing = (ledger.state.content(dip) if dip else None for dip in dips)
+        found[tank] = opening, closing
+    return found
+
+
+def tanks_of(lines: Iterable[Line], contents: Mapping[str, Contents]) -> list[Tank]:
     """Return the tanks among the lines of a round."""
     into: dict[str, int | None] = {}
     out: dict[str, int | None] = {}
@@ -87,22 +103,21 @@ def tanks_of(lines: Iterable[Line], dips: Mapping[str, Dips]) -> list[Tank]:
         for sums, end in ((into, line.to), (out, line.from_)):
             before = sums.get(end, 0)
             sums[end] = None if before is None or line.flow is None else before + line.flow
-    none = Dips(None, None)
-    return [
-        Tank(
-            line,
-            dips.get(line.name, none).opening,
-            into.get(line.name, 0),
-            out.get(line.name, 0),
-            dips.get(line.name, none).closing,
-        )
-        for line in found
-        if line.is_tank
-    ]
+    tanks = []
+    for line in found:
+        if line.is_tank:
+            opening, closing = contents.get(line.name, (None, None))
+            flows = into.get(line.name, 0), out.get(line.name, 0)
+            tanks.append(Tank(line, opening, *flows, closing))
+    return tanks
 
 
 def round_of(
-    block: Block, asked: Asked | None, worth: Mapping[str, Worth], lost: Lost, stop: str = ""
+    block: Block,
+    contents: Mapping[str, Contents],
+    worth: Mapping[str, Worth],
+    lost: Lost,
+    stop: str = "",
 ) -> Round:
     """Return a round.
 
@@ -110,8 +125,8 @@ def round_of(
     ----------
     block : Block
         Its rows.
-    asked : Asked or None
-        The row of the session that asked for it.
+    contents : mapping
+        What the tanks held by their dips, if the session is there.
     worth : mapping
         How good its flows are, by the streams.
     lost : Lost
@@ -134,11 +149,10 @@ def round_of(
         )
         for row in block.streams
     ]
-    dips = asked.dips if asked is not None else {}
     said = verdict_of(block, lost, suspects, lines, stop)
     if block.component and worth:
         said = replace(said, reasons=[*said.reasons, *whither(block)])
-    return Round(block, lines, tanks_of(lines, dips), said)
+    return Round(block, lines, tanks_of(lines, contents), said)
 
 
 @dataclass
@@ -152,7 +166,7 @@ class _Gathered:
     stop: str = ""
 
 
-def _gather(rows: list[Values]) -> list[_Gathered]:
+def _gather(rows: Sequence[Values]) -> list[_Gathered]:
     """Return the reports of an output in order."""
     blocks = iter(blocks_of(rows))
     found: list[_Gathered] = []
@@ -172,7 +186,7 @@ def _gather(rows: list[Values]) -> list[_Gathered]:
     return found
 
 
-def _edits_of(rows: list[Values]) -> dict[str, list[Edit]]:
+def _edits_of(rows: Sequence[Values]) -> dict[str, list[Edit]]:
     """Return the edits that the last history of each period has."""
     found: dict[str, list[Edit]] = {}
     period = ""
@@ -186,16 +200,30 @@ def _edits_of(rows: list[Values]) -> dict[str, list[Edit]]:
     return found
 
 
-def _states_of(rows: list[Values]) -> dict[str, str]:
+def _states_of(rows: Sequence[Values]) -> dict[str, str]:
     return {row["period"]: row["state"] for row in rows if row["row"] == "history"}
 
 
 def _with_changes(ledger: Ledger, period: str) -> list[Edit]:
     """Return the edits of a period as the session has them."""
     return [
-        Edit(c.record, c.word, c.fact.id if c.fact else "", c.reason, c)
-        for c in ledger.changes_of(period)
+        Edit(
+            change.at.record,
+            change.word,
+            change.fact.id if change.fact else "",
+            change.reason,
+            change,
+        )
+        for change in ledger.edits_of(period)
     ]
+
+
+def _days_of(ledger: Ledger, first: str, last: str = "") -> tuple[str, str] | None:
+    """Return the first and the last day of a period, or of some; None if there is no such one."""
+    if first not in ledger.periods:
+        return None
+    ends = ledger.periods[first], ledger.periods[last or first]
+    return day_text(ends[0].first), day_text(ends[1].last)
 
 
 def _order(statement: Statement) -> tuple[bool, str, int]:
@@ -205,7 +233,7 @@ def _order(statement: Statement) -> tuple[bool, str, int]:
 
 
 def account_of(
-    rows: list[Values],
+    rows: Sequence[Values],
     *,
     ledger: Ledger | None = None,
     refused: Sequence[Refused] = (),
@@ -232,13 +260,14 @@ def account_of(
         by_block.setdefault(number, {})[name] = value
     by_period: dict[str, list[Report]] = {}
     for number, some in enumerate(_gather(rows)):
-        asked = ledger.reports[number] if ledger is not None else None
+        asked = ledger.seen[number] if ledger is not None else None
         subject = asked.subject if asked is not None else some.subject
+        contents = contents_of(ledger, asked) if ledger is not None and asked is not None else {}
         rounds = []
         for block in some.blocks:
             stop = some.stop if block is some.blocks[-1] else ""
             good = by_block.get(block.number, {})
-            rounds.append(round_of(block, asked, good, some.lost, stop))
+            rounds.append(round_of(block, contents, good, some.lost, stop))
         report = Report(subject, rounds, some.over, asked)
         by_period.setdefault(subject, []).append(report)
     edits, states = _edits_of(rows), _states_of(rows)
@@ -259,12 +288,13 @@ def account_of(
         designs=_designs_of(rows),
         is_advised=advice_of(rows) is not None,
         refused=list(refused),
+        refused_rows=sum(row["row"] == "refused" for row in rows),
         findings=wanted,
         ledger=ledger,
     )
 
 
-def _designs_of(rows: list[Values]) -> list[list[Line]]:
+def _designs_of(rows: Sequence[Values]) -> list[list[Line]]:
     """Return the designs; in the last one each stream to meter has its cost and its cycle."""
     found = [[line_of(row) for row in design] for design in designs_of(rows)]
     meters = {meter["stream"]: meter for meter in advice_of(rows) or ()}
@@ -290,10 +320,10 @@ def _statement(
     days, state, changes = None, states.get(period, ""), edits.get(period, [])
     asked = reports[-1].asked
     if ledger is not None and asked is not None and not asked.is_report:
-        days = ledger.days_of(asked)
+        days = _days_of(ledger, asked.period.name, asked.last)
     elif ledger is not None:
-        days = ledger.days(period)
-        state = "closed" if ledger.is_closed(period) else "open"
+        days = _days_of(ledger, period)
+        state = "closed" if period in ledger.closed else "open"
         changes = _with_changes(ledger, period)
     last = reports[-1].last
     said = last.verdict if last is not None else _without_report(period, reports[-1].over)

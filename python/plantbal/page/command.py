@@ -4,16 +4,22 @@ from __future__ import annotations
 
 import argparse
 import sys
+from collections.abc import Sequence
 from dataclasses import dataclass
+from itertools import islice
 from pathlib import Path
 from typing import TYPE_CHECKING
 
-from plantbal.faults import Fault, InputFault, Place, read_bytes
+from plantbal import limits
+from plantbal.faults import Fault, InputFault, Place
 from plantbal.files import write_text
+from plantbal.forms import read_session, session_to_run
+from plantbal.judged import judge_rows
+from plantbal.linked import named_book
+from plantbal.model.ledger import Ledger
+from plantbal.options import add_timeout
 from plantbal.page.account import account_of
 from plantbal.page.head import Origin
-from plantbal.page.ledger import Ledger
-from plantbal.page.reading import check_rows
 from plantbal.page.render import render
 from plantbal.page.statement import Prepared, Refused, Worth
 from plantbal.report import Values, blocks_of, csv_of, last_blocks, read_rows
@@ -63,13 +69,13 @@ class Source:
         Whether the output is the session's for certain, since it was run here.
     """
 
-    rows: list[Values]
+    rows: Sequence[Values]
     name: str = "output"
     session: tuple[str, bytes] | None = None
     is_run: bool = False
 
 
-def worth_of(rows: list[Values]) -> tuple[dict[tuple[int, str], Worth], str]:
+def worth_of(rows: Sequence[Values]) -> tuple[dict[tuple[int, str], Worth], str]:
     """Return how good the flows of each period's last round are, or why that isn't known.
 
     Returns
@@ -100,14 +106,13 @@ def worth_of(rows: list[Values]) -> tuple[dict[tuple[int, str], Worth], str]:
     return found, ""
 
 
-def refused_of(rows: list[Values]) -> list[Refused]:
-    """Return the refused rows of an output."""
+def refused_of(rows: Sequence[Values]) -> list[Refused]:
+    """Return the first of the refused rows of an output."""
     codes = schema().refusals
     found = []
-    for row in rows:
-        if row["row"] == "refused":
-            code = codes.get(int(row["code"]))
-            found.append(Refused(int(row["at"]), row["word"], code.remedy if code else ""))
+    for row in islice((row for row in rows if row["row"] == "refused"), limits.REFUSED_KEPT):
+        code = codes.get(int(row["code"]))
+        found.append(Refused(int(row["at"]), row["word"], code.remedy if code else ""))
     return found
 
 
@@ -119,25 +124,26 @@ def prepare(source: Source) -> Prepared:
     InputFault
         If a row can't be shown, or the output is that of another session.
     """
-    check_rows(source.rows, source.name)
+    judge_rows(source.rows, source.name)
     refused = refused_of(source.rows)
     worth, why = worth_of(source.rows)
     if source.session is None:
         account = account_of(source.rows, refused=refused, worth=worth)
         return Prepared(account, why_no_worth=why)
     from plantbal.explain import explain_bytes, same_refusals
-    from plantbal.lintrules import SEVERITIES, find
+    from plantbal.lint import SEVERITIES, find
 
     name, data = source.session
-    ledger = Ledger(name, data)
+    ledger = Ledger(name, data, kept=limits.REFUSED_KEPT)
     told: list[Told] = []
+    more = 0
     if refused or ledger.refused:
         explanation = explain_bytes(name, data)
         same_refusals(explanation, source.rows, source.name, name)
-        told = [*explanation.whole, *explanation.rows]
-    ledger.check_output(source.rows, source.name)
+        told, more = [*explanation.whole, *explanation.rows], explanation.more
+    _check_output(ledger, source.rows, source.name)
     if not source.is_run:
-        _check_facts(name, data, source)
+        _check_facts(name, ledger, source)
     findings = sorted(
         (each for each in find(ledger) if each.code != "refused"),
         key=lambda each: (SEVERITIES.index(each.severity), each.place.line or 0),
@@ -145,10 +151,43 @@ def prepare(source: Source) -> Prepared:
     account = account_of(
         source.rows, ledger=ledger, refused=refused, findings=findings, worth=worth
     )
-    return Prepared(account, told, why)
+    return Prepared(account, told, why, more)
 
 
-def _check_facts(name: str, data: bytes, source: Source) -> None:
+def _check_output(ledger: Ledger, rows: Sequence[Values], output: str) -> None:
+    """Raise a fault if an output has other reports than the session asks for.
+
+    Raises
+    ------
+    InputFault
+        If it is the output of another session.
+    """
+    heads = [
+        row["period"]
+        for row in rows
+        if row["row"] == "over" or (row["row"] == "report" and row["round"] == "0")
+    ]
+    wanted = [seen.period.name for seen in ledger.seen]
+    if heads == wanted:
+        return
+    if len(heads) != len(wanted):
+        many = "1 report" if len(heads) == 1 else f"{len(heads)} reports"
+        why = f"it has {many}, and the session asks for {len(wanted) or 'none'}"
+    else:
+        pairs = enumerate(zip(heads, wanted), 1)
+        number, (found, asked) = next((n, pair) for n, pair in pairs if pair[0] != pair[1])
+        why = f"report {number} is of {found}, and the session asks for {asked} there"
+    remedy = "run the session again"
+    if not wanted:  # such as a year of a book
+        remedy = "name the one that asks, as plantbal-desk book report --session writes it"
+    raise InputFault(
+        f"this isn't the output of {ledger.source}: {why}",
+        place=Place(file=output),
+        remedy=remedy,
+    )
+
+
+def _check_facts(name: str, ledger: Ledger, source: Source) -> None:
     """Raise a fault if the facts of a session aren't those of an output.
 
     Raises
@@ -156,11 +195,11 @@ def _check_facts(name: str, data: bytes, source: Source) -> None:
     InputFault
         If it is so: edits and dips of the session would stand beside flows that don't have them.
     """
-    from plantbal.held import Ledger as Held
     from plantbal.held import answers_of, pairs_of
+    from plantbal.studies import studies_of
 
     answers = answers_of(csv_of(source.rows).encode("utf-8"))
-    for pair in pairs_of(Held(name, data).seen, answers):
+    for pair in pairs_of(studies_of(ledger), answers):
         differs = next(pair.differ(), None)
         if differs is not None:
             raise InputFault(
@@ -171,7 +210,7 @@ def _check_facts(name: str, data: bytes, source: Source) -> None:
 
 
 def page(
-    rows: list[Values],
+    rows: Sequence[Values],
     *,
     session: tuple[str, bytes] | None = None,
     title: str = "",
@@ -207,6 +246,9 @@ def add_arguments(parser: argparse.ArgumentParser) -> None:
     rounds = "with --run: take out at most N suspects"
     parser.add_argument("--eliminate", metavar="N", type=int, default=0, help=rounds)
     parser.add_argument("--program", metavar="PATH", help="the program, with --run")
+    book = "the book that the session is from: the page names the head of its chain"
+    parser.add_argument("--book", metavar="FOLDER", help=book)
+    add_timeout(parser, condition="with --run: ")
     parser.add_argument("--out", metavar="FILE", help="the page")
     parser.add_argument("--xlsx", metavar="FILE", help="a workbook")
     parser.add_argument("--pdf", metavar="FILE", help="a PDF on A4")
@@ -222,7 +264,7 @@ def _source(options: argparse.Namespace) -> tuple[Source, Output | None, Path | 
             raise Fault(f"{word} is of a run", remedy="say --run too, and the session as the file")
         name = "standard input" if options.output == "-" else options.output
         rows = read_rows(options.output)
-        session = None if options.session is None else read_bytes(options.session)
+        session = None if options.session is None else read_session(options.session)
         return Source(rows, name, session), None, None
     if options.session is not None:
         place = Place(file=options.session)
@@ -230,9 +272,15 @@ def _source(options: argparse.Namespace) -> tuple[Source, Output | None, Path | 
     from plantbal.program import find_program
     from plantbal.runs import run as run_program
 
-    session = read_bytes(options.output)
+    session = session_to_run(options.output)
     program = find_program(options.program)
-    output = run_program(session[1], eliminate=options.eliminate, program=program)
+    output = run_program(
+        session[1],
+        eliminate=options.eliminate,
+        program=program,
+        timeout=options.timeout,
+        judged=True,
+    )
     source = Source(output.rows, f"the output of {session[0]}", session, is_run=True)
     return source, output, program
 
@@ -244,7 +292,8 @@ def run(options: argparse.Namespace) -> int:
     plant = options.plant
     if not plant and source.session is not None and source.session[0] != "standard input":
         plant = Path(source.session[0]).stem
-    origin = Origin(plant, source.session[0] if source.session else "", program)
+    book = " ".join(named_book(options.book).values())
+    origin = Origin(plant, source.session[0] if source.session else "", program, book)
     if options.out or options.pdf or not options.xlsx:
         text = render(prepared, title=options.title, origin=origin, seconds=options.seconds)
         if options.out or not options.pdf:

@@ -23,11 +23,14 @@ class Origin:
         The file of the session, if there is one.
     program : Path or None
         The program, if it was run for the page.
+    book : str
+        The head of the book that the session is from; empty if none was named.
     """
 
     plant: str = ""
     session: str = ""
     program: Path | None = None
+    book: str = ""
 
 
 def program_text(program: Path | None) -> str:
@@ -94,6 +97,7 @@ def head_of(account: Account, origin: Origin) -> list[tuple[str, str, str]]:
         found.append(
             ("Session", f"not named: {lacks} and the text of refused rows need --session", "")
         )
+    found.append(("Head of the book", origin.book, "hash"))
     found.append(("Program", program_text(origin.program), ""))
     found.append(("Page", f"plantbal-desk {plantbal.__version__}", ""))
     return [(term, text, kind) for term, text, kind in found if text]

@@ -2,9 +2,12 @@
 
 from __future__ import annotations
 
+import os
 import shutil
+import signal
 import subprocess
 import tempfile
+from contextlib import suppress
 from pathlib import Path
 
 from plantbal.faults import Fault, ToolMissing
@@ -45,7 +48,7 @@ def in_browser(page: Path, *words: str, seconds: float = SECONDS) -> bytes:
         command = [
             browser(),
             "--headless",
-            "--no-sandbox",
+            *_without_sandbox(),
             "--disable-gpu",
             "--disable-dev-shm-usage",
             "--hide-scrollbars",
@@ -53,19 +56,38 @@ def in_browser(page: Path, *words: str, seconds: float = SECONDS) -> bytes:
             *words,
             page.resolve().as_uri(),
         ]
+        return _written_by(command, seconds)
+
+
+def _without_sandbox() -> list[str]:
+    """Return the word that turns the browser's sandbox off: only root can't have it."""
+    return [] if os.geteuid() else ["--no-sandbox"]
+
+
+def _written_by(command: list[str], seconds: float) -> bytes:
+    """Return what a browser writes, and stop all its processes if it takes longer.
+
+    Raises
+    ------
+    Fault
+        If it takes longer, or ends with another status than 0.
+    """
+    with subprocess.Popen(
+        command, stdout=subprocess.PIPE, stderr=subprocess.DEVNULL, start_new_session=True
+    ) as process:
         try:
-            done = subprocess.run(
-                command,
-                stdout=subprocess.PIPE,
-                stderr=subprocess.DEVNULL,
-                timeout=seconds,
-                check=True,
-            )
-        except subprocess.TimeoutExpired as error:
+            written, _ = process.communicate(timeout=seconds)
+        except BaseException as error:
+            with suppress(ProcessLookupError):
+                os.killpg(process.pid, signal.SIGKILL)
+            if not isinstance(error, subprocess.TimeoutExpired):
+                raise
             raise Fault(f"the browser isn't done after {seconds:g} s") from error
-        except subprocess.CalledProcessError as error:
-            raise Fault(f"the browser ended with the status {error.returncode}") from error
-    return done.stdout
+    if process.returncode:
+        remedy = "" if not os.geteuid() else "its sandbox needs user namespaces: ask for them"
+        what = f"the browser ended with the status {process.returncode}"
+        raise Fault(what, remedy=remedy)
+    return written
 
 
 def print_pdf(text: str, path: str | Path) -> None:

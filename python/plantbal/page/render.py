@@ -9,10 +9,11 @@ from typing import TYPE_CHECKING, Any
 
 from plantbal.amounts import tonnes_text
 from plantbal.faults import ToolMissing
-from plantbal.lintbook import Fact, day_text
+from plantbal.model.facts import Fact
+from plantbal.model.forms import day_text
+from plantbal.model.ledger import Ledger
 from plantbal.page.drawing import KINDS, Draftsman
 from plantbal.page.head import Origin, days_text, head_of
-from plantbal.page.ledger import Ledger
 from plantbal.page.spark import spark
 from plantbal.page.statement import Account, Line, Prepared, Round, Statement
 from plantbal.page.verdict import plus_minus, thousandths
@@ -142,7 +143,7 @@ def fact_text(fact: Fact | None, ledger: Ledger | None) -> str:
     if fact.kind != "dip":
         return f"{tonnes_text(fact.grams)} t{deviation}"
     level = f"{fact.mm:,} mm at {fact.density / 1e6:.3f} t/m³"
-    return f"{level}{deviation}" + (f" ({tonnes(ledger.content(fact))} t)" if ledger else "")
+    return f"{level}{deviation}" + (f" ({tonnes(ledger.state.content(fact))} t)" if ledger else "")
 
 
 def fact_days(fact: Fact) -> str:
@@ -274,7 +275,7 @@ def render(
     }
     designs = account.designs[-1:] if account.is_advised or not rounds else []
     made = environment()
-    crossings = account.ledger.session.crossings() if account.ledger is not None else {}
+    crossings = account.ledger.state.plant.crossings() if account.ledger is not None else {}
     made.filters["way"] = lambda line: way_of(line, crossings)
     return (
         made.get_template("page.html.j2")
@@ -283,7 +284,9 @@ def render(
             head=head_of(account, origin),
             told=prepared.told,
             why_no_worth=prepared.why_no_worth,
+            more=prepared.more,
             refused=account.refused,
+            refused_rows=account.refused_rows,
             statements=account.statements,
             unfolded=account.unfolded,
             last=account.periods[-1] if account.statements else None,

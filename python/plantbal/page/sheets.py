@@ -10,6 +10,7 @@ from typing import TYPE_CHECKING, Any
 from plantbal.amounts import tonnes_of
 from plantbal.faults import ToolMissing
 from plantbal.files import replacing
+from plantbal.inert import store
 from plantbal.page.head import Origin, head_of
 from plantbal.page.statement import Account, Line, Round, Statement
 
@@ -126,7 +127,7 @@ def edits(account: Account) -> tuple[Row, list[Row]]:
             fact = change.fact if change else None
             before = fact_text(change.before if change else None, account.ledger)
             after = fact_text(change.after if change else None, account.ledger)
-            which = (edit.record, change.line if change else None, edit.word, edit.id)
+            which = (edit.record, change.at.line if change else None, edit.word, edit.id)
             of = fact.of if fact else ""
             rows.append((each.period, *which, of, before, after, edit.reason))
     return head, rows
@@ -207,10 +208,8 @@ def _fill(sheet: Any, heads: Row, rows: list[Row]) -> None:
             if value is None or value == "":
                 continue
             cell = sheet.cell(number, place)
-            cell.value = value
-            if isinstance(value, str):
-                cell.data_type = "s"
-            elif shown:
+            store(cell, value)
+            if shown and not isinstance(value, str):
                 cell.number_format = shown
     for place, head in enumerate(heads, 1):
         texts = [str(row[place - 1]) for row in rows[:200] if row[place - 1] is not None]

@@ -8,13 +8,14 @@ from decimal import Decimal
 from math import sqrt
 from typing import TYPE_CHECKING
 
-from plantbal.page.ledger import Asked, Change, Ledger
+from plantbal.model.facts import Edit as Change
+from plantbal.model.ledger import Ledger, Seen
 from plantbal.page.verdict import Verdict, names_of
 from plantbal.report import Block
 
 if TYPE_CHECKING:
     from plantbal.explain import Told
-    from plantbal.lintrules import Finding
+    from plantbal.lint import Finding
 
 
 @dataclass(frozen=True, slots=True)
@@ -161,7 +162,7 @@ class Report:
     period: str
     rounds: list[Round]
     over: str = ""
-    asked: Asked | None = None
+    asked: Seen | None = None
 
     @property
     def last(self) -> Round | None:
@@ -252,7 +253,9 @@ class Account:
     is_advised : bool
         Whether there is an advice on what to meter.
     refused : list of Refused
-        The refused rows.
+        The first of the refused rows.
+    refused_rows : int
+        How many rows are refused.
     findings : sequence of Finding
         What lint warns of.
     ledger : Ledger or None
@@ -263,6 +266,7 @@ class Account:
     designs: list[list[Line]] = field(default_factory=list)
     is_advised: bool = False
     refused: list[Refused] = field(default_factory=list)
+    refused_rows: int = 0
     findings: Sequence[Finding] = ()
     ledger: Ledger | None = None
 
@@ -299,11 +303,15 @@ class Account:
 
 @dataclass(frozen=True)
 class Prepared:
-    """An account, its refused rows in sentences, and why there is no ± if there is none."""
+    """An account, its refused rows in sentences, and why there is no ± if there is none.
+
+    `more` is how many further rows are refused.
+    """
 
     account: Account
     told: Sequence[Told] = field(default_factory=list)
     why_no_worth: str = ""
+    more: int = 0
 
 
 def _rank(line: Line) -> tuple[int, float]:

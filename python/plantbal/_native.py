@@ -1,0 +1,220 @@
+"""The library that C calls, in process: runs, checks, and sessions that take rows block by block.
+
+The declarations are those of its header, by cffi. A call releases the lock of the interpreter and
+can't be stopped: what wants a limit of time, or to be apart, takes the program. A session is one
+thread's at a time; any number of them may be in use.
+"""
+
+from __future__ import annotations
+
+import os
+from collections.abc import Iterable
+from functools import lru_cache
+from pathlib import Path
+from types import TracebackType
+from typing import Any
+
+import cffi
+
+from plantbal._declarations import DECLARATIONS, Status
+from plantbal.faults import ProgramFault, ToolMissing
+
+SONAME = "libplantbal.so.0"
+CHECKOUT = Path(__file__).resolve().parents[2] / "libplantbal" / "out" / SONAME
+
+
+class Library:
+    """The functions of the library.
+
+    Parameters
+    ----------
+    path : str or Path
+        The library, by its name or its place.
+    """
+
+    def __init__(self, path: str | Path) -> None:
+        self.ffi = cffi.FFI()
+        self.ffi.cdef(DECLARATIONS)
+        try:
+            self.functions: Any = self.ffi.dlopen(os.fspath(path))
+        except OSError as error:
+            raise ToolMissing(f"library {path}", "libplantbal0") from error
+
+    def handle(self) -> Any:
+        """Return a handle that holds no session; it frees what it holds."""
+        handle = self.ffi.new("plantbal_session")
+        return self.ffi.gc(handle, self.functions.plantbal_session_free)
+
+    def options(self, gap: int, sweeps: int, eliminate: int, tests: bool, json: bool) -> Any:
+        """Return the options of a run, if each fits."""
+        numbers = (gap, sweeps, eliminate, int(tests), int(json))
+        if not all(0 <= number < 2**32 for number in numbers):
+            raise fault(Status.USAGE)
+        return self.ffi.new("plantbal_options *", numbers)
+
+    def output(self, handle: Any) -> bytes:
+        """Return what a session has to hand over."""
+        count = self.ffi.new("size_t *")
+        status = self.functions.plantbal_session_output(handle, count, 0, count)
+        buffer = bytearray(int(count[0]))
+        if status == Status.SMALL_BUFFER:
+            view = self.ffi.from_buffer(buffer)
+            status = self.functions.plantbal_session_output(handle, view, len(buffer), count)
+        if status != Status.DONE:
+            raise fault(Status(status))
+        return bytes(buffer)
+
+
+def fault(status: Status) -> ProgramFault:
+    """Return the fault of a status other than 0 and 1."""
+    from plantbal.program import STATUSES
+
+    name, remedy = STATUSES.get(int(status), (status.name.title().replace("_", ""), ""))
+    said = f"libplantbal ended with status {int(status)} ({name})"
+    return ProgramFault(said, status=int(status), name=name, remedy=remedy)
+
+
+@lru_cache(maxsize=None)
+def library(path: str | None = None) -> Library:
+    """Return the library of a name, else that of ``PLANTBAL_LIBRARY``, the system or this checkout.
+
+    Raises
+    ------
+    ToolMissing
+        If there is none.
+    """
+    named = path or os.environ.get("PLANTBAL_LIBRARY")
+    if named:
+        return Library(named)
+    try:
+        return Library(SONAME)
+    except ToolMissing:
+        return Library(CHECKOUT)
+
+
+def is_there() -> bool:
+    """Return whether the library is there."""
+    try:
+        library()
+    except ToolMissing:
+        return False
+    return True
+
+
+def run(
+    data: bytes | bytearray | memoryview,
+    *,
+    gap: int = 10,
+    sweeps: int = 5000,
+    eliminate: int = 0,
+    tests: bool = False,
+    json: bool = False,
+) -> tuple[int, bytes]:
+    """Answer the rows of a session as the program does, and return its status and its output."""
+    native = library()
+    handle = native.handle()
+    options = native.options(gap, sweeps, eliminate, tests, json)
+    given = native.ffi.from_buffer(data)
+    status = native.functions.plantbal_run(options, given, len(given), handle)
+    return _answer(native, handle, status)
+
+
+def check(data: bytes | bytearray | memoryview) -> tuple[int, bytes]:
+    """Judge the blocks of a report as the program does, and return its status and its output."""
+    native = library()
+    handle = native.handle()
+    given = native.ffi.from_buffer(data)
+    return _answer(native, handle, native.functions.plantbal_check(given, len(given), handle))
+
+
+def _answer(native: Library, handle: Any, status: int) -> tuple[int, bytes]:
+    """Return a status and the output that goes with it."""
+    if status > Status.DONE_REFUSED:
+        raise fault(Status(status))
+    return status, native.output(handle)
+
+
+class Session:
+    """A session that takes rows, and answers each with the number of its refusal, or 0.
+
+    Parameters
+    ----------
+    gap, sweeps, eliminate, tests, json : optional
+        As in `run`.
+    """
+
+    def __init__(
+        self,
+        *,
+        gap: int = 10,
+        sweeps: int = 5000,
+        eliminate: int = 0,
+        tests: bool = False,
+        json: bool = False,
+    ) -> None:
+        self._native = library()
+        self._handle = self._native.handle()
+        options = self._native.options(gap, sweeps, eliminate, tests, json)
+        status = self._native.functions.plantbal_session_new(options, self._handle)
+        if status != Status.DONE:
+            raise fault(Status(status))
+
+    def rows(self, data: bytes | bytearray | memoryview) -> bytes:
+        """Take rows as bytes, and return a code for each: a byte, 0 if the row is accepted.
+
+        Raises
+        ------
+        ProgramFault
+            If memory ran out: the rows that were taken stay taken.
+        """
+        given = self._native.ffi.from_buffer(data)
+        # there are at most as many rows as line ends, and one more
+        codes = bytearray(_ends(data) + 1)
+        room = self._native.ffi.from_buffer(codes)
+        taken = self._native.ffi.new("size_t *")
+        status = self._native.functions.plantbal_session_rows(
+            self._handle, given, len(given), 0, room, len(codes), taken
+        )
+        if status != Status.DONE:
+            raise fault(Status(status))
+        return bytes(codes[: taken[0]])
+
+    def row(self, fields: Iterable[bytes]) -> int:
+        """Take one row by its fields, and return its code: 0 if it is accepted."""
+        listed = list(fields)
+        ends, end = [], 0
+        for field in listed:
+            end += len(field)
+            ends.append(end)
+        code = self._native.ffi.new("uint8_t *")
+        status = self._native.functions.plantbal_session_row(
+            self._handle, b"".join(listed), end, ends, len(ends), code
+        )
+        if status != Status.DONE:
+            raise fault(Status(status))
+        return int(code[0])
+
+    def output(self) -> bytes:
+        """Return what the rows have added to the output since the last call."""
+        return self._native.output(self._handle)
+
+    def close(self) -> None:
+        """Free the session; it takes no more rows."""
+        self._native.functions.plantbal_session_free(self._handle)
+
+    def __enter__(self) -> Session:
+        return self
+
+    def __exit__(
+        self,
+        kind: type[BaseException] | None,
+        error: BaseException | None,
+        trace: TracebackType | None,
+    ) -> None:
+        self.close()
+
+
+def _ends(data: bytes | bytearray | memoryview) -> int:
+    """Return how many bytes may end a row."""
+    whole = data if isinstance(data, (bytes, bytearray)) else bytes(data)
+    return whole.count(b"\n") + whole.count(b"\r")

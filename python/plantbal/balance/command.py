@@ -1,0 +1,167 @@
+"""Reconciles flows and grades together, and has the program certify the flows."""
+
+from __future__ import annotations
+
+import argparse
+import json
+import sys
+from collections.abc import Iterable
+
+from plantbal.advice import plant_of
+from plantbal.balance.certify import pulls_of, session_of
+from plantbal.balance.known import Class, Known
+from plantbal.balance.reading import GRAMS, Asked, asked_of
+from plantbal.balance.solve import solve
+from plantbal.balance.table import Line, lines_of, recoveries_of, said_of
+from plantbal.faults import read_bytes
+from plantbal.files import write_text
+from plantbal.options import add_program
+from plantbal.output import Output
+from plantbal.report import last_blocks
+from plantbal.runs import check, run as run_program
+
+HELP = """
+SESSION is a session with assays. The flows of PERIOD and the grades in them are reconciled at once:
+the assays help to determine the flows, as the flows help to determine the grades. Without
+--component all components are used that were assayed in the period.
+
+There is a line for each flow, in tonnes, and below it one for each grade, in percent: what was
+measured, what fits best, its standard deviation from the errors of all meters and assays, and the
+adjustment in standard deviations of the measurement. A flow that only assays determine says by
+which balances. At the end come the recoveries.
+
+What assays say of a flow is then handed to the program as a measurement, and the program
+reconciles the mass once more and certifies it: these flows balance to the gram, within proved
+bounds. That no other flows and grades fit better isn't proved. --given and --out keep what the
+program was given and what it wrote.
+
+  text   a table to be read
+  csv    tonnes and fractions with all digits
+  json   the same as a list of objects; a missing figure is null
+
+examples:
+  plantbal-desk balance month.csv 2024-07
+  plantbal-desk balance month.csv 2024-07 --component cu --component s --form csv
+"""
+# The certified flows differ from those found by at most this part of their standard deviation.
+MOST_DIFFERENCE = 0.05
+
+
+def add_arguments(parser: argparse.ArgumentParser) -> None:
+    """Add the words of the command."""
+    parser.add_argument("session", metavar="SESSION")
+    parser.add_argument("period", metavar="PERIOD")
+    parser.add_argument(
+        "--component", metavar="NAME", action="append", default=[], help="a component to balance"
+    )
+    parser.add_argument(
+        "--closed",
+        metavar="STREAM",
+        action="append",
+        default=[],
+        help="a stream whose components sum to 100 %%",
+    )
+    parser.add_argument(
+        "--form", choices=["text", "csv", "json"], default="text", help="how it is written"
+    )
+    parser.add_argument("--given", metavar="FILE", help="keep the session that is certified")
+    parser.add_argument("--out", metavar="FILE", help="keep what the program wrote")
+    add_program(parser)
+
+
+def run(options: argparse.Namespace) -> int:
+    """Write the flows and grades, and return 1 if one of them isn't certified."""
+    source, data = read_bytes(options.session)
+    plant_of(source, data)  # says what is wrong with the session
+    asked = asked_of(
+        data,
+        options.period,
+        options.component,
+        options.closed,
+        source=source,
+        program=options.program,
+    )
+    found = solve(asked.problem)
+    known = Known(found)
+    lines = list(lines_of(known))
+    given = session_of(asked.problem, pulls_of(found, known), options.period)
+    output = run_program(given.encode("ascii"), tests=False, program=options.program)
+    write_text("-", "".join(f"{row}\n" for row in _FORMS[options.form](known, lines)))
+    for name, text in ((options.given, given), (options.out, output.to_csv())):
+        if name:
+            write_text(name, text)
+    said = list(notes_of(asked, known, lines, output, options.program))
+    for note in said:
+        print(f"{options.prog}: {note}", file=sys.stderr)
+    return int(any(note.startswith("not certified") for note in said))
+
+
+def notes_of(
+    asked: Asked, known: Known, lines: Iterable[Line], output: Output, program: str | None
+) -> Iterable[str]:
+    """Yield what is to be said of a balance beside its figures."""
+    for said in asked.left_out:
+        yield f"left out: {said}"
+    for bound in known.solution.active:
+        yield f"{bound.said}: the measurements pull it there"
+    loose = [
+        line.stream for line in lines if not line.component and line.kind is Class.UNOBSERVABLE
+    ]
+    if loose:
+        yield f"nothing determines the flow of {', '.join(loose)}: add a meter or an assay there"
+    blocks = list(last_blocks(output.blocks_in_order).values())
+    if not blocks or list(check(output, program=program)["verdict"]) != ["yes"]:
+        yield "not certified: the program's check of its report doesn't say yes"
+        return
+    worst, stream = 0.0, ""
+    flows = {
+        row["name"].removesuffix("_gain"): int(row["flow"]) / GRAMS for row in blocks[-1].streams
+    }
+    for line in lines:
+        if not line.component and line.kind is not Class.UNOBSERVABLE and line.sd > 0:
+            off = abs(flows[line.stream] - line.value) / line.sd
+            worst, stream = max((worst, stream), (off, line.stream))
+    if worst > MOST_DIFFERENCE:
+        yield f"not certified: the flow of {stream} differs by {worst:.2f} of its ±"
+
+
+def _text(known: Known, lines: list[Line]) -> Iterable[str]:
+    """Yield the table to be read."""
+    wide = max(len(line.stream) for line in lines)
+    yield f"{'':{wide}}  {'':8}{'measured':>16}{'reconciled':>16}{'±':>12}{'in sd':>8}  class"
+    for line in lines:
+        factor = 100.0 if line.component else 1.0
+        digits = 4 if line.component else 3
+        name = line.component or line.stream
+        shown = [
+            "" if value != value else f"{value * factor:,.{digits}f}"
+            for value in (line.measured, line.value, line.sd)
+        ]
+        pull = "" if line.adjustment != line.adjustment else f"{line.adjustment:+.2f}"
+        left = f"{'  ' * bool(line.component)}{name}"
+        unit = "%" if line.component else "t"
+        why = f": {said_of(line.evidence)}" if line.evidence else ""
+        yield (
+            f"{left:{wide}}  {unit:8}{shown[0]:>16}{shown[1]:>16}{shown[2]:>12}{pull:>8}"
+            f"  {line.kind.value}{why}"
+        )
+    yield f"weighted squares: {known.solution.squares:.3f} at {known.degrees_of_freedom} degrees of freedom"
+    for part in recoveries_of(known):
+        yield f"recovery of {part.component} in {part.stream}: {part.part:.2%} ±{part.sd:.2%}"
+
+
+def _csv(known: Known, lines: list[Line]) -> Iterable[str]:
+    """Yield the table in CSV."""
+    heads = "stream component kind measured measured_sd value sd adjustment".split()
+    yield ",".join([*heads, "evidence"])
+    for line in lines:
+        cells = ["" if v is None else f"{v}" for v in map(line.as_dict().get, heads)]
+        yield ",".join([*cells, " ".join(f"{c or 'mass'}@{node}" for c, node in line.evidence)])
+
+
+def _json(known: Known, lines: list[Line]) -> Iterable[str]:
+    """Yield the table in JSON."""
+    yield json.dumps([line.as_dict() for line in lines], indent=1)
+
+
+_FORMS = {"text": _text, "csv": _csv, "json": _json}

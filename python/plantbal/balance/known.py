@@ -1,0 +1,226 @@
+"""Says which flows and grades the measurements determine, how well, and by which balances.
+
+At the solution the equations are made linear: small changes of all numbers satisfy J d = 0. Split
+into columns of measured and of unmeasured numbers this is M m + U u = 0.
+
+- An unmeasured number is determined if every u with U u = 0 leaves it alone.
+- A measured number is checked (redundant) if some combination of equations in which U drops out
+  contains it: with the rows of L spanning all l with l U = 0, if its column of L M isn't 0.
+- The checked combinations B = L M are what least squares satisfies. The covariance of the
+  reconciled measurements is S - S B' (B S B')^-1 B S, with S the variances; that of determined
+  numbers follows through U u = -M m.
+
+These are the rules of linear reconciliation applied at the solution, so they hold there and, for
+rank, almost everywhere near it.
+"""
+
+from __future__ import annotations
+
+import math
+from collections.abc import Mapping
+from dataclasses import dataclass
+from enum import Enum
+from functools import cached_property
+from typing import Any
+
+from plantbal.balance.solve import Solution, _matrix
+from plantbal.balance.system import System
+
+# A pivot below this part of the greatest is 0, and so is what a number owes to loose ones below this.
+_NOTHING = 1e-9
+_LOOSE = 1e-7
+
+
+def _rank(triangle: Any) -> int:
+    """Return the rank of a matrix by its triangle with falling pivots."""
+    import numpy
+
+    sizes = numpy.abs(numpy.diag(triangle))
+    return int((sizes > _NOTHING * max(float(sizes.max(initial=0.0)), 1e-300)).sum())
+
+
+class Class(Enum):
+    """What a figure rests on."""
+
+    REDUNDANT = "redundant"
+    NONREDUNDANT = "nonredundant"
+    OBSERVABLE = "observable"
+    UNOBSERVABLE = "unobservable"
+
+
+@dataclass(frozen=True)
+class Known:
+    """What is known of each number of a solution.
+
+    Attributes
+    ----------
+    solution : Solution
+        The solution.
+    """
+
+    solution: Solution
+
+    @property
+    def system(self) -> System:
+        """The equations."""
+        return self.solution.system
+
+    @cached_property
+    def _parts(self) -> tuple[Any, Any, Any, Any]:
+        """The columns measured and not, and the matrices of both; each column in its own scale."""
+        import numpy
+
+        solution = self.solution
+        jacobian = _matrix(self.system, solution.vector, list(solution.active)).toarray()
+        known = self.system.is_measured
+        measured, free = numpy.flatnonzero(known), numpy.flatnonzero(~known)
+        return measured, free, jacobian[:, measured], jacobian[:, free]
+
+    @cached_property
+    def _split(self) -> tuple[Any, Any, Any]:
+        """How unmeasured numbers follow from measured ones, the vectors l with l U = 0, and which
+        unmeasured numbers are determined.
+
+        U P = Q R with the rows of R by falling size: the first ``rank`` columns are those that the
+        equations give, and what they owe to the others is R11^-1 R12.
+        """
+        import numpy
+        from scipy.linalg import qr, solve_triangular
+
+        _, free, measured, unmeasured = self._parts
+        rows, columns = unmeasured.shape
+        if not columns:
+            return numpy.zeros((0, measured.shape[1])), numpy.eye(rows), numpy.zeros(0, bool)
+        basis, triangle, order = qr(unmeasured, pivoting=True)
+        rank = _rank(triangle)
+        first = triangle[:rank, :rank]
+        owed = solve_triangular(first, triangle[:rank, rank:])
+        sure = numpy.zeros(columns, bool)
+        sure[order[:rank]] = numpy.abs(owed).max(axis=1, initial=0.0) < _LOOSE
+        follows = numpy.zeros((columns, measured.shape[1]))
+        follows[order[:rank]] = -solve_triangular(first, basis[:, :rank].T @ measured)
+        return follows, basis[:, rank:].T, sure
+
+    @cached_property
+    def is_determined(self) -> Any:
+        """Whether each number is measured or determined."""
+        found = self.system.is_measured.copy()
+        found[self._parts[1]] = self._split[2]
+        return found
+
+    @cached_property
+    def _checks(self) -> Any:
+        """The combinations of equations in which only measured numbers are left."""
+        return self._split[1] @ self._parts[2]
+
+    @cached_property
+    def _satisfied(self) -> Any:
+        """An orthonormal basis of the checks, in units of standard deviations."""
+        import numpy
+        from scipy.linalg import qr
+
+        roots = numpy.sqrt(self.system.variance[self._parts[0]])
+        basis, triangle, _ = qr((self._checks * roots).T, mode="economic", pivoting=True)
+        return basis[:, : _rank(triangle)]
+
+    def class_of(self, stream: str, component: str = "") -> Class:
+        """Return what a flow, or a grade, rests on."""
+        import numpy
+
+        column = self.system.columns[stream, component]
+        if not self.system.is_measured[column]:
+            carried = self.is_determined[column] and (
+                not component or self.is_determined[self.system.columns[stream, ""]]
+            )
+            return Class.OBSERVABLE if carried else Class.UNOBSERVABLE
+        place = int(numpy.searchsorted(self._parts[0], column))
+        size = float(numpy.abs(self._checks[:, place]).max(initial=0.0))
+        scale = max(1e-12, float(numpy.abs(self._parts[2][:, place]).max(initial=0.0)))
+        return Class.REDUNDANT if size > 1e-8 * scale else Class.NONREDUNDANT
+
+    @cached_property
+    def covariance(self) -> Any:
+        """The covariance of all numbers; rows and columns of what isn't determined mean nothing."""
+        import numpy
+
+        measured, free, _, _ = self._parts
+        roots = numpy.sqrt(self.system.variance[measured])
+        basis = self._satisfied
+        own = roots[:, None] * (numpy.eye(len(measured)) - basis @ basis.T) * roots
+        cross = self._split[0] @ own
+        size = self.system.size
+        found = numpy.zeros((size, size))
+        found[numpy.ix_(measured, measured)] = own
+        found[numpy.ix_(free, measured)] = cross
+        found[numpy.ix_(measured, free)] = cross.T
+        found[numpy.ix_(free, free)] = cross @ self._split[0].T
+        return found
+
+    @property
+    def degrees_of_freedom(self) -> int:
+        """How many independent checks there are."""
+        return int(self._satisfied.shape[1])
+
+    def deviation(self, gradient: Mapping[int, float]) -> float:
+        """Return the standard deviation of a figure that depends on numbers by these derivatives."""
+        import numpy
+
+        columns = list(gradient)
+        factors = numpy.array([gradient[column] for column in columns])
+        part = self.covariance[numpy.ix_(columns, columns)]
+        square = float(factors @ part @ factors)
+        return math.sqrt(max(0.0, square))
+
+    def flow_deviation(self, stream: str) -> float:
+        """Return the standard deviation of a flow, in tonnes."""
+        return self.deviation({self.system.columns[stream, ""]: self.system.scale})
+
+    def grade_deviation(self, stream: str, component: str) -> float:
+        """Return the standard deviation of a grade, as a fraction."""
+        return self.deviation(self.grade_gradient(stream, component))
+
+    def carried_gradient(self, stream: str, component: str) -> dict[int, float]:
+        """Return the derivatives of what a stream carries of a component, in tonnes."""
+        columns, scale = self.system.columns, self.system.scale
+        own, flow = columns[stream, component], columns[stream, ""]
+        if (stream, component) not in self.system.problem.grades:
+            return {own: scale}
+        vector = self.solution.vector
+        return {flow: scale * float(vector[own]), own: scale * float(vector[flow])}
+
+    def grade_gradient(self, stream: str, component: str) -> dict[int, float]:
+        """Return the derivatives of a grade."""
+        columns = self.system.columns
+        own, flow = columns[stream, component], columns[stream, ""]
+        if (stream, component) in self.system.problem.grades:
+            return {own: 1.0}
+        vector = self.solution.vector
+        size = float(vector[flow])
+        if not size:
+            return {}
+        return {own: 1 / size, flow: -float(vector[own]) / size**2}
+
+    def evidence(self, stream: str, component: str = "") -> list[tuple[str, str]]:
+        """Return the balances that determine an unmeasured number: few of them, if that can be.
+
+        Each is a component, or nothing for mass, and a node. They are found as the combination of
+        equations with the least sum of absolute factors in which no other unmeasured number stays.
+        """
+        import numpy
+        from scipy.optimize import linprog
+
+        column = self.system.columns[stream, component]
+        _, free, _, unmeasured = self._parts
+        place = int(numpy.searchsorted(free, column))
+        if place >= len(free) or free[place] != column or not self.is_determined[column]:
+            return []
+        rows = unmeasured.shape[0]
+        wanted = numpy.zeros(unmeasured.shape[1])
+        wanted[place] = 1.0
+        both = numpy.hstack([unmeasured.T, -unmeasured.T])
+        found = linprog(numpy.ones(2 * rows), A_eq=both, b_eq=wanted, method="highs")
+        if found.x is None:
+            return []
+        factors = found.x[:rows] - found.x[rows:]
+        names = self.system.names
+        return [names[at] for at in numpy.flatnonzero(numpy.abs(factors) > 1e-7) if at < len(names)]

@@ -1,0 +1,199 @@
+"""Flows and grades to be reconciled together: the plant, what was measured of it, and the variables.
+
+A flow and a grade that are both unknown meet in a product, which makes the problem bilinear. Where
+nobody assayed a stream its grade isn't a variable: what the stream carries of the component is
+(Crowe's transformation), and the balances are linear in that.
+"""
+
+from __future__ import annotations
+
+from collections.abc import Mapping, Sequence
+from dataclasses import dataclass, field
+from functools import cached_property
+
+from plantbal.faults import Fault
+
+ENV = "env"
+
+
+@dataclass(frozen=True, slots=True)
+class Measured:
+    """A measured figure.
+
+    Attributes
+    ----------
+    value, variance : float
+        The figure, and the variance of its error: tonnes and squared tonnes of a flow, fractions
+        and squared fractions of a grade.
+    """
+
+    value: float
+    variance: float
+
+
+@dataclass(frozen=True, slots=True)
+class Flow:
+    """A stream of the plant, or what a tank gains.
+
+    Attributes
+    ----------
+    name, start, end : str
+        Its name, and the nodes that it joins; ``env`` is the world outside.
+    measured : Measured, optional
+        Its amount in tonnes.
+    either_way : bool
+        Whether it may flow against its arrow, as the gain of a tank may.
+    """
+
+    name: str
+    start: str
+    end: str
+    measured: Measured | None = None
+    either_way: bool = False
+
+
+@dataclass(frozen=True)
+class Problem:
+    """A plant, its flows, and the grades that were assayed.
+
+    Attributes
+    ----------
+    flows : sequence of Flow
+        The streams, each name once.
+    components : sequence of str
+        The components that are balanced.
+    grades : mapping of (str, str) to Measured
+        The grade of a component in a stream, as a fraction, by the names of stream and component.
+    closed : frozenset of str
+        The streams whose components sum to the whole stream.
+
+    Raises
+    ------
+    Fault
+        If a name is there twice or isn't known, or a figure can't be one.
+    """
+
+    flows: Sequence[Flow]
+    components: Sequence[str] = ()
+    grades: Mapping[tuple[str, str], Measured] = field(default_factory=dict)
+    closed: frozenset[str] = frozenset()
+
+    def __post_init__(self) -> None:
+        names: set[str] = set()
+        for flow in self.flows:
+            if flow.name in names:
+                raise Fault(
+                    f"the stream {flow.name} is there twice", remedy="give each its own name"
+                )
+            names.add(flow.name)
+            if flow.start == flow.end:
+                raise Fault(
+                    f"the stream {flow.name} begins and ends at {flow.start}",
+                    remedy="a stream joins two different nodes: correct its ends",
+                )
+            if flow.measured and not flow.measured.variance > 0:
+                raise Fault(
+                    f"the flow of {flow.name} has no error",
+                    remedy="give the standard deviation of its measurement",
+                )
+        _check_grades(self, names)
+
+    @cached_property
+    def nodes(self) -> list[str]:
+        """The nodes at which something is balanced, in the order of the streams; not ``env``."""
+        found = dict.fromkeys(end for flow in self.flows for end in (flow.start, flow.end))
+        return [node for node in found if node != ENV]
+
+    @cached_property
+    def place(self) -> dict[str, int]:
+        """The place of each stream."""
+        return {flow.name: place for place, flow in enumerate(self.flows)}
+
+    def incidence(self) -> list[tuple[int, int, float]]:
+        """Return the entries of the balances: node, stream, and 1 if it flows in, -1 if out.
+
+        Each part of the plant that isn't joined to ``env`` leaves out its first node, since its
+        balance follows from those of the others.
+        """
+        rows = {node: row for row, node in enumerate(self.balanced_nodes)}
+        return [
+            (rows[node], column, sign)
+            for column, flow in enumerate(self.flows)
+            for node, sign in ((flow.start, -1.0), (flow.end, 1.0))
+            if node in rows
+        ]
+
+    @cached_property
+    def balanced_nodes(self) -> list[str]:
+        """The nodes whose balances are asked: none follows from the others."""
+        part: dict[str, str] = {}
+
+        def root(node: str) -> str:
+            while part.setdefault(node, node) != node:
+                part[node] = part[part[node]]
+                node = part[node]
+            return node
+
+        for flow in self.flows:
+            first, second = root(flow.start), root(flow.end)
+            if first != second:
+                # ``env`` stays the root of its part
+                low, high = (first, second) if second == root(ENV) else (second, first)
+                part[low] = high
+        left_out = {root(node) for node in self.nodes}
+        return [node for node in self.nodes if node not in left_out]
+
+
+def _check_grades(problem: Problem, names: set[str]) -> None:
+    """Refuse grades that can't be."""
+    for (stream, component), grade in problem.grades.items():
+        if stream not in names:
+            raise Fault(f"an assay names {stream}, which isn't a stream", remedy="correct its name")
+        if component not in problem.components:
+            raise Fault(
+                f"an assay of {stream} names {component}, which isn't balanced",
+                remedy="name the component among those to be balanced, or leave the assay out",
+            )
+        if not 0 <= grade.value <= 1:
+            raise Fault(
+                f"{component} in {stream} is {grade.value * 100:g} %",
+                remedy="a grade is between 0 and 100 %: look at its unit",
+            )
+        if not grade.variance > 0:
+            raise Fault(
+                f"the assay of {component} in {stream} has no error",
+                remedy="give its standard deviation",
+            )
+    for component in problem.components:
+        streams = [stream for stream, other in problem.grades if other == component]
+        if len(streams) < 2:
+            where = f"in {streams[0]} alone" if streams else "nowhere"
+            raise Fault(
+                f"{component} was assayed {where}",
+                remedy="a balance needs the grades of two streams at least: add assays",
+            )
+    for flow in problem.flows:
+        total = sum(g.value for (name, _), g in problem.grades.items() if name == flow.name)
+        slack = 3 * sum(g.variance for (n, _), g in problem.grades.items() if n == flow.name) ** 0.5
+        if total > 1 + slack:
+            raise Fault(
+                f"the assays of {flow.name} sum to {total * 100:.2f} %",
+                remedy="the components are parts of the stream: look at their units",
+            )
+
+
+def scale_of(problem: Problem) -> float:
+    """Return the greatest measured flow, in which the others are counted.
+
+    Raises
+    ------
+    Fault
+        If no flow was measured.
+    """
+    sizes = [abs(flow.measured.value) for flow in problem.flows if flow.measured]
+    if not sizes or not max(sizes) > 0:
+        raise Fault(
+            "no flow was measured",
+            remedy="grades give only the parts of a flow: measure one, or enter its amount",
+        )
+    return max(sizes)

@@ -1,0 +1,252 @@
+"""Tests whether the files of a book are as its journal says that they were left.
+
+A file that is only added to is compared up to each of its rows that the journal names, so that of a
+change the action is known whose rows it is in. Which row it is follows from `.checks`, which has
+eight digits for each line of each file: these prove nothing, and are looked at to find the line of
+a change, and whether the journal lacks lines at its end. What stood there is known if a bundle beside the book has a session whose digest the
+journal names.
+"""
+
+from __future__ import annotations
+
+import hashlib
+import zipfile
+import zlib
+from collections.abc import Callable, Iterable, Mapping, Sequence
+from dataclasses import dataclass
+from pathlib import Path
+
+from plantbal.book.forms import JOURNAL, REPORTS, is_year_file
+from plantbal.book.journal import Act, Kept, Line
+from plantbal.faults import InputFault, Place
+
+_SHOWN = 200  # characters of a row
+_MOST_BYTES = 1 << 26  # of a file in a bundle
+
+Read = Callable[[str], bytes | None]  # the bytes of a file of the book, or None if it isn't there
+
+
+def state_of(lines: Iterable[Line]) -> dict[str, Kept]:
+    """Return how the last action that names it left each file."""
+    found: dict[str, Kept] = {}
+    for line in lines:
+        for name, kept in line.files.items():
+            if kept.digest or kept.is_gone:
+                found[name] = kept
+    return {name: kept for name, kept in found.items() if not kept.is_gone}
+
+
+@dataclass(frozen=True)
+class Difference:
+    """A file that isn't as the journal says.
+
+    Attributes
+    ----------
+    file : str
+        The file, within the book.
+    line : int or None
+        The first line that differs, if that is known.
+    what : str
+        What is wrong.
+    stood : str
+        What stood there, if that is known.
+    """
+
+    file: str
+    line: int | None
+    what: str
+    stood: str = ""
+
+    def said(self) -> str:
+        """Return where it differs and how."""
+        return f"line {self.line:,}: {self.what}" if self.line is not None else self.what
+
+    def fault(self, folder: Path) -> InputFault:
+        """Return it as a fault, with what to do about it."""
+        stood = f"; there stood {self.stood}" if self.stood else ""
+        return InputFault(
+            self.what + stood,
+            place=Place(file=str(folder / self.file), line=self.line),
+            remedy="put the file back as it was, from a backup; if it is to stay as it is: "
+            f"plantbal-desk book accept {self.file} --why TEXT, which the journal shows for good",
+        )
+
+
+def checks_of(data: bytes) -> str:
+    """Return eight digits for each line of a file."""
+    return "".join(f"{zlib.crc32(line):08x}" for line in data.split(b"\n"))
+
+
+def read_checks(text: str) -> dict[str, str]:
+    """Return the digits of each file, as far as they are of that form."""
+    parts = (line.partition(" ") for line in text.split("\n"))
+    return {name: digits for name, _, digits in parts if name and len(digits) % 8 == 0}
+
+
+def checks_text(checks: Mapping[str, str]) -> str:
+    """Return the digits of files, a line each."""
+    return "".join(f"{name} {digits}\n" for name, digits in sorted(checks.items()))
+
+
+class Chain:
+    """The journal's word on the files of a book.
+
+    Parameters
+    ----------
+    lines : sequence of Line
+        The journal.
+    read : callable
+        Returns the bytes of a file of the book, or None.
+    checks : callable
+        Returns the text of `.checks`.
+    folder : Path
+        The book's folder.
+    """
+
+    def __init__(
+        self, lines: Sequence[Line], read: Read, checks: Callable[[], str], folder: Path
+    ) -> None:
+        self.lines = lines
+        self._read = read
+        self._checks = checks
+        self.folder = folder
+
+    def differences(self, whole: bool = False) -> Iterable[Difference]:
+        """Give the files that aren't as the journal says.
+
+        Parameters
+        ----------
+        whole : bool
+            Whether files that are added to are compared up to each place that the journal names,
+            and not only as a whole.
+        """
+        yield from self._cut()
+        for name, kept in state_of(self.lines).items():
+            data = self._read(name)
+            if data is None:
+                yield Difference(name, None, f"it is gone; {self._last(name).said()} left it")
+            elif len(data) != kept.size or hashlib.sha256(data).hexdigest() != kept.digest:
+                yield self._difference(name, data)
+            elif whole and is_year_file(name):
+                at = self._first_wrong(name, data)
+                if at is not None:
+                    line, _, now = at
+                    what = f"{line.said()} names other rows up to {now.lines}"
+                    yield Difference(name, now.lines, what)
+
+    def _cut(self) -> Iterable[Difference]:
+        """Say that the journal is cut, if `.checks` has the digits of more of its lines."""
+        had = len(read_checks(self._checks()).get(JOURNAL, "")) // 8 - 1
+        there = len(self.lines) + 1
+        if had > there:
+            gone = "a line is" if had == there + 1 else f"{had - there:,} lines are"
+            what = f"it is cut here: {gone} gone that the last command left"
+            yield Difference(JOURNAL, there + 1, what)
+
+    def _history(self, name: str) -> list[tuple[Line, Kept]]:
+        """Return how actions left a file, from the last on that wrote or accepted it as a whole."""
+        found: list[tuple[Line, Kept]] = []
+        for line in self.lines:
+            kept = line.files.get(name)
+            if kept is None or not (kept.digest or kept.is_gone):
+                continue
+            if line.act in (Act.ACCEPT, Act.BEGIN) or not is_year_file(name) or kept.is_gone:
+                found.clear()
+            if not kept.is_gone:
+                found.append((line, kept))
+        return found
+
+    def _last(self, name: str) -> Line:
+        return self._history(name)[-1][0]
+
+    def _first_wrong(self, name: str, data: bytes) -> tuple[Line, Kept, Kept] | None:
+        """Return the first action up to which a file differs, and how it was before and then."""
+        before, at, so_far = Kept(0, 0, ""), 0, hashlib.sha256()
+        for line, kept in self._history(name):
+            size = kept.size or 0
+            so_far.update(data[at:size])
+            at = max(at, size)
+            if len(data) < size or so_far.hexdigest() != kept.digest:
+                return line, before, kept
+            before = kept
+        return None
+
+    def _difference(self, name: str, data: bytes) -> Difference:
+        """Return where a file differs from what an action left."""
+        wrong = self._first_wrong(name, data)
+        if wrong is None:
+            last, left_then = self._history(name)[-1]
+            at = (left_then.lines or 0) + 1
+            more = data.count(b"\n") + 1 - at
+            stand = "1 line stands" if more == 1 else f"{more:,} lines stand"
+            what = f"{stand} after what {last.said()} left"
+            return Difference(name, at, f"{what}: {_shown(data, at)}")
+        line, before, kept = wrong
+        first, last_line = (before.lines or 0) + 1, kept.lines or 0
+        number = self._line_by_checks(name, data, first, last_line)
+        left = f"what {line.said()} left"
+        if number is None:
+            place = f" in its lines {first:,} to {last_line:,}" if last_line > first else ""
+            there = data.count(b"\n")
+            less = f", and has {there:,} lines in place of {kept.lines:,}"
+            what = f"it isn't {left}{place}{less if there < last_line else ''}"
+            return Difference(name, first if first == last_line else None, what)
+        stood = self._stood(name, kept, number)
+        if number > data.count(b"\n"):
+            gone = last_line - number + 1
+            lines = "the last line is" if gone == 1 else f"the last {gone:,} lines are"
+            what = f"it is cut here: {lines} gone of {left}"
+            return Difference(name, number, what, stood)
+        return Difference(name, number, f"this isn't {left}: {_shown(data, number)}", stood)
+
+    def _line_by_checks(self, name: str, data: bytes, first: int, last: int) -> int | None:
+        """Return the first line of some that differs, by the digits of each."""
+        was = read_checks(self._checks()).get(name, "")
+        now = checks_of(data)
+        if len(was) // 8 < last:
+            return None
+        for number in range(first, last + 1):
+            place = slice(8 * number - 8, 8 * number)
+            if was[place] != now[place]:
+                return number
+        return None
+
+    def _stood(self, name: str, kept: Kept, number: int) -> str:
+        """Return what stood in a line, by a bundle or a report that has it; else nothing."""
+        inner = "session.csv" if is_year_file(name) else "output.csv"
+        for path in sorted(self.folder.glob("*.zip")):
+            data = _of_bundle(path, inner)[: kept.size]
+            if hashlib.sha256(data).hexdigest() == kept.digest:
+                return f"{_shown(data, number)} (by {path.name})"
+        return self._edit(number) if is_year_file(name) else ""
+
+    def _edit(self, number: int) -> str:
+        """Return what a report says of an edit that stands in a row of a session, else nothing."""
+        begin = f"edit,{number},".encode("ascii")
+        for name, kept in state_of(self.lines).items():
+            data = self._read(name) or b"" if name.startswith(f"{REPORTS}/") else b""
+            if hashlib.sha256(data).hexdigest() != kept.digest:
+                continue
+            for at, line in enumerate(data.split(b"\n"), start=1):
+                if line.startswith(begin):
+                    return f"what {name} calls {_shown(data, at)}"
+        return ""
+
+
+def _of_bundle(path: Path, name: str) -> bytes:
+    """Return a file of a bundle, or nothing if it isn't one."""
+    try:
+        with zipfile.ZipFile(path) as bundle, bundle.open(name) as file:
+            return file.read(_MOST_BYTES)
+    except (OSError, KeyError, ValueError, NotImplementedError, RuntimeError, EOFError):
+        return b""
+    except (zipfile.BadZipFile, zlib.error):
+        return b""
+
+
+def _shown(data: bytes, number: int) -> str:
+    """Return a line of a file in printable characters, cut if it is long."""
+    lines = data.split(b"\n")
+    text = lines[number - 1].decode("utf-8", "backslashreplace") if number <= len(lines) else ""
+    text = "".join(each if each.isprintable() else ascii(each)[1:-1] for each in text)
+    return text if len(text) <= _SHOWN else f"{text[:_SHOWN]} .."

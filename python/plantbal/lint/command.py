@@ -1,0 +1,60 @@
+"""Says what in a session is accepted but looks wrong, each with a code and a severity."""
+
+from __future__ import annotations
+
+import argparse
+import json
+import sys
+
+from plantbal.lint.findings import RULES
+from plantbal.lint.sessions import lint_session, summary
+
+HELP = (
+    """
+SESSION is a file; without it standard input is read. Each finding is a line on standard output,
+
+  FILE:LINE: SEVERITY: what is there: what to do [CODE]
+
+or, with --json, an object in a list. Standard error says how many there are. The program isn't
+run. The status is 1 if there is an error, and with --strict also if there is a warning; otherwise
+it is 0.
+
+"""
+    + "\n".join(f"  {rule.severity:8}{rule.code:17}{rule.about}" for rule in RULES.values())
+    + """
+
+examples:
+  plantbal-desk lint may.csv
+  plantbal-desk lint --strict --ignore near-names may.csv && plantbal run < may.csv > may.out
+"""
+)
+
+
+def add_arguments(parser: argparse.ArgumentParser) -> None:
+    """Add the words of the command."""
+    parser.add_argument("session", metavar="SESSION", nargs="?", default="-")
+    parser.add_argument("--json", action="store_true", help="a list of objects in place of lines")
+    parser.add_argument("--strict", action="store_true", help="status 1 on warnings too")
+    parser.add_argument(
+        "--ignore",
+        metavar="CODE",
+        action="append",
+        default=[],
+        choices=list(RULES),
+        help="leave findings of this code out; may be given more than once",
+    )
+
+
+def run(options: argparse.Namespace) -> int:
+    """Write the findings, and return the status."""
+    if options.session == "-" and sys.stdin.isatty():
+        print("reading standard input, up to Ctrl-D", file=sys.stderr)
+    findings = lint_session(options.session, ignore=options.ignore)
+    if options.json:
+        print(json.dumps([each.as_dict() for each in findings], indent=2))
+    else:
+        for each in findings:
+            print(each)
+    print(f"{options.prog}: {summary(findings) or 'nothing looks wrong'}", file=sys.stderr)
+    worst = {each.severity for each in findings}
+    return 1 if "error" in worst or (options.strict and "warning" in worst) else 0

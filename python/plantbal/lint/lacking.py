@@ -1,0 +1,250 @@
+"""Rows that aren't there, or come too late: refused ones, readings, dips, periods, reports."""
+
+from __future__ import annotations
+
+import datetime
+from collections import defaultdict
+from collections.abc import Iterator, Sequence
+
+from plantbal.faults import Refusal
+from plantbal.lint.findings import Finding, called, days_said, of_facts, one_line, place_in, some_of
+from plantbal.lint.studies import classes_in
+from plantbal.model.facts import Fact
+from plantbal.model.forms import day_text
+from plantbal.model.ledger import Ledger
+from plantbal.model.periods import Period
+from plantbal.schema import schema
+
+
+def refused_rows(ledger: Ledger, left_out: Sequence[Refusal]) -> Iterator[Finding]:
+    """Yield that rows are refused, and which reports are made without them."""
+    refused = [*left_out, *ledger.refused]
+    if not refused:
+        return
+    count = len(left_out) + ledger.refused.total
+    text = f"{count} rows are refused" if count > 1 else "1 row is refused"
+    after = [each for each in ledger.reported.values() if each.refused or left_out]
+    if after:
+        names = some_of([each.period.name for each in after])
+        report = "the report" if len(after) == 1 else "the reports"
+        text += f", and {report} of {names} {'is' if len(after) == 1 else 'are'} made without "
+        text += "them" if count > 1 else "it"
+    first = refused[0]
+    place = first.place if first.place.line else place_in(ledger, None)
+    whole = _whole_file(ledger)
+    if whole:
+        yield Finding("refused", f"{text}: {whole}", 'save it as "CSV UTF-8", with commas', place)
+    else:
+        what = one_line(first.what)
+        text += f": {what}" if count == 1 else f"; the first, {what}"
+        yield Finding("refused", text, first.remedy, place)
+
+
+def _whole_file(ledger: Ledger) -> str:
+    """Return what is wrong with the file as a whole, or nothing."""
+    if ledger.data.startswith((b"\xff\xfe", b"\xfe\xff")) or b"\0" in ledger.data[:100]:
+        return "this is UTF-16"
+    first = ledger.refused[0].row[:1] if ledger.refused else ()
+    kinds = {row.kind for row in schema().session}
+    for sign, name in ((";", "semicolons"), ("\t", "tabs")):
+        if first and sign in first[0] and first[0].split(sign)[0] in kinds:
+            return f"fields have {name} between them"
+    return ""
+
+
+def nothing_asked(ledger: Ledger) -> Iterator[Finding]:
+    """Yield that a session asks for no output."""
+    if ledger.asked - {"design", "advise"} or (ledger.asked and not ledger.state.facts):
+        return
+    if not ledger.rows:
+        text = "there is no row"
+    elif ledger.state.facts:
+        count = len(ledger.state.facts)
+        facts = "1 fact is" if count == 1 else f"{count:,} facts are"
+        text = f"{facts} there, and no report is asked for"
+    else:
+        text = "no report, window, balance, design, advice or history is asked for"
+    periods = list(ledger.periods)
+    remedy = f"add `report,{periods[-1]}`" if periods else "add a period, its facts and its report"
+    yield Finding("nothing-asked", text, remedy, place_in(ledger, None))
+
+
+_MEANS = {
+    "observable": "its flow is what the other streams leave over",
+    "unobservable": "nothing determines its flow",
+}
+
+
+def missing_readings(ledger: Ledger) -> Iterator[Finding]:
+    """Yield the days on which a metered stream has no reading."""
+    for reported in ledger.reported.values():
+        if not reported.view.missing:
+            continue
+        classes = classes_in(ledger, reported)
+        period = reported.period
+        for name, days in reported.view.missing.items():
+            count = len(ledger.streams[name].days_in(period))
+            if count == 1:
+                lacks = f"no reading on {days_said(days)}"
+            elif len(days) == count:
+                lacks = f"no reading on any of its {count} days"
+            else:
+                lacks = f"no reading on {days_said(days)}, {len(days)} of {count} days"
+            text = f"{name} has no value in {period.name}: {lacks}; {_MEANS[classes[name]]}"
+            remedy = "book the reading, or an estimate with a variance that says how good it is"
+            yield Finding(
+                "missing-reading", text, remedy, place_in(ledger, reported.line), name, period.name
+            )
+
+
+def missing_dips(ledger: Ledger) -> Iterator[Finding]:
+    """Yield the tanks that have no value in a reported period, since a dip is missing."""
+    for reported in ledger.reported.values():
+        for name, days in reported.view.undipped.items():
+            period = reported.period
+            what = " and none ".join(_which_dip(ledger, name, period, day) for day in days)
+            text = f"tank {name} has no value in {period.name}: it has no dip {what}"
+            remedy = "book the dip; a tank that stood still has the same dip on both days"
+            remedy += _by_window(ledger, period, days)
+            yield Finding(
+                "missing-dip", text, remedy, place_in(ledger, reported.line), name, period.name
+            )
+
+
+def _by_window(ledger: Ledger, period: Period, days: Sequence[int]) -> str:
+    """Return which window has what a tank held on a day without a dip, or nothing."""
+    for other in ledger.state.periods.within(period.first - 1, period.last + 1):
+        one, next_ = sorted((period, other), key=lambda each: each.first)
+        if one is not next_ and one.last in days and (one.name, next_.name) not in ledger.windows:
+            return f"; if nobody dipped it, `window,{one.name},{next_.name}` has what it held"
+    return ""
+
+
+def _which_dip(ledger: Ledger, tank: str, period: Period, day: int) -> str:
+    """Return which dip is missing: of an end of the period, or of the days in service."""
+    opens = day == ledger.streams[tank].ends_of(period)[0]
+    if day in (period.first - 1, period.last):
+        which = f"the day before {period.name}" if opens else f"the last day of {period.name}"
+    else:
+        which = "the day before its first in service" if opens else "its last day in service"
+    return f"of {which}, {day_text(day)}"
+
+
+def in_no_period(ledger: Ledger) -> Iterator[Finding]:
+    """Yield the facts that lie in no period."""
+    lost = [fact for fact in ledger.live if not ledger.state.periods_of(fact)]
+    if lost and not ledger.periods:
+        text = f"no period is declared, and {len(lost)} facts count nowhere"
+        line = min(fact.line for fact in lost)
+        yield Finding("no-period", text, "add a period and its report", place_in(ledger, line))
+        return
+    unused = [
+        fact
+        for fact in lost
+        if fact.kind == "dip" and ledger.state.periods.within(fact.first, fact.first + 1)
+    ]
+    inside = {fact.id for fact in unused}
+    outside = (fact for fact in lost if fact.id not in inside)
+    yield from of_facts(
+        ledger,
+        "no-period",
+        (
+            (
+                fact,
+                f"{called(fact)} is of {day_text(fact.first)}, which is in no period",
+                _other_year(ledger, fact)
+                or "correct its date, or declare a period that includes it",
+            )
+            for fact in outside
+        ),
+    )
+    yield from of_facts(
+        ledger,
+        "unused-dip",
+        (
+            (
+                fact,
+                f"{called(fact)} is of {day_text(fact.first)}, neither the last day of a period "
+                "nor the day before one, so it counts nowhere",
+                "it does no harm",
+            )
+            for fact in unused
+        ),
+    )
+
+
+def _other_year(ledger: Ledger, fact: Fact) -> str:
+    """Return what to write for a fact of another year, or nothing."""
+    day = datetime.date.fromordinal(fact.first)
+    for period in ledger.periods.values():
+        for near in (period.first, period.last):
+            try:
+                moved = day.replace(year=datetime.date.fromordinal(near).year)
+            except ValueError:
+                continue
+            if period.first - 1 <= moved.toordinal() <= period.last:
+                return f"did you mean {moved}?"
+    return ""
+
+
+def after_report(ledger: Ledger) -> Iterator[Finding]:
+    """Yield the facts that come after the last report of their period."""
+    late: dict[str, list[Fact]] = defaultdict(list)
+    if not ledger.reported:
+        return
+    first = min(each.line for each in ledger.reported.values())
+    for fact in ledger.state.facts:
+        if fact.changed <= first:
+            continue
+        for period in ledger.state.periods_of(fact):
+            reported = ledger.reported.get(period.name)
+            if reported is not None and fact.changed > reported.line:
+                late[period.name].append(fact)
+    for name, facts in late.items():
+        line = min(fact.changed for fact in facts)
+        one = len(facts) == 1
+        rows = "1 row of a fact comes" if one else f"rows of {len(facts)} facts come"
+        them = "it" if one else "them"
+        text = f"{rows} after the last report of {name}, which is made without {them}"
+        remedy = f"put `report,{name}` after {them}"
+        yield Finding("after-report", text, remedy, place_in(ledger, line), period=name)
+
+
+def no_transfers(ledger: Ledger) -> Iterator[Finding]:
+    """Yield the batch streams without a transfer in a period."""
+    of: dict[str, set[str]] = defaultdict(set)
+    for fact in ledger.live:
+        if fact.kind == "transfer":
+            of[fact.of] |= {period.name for period in ledger.state.periods_of(fact)}
+    for reported in ledger.reported.values():
+        name = reported.period.name
+        for stream, declared in ledger.streams.items():
+            served = declared.is_in(reported.period)
+            if declared.kind == "batch" and served and name not in of[stream]:
+                text = f"{stream} has no transfer in {name}, and counts as 0 there"
+                yield Finding(
+                    "no-transfer",
+                    text,
+                    "book its tickets, if there are some",
+                    place_in(ledger, reported.line),
+                    stream,
+                    name,
+                )
+
+
+def not_reported(ledger: Ledger) -> Iterator[Finding]:
+    """Yield the periods that have facts and no report."""
+    if "report" not in ledger.asked:
+        return
+    within = {each.name for pair in ledger.windows for each in ledger.window_of(*pair)}
+    count: dict[str, int] = defaultdict(int)
+    for fact in ledger.live:
+        for period in ledger.state.periods_of(fact):
+            count[period.name] += fact.kind != "dip" or fact.first == period.last
+    for name, facts in count.items():
+        if facts and name not in ledger.reported and name not in within:
+            some = "1 fact" if facts == 1 else f"{facts} facts"
+            text = f"{name} has {some}, and no report is asked for"
+            yield Finding(
+                "not-reported", text, f"add `report,{name}`", place_in(ledger, None), period=name
+            )

@@ -1,0 +1,61 @@
+"""What lint looks for: each rule gives its findings in a session's accepted rows."""
+
+from __future__ import annotations
+
+from collections.abc import Callable, Iterator, Sequence
+
+from plantbal.faults import Refusal
+from plantbal.lint.components import assays, grades, unused_assays
+from plantbal.lint.findings import Finding
+from plantbal.lint.lacking import (
+    after_report,
+    in_no_period,
+    missing_dips,
+    missing_readings,
+    no_transfers,
+    not_reported,
+    nothing_asked,
+    refused_rows,
+)
+from plantbal.lint.plant import nearly_full, near_names, never_served, one_sided
+from plantbal.lint.studies import costs, critical_values, worse_classes
+from plantbal.lint.values import densities, deviations, magnitudes
+from plantbal.model.ledger import Ledger
+
+_FINDERS: tuple[Callable[[Ledger], Iterator[Finding]], ...] = (
+    nothing_asked,
+    missing_readings,
+    missing_dips,
+    in_no_period,
+    after_report,
+    no_transfers,
+    not_reported,
+    one_sided,
+    never_served,
+    near_names,
+    magnitudes,
+    deviations,
+    densities,
+    worse_classes,
+    critical_values,
+    assays,
+    unused_assays,
+    grades,
+    costs,
+    nearly_full,
+)
+
+
+def find(ledger: Ledger, left_out: Sequence[Refusal] = ()) -> Iterator[Finding]:
+    """Give what looks wrong in a session, rule by rule.
+
+    Parameters
+    ----------
+    ledger : Ledger
+        The session.
+    left_out : sequence of Refusal
+        Rows that were refused before the session was written.
+    """
+    yield from refused_rows(ledger, left_out)
+    for rule in _FINDERS:
+        yield from rule(ledger)

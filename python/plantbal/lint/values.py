@@ -1,0 +1,126 @@
+"""Values of facts that look wrong: amounts in another unit, errors of another size, densities."""
+
+from __future__ import annotations
+
+from collections.abc import Iterator, Sequence
+from math import isqrt
+from statistics import median_low
+
+from plantbal.lint.findings import Finding, called, of_facts, tonnes_said
+from plantbal.model.facts import Fact
+from plantbal.model.forms import LIMITS
+from plantbal.model.ledger import Ledger
+
+# A standard deviation below this part of a value is one that was taken for a variance.
+SMALL = 100_000
+# Values this many times their median are in another unit, and so are those below this part of it.
+GREAT_TIMES, SMALL_PART = 50, 500
+FEWEST_OF_A_MEDIAN = 3
+# Grams per cubic metre: liquid gas has some 500,000, a bed of iron ore some 2,500,000.
+DENSITIES = range(400_000, 3_000_001)
+
+
+def magnitudes(ledger: Ledger) -> Iterator[Finding]:
+    """Yield the facts that are far from the others of their stream."""
+    said: list[tuple[Fact, str, str]] = []
+    for facts in ledger.amounts.values():
+        middle = _median(facts)
+        if not middle:
+            continue
+        for fact in facts:
+            size = abs(fact.grams)
+            if size >= GREAT_TIMES * middle:
+                times = f"{size // middle:,} times"
+            elif 0 < size * SMALL_PART <= middle:
+                times = f"1/{middle // size:,} of"
+            else:
+                continue
+            text = f"{called(fact)} is {tonnes_said(fact.grams)}, {times} the median, {tonnes_said(middle)}"
+            remedy = "look for another unit of measure, or a decimal point at another place"
+            said.append((fact, text, remedy))
+    yield from of_facts(ledger, "magnitude", said)
+
+
+def _median(facts: Sequence[Fact]) -> int:
+    """Return the median of the amounts, without signs; 0 if too few aren't 0."""
+    sizes = [abs(fact.grams) for fact in facts if fact.grams]
+    return median_low(sizes) if len(sizes) >= FEWEST_OF_A_MEDIAN else 0
+
+
+def deviations(ledger: Ledger) -> Iterator[Finding]:
+    """Yield the facts whose standard deviation is very small or very large beside their value."""
+    small: list[tuple[Fact, str, str]] = []
+    large: list[tuple[Fact, str, str]] = []
+    for stream, facts in ledger.amounts.items():
+        base, middle = ledger.streams[stream].base, _median(facts)
+        for fact in facts:
+            size = abs(fact.grams)
+            if _is_small(fact.variance or base, size):
+                small.append((fact, _small(fact, size), _squared(fact.variance, size)))
+            elif size and fact.variance > max(size, middle) ** 2:
+                large.append((fact, _large(fact, size, "its value"), _wide(fact, size)))
+    for fact in ledger.live:
+        if fact.kind != "dip":
+            continue
+        content = ledger.state.content(fact)
+        top = ledger.state.plant.tables[fact.of][-1][1] * fact.density // 1_000_000
+        if _is_small(fact.variance or ledger.streams[fact.of].base, content):
+            small.append((fact, _small(fact, content), _squared(fact.variance, content)))
+        elif fact.density in DENSITIES and fact.variance > top * top > 0:
+            remedy = "look for a digit too many in its variance, in squared grams"
+            large.append((fact, _large(fact, top, "the full tank"), remedy))
+    yield from of_facts(ledger, "small-deviation", small)
+    yield from of_facts(ledger, "large-deviation", large)
+
+
+def _is_small(variance: int, value: int) -> bool:
+    """Say whether a standard deviation is too small for its value to be one."""
+    return variance > 1 and variance * SMALL * SMALL < value * value
+
+
+def _small(fact: Fact, value: int) -> str:
+    return (
+        f"{called(fact)} has VARIANCE {fact.variance}, a standard deviation of "
+        f"{tonnes_said(isqrt(fact.variance))} at {tonnes_said(value)}"
+    )
+
+
+def _squared(variance: int, value: int) -> str:
+    """Return what to write for a variance that may be a standard deviation, in grams or in
+    tonnes."""
+    for unit, scale in (("g", 1), ("t", 1_000_000)):
+        square = (variance * scale) ** 2
+        if not _is_small(square, value) and 0 < square <= min(
+            value**2, LIMITS["most_row_variance"]
+        ):
+            return f"if {variance:,} {unit} is the standard deviation, write its square, {square}"
+    return "write the square of its standard deviation in grams"
+
+
+def _large(fact: Fact, value: int, what: str) -> str:
+    return (
+        f"{called(fact)} has a standard deviation of {tonnes_said(isqrt(fact.variance))}, "
+        f"more than {what}, {tonnes_said(value)}"
+    )
+
+
+def _wide(fact: Fact, size: int) -> str:
+    """Return what to write for a value that is smaller than its standard deviation."""
+    grams = fact.grams * 1000
+    if fact.variance < (size * 1000) ** 2 and abs(grams) <= LIMITS["most_grams"]:
+        return f"if the amount is in kilograms, write {grams}; else look at the variance"
+    return "look for a digit too many in its variance, in squared grams"
+
+
+def densities(ledger: Ledger) -> Iterator[Finding]:
+    """Yield the densities that are far from the others of their tank."""
+    said: list[tuple[Fact, str, str]] = []
+    for fact in ledger.live:
+        if fact.kind == "dip" and fact.density not in DENSITIES:
+            text = f"{called(fact)} has a density of {fact.density:,} g per cubic metre"
+            grams = next((s for s in (1000, 10, 100) if fact.density * s in DENSITIES), 0)
+            remedy = "water has 1000000: look for a digit too many or too few"
+            if grams:
+                remedy = f"did you mean {fact.density * grams}?"
+            said.append((fact, text, remedy))
+    yield from of_facts(ledger, "density", said)

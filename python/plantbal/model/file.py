@@ -1,0 +1,200 @@
+"""The rows of a session's file, with long runs of readings kept together.
+
+A session of a year has mostly readings, one after the other. A run of them is judged at once; only
+if one of its rows may be refused are they judged one by one.
+"""
+
+from __future__ import annotations
+
+import csv
+import io
+import re
+import sys
+from collections.abc import Iterator, Sequence
+from dataclasses import dataclass, replace
+from itertools import islice
+
+from plantbal.model.effects import Effect
+from plantbal.model.facts import At, ReadingRun
+from plantbal.model.forms import NAME, day_number
+from plantbal.model.state import Accepted, Answer, State
+from plantbal.schema import Column, schema
+
+# The longest run that is judged at once: one wrong reading costs no more than these.
+_LONGEST = 10_000
+# The rows that are in memory at once: a file of two letters a line has millions.
+_BATCH = 1 << 15
+_NAMES = re.compile(rf"(?:{NAME.pattern}(?:\n|\Z))*+")
+_WHOLES = re.compile(r"(?:(?:0|-?[1-9][0-9]{0,59})(?:\n|\Z))*+")
+
+
+@dataclass(frozen=True, slots=True)
+class Rows:
+    """Some rows of a file, one after the other.
+
+    Attributes
+    ----------
+    rows : sequence of sequence of str
+        Their fields.
+    record : int
+        The number of the first one, counted from 1; empty lines aren't counted.
+    lines : sequence of int
+        The lines that they begin in.
+    run : ReadingRun or None
+        What they say, of readings that were accepted as a whole.
+    """
+
+    rows: Sequence[Sequence[str]]
+    record: int
+    lines: Sequence[int]
+    run: ReadingRun | None = None
+
+
+@dataclass(frozen=True, slots=True)
+class Step:
+    """A row of a file, and what it was answered.
+
+    Attributes
+    ----------
+    fields : tuple of str
+        Its fields.
+    at : At
+        Where it stands.
+    answer : Answer
+        What it was answered.
+    """
+
+    fields: tuple[str, ...]
+    at: At
+    answer: Answer
+
+    @property
+    def effect(self) -> Effect | None:
+        """What it does or asks for, if it is accepted."""
+        return self.answer.effect if isinstance(self.answer, Accepted) else None
+
+
+def steps(state: State, data: bytes) -> Iterator[Step | Rows]:
+    """Fold the rows of a file into a state, and give each after it is judged.
+
+    A run of readings that is accepted as a whole is given as one `Rows`.
+
+    Parameters
+    ----------
+    state : State
+        The state, which takes the rows.
+    data : bytes
+        The file.
+    """
+    for part in rows_of(data):
+        if len(part.rows) > 1:
+            _, ids, streams, days, grams, variances = zip(*part.rows)
+            run = readings_of(ids, streams, days, grams, variances, part.lines)
+            if run is not None and state.after_run(run):
+                yield replace(part, run=run)
+                continue
+        for number, (row, line) in enumerate(zip(part.rows, part.lines)):
+            fields, at = tuple(row), At(part.record + number, line)
+            yield Step(fields, at, state.after(fields, at))
+
+
+def rows_of(data: bytes) -> Iterator[Rows]:
+    """Give the rows of a text as `plantbal.records.read_records` reads them, readings in runs.
+
+    Parameters
+    ----------
+    data : bytes
+        The text.
+    """
+    record = 1
+    for rows, lines in _batches(data):
+        # 1 for a row that may be part of a run
+        flags = bytes([len(row) == 6 and row[0] == "reading" for row in rows])
+        at, count = 0, len(rows)
+        while at < count:
+            end = at + 1
+            if flags[at]:
+                end = flags.find(0, at, at + _LONGEST)
+                end = min(at + _LONGEST, count) if end < 0 else end
+            yield Rows(rows[at:end], record + at, lines[at:end])
+            at = end
+        record += count
+
+
+def _batches(data: bytes) -> Iterator[tuple[list[list[str]], Sequence[int]]]:
+    """Give the rows of a text, some at a time, and the lines that they begin in."""
+    csv.field_size_limit(sys.maxsize)
+    text = data.removeprefix(b"\xef\xbb\xbf").decode("latin-1")
+    # With newline="" lines end with CR, LF or both, as they stand.
+    reader = csv.reader(io.StringIO(text, newline=""))
+    line = 0
+    if '"' not in text:  # then each line is a row
+        while rows := list(islice(reader, _BATCH)):
+            lines = range(line + 1, line + len(rows) + 1)
+            line += len(rows)
+            if all(rows):
+                yield rows, lines
+            else:
+                yield _apart([(at, row) for at, row in zip(lines, rows) if row])
+        return
+    numbered: list[tuple[int, list[str]]] = []
+    for row in reader:
+        if row:
+            numbered.append((line + 1, row))
+        line = reader.line_num
+        if len(numbered) == _BATCH:
+            yield _apart(numbered)
+            numbered = []
+    yield _apart(numbered)
+
+
+def _apart(numbered: list[tuple[int, list[str]]]) -> tuple[list[list[str]], Sequence[int]]:
+    """Return rows and their lines apart."""
+    return [row for _, row in numbered], [line for line, _ in numbered]
+
+
+def readings_of(
+    ids: Sequence[str],
+    streams: Sequence[str],
+    days: Sequence[str],
+    grams: Sequence[str],
+    variances: Sequence[str],
+    lines: Sequence[int],
+) -> ReadingRun | None:
+    """Return readings whose fields all have the forms of their columns, or None.
+
+    Parameters
+    ----------
+    ids, streams, days, grams, variances : sequence of str
+        The fields of the rows after their kind, as columns.
+    lines : sequence of int
+        The lines of the rows.
+    """
+    numbers = {day: day_number(day) for day in set(days)}
+    if None in numbers.values() or not _all_match(_NAMES, ids):
+        return None
+    row = schema().row("reading")
+    amounts = _within(grams, row.column("grams"))
+    errors = _within(variances, row.column("variance"))
+    if amounts is None or errors is None:
+        return None
+    on = [numbers[day] or 0 for day in days]
+    return ReadingRun(ids, streams, on, amounts, errors, lines)
+
+
+def _within(texts: Sequence[str], column: Column) -> list[int] | None:
+    """Return the whole numbers of texts, or None if one is none of a column's range."""
+    if not _all_match(_WHOLES, texts):
+        return None
+    numbers = list(map(int, texts))
+    low, high = column.low, column.high
+    if numbers and low is not None and high is not None:
+        return numbers if low <= min(numbers) and max(numbers) <= high else None
+    return numbers
+
+
+def _all_match(pattern: re.Pattern[str], texts: Sequence[str]) -> bool:
+    """Say whether each of some texts is one line that a pattern of lines takes."""
+    lines = "\n".join(texts)
+    whole = lines.count("\n") == len(texts) - 1 and "" not in texts
+    return whole and pattern.fullmatch(lines) is not None

@@ -1,0 +1,195 @@
+"""The forms of fields, and which row of the schema a record is: the codes from 1 to 5."""
+
+from __future__ import annotations
+
+import datetime
+import re
+from collections.abc import Sequence
+from functools import lru_cache
+
+from plantbal.model.causes import Reason, Refused
+from plantbal.schema import Column, Row, schema
+
+LIMITS = schema().limits
+# The days that a date may be: dates of service that aren't said are these.
+FIRST_DAY = datetime.date(LIMITS["first_year"], 1, 1)
+LAST_DAY = datetime.date(LIMITS["last_year"], 12, 31)
+NAME = re.compile(rf"[A-Za-z0-9_.-]{{1,{LIMITS['most_name']}}}")
+_REASON = re.compile(rf"[ -~]{{1,{LIMITS['most_reason']}}}")
+_WHOLE = re.compile(r"0|-?[1-9][0-9]*")
+DATE = re.compile(r"[0-9]{4}-[0-9]{2}-[0-9]{2}")
+# A number of more digits than this is none that a column takes.
+_MOST_DIGITS = 60
+# The rows that ask for output and aren't stored.
+ASKS = ("design", "advise", "report", "history", "window", "component")
+
+
+@lru_cache(maxsize=100_000)
+def day_number(text: str) -> int | None:
+    """Return the number of a day that is written as the program reads it, or None."""
+    if not DATE.fullmatch(text):
+        return None
+    year, month, day = int(text[:4]), int(text[5:7]), int(text[8:])
+    if not LIMITS["first_year"] <= year <= LIMITS["last_year"]:
+        return None
+    try:
+        return datetime.date(year, month, day).toordinal()
+    except ValueError:
+        return None
+
+
+def day_of(text: str) -> int:
+    """Return the number of a day that was judged."""
+    number = day_number(text)
+    assert number is not None
+    return number
+
+
+def day_of_number(number: int) -> datetime.date:
+    """Return the day of a number."""
+    return datetime.date.fromordinal(number)
+
+
+@lru_cache(maxsize=100_000)
+def day_text(number: int) -> str:
+    """Return the day of a number as a session writes it."""
+    return datetime.date.fromordinal(number).isoformat()
+
+
+def whole_number(text: str, low: int | None, high: int | None) -> int | None:
+    """Return the number that a field writes, or None if it writes none of the range."""
+    if len(text) > _MOST_DIGITS or not _WHOLE.fullmatch(text):
+        return None
+    number = int(text)
+    if (low is not None and number < low) or (high is not None and number > high):
+        return None
+    return number
+
+
+def fault_of(column: Column, text: str) -> Reason | None:
+    """Return why a column doesn't take a field, or None; words are looked at elsewhere."""
+    if column.type == "name":
+        return None if NAME.fullmatch(text) else Reason.NO_NAME
+    if column.type == "reason":
+        return None if _REASON.fullmatch(text) else Reason.NO_REASON
+    if column.type == "number":
+        found = whole_number(text, column.low, column.high)
+        return Reason.NO_NUMBER if found is None else None
+    if column.type == "date":
+        return Reason.NO_DATE if day_number(text) is None else None
+    return None
+
+
+def field_fits(column: Column, text: str) -> bool:
+    """Say whether a field is of the form of its column."""
+    if column.type == "word":
+        return text in column.words
+    return fault_of(column, text) is None
+
+
+# ---- which row it is
+
+
+def _rows_by_kind(version: int) -> dict[str, list[Row]]:
+    found: dict[str, list[Row]] = {}
+    for row in schema().session:
+        if row.version <= version:
+            found.setdefault(row.kind, []).append(row)
+    return found
+
+
+ROWS_OF = {version: _rows_by_kind(version) for version in (1, 2)}
+ROWS = ROWS_OF[2]
+
+
+def rows_of_kind(kind: str) -> list[Row]:
+    """Return the rows of a kind, of whatever version, or none if there is no such kind."""
+    return ROWS.get(kind, [])
+
+
+def word_of(row: Row) -> tuple[str, ...]:
+    """Return the word that chooses a row among those of its kind."""
+    return row.columns[row.word - 1].words
+
+
+def rows_of_word(record: Sequence[str]) -> list[Row]:
+    """Return the rows of a record's kind that have its word; none if the kind has no such word."""
+    rows = rows_of_kind(record[0]) if record else []
+    return [
+        row
+        for row in rows
+        if not row.word or tuple(record[row.word : row.word + 1]) == word_of(row)
+    ]
+
+
+def row_of(record: tuple[str, ...], version: int, stored: bool) -> Row | Refused:
+    """Return the row of the schema that a record is, or why it is refused with 1 or 2.
+
+    Parameters
+    ----------
+    record : tuple of str
+        The record, without empty fields at its end.
+    version : int
+        The version of the session so far.
+    stored : bool
+        Whether the session has stored a row.
+    """
+    rows = ROWS_OF[version].get(record[0], [])
+    if not rows or record[0] == "version":
+        return _row_of_version(record, version, stored)
+    place = rows[0].word if len(rows) > 1 else 0
+    if place:
+        if len(record) <= place:
+            return Refused(Reason.FIELD_COUNT, values={"patterns": rows[0].pattern})
+        found = [row for row in rows if (record[place],) == word_of(row)]
+        if not found:
+            column = rows[0].columns[place - 1].name
+            return Refused(Reason.NO_SUCH_WORD, column, record[place], {"field": place + 1})
+        rows = found
+    for row in rows:
+        if row.takes(len(record) - 1):
+            return row
+    if any(row.takes(len(record) - 1) for row in rows_of_word(record)):
+        return Refused(Reason.SERVICE_OF_VERSION_2)
+    patterns = " or ".join(row.pattern for row in rows)
+    return Refused(Reason.FIELD_COUNT, values={"patterns": patterns})
+
+
+def _row_of_version(record: tuple[str, ...], version: int, stored: bool) -> Row | Refused:
+    """Return the row that makes a session one of version 2, or why a record is refused with 1."""
+    word = record[0]
+    if word != "version":
+        reason = Reason.KIND_OF_VERSION_2 if word in ROWS else Reason.NO_SUCH_KIND
+    elif record != ("version", "2"):
+        reason = Reason.NOT_VERSION_2
+    elif not stored:
+        return ROWS["version"][0]
+    else:
+        reason = Reason.VERSION_AGAIN if version == 2 else Reason.VERSION_AFTER_ROWS
+    return Refused(reason, "kind", word)
+
+
+def form_refused(row: Row, record: tuple[str, ...]) -> Refused | None:
+    """Return why a record is refused whose fields aren't of their forms, or None.
+
+    Names come first, then numbers, then dates.
+    """
+    worst: tuple[Reason, Column, str] | None = None
+    columns = row.columns_for(len(record) - 1) if row.tail else row.columns
+    for column, text in zip(columns, record[1:]):
+        reason = fault_of(column, text)
+        if reason is not None and (worst is None or reason.cause < worst[0].cause):
+            worst = reason, column, text
+    return None if worst is None else _of_form(*worst)
+
+
+def _of_form(reason: Reason, column: Column, text: str) -> Refused:
+    values: dict[str, str | int] = {"label": label_of(column)}
+    if column.type == "number":
+        values |= {"low": column.low or 0, "high": column.high or 0}
+    return Refused(reason, column.name, text, values)
+
+
+def label_of(column: Column) -> str:
+    """Return the name that the guide has for a column."""
+    return column.label if column.label != "0" else "BASEVAR"

@@ -1,0 +1,362 @@
+"""A whole session: its rows folded from first to last, and what each row saw that asks for flows.
+
+What asks for flows is a `report`, a `window` or a `component` row. What it saw are the plant and
+the facts by then, which rows after it may change. So it is kept when the row comes: for each period
+a `View`, which rows share as long as nothing is stored between them.
+"""
+
+from __future__ import annotations
+
+import hashlib
+from collections import defaultdict
+from dataclasses import dataclass, field, replace
+from functools import cached_property
+
+from plantbal.faults import Place
+from plantbal.memory import uncollected
+from plantbal.model.asking import Advise, Component, Report, Window
+from plantbal.model.booking import Assay
+from plantbal.model.causes import Refused
+from plantbal.model.effects import Effect
+from plantbal.model.facts import At, Edit, Fact
+from plantbal.model.file import Rows, Step, steps
+from plantbal.model.periods import Period
+from plantbal.model.plant import ENV, Stream
+from plantbal.model.state import State
+from plantbal.model.words import refusal_of
+from plantbal.records import without_empty_end
+from plantbal.refusals import Refusals
+from plantbal.topology import Arc
+
+# The dips that open and close a tank over a period, if they are there.
+Dips = tuple[Fact | None, Fact | None]
+
+
+@dataclass(frozen=True)
+class View:
+    """A period's plant and facts, as a row saw them.
+
+    Attributes
+    ----------
+    period : Period
+        The period.
+    nodes : list of str
+        The nodes of its report, in their order.
+    streams : list of Stream
+        The streams and tanks' gains in service on a day of it.
+    facts : dict of str to list of Fact
+        The readings and transfers that count in it, by their streams.
+    dips : dict of str to Dips
+        The dips at its ends, by their tanks.
+    """
+
+    period: Period
+    nodes: list[str]
+    streams: list[Stream]
+    facts: dict[str, list[Fact]]
+    dips: dict[str, Dips]
+
+    @cached_property
+    def missing(self) -> dict[str, list[int]]:
+        """The days without a reading, of each meter that has such days."""
+        found = {}
+        for stream in self.streams:
+            days = stream.days_in(self.period)
+            facts = self.facts[stream.arc.name]
+            if stream.kind == "metered" and len(facts) < len(days):
+                there = {fact.first for fact in facts}
+                found[stream.arc.name] = [day for day in days if day not in there]
+        return found
+
+    @cached_property
+    def undipped(self) -> dict[str, list[int]]:
+        """The days without a dip, of each tank that has such days."""
+        found = {}
+        for stream in self.streams:
+            if stream.kind == "tank":
+                pairs = zip(stream.ends_of(self.period), self.dips[stream.arc.name])
+                days = [day for day, dip in pairs if dip is None]
+                found.update({stream.arc.name: days} if days else {})
+        return found
+
+    @property
+    def lacking(self) -> set[str]:
+        """The meters and tanks without a value."""
+        return self.missing.keys() | self.undipped.keys()
+
+
+@dataclass(frozen=True, slots=True)
+class Seen:
+    """An accepted row that asks for flows, and what it saw.
+
+    Attributes
+    ----------
+    at : At
+        Where the row stands.
+    views : tuple of View
+        The view of its period; of a window those of all its periods, in order of days.
+    critical : dict of (str, int) to int
+        The critical values by their test and its degrees of freedom; 0 if these aren't asked.
+    refused : int
+        How many rows were refused before it.
+    last : str
+        The last period of a window, if one is asked for.
+    component : str
+        The component whose balance is asked for, if one is.
+    grades : dict of str to Assay
+        The grades of the component by the streams that have one.
+    """
+
+    at: At
+    views: tuple[View, ...]
+    critical: dict[tuple[str, int], int]
+    refused: int
+    last: str = ""
+    component: str = ""
+    grades: dict[str, Assay] = field(default_factory=dict)
+
+    @property
+    def view(self) -> View:
+        """The view of its period; of a window that of the first one."""
+        return self.views[0]
+
+    @property
+    def period(self) -> Period:
+        """Its period; of a window the first one."""
+        return self.view.period
+
+    @property
+    def line(self) -> int:
+        """The line of the row."""
+        return self.at.line
+
+    @property
+    def is_report(self) -> bool:
+        """Whether a period's report is asked for."""
+        return not (self.component or self.last)
+
+    @property
+    def subject(self) -> str:
+        """What is asked for, as `plantbal.report.Block.subject` says it."""
+        if self.component:
+            return f"{self.component} in {self.period.name}"
+        return f"{self.period.name} to {self.last}" if self.last else self.period.name
+
+
+class Ledger:
+    """A whole session.
+
+    Parameters
+    ----------
+    source : str
+        What the session is called.
+    data : bytes
+        Its bytes.
+    kept : int or None
+        How many refused rows are kept with what is said of them; None for all.
+
+    Attributes
+    ----------
+    state : State
+        What the session is in the end.
+    rows : int
+        How many records it has.
+    refused : Refusals
+        The refused rows: a list, and how many in all.
+    seen : list of Seen
+        The rows that ask for flows, in order.
+    asked : set of str
+        The kinds of rows that ask for output.
+    uncosted : dict of int to list of str
+        The plain streams that an `advise` row with costs leaves out, by its line.
+    """
+
+    def __init__(self, source: str, data: bytes, *, kept: int | None = None) -> None:
+        self.source = source
+        self.data = data
+        self.state = State()
+        self.rows = 0
+        self.refused = Refusals(kept)
+        self.seen: list[Seen] = []
+        self.asked: set[str] = set()
+        self.uncosted: dict[int, list[str]] = {}
+        self._views: dict[str, View] = {}
+        self._critical: dict[tuple[str, int], int] | None = None
+        with uncollected():
+            for step in steps(self.state, data):
+                self._take(step)
+
+    # ---- rows
+
+    def _take(self, step: Step | Rows) -> None:
+        if isinstance(step, Rows):
+            self.rows += len(step.rows)
+            self._changed()
+            return
+        self.rows += 1
+        if isinstance(step.answer, Refused):
+            self._refuse(step, step.answer)
+        elif step.answer.effect.asks:
+            self.asked.add(step.fields[0])
+            self._ask(step.answer.effect, step.at)
+        else:
+            self._changed()
+
+    def _changed(self) -> None:
+        """Forget what rows see by now: something is stored."""
+        self._views.clear()
+        self._critical = None
+
+    def _refuse(self, step: Step, answer: Refused) -> None:
+        """Keep a refused row."""
+        if self.refused.is_full:
+            self.refused.note(step.at.record, answer.cause)
+            return
+        refusal = refusal_of(self.state, without_empty_end(step.fields), answer)
+        refusal.place = Place(file=self.source, line=step.at.line, record=step.at.record)
+        self.refused.take(refusal)
+
+    def _ask(self, effect: Effect, at: At) -> None:
+        """Keep what a row sees that asks for output."""
+        if isinstance(effect, Report):
+            self.seen.append(self._seen(at, self._view(self.periods[effect.period])))
+        elif isinstance(effect, Window):
+            views = map(self._view, self.window_of(effect.first, effect.last))
+            self.seen.append(self._seen(at, *views, last=effect.last))
+        elif isinstance(effect, Component):
+            seen = self._seen(at, self._view(self.periods[effect.period]))
+            grades = self._grades(effect.component, effect.period)
+            self.seen.append(replace(seen, component=effect.component, grades=grades))
+        elif isinstance(effect, Advise) and effect.costs:
+            plain = [name for name, each in self.streams.items() if each.kind == "plain"]
+            named = set(effect.streams)
+            self.uncosted[at.line] = [name for name in plain if name not in named]
+
+    def _seen(self, at: At, *views: View, last: str = "") -> Seen:
+        if self._critical is None:
+            critical = self.state.plant.critical.items()
+            self._critical = {key: each.value for key, each in critical}
+        return Seen(at, views, self._critical, self.refused.total, last)
+
+    def _grades(self, component: str, period: str) -> dict[str, Assay]:
+        mine = component, period
+        assays = self.state.assays.items()
+        return {name: assay for (of, name, when), assay in assays if (of, when) == mine}
+
+    def _view(self, period: Period) -> View:
+        """Return what a row sees of a period."""
+        view = self._views.get(period.name)
+        if view is None:
+            state, facts = self.state, self.state.facts
+            streams = state.plant.served(period)
+            tanks = [stream for stream in streams if stream.kind == "tank"]
+            ends = {each.arc.name: each.ends_of(period) for each in tanks}
+            view = self._views[period.name] = View(
+                period,
+                state.plant.nodes_in(period, state.version),
+                streams,
+                {each.arc.name: self._facts(each, period) for each in streams},
+                {tank: (facts.on(tank, a), facts.on(tank, b)) for tank, (a, b) in ends.items()},
+            )
+        return view
+
+    def _facts(self, stream: Stream, period: Period) -> list[Fact]:
+        """Return the readings or the transfers of a stream that count in a period."""
+        facts, name = self.state.facts, stream.arc.name
+        if stream.kind == "metered":
+            return facts.on_days(name, stream.days_in(period))
+        if stream.kind != "batch":
+            return []
+        first, last = period.first, period.last
+        return [each for each in facts.transfers(name) if each.first <= last and first <= each.last]
+
+    # ---- what is there in the end
+
+    @property
+    def digest(self) -> str:
+        """The SHA-256 of the session's bytes."""
+        return hashlib.sha256(self.data).hexdigest()
+
+    @property
+    def periods(self) -> dict[str, Period]:
+        """The periods by their names, in the order of their rows."""
+        return self.state.periods.by_name
+
+    @property
+    def closed(self) -> dict[str, int]:
+        """The closed periods, and the lines of their `close` rows."""
+        return self.state.periods.closed
+
+    @property
+    def streams(self) -> dict[str, Stream]:
+        """The streams and the tanks' gains by their names, in the order of their rows."""
+        return self.state.plant.streams
+
+    @property
+    def nodes(self) -> dict[str, str]:
+        """The units and tanks, and ``env``."""
+        return {ENV: ENV, **self.state.plant.nodes}
+
+    @property
+    def arcs(self) -> list[Arc]:
+        """The streams, and the gains of the tanks."""
+        return [stream.arc for stream in self.streams.values()]
+
+    @cached_property
+    def reported(self) -> dict[str, Seen]:
+        """The last `report` row of each period."""
+        return {seen.period.name: seen for seen in self.seen if seen.is_report}
+
+    @cached_property
+    def balanced(self) -> dict[tuple[str, str], Seen]:
+        """The last `component` row of each component and period."""
+        return {(seen.component, seen.period.name): seen for seen in self.seen if seen.component}
+
+    @cached_property
+    def windows(self) -> set[tuple[str, str]]:
+        """The first and the last period of each window."""
+        return {(seen.period.name, seen.last) for seen in self.seen if seen.last}
+
+    @cached_property
+    def live(self) -> list[Fact]:
+        """The facts that aren't struck."""
+        return self.state.facts.live()
+
+    @cached_property
+    def amounts(self) -> dict[str, list[Fact]]:
+        """The readings and transfers of each stream that aren't struck."""
+        found: dict[str, list[Fact]] = defaultdict(list)
+        for fact in self.live:
+            if fact.kind != "dip":
+                found[fact.of].append(fact)
+        return found
+
+    def window_of(self, first: str, last: str) -> list[Period]:
+        """Return the periods of a window in order of days."""
+        return self.state.periods.between(self.periods[first], self.periods[last])
+
+    def arcs_in(self, period: Period) -> list[Arc]:
+        """Return the arcs of a period's report."""
+        return [stream.arc for stream in self.state.plant.served(period)]
+
+    def nodes_in(self, period: Period) -> list[str]:
+        """Return the nodes of a period's report: in version 2 the ends of its streams alone."""
+        return self.state.plant.nodes_in(period, self.state.version)
+
+    def measured(self, seen: Seen | None = None) -> set[str]:
+        """Return what is measured by design, or in a period as its report saw it."""
+        found = {name for name, stream in self.streams.items() if stream.kind != "plain"}
+        return found - seen.view.lacking if seen else found
+
+    def edits_of(self, period: str) -> list[Edit]:
+        """Return the edits that touch a period, and its close, in order."""
+        return self._edits.get(period, [])
+
+    @cached_property
+    def _edits(self) -> dict[str, list[Edit]]:
+        # the periods are known in the end: one may be declared after a fact of its days
+        found: dict[str, list[Edit]] = {}
+        for edit in self.state.edits:
+            for name in self.state.touched(edit):
+                found.setdefault(name, []).append(edit)
+        return found
