@@ -1,19 +1,29 @@
 # Installs plantbal and makes its Debian packages. The program itself is proved and built by ./build.
 #
 #   make install DESTDIR= PREFIX=/usr/local   the program, the package plantbal of Python, manual pages, completions, documents
-#   make deb                                  packaging/out/plantbal_*.deb and packaging/out/python3-plantbal_*.deb
-#   make check-packages                       both packages made, unpacked elsewhere and tried
+#   make deb                                  packaging/out/plantbal_*.deb and packaging/out/python3-plantbal_*.deb, and those of what else is built
+#   make check-packages                       all packages made, unpacked elsewhere and tried
+#   make install-verify VERIFY=..             plantbal-verify and its manual page, from coq/ (`make -C coq` proves and builds it)
+#   make fuzz SECONDS=3600 SEED=1             changed inputs to all subcommands; failures are kept in KEEP
+#   make install-library install-library-dev  what C calls, once ./build library has made it
+#   make book-tries KILLS=400 PAIRS=200       commands on a book killed, failing and in pairs, at each system call that writes
 VERSION := $(shell cat VERSION)
 PREFIX = /usr/local
 DESTDIR =
 PROGRAM = crates/plantbal/out/plantbal
+VERIFY = coq/plantbal-verify
 # The program as it was built, if PROGRAM is a stripped copy of it.
 BUILT = $(PROGRAM)
 PYTHON = /usr/bin/python3
 DEBS = packaging/out
+# The library as ./build library links it, and the folder below lib for it.
+LIBRARY_FROM = libplantbal/out
+TRIPLET =
+LIBDIR = $(PREFIX)/lib$(TRIPLET)
 
-BIN = $(DESTDIR)$(PREFIX)/bin
-SHARE = $(DESTDIR)$(PREFIX)/share
+# In quotes, since the folder of a packager may have a space in its name.
+BIN = "$(DESTDIR)$(PREFIX)/bin"
+SHARE = "$(DESTDIR)$(PREFIX)/share"
 LIBEXEC = $(PREFIX)/libexec/plantbal
 UNITS = $(PREFIX)/lib/systemd/system
 # Debian's python3 looks into /usr/lib/python3/dist-packages, and for /usr/local into a folder with its version.
@@ -23,10 +33,15 @@ LIBRARY = lib/$(PYTHON_FOLDER)/dist-packages
 ZSH = $(SHARE)/zsh/$(if $(filter /usr,$(PREFIX)),vendor-completions,site-functions)
 
 PROGRAM_DOCUMENTS = README.md CHANGELOG.md docs/GUIDE.md docs/FORMAT.md docs/DEFINITIONS.md docs/STATEMENT.md docs/ASSURANCE.md docs/DECISIONS.md
+VERIFY_DOCUMENTS = coq/README.md coq/Certified.v coq/Sound.v docs/ASSURANCE.md
 DESK_DOCUMENTS = docs/MONTH_END.md docs/PYTHON.md docs/OPERATIONS.md
 WORKBOOKS = examples/month_end examples/refinery_workbook examples/terminal_workbook examples/tank_farm_workbook
 
-.PHONY: install install-program install-desk deb check-packages clean
+SECONDS = 600
+SEED = 0
+KEEP = /tmp/plantbal-fuzz
+
+.PHONY: install install-program install-desk install-verify install-library install-library-dev deb check-packages book-tries fuzz clean
 
 install: install-program install-desk
 
@@ -50,8 +65,16 @@ install-program: $(PROGRAM)
 	install -D -m 644 $(BIN)/BUILD $(SHARE)/plantbal/BUILD
 	rm $(BIN)/BUILD
 
+$(VERIFY):
+	@echo "make: there is no $(VERIFY): make -C coq proves and builds it" >&2; exit 1
+
+install-verify: $(VERIFY)
+	install -D -m 755 $(VERIFY) $(BIN)/plantbal-verify
+	install -D -m 644 -t $(SHARE)/man/man1 docs/plantbal-verify.1
+	install -D -m 644 -t $(SHARE)/doc/plantbal-verify $(VERIFY_DOCUMENTS)
+
 install-desk:
-	packaging/install_library $(DESTDIR)$(PREFIX)/$(LIBRARY)
+	packaging/install_library "$(DESTDIR)$(PREFIX)/$(LIBRARY)"
 	install -d $(BIN)
 	sed 's|@LIBRARY@|$(LIBRARY)|' packaging/plantbal-desk >$(BIN)/plantbal-desk
 	chmod 755 $(BIN)/plantbal-desk
@@ -61,14 +84,32 @@ install-desk:
 	install -D -m 644 packaging/completions/plantbal-desk.fish $(SHARE)/fish/vendor_completions.d/plantbal-desk.fish
 	install -D -m 644 -t $(SHARE)/doc/python3-plantbal $(DESK_DOCUMENTS) examples/heat_exchanger.ipynb
 	find $(WORKBOOKS) -type f | sort | while read -r file; do \
-	    install -D -m 644 "$$file" "$(SHARE)/doc/python3-plantbal/$$file"; \
+	    install -D -m 644 "$$file" $(SHARE)/doc/python3-plantbal/"$$file"; \
 	done
-	install -D -m 755 packaging/nightly $(DESTDIR)$(LIBEXEC)/nightly
-	install -d $(DESTDIR)$(UNITS)
+	install -D -m 755 packaging/nightly "$(DESTDIR)$(LIBEXEC)/nightly"
+	install -d "$(DESTDIR)$(UNITS)"
 	for unit in packaging/*.service packaging/*.timer; do \
-	    sed 's|@BIN@|$(PREFIX)/bin|; s|@LIBEXEC@|$(LIBEXEC)|; s|@DOC@|$(PREFIX)/share/doc/python3-plantbal|' $$unit >$(DESTDIR)$(UNITS)/$$(basename $$unit); \
-	    chmod 644 $(DESTDIR)$(UNITS)/$$(basename $$unit); \
+	    sed 's|@BIN@|$(PREFIX)/bin|; s|@LIBEXEC@|$(LIBEXEC)|; s|@DOC@|$(PREFIX)/share/doc/python3-plantbal|' "$$unit" >"$(DESTDIR)$(UNITS)/$$(basename "$$unit")"; \
+	    chmod 644 "$(DESTDIR)$(UNITS)/$$(basename "$$unit")"; \
 	done
+
+$(LIBRARY_FROM)/libplantbal.so.0:
+	@echo "make: there is no $@: ./build library proves and builds it" >&2; exit 1
+
+install-library: $(LIBRARY_FROM)/libplantbal.so.0
+	install -D -m 644 $(LIBRARY_FROM)/libplantbal.so.0 "$(DESTDIR)$(LIBDIR)/libplantbal.so.0"
+
+install-library-dev: $(LIBRARY_FROM)/libplantbal.so.0
+	install -D -m 644 libplantbal/plantbal.h "$(DESTDIR)$(PREFIX)/include/plantbal.h"
+	install -D -m 644 $(LIBRARY_FROM)/libplantbal.a "$(DESTDIR)$(LIBDIR)/libplantbal.a"
+	ln -sf libplantbal.so.0 "$(DESTDIR)$(LIBDIR)/libplantbal.so"
+	install -d "$(DESTDIR)$(LIBDIR)/pkgconfig"
+	sed 's|@LIBDIR@|$(LIBDIR)|; s|@INCLUDEDIR@|$(PREFIX)/include|; s|@VERSION@|$(VERSION)|' libplantbal/plantbal.pc.in \
+	    >"$(DESTDIR)$(LIBDIR)/pkgconfig/plantbal.pc"
+	chmod 644 "$(DESTDIR)$(LIBDIR)/pkgconfig/plantbal.pc"
+	install -D -m 644 -t $(SHARE)/man/man3 docs/plantbal.3
+	install -D -m 644 -t $(SHARE)/doc/libplantbal-dev docs/LIBRARY.md
+	install -D -m 644 -t $(SHARE)/doc/libplantbal-dev/examples libplantbal/examples/*
 
 deb: $(PROGRAM)
 	packaging/deb $(PROGRAM) $(DEBS)
@@ -76,5 +117,14 @@ deb: $(PROGRAM)
 check-packages: $(PROGRAM)
 	.ci/packages $(PROGRAM)
 
+fuzz:
+	.ci/fuzz --seconds $(SECONDS) --seed $(SEED) --keep $(KEEP)
+
 clean:
 	rm -rf $(DEBS)
+
+KILLS = 400
+PAIRS = 200
+
+book-tries: $(PROGRAM)
+	.ci/book_tries $(PROGRAM) --kills $(KILLS) --pairs $(PAIRS) --steps 0

@@ -464,7 +464,8 @@ def faults() -> list[str]:
     found = []
     if (words.TOP / "VERSION").read_text(encoding="ascii").strip() != version:
         found.append(f"VERSION isn't {version}, the last release of CHANGELOG.md")
-    first = words.PAGE.read_text(encoding="utf-8").splitlines()[0]
-    if f'"plantbal {version}"' not in first:
-        found.append(f"docs/plantbal.1: its .TH line hasn't the version plantbal {version}")
+    for page in (words.PAGE, words.PAGE.with_name("plantbal-verify.1")):
+        first = page.read_text(encoding="utf-8").splitlines()[0]
+        if f'"plantbal {version}"' not in first:
+            found.append(f"docs/{page.name}: its .TH line hasn't the version plantbal {version}")
     return found

@@ -20,11 +20,12 @@ _plantbal_desk() {
     fi
     for ((at = 1; at < COMP_CWORD; at++)); do
         case ${COMP_WORDS[at]} in
-        run|lint|explain|check|archive|audit|report|solve|convert|book|template|from-spreadsheet|tables|uncertainty|advise|recovery|draw|chart|page|fleet|critical|from-scipy|schema) word=${COMP_WORDS[at]}; break ;;
+        run|lint|explain|check|archive|audit|report|solve|convert|book|template|from-spreadsheet|tables|uncertainty|advise|balance|recovery|draw|chart|page|fleet|critical|from-scipy|schema) word=${COMP_WORDS[at]}; break ;;
         esac
     done
     case $word:$before in
         run:--out) _plantbal_files -f; return ;;
+        run:--timeout) :; return ;;
         run:--program) _plantbal_files -f; return ;;
         run:--gap) :; return ;;
         run:--sweeps) :; return ;;
@@ -36,11 +37,15 @@ _plantbal_desk() {
         archive:--plant) :; return ;;
         archive:--out) _plantbal_files -f; return ;;
         archive:--time) :; return ;;
+        archive:--book) _plantbal_files -d; return ;;
+        archive:--before) :; return ;;
+        archive:--timeout) :; return ;;
         archive:--program) _plantbal_files -f; return ;;
         archive:--gap) :; return ;;
         archive:--sweeps) :; return ;;
         archive:--eliminate) :; return ;;
         audit:--words) :; return ;;
+        audit:--timeout) :; return ;;
         audit:--program) _plantbal_files -f; return ;;
         report:--out) _plantbal_files -f; return ;;
         solve:--out) _plantbal_files -f; return ;;
@@ -67,6 +72,7 @@ _plantbal_desk() {
         book:--eliminate) :; return ;;
         book:--plant) _plantbal_files -f; return ;;
         book:--first) :; return ;;
+        book:--head) :; return ;;
         from-spreadsheet:--decimal) _plantbal_words 'point comma'; return ;;
         from-spreadsheet:--date) :; return ;;
         from-spreadsheet:--missing) :; return ;;
@@ -78,6 +84,12 @@ _plantbal_desk() {
         advise:--draw) _plantbal_files -f; return ;;
         advise:--locale) :; return ;;
         advise:--program) _plantbal_files -f; return ;;
+        balance:--component) :; return ;;
+        balance:--closed) :; return ;;
+        balance:--form) _plantbal_words 'text csv json'; return ;;
+        balance:--given) _plantbal_files -f; return ;;
+        balance:--out) _plantbal_files -f; return ;;
+        balance:--program) _plantbal_files -f; return ;;
         recovery:--component) :; return ;;
         recovery:--feed) :; return ;;
         recovery:--product) :; return ;;
@@ -100,6 +112,8 @@ _plantbal_desk() {
         page:--session) _plantbal_files -f; return ;;
         page:--eliminate) :; return ;;
         page:--program) _plantbal_files -f; return ;;
+        page:--book) _plantbal_files -d; return ;;
+        page:--timeout) :; return ;;
         page:--out) _plantbal_files -f; return ;;
         page:--xlsx) _plantbal_files -f; return ;;
         page:--pdf) _plantbal_files -f; return ;;
@@ -123,7 +137,7 @@ _plantbal_desk() {
             _plantbal_files -f
             return
         fi
-        _plantbal_words '-h --help --out --program --gap --sweeps --no-tests --eliminate' ;;
+        _plantbal_words '-h --help --out --timeout --program --gap --sweeps --no-tests --eliminate' ;;
     lint)
         if [[ $here != -* ]]; then
             _plantbal_files -f
@@ -147,13 +161,13 @@ _plantbal_desk() {
             _plantbal_files -f
             return
         fi
-        _plantbal_words '-h --help --period --plant --out --time --program --gap --sweeps --no-tests --eliminate' ;;
+        _plantbal_words '-h --help --period --plant --out --time --book --before --timeout --program --gap --sweeps --no-tests --eliminate' ;;
     audit)
         if [[ $here != -* ]]; then
             _plantbal_files -f
             return
         fi
-        _plantbal_words '-h --help --words --no-program --strict --program' ;;
+        _plantbal_words '-h --help --words --no-program --strict --timeout --program' ;;
     report)
         if [[ $here != -* ]]; then
             _plantbal_files -f
@@ -174,14 +188,14 @@ _plantbal_desk() {
         _plantbal_words '-h --help --out --locale --missing --skip --limits --design' ;;
     book)
         if [[ $here != -* ]]; then
-            if [[ ! " ${COMP_WORDS[*]:at + 1:COMP_CWORD - at - 1} " =~ ' '(new|add|show|amend|strike|report|window|close|status|next)' ' ]]; then
-                _plantbal_words 'new add show amend strike report window close status next'
+            if [[ ! " ${COMP_WORDS[*]:at + 1:COMP_CWORD - at - 1} " =~ ' '(new|add|show|amend|strike|report|window|close|status|next|verify|head|accept)' ' ]]; then
+                _plantbal_words 'new add show amend strike report window close status next verify head accept'
                 return
             fi
             _plantbal_files -f
             return
         fi
-        _plantbal_words '-h --help --program --locale --missing --skip --limits --book --who --why --strike --anyway --year --dry-run --density --error --session --gap --sweeps --no-tests --eliminate --all --plant --first' ;;
+        _plantbal_words '-h --help --program --locale --missing --skip --limits --book --who --why --strike --anyway --year --dry-run --density --error --session --gap --sweeps --no-tests --eliminate --all --plant --first --head' ;;
     template)
         if [[ $here != -* ]]; then
             if [[ ! " ${COMP_WORDS[*]:at + 1:COMP_CWORD - at - 1} " =~ ' '(refinery|concentrator|utility)' ' ]]; then
@@ -220,6 +234,12 @@ _plantbal_desk() {
             return
         fi
         _plantbal_words '-h --help --form --draw --locale --program' ;;
+    balance)
+        if [[ $here != -* ]]; then
+            _plantbal_files -f
+            return
+        fi
+        _plantbal_words '-h --help --component --closed --form --given --out --program' ;;
     recovery)
         if [[ $here != -* ]]; then
             _plantbal_files -f
@@ -243,7 +263,7 @@ _plantbal_desk() {
             _plantbal_files -f
             return
         fi
-        _plantbal_words '-h --help --title --plant --session --run --eliminate --program --out --xlsx --pdf --seconds' ;;
+        _plantbal_words '-h --help --title --plant --session --run --eliminate --program --book --timeout --out --xlsx --pdf --seconds' ;;
     fleet)
         if [[ $here != -* ]]; then
             _plantbal_files -d
@@ -260,7 +280,7 @@ _plantbal_desk() {
         _plantbal_words '-h --help --period --change --without-least' ;;
     schema)
         _plantbal_words '-h --help' ;;
-    *) _plantbal_words 'run lint explain check archive audit report solve convert book template from-spreadsheet tables uncertainty advise recovery draw chart page fleet critical from-scipy schema -h --help --version' ;;
+    *) _plantbal_words 'run lint explain check archive audit report solve convert book template from-spreadsheet tables uncertainty advise balance recovery draw chart page fleet critical from-scipy schema -h --help --version' ;;
     esac
 }
 

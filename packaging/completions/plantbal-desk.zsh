@@ -5,7 +5,7 @@ _plantbal_desk() {
     local -a specifications
     local word at
     for ((at = 2; at < CURRENT; at++)); do
-        case $words[at] in run|lint|explain|check|archive|audit|report|solve|convert|book|template|from-spreadsheet|tables|uncertainty|advise|recovery|draw|chart|page|fleet|critical|from-scipy|schema) word=$words[at]; break ;; esac
+        case $words[at] in run|lint|explain|check|archive|audit|report|solve|convert|book|template|from-spreadsheet|tables|uncertainty|advise|balance|recovery|draw|chart|page|fleet|critical|from-scipy|schema) word=$words[at]; break ;; esac
     done
     case $word in
     run)
@@ -13,6 +13,7 @@ _plantbal_desk() {
             '-h[show this help message and exit]'
             '--help[show this help message and exit]'
             '--out=[a .csv, .sqlite or .xlsx file]:FILE:_files'
+            '--timeout=[stop the program after that many seconds (default\: it isn'\''t stopped)]:SECONDS:'
             '--program=[the program (default\: that of PLANTBAL, of the path, or of this checkout)]:PATH:_files'
             '--gap=[the greatest gap, in thousandths of a standard deviation (default\: 10)]:N:'
             '--sweeps=[at most N sweeps (default\: 5,000)]:N:'
@@ -56,6 +57,9 @@ _plantbal_desk() {
             '--plant=[what the plant is called (default\: the name of the file)]:NAME:'
             '--out=[the bundle (default\: PLANT_PERIOD.zip)]:FILE:_files'
             '--time=[when it is archived, such as 2024-05-02T06\:00\:00Z (default\: now)]:TIME:'
+            '--book=[the book that the session is from\: the bundle names the head of its chain]:FOLDER:_files -/'
+            '--before=[the plant'\''s bundle before this one, which it names by its digest]:BUNDLE:'
+            '--timeout=[stop the program after that many seconds (default\: it isn'\''t stopped)]:SECONDS:'
             '--program=[the program (default\: that of PLANTBAL, of the path, or of this checkout)]:PATH:_files'
             '--gap=[the greatest gap, in thousandths of a standard deviation (default\: 10)]:N:'
             '--sweeps=[at most N sweeps (default\: 5,000)]:N:'
@@ -71,6 +75,7 @@ _plantbal_desk() {
             '--words=[the words of the run, as one word]:WORDS:'
             '--no-program[don'\''t run the program]'
             '--strict[status 1 on notes too]'
+            '--timeout=[stop the program after that many seconds (default\: it isn'\''t stopped)]:SECONDS:'
             '--program=[the program (default\: that of PLANTBAL, of the path, or of this checkout)]:PATH:_files'
             '1:word:(audit)'
             '2:BUNDLE|REPORT:_files'
@@ -102,7 +107,7 @@ _plantbal_desk() {
             '--out=[the session]:FILE:_files'
             '--locale=[how numbers and days are written\: de, en_GB, fr]:NAME:'
             '--missing=[a further text that stands for a missing figure]:TEXT:'
-            '--skip=[a column of the readings to leave out]:HEAD:'
+            '--skip=[a column to leave out]:HEAD:'
             '--limits[errors are limits that hold 95 times in 100\: half of each is taken]'
             '--design[ask for the design before the reports]'
             '1:word:(convert)'
@@ -115,10 +120,10 @@ _plantbal_desk() {
             '--program=[the program (default\: that of PLANTBAL, of the path, or of this checkout)]:PATH:_files'
             '--locale=[how numbers and days are written\: de, en_GB, fr]:NAME:'
             '--missing=[a further text that stands for a missing figure]:TEXT:'
-            '--skip=[a column of the readings to leave out]:HEAD:'
+            '--skip=[a column to leave out]:HEAD:'
             '--limits[errors are limits that hold 95 times in 100\: half of each is taken]'
             '--book=[the book'\''s folder]:FOLDER:_files -/'
-            '--who=[who does it (default\: the login)]:NAME:'
+            '--who=[who does it, beside the user'\''s own name]:NAME:'
             '--why=[the reason]:TEXT:'
             '--strike[strike facts that aren'\''t in the workbook any more]'
             '--anyway[also if its report needs a look before it is booked]'
@@ -134,9 +139,10 @@ _plantbal_desk() {
             '--all[closed periods too]'
             '--plant=[another plant (default\: plant.csv)]:WORKBOOK:_files'
             '--first=[its first day (default\: January 1st)]:DAY:'
+            '--head=[a head that was kept elsewhere\: this book has to have it]:DIGEST:'
             '1:word:(book)'
-            '2:COMMAND:(new add show amend strike report window close status next)'
-            '*:WORKBOOK:_files'
+            '2:COMMAND:(new add show amend strike report window close status next verify head accept)'
+            '*:FILE:_files'
         ) ;;
     template)
         specifications=(
@@ -190,6 +196,20 @@ _plantbal_desk() {
             '2:SESSION:_files'
             '*:COSTS:_files'
         ) ;;
+    balance)
+        specifications=(
+            '-h[show this help message and exit]'
+            '--help[show this help message and exit]'
+            '--component=[a component to balance]:NAME:'
+            '--closed=[a stream whose components sum to 100 %]:STREAM:'
+            '--form=[how it is written]:FORM:(text csv json)'
+            '--given=[keep the session that is certified]:FILE:_files'
+            '--out=[keep what the program wrote]:FILE:_files'
+            '--program=[the program (default\: that of PLANTBAL, of the path, or of this checkout)]:PATH:_files'
+            '1:word:(balance)'
+            '2:SESSION:_files'
+            '*:PERIOD:'
+        ) ;;
     recovery)
         specifications=(
             '-h[show this help message and exit]'
@@ -241,6 +261,8 @@ _plantbal_desk() {
             '--run[run the file, a session]'
             '--eliminate=[with --run\: take out at most N suspects]:N:'
             '--program=[the program, with --run]:PATH:_files'
+            '--book=[the book that the session is from\: the page names the head of its chain]:FOLDER:_files -/'
+            '--timeout=[with --run\: stop the program after that many seconds (default\: it isn'\''t stopped)]:SECONDS:'
             '--out=[the page]:FILE:_files'
             '--xlsx=[a workbook]:FILE:_files'
             '--pdf=[a PDF on A4]:FILE:_files'
@@ -298,7 +320,7 @@ _plantbal_desk() {
             '-h[show this help message and exit]'
             '--help[show this help message and exit]'
             '--version[write the version and end]'
-            "1:word:((run\:'run a session, and say what has to be looked at' lint\:'say what in a session is accepted but looks wrong' explain\:'say for each refused row what is wrong with it' check\:'check a report, in CSV or as JSON lines' archive\:'put a month into a bundle with digests' audit\:'say whether a bundle, or a report and its session, holds' report\:'turn a report into CSV, SQLite or a workbook' solve\:'reconcile with scipy if sweeps don'\''t come near' convert\:'a session from a plant'\''s workbook' book\:'keep a plant'\''s book, a session for each year' template\:'an empty workbook for convert' from-spreadsheet\:'a session from daily readings and tags' tables\:'tables of flows, classes, suspects, imbalances' uncertainty\:'how good each flow is, and which meters it rests on' advise\:'which streams to meter so that each is observable, at least cost' recovery\:'where a component goes, its recovery, and a chart of it' draw\:'draw a report, a design, or which streams to meter' chart\:'chart the periods of one or more reports' page\:'the month'\''s statement\: a page, a workbook, a PDF' fleet\:'run a folder of sessions' critical\:'critical values as rows of a session' from-scipy\:'another program'\''s figures in the form of a report' schema\:'the rows of sessions and outputs as data'))"
+            "1:word:((run\:'run a session, and say what has to be looked at' lint\:'say what in a session is accepted but looks wrong' explain\:'say for each refused row what is wrong with it' check\:'check a report, in CSV or as JSON lines' archive\:'put a month into a bundle with digests' audit\:'say whether a bundle, or a report and its session, holds' report\:'turn a report into CSV, SQLite or a workbook' solve\:'reconcile with scipy if sweeps don'\''t come near' convert\:'a session from a plant'\''s workbook' book\:'keep a plant'\''s book, a session for each year' template\:'an empty workbook for convert' from-spreadsheet\:'a session from daily readings and tags' tables\:'tables of flows, classes, suspects, imbalances' uncertainty\:'how good each flow is, and which meters it rests on' advise\:'which streams to meter so that each is observable, at least cost' balance\:'reconcile flows and grades together, with both errors' recovery\:'where a component goes, its recovery, and a chart of it' draw\:'draw a report, a design, or which streams to meter' chart\:'chart the periods of one or more reports' page\:'the month'\''s statement\: a page, a workbook, a PDF' fleet\:'run a folder of sessions' critical\:'critical values as rows of a session' from-scipy\:'another program'\''s figures in the form of a report' schema\:'the rows of sessions and outputs as data'))"
         ) ;;
     esac
     _arguments -s : $specifications
