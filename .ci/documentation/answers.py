@@ -84,6 +84,7 @@ WRITTEN_AFTER = {
     ("pb_site::Site::names", "Ok"): r"class,",
     ("pb_site::names_on", "Ok"): REPORT,
     ("pb_window::window_places", "Ok"): r"place,",
+    ("pb_session::Session::row", "None"): r"report,",
 }
 # How a test names an answer that isn't a variant of an enum of the libraries.
 SIGNS = {
@@ -190,7 +191,9 @@ class Answers:
                 # of an enum that is the whole answer, those that the contract speaks of
                 said = set(re.findall(r"\w+", function.contract))
                 answers = [it for it in given if it.enum != function.gives or it.name in said]
-                found.append(Call(function, {answer: [] for answer in answers}))
+                # A call with none of them answers by an equation, and asks for no memory.
+                if answers:
+                    found.append(Call(function, {answer: [] for answer in answers}))
         return found
 
 

@@ -2,7 +2,7 @@
 
 from __future__ import annotations
 
-from . import answers, citations, forms, guide, numbers, rows, statement
+from . import answers, calls, citations, forms, guide, numbers, rows, statement
 from .sources import TOP, Sources
 
 
@@ -53,6 +53,7 @@ CHECKS = (
     stale,
     lambda sources: guide.schema(sources)[1],
     heads,
+    calls.complaints,
     forms.complaints,
     citations.missing,
     citations.edits,

@@ -7,7 +7,7 @@ never raises it; `.ci/documents check` refuses more.
 from __future__ import annotations
 
 import re
-from collections.abc import Callable
+from collections.abc import Callable, Iterator
 from functools import cache
 
 from .answers import unreached
@@ -75,6 +75,41 @@ def one_operator(sources: Sources) -> list[str]:
     return found
 
 
+# A value that says out of memory, and the places that may make one: an arm or a closure that has caught a failure, an `else` of one, a
+# conversion from AllocError, and the answer to an error that was handed over.
+NO_MEMORY = re.compile(r"\b(?:AllocError|NoMemory|OutOfMemory)\b(?!\s*=>|\)\s*=>|\s*\{)")
+CAUGHT = re.compile(
+    r"Err\([^()]*(?:\([^()]*\))?\) => (?:return )?(?:Err\()?(?:\w+::)*$"
+    r"|(?:NoMemory|OutOfMemory) => (?:\w+::)*$"
+    r"|\.map_err\(\|_\w*\| (?:\w+::)*$"
+    r"|let Ok\(\w+\) = [^;]*? else \{\s*return (?:Err\()?(?:\w+::)*$"
+)
+
+
+def out_of_memory(sources: Sources) -> Iterator[tuple[bool, str]]:
+    """Yield each value made by hand that says out of memory, and whether a failure was caught there."""
+    for one in working(sources):
+        body = one.body or ""
+        from_error = any(kind.endswith("Error") for _, kind in one.parameters)
+        for found in NO_MEMORY.finditer(body):
+            before = body[: found.start()]
+            if re.search(r"(?:==|!=) (?:\w+::)*$", before):
+                continue
+            caught = from_error or CAUGHT.search(before) is not None
+            line = body[: found.end()].splitlines()[-1].strip()
+            yield caught, f"{short(one.path)}:{one.line}: {one.called}: {line}"
+
+
+def out_of_memory_after_failure(sources: Sources) -> list[str]:
+    """Return the places that say out of memory after they have caught a failure."""
+    return [place for caught, place in out_of_memory(sources) if caught]
+
+
+def out_of_memory_unasked(sources: Sources) -> list[str]:
+    """Return the places that say out of memory where no failure was caught."""
+    return [place for caught, place in out_of_memory(sources) if not caught]
+
+
 def repeated_names(sources: Sources) -> list[str]:
     """Return the names that two or more files of statements define."""
     return [f"{name}: {', '.join(map(short, paths))}" for name, paths in repeated(sources).items()]
@@ -95,6 +130,8 @@ FORMS: dict[str, Callable[[Sources], list[str]]] = {
     "unreachable_places": unreachable,
     "functions_of_one_operator": one_operator,
     "answers_that_nothing_reaches": unreached,
+    "out_of_memory_where_no_failure_was_caught": out_of_memory_unasked,
+    "out_of_memory_after_a_caught_failure": out_of_memory_after_failure,
 }
 
 

@@ -196,7 +196,7 @@ class Sources:
             if line.startswith("#"):
                 heading = line.lstrip("# ").strip()
             elif line.strip():
-                found.setdefault(heading, []).append(line.split("#")[0].split(":")[0].strip())
+                found.setdefault(heading, []).append(line.split("#")[0].split(":")[0].split()[0])
         return found
 
     @cached_property

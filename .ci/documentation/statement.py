@@ -5,12 +5,14 @@ from __future__ import annotations
 import re
 import textwrap
 from collections.abc import Iterator
-from dataclasses import dataclass, field
+from dataclasses import dataclass
 from functools import cache
 
+from . import toolchain
 from .guide import anchor_of
+from .reach import Part, Reach, Reached, part_of, words_in
 from .rust import Function, functions_in, item_of, of_libraries
-from .sources import Definition, Imports, Sources, Spec, Unknown, imports
+from .sources import Sources, Spec, Unknown, imports
 
 STATEMENT = "docs/STATEMENT.md"
 # The call that `main` makes.
@@ -32,141 +34,48 @@ HEART = (
 CHAPTERS = ".ci/documentation/chapters.txt"
 OPENINGS = "docs/DEFINITIONS.md"
 HEART_TITLE = "The heart of it"
-# What README.md promises beside the contract of the call: laws over the same words.
+TOOLCHAIN_TITLE = "Words of the toolchain"
+# The calls of which the page speaks beside it, for bytes in memory.
+IN_MEMORY = ("pb_cli::answer", "pb_cli::judge")
+# What README.md and the page promise beside the contract of the call: laws over the same words.
 LAWS = (
-    "run_text_law",
-    "check_text_law",
-    "own_reports_law",
-    "edited_file_law",
-    "version_one_text_law",
-    "decided_law",
-    "some_least_law",
-    "one_least_law",
-    "own_bounds_law",
-    "own_least_bounds_law",
-    "nodal_order_law",
-    "closed_law",
-    "some_plain_text_law",
+    "pb_words::one_command_law",
+    "pb_cli::run_text_law",
+    "pb_cli::check_text_law",
+    "pb_cli::own_reports_law",
+    "pb_check::sound_law",
+    "pb_check::right_law",
+    "pb_session::edited_file_law",
+    "pb_session::agreeing_report_law",
+    "pb_session::version_one_text_law",
+    "pb_period::closed_graphs_law",
+    "pb_period::agreeing_law",
+    "pb_elim::decided_law",
+    "pb_least::some_least_law",
+    "pb_least::one_least_law",
+    "pb_laws::own_bounds_law",
+    "pb_laws::own_least_bounds_law",
+    "pb_laws::nested_bounds_law",
+    "pb_laws::statistic_order_law",
+    "pb_laws::bounds_meet_law",
+    "pb_laws::first_round_law",
+    "pb_laws::untested_law",
+    "pb_laws::more_meters_law",
+    "pb_laws::metered_law",
+    "pb_laws::window_parts_law",
+    "pb_laws::contents_law",
+    "pb_laws::nodal_order_law",
+    "pb_laws::closed_law",
+    "pb_laws::some_plain_text_law",
+    "pb_make::accepted_law",
 )
-WORD = re.compile(r"[A-Za-z_][A-Za-z0-9_']*(?:\.[A-Za-z_][A-Za-z0-9_']*)*")
 # A function with a body in a block, with its comment.
 BODY = re.compile(r"\n(?:    //[^\n]*\n)*    (?:pub )?fn [^\n]*\{\n.*?\n    \}", re.S)
-# A file with what is reached of it.
-Reached = tuple[Spec, list[Definition]]
-
-
-def words_in(text: str) -> list[str]:
-    """Return the words of definitions or of code, without comments and texts."""
-    return WORD.findall(re.sub(r'codes "[^"]*"', "", re.sub(r"(--|//).*", "", text)))
 
 
 def short(path: str) -> str:
     """Return a path from the crates on."""
     return path.removeprefix("crates/")
-
-
-@dataclass
-class Part:
-    """A part of the page: a file, what is shown of it, and where its words come from."""
-
-    path: str
-    text: str
-    imports: Imports
-
-
-def part_of(reached: Reached) -> Part:
-    """Return what is reached of a file as a part, without comments."""
-    spec, definitions = reached
-    return Part(spec.path, "\n".join(it.code for it in definitions), spec.imports)
-
-
-@dataclass
-class Reach:
-    """What texts reach, in the order in which a reader meets it.
-
-    Attributes
-    ----------
-    definitions : list
-        The definitions, each with its file.
-    types : dict
-        The files and texts of types and constants of the code.
-    libraries : set of str
-        The libraries of the toolchain whose words come.
-    unknown : dict
-        The words that stand nowhere, each with its module.
-    """
-
-    sources: Sources
-    definitions: list[tuple[Spec, Definition]] = field(default_factory=list)
-    types: dict[tuple[str, str], None] = field(default_factory=dict)
-    libraries: set[str] = field(default_factory=set)
-    unknown: dict[str, str] = field(default_factory=dict)
-    seen: set[tuple[str, str]] = field(default_factory=set)
-
-    def words(self, text: str, known: Imports, own: Spec | None = None) -> None:
-        """Visit what the words of a text mean."""
-        for word in words_in(text):
-            front = word.partition(".")[0]
-            if own and front in own.names:
-                self.visit(own.module, front)
-            elif home := known.home(word):
-                self.visit(*home)
-
-    def visit(self, module: str, name: str) -> None:
-        """Visit a word of a module."""
-        library = module.split(".")[1]
-        if not library.startswith("pb_"):
-            self.libraries.add(library)
-        elif (module, name) not in self.seen:
-            self.seen.add((module, name))
-            if ".specs.declared." in module:
-                self.visit_code(module, name)
-            elif module in self.sources.specs:
-                self.visit_definition(self.sources.specs[module], name)
-            else:
-                self.unknown[name] = module
-
-    def visit_code(self, module: str, name: str) -> None:
-        """Visit a type or a constant of the code that a definition names."""
-        found = declared(self.sources, module, name)
-        if found:
-            self.types.setdefault(found)
-        else:
-            self.unknown[name] = module
-
-    def visit_definition(self, spec: Spec, name: str) -> None:
-        """Visit a definition, that of a constructor, or what a file hands on."""
-        definition = spec.names.get(name) or spec.homes.get(name)
-        if definition is None and name in spec.imports.names:
-            self.visit(*spec.imports.names[name])
-        elif definition is None:
-            self.unknown[name] = spec.module
-        elif definition.name != name:
-            self.visit(spec.module, definition.name)
-        else:
-            self.definitions.append((spec, definition))
-            self.words(definition.code, spec.imports, spec)
-
-    def files(self) -> list[Reached]:
-        """Return each file with what is reached of it, in the file's order."""
-        met: dict[str, tuple[Spec, set[Definition]]] = {}
-        for spec, definition in self.definitions:
-            met.setdefault(spec.module, (spec, set()))[1].add(definition)
-        return [(spec, [d for d in spec.definitions if d in some]) for spec, some in met.values()]
-
-
-def declared(sources: Sources, module: str, name: str) -> tuple[str, str] | None:
-    """Return the file and the text of a type or a constant that a definition names."""
-    _, crate, _, _, *place = module.split(".")
-    for depth in range(len(place), -1, -1):
-        path = f"crates/{crate}/src/{'/'.join(place[:depth]) or 'lib'}.rt"
-        if not sources.has(path):
-            continue
-        for wanted in [name, *place[depth:]]:
-            text = item_of(sources.text(path), "struct|enum|const", wanted)
-            if text:
-                return path, text
-    return None
 
 
 def contract(sources: Sources) -> tuple[Function, Part]:
@@ -194,7 +103,7 @@ def ends(sources: Sources, run: Function) -> Iterator[Part]:
 
     The traits of its types, how what `main` hands over has them, and the views of other types.
     """
-    traits = re.findall(r"\b[A-Z]\w*: ([A-Z]\w+)", run.head.partition("(")[0])
+    traits = list(dict.fromkeys(re.findall(r"\b[A-Z]\w*: ([A-Z]\w+)", run.head.partition("(")[0])))
     main = sources.text("crates/plantbal/src/main.rt")
     code = {path: sources.text(path) for path in sources.code}
     for trait in traits:
@@ -216,12 +125,13 @@ def ends(sources: Sources, run: Function) -> Iterator[Part]:
                 yield Part(path, block, imports(text))
 
 
-def laws(sources: Sources) -> Iterator[Part]:
-    """Return the laws that stand beside the contract of the call."""
-    for name in LAWS:
-        found = [one for one in of_libraries(sources) if one.called == name and one.public]
+def contracts(sources: Sources, names: tuple[str, ...]) -> Iterator[Part]:
+    """Return public functions of libraries, each by its crate and its name, with their contracts."""
+    public = [one for one in of_libraries(sources) if one.public]
+    for name in names:
+        found = [one for one in public if f"{one.crate}::{one.called}" == name]
         if len(found) != 1:
-            raise Unknown(f"{len(found)} laws have the name {name}")
+            raise Unknown(f"{len(found)} functions have the name {name}")
         text = sources.text(found[0].path)
         above = text.splitlines()[: found[0].line - 1]
         begin = len(above)
@@ -237,8 +147,8 @@ class Page:
 
     Attributes
     ----------
-    run, ends, laws : Part, list of Part, list of Part
-        The contract of the call, what it takes, and the laws beside it.
+    run, ends, in_memory, laws : Part, list of Part, list of Part, list of Part
+        The contract of the call, what it takes, the calls for bytes in memory, and the laws.
     reach : Reach
         What these reach.
     files : list
@@ -249,15 +159,21 @@ class Page:
 
     run: Part
     ends: list[Part]
+    in_memory: list[Part]
     laws: list[Part]
     reach: Reach
     files: list[Reached]
     repeated: dict[str, list[str]]
 
+    @property
+    def in_front(self) -> list[Part]:
+        """What stands before the definitions."""
+        return [self.run, *self.ends, *self.in_memory, *self.laws]
+
     def renamed(self) -> dict[str, list[str]]:
         """Return the names of the page that are defined nowhere on it, with where they come."""
         found: dict[str, list[str]] = {name: [at] for name, at in self.reach.unknown.items()}
-        for part in [self.run, *self.ends, *self.laws, *map(part_of, self.files)]:
+        for part in [*self.in_front, *map(part_of, self.files)]:
             for word in dict.fromkeys(it.partition(".")[0] for it in words_in(part.text)):
                 module, name = part.imports.names.get(word, ("", word))
                 if name != word and ".pb_" in module:
@@ -289,11 +205,12 @@ class Page:
 def page_of(sources: Sources) -> Page:
     """Return the page."""
     function, run = contract(sources)
-    taken, beside = list(ends(sources, function)), list(laws(sources))
+    taken = list(ends(sources, function))
+    in_memory, beside = (list(contracts(sources, names)) for names in (IN_MEMORY, LAWS))
     reach = Reach(sources)
-    for part in [run, *taken, *beside]:
+    for part in [run, *taken, *in_memory, *beside]:
         reach.words(part.text, part.imports)
-    return Page(run, taken, beside, reach, reach.files(), repeated(sources))
+    return Page(run, taken, in_memory, beside, reach, reach.files(), repeated(sources))
 
 
 @cache
@@ -458,15 +375,25 @@ def body_of(sources: Sources, page: Page) -> list[str]:
         " after them say what a contract sees of those that `main` hands over, and of words."
     )
     lines += shown(page, page.ends)
+    lines += ["", "## For bytes in memory", ""]
+    lines += paragraph(
+        "`run_program` reads the source to its end and then makes one of these calls, so they say of"
+        " these very bytes what the contract can't say of streams that don't show theirs."
+    )
+    lines += shown(page, page.in_memory)
     lines += ["", "## Laws beside it", ""]
     lines += paragraph(
         "These functions do nothing; what matters is their contracts, which are proved of the words"
-        " above and below. They say that each input has exactly one text, that the program's own"
-        " reports pass a check, and that a report after edits is that of the edited file. A session"
-        " of version 1 writes what it wrote before there was a version 2. The decided tests of"
-        " measurements are right. There are least vectors, which differ only on unobservable"
-        " streams. The remaining laws say what follows for printed flows, nodal tests, closed"
-        " periods and plain rows."
+        " above and below. They say that words give one command, that each input has exactly one"
+        " text, that the program's own reports pass a check, that a block passes exactly when it is"
+        " right, and that a report after edits is that of the edited file. A session of version 1"
+        " writes what the same program writes without version 2. In version 2 a declaration changes"
+        " no closed period, and a period's graph depends on what touches the period. The decided tests"
+        " of measurements are right. There are least vectors, which differ only on unobservable"
+        " streams. Printed flows, bounds and statistics are in order, and those of two stages of one"
+        " graph meet. Options add rows and change none, meters never set a stream free, and a window"
+        " has the parts of its periods. The remaining laws say what follows for nodal tests, closed"
+        " periods, plain rows and made sessions."
     )
     lines += shown(page, page.laws)
     for title, files in chapters(sources, page).items():
@@ -477,7 +404,12 @@ def body_of(sources: Sources, page: Page) -> list[str]:
     lines += ["", "## Types of the code"]
     for path, text in page.reach.types:
         lines += ["", f"In `{short(path)}`:", "", *code_block("rust", text)]
-    return lines
+    lines += ["", f"## {TOOLCHAIN_TITLE}", ""]
+    lines += paragraph(
+        "These are the toolchain's words that the page uses, as the kit's own files explain and"
+        " define them. The words that their definitions use in turn are in the same files."
+    )
+    return [*lines, "", *toolchain.table(page.reach.toolchain)]
 
 
 def document(sources: Sources) -> str:
@@ -485,7 +417,6 @@ def document(sources: Sources) -> str:
     page = page_of(sources)
     body = body_of(sources, page)
     count = sum(len(definitions) for _, definitions in page.files)
-    libraries = ", ".join(f"`{name}`" for name in sorted(page.reach.libraries))
     head = [
         "# What must be believed",
         "",
@@ -500,8 +431,7 @@ def document(sources: Sources) -> str:
             f" mean what they should. This page has all of these words: {count} definitions in"
             f" {len(page.files)} files, in chapters by the questions of a reader, and then the"
             f" {len(page.reach.types)} types and constants of the code to which they refer."
-            " Words that aren't here come from the toolchain's libraries:"
-            f" {libraries}. Nothing else in the repository has to be read to know what is claimed:"
+            " Words of the toolchain's libraries stand in a table at the end. Nothing else in the repository has to be read to know what is claimed:"
             " bodies, invariants, lemmas and the other contracts only serve to prove it."
         ),
         "",
