@@ -157,7 +157,7 @@ OF_TAGS = {
 }
 OF_READINGS = but(OF_TAGS, workbook="") | {
     name: (OF_TAGS[name][0], "the table of tags has no tag '.*; say --skip '.*'")
-    for name in ("a session", "a report", "JSON lines")
+    for name in ("a session", "a report")
 }
 # Of a session the plant alone is wanted.
 OF_PLANTS = but(
