@@ -17,17 +17,17 @@ import importlib
 from typing import TYPE_CHECKING, Any
 
 if TYPE_CHECKING:
-    from plantbal.advice import advise
-    from plantbal.conversion import convert
     from plantbal.faults import Fault, InputFault, ProgramFault, Refusal, ToolMissing
     from plantbal.lint import lint_session
     from plantbal.lint import Finding
-    from plantbal.output import Output, read_report
     from plantbal.program import find_program
+    from plantbal.report.output import Output, read_report
     from plantbal.runs import check, run
     from plantbal.session import Session
-    from plantbal.solver import solve
-    from plantbal.uncertainty import uncertainty_of
+    from plantbal.study.advice import advise
+    from plantbal.study.solver import solve
+    from plantbal.study.uncertainty import uncertainty_of
+    from plantbal.workbook.conversion import convert
 
 __all__ = [
     "Fault",
@@ -54,20 +54,20 @@ _HOMES = {
     "Fault": "faults",
     "Finding": "lint",
     "InputFault": "faults",
-    "Output": "output",
+    "Output": "report.output",
     "ProgramFault": "faults",
     "Refusal": "faults",
     "Session": "session",
     "ToolMissing": "faults",
-    "advise": "advice",
+    "advise": "study.advice",
     "check": "runs",
-    "convert": "conversion",
+    "convert": "workbook.conversion",
     "find_program": "program",
     "lint_session": "lint",
-    "read_report": "output",
+    "read_report": "report.output",
     "run": "runs",
-    "solve": "solver",
-    "uncertainty_of": "uncertainty",
+    "solve": "study.solver",
+    "uncertainty_of": "study.uncertainty",
 }
 
 

@@ -60,30 +60,36 @@ class Command:
 
 
 COMMANDS: tuple[Command, ...] = (
-    Command("run", "commands:RUN", "run a session, and say what has to be looked at"),
+    Command("run", "commands.running:RUN", "run a session, and say what has to be looked at"),
     Command("lint", "lint.command", "say what in a session is accepted but looks wrong"),
     Command("explain", "explain.command", "say for each refused row what is wrong with it"),
-    Command("check", "commands:CHECK", "check a report, in CSV or as JSON lines"),
-    Command("archive", "archive", "put a month into a bundle with digests"),
-    Command("audit", "audit", "say whether a bundle, or a report and its session, holds"),
-    Command("report", "commands:REPORT", "turn a report into CSV, SQLite or a workbook"),
-    Command("solve", "commands:SOLVE", "reconcile with scipy if sweeps don't come near"),
-    Command("convert", "conversion", "a session from a plant's workbook"),
+    Command("check", "commands.running:CHECK", "check a report, in CSV or as JSON lines"),
+    Command("archive", "audit.archive", "put a month into a bundle with digests"),
+    Command("audit", "audit.command", "say whether a bundle, or a report and its session, holds"),
+    Command("report", "commands.running:REPORT", "turn a report into CSV, SQLite or a workbook"),
+    Command("solve", "commands.running:SOLVE", "reconcile with scipy if sweeps don't come near"),
+    Command("convert", "workbook.conversion", "a session from a plant's workbook"),
     Command("book", "book.command", "keep a plant's book, a session for each year"),
-    Command("template", "template", "an empty workbook for convert"),
-    Command("from-spreadsheet", "spreadsheet", "a session from daily readings and tags"),
-    Command("tables", "tables", "tables of flows, classes, suspects, imbalances"),
-    Command("uncertainty", "uncertainty", "how good each flow is, and which meters it rests on"),
-    Command("advise", "advice", "which streams to meter so that each is observable, at least cost"),
+    Command("template", "workbook.template", "an empty workbook for convert"),
+    Command("from-spreadsheet", "workbook.spreadsheet", "a session from daily readings and tags"),
+    Command("tables", "report.tables", "tables of flows, classes, suspects, imbalances"),
+    Command(
+        "uncertainty", "study.uncertainty", "how good each flow is, and which meters it rests on"
+    ),
+    Command(
+        "advise", "study.advice", "which streams to meter so that each is observable, at least cost"
+    ),
     Command("balance", "balance.command", "reconcile flows and grades together, with both errors"),
-    Command("recovery", "recovery", "where a component goes, its recovery, and a chart of it"),
-    Command("draw", "picture", "draw a report, a design, or which streams to meter"),
-    Command("chart", "chart", "chart the periods of one or more reports"),
+    Command(
+        "recovery", "study.recovery", "where a component goes, its recovery, and a chart of it"
+    ),
+    Command("draw", "report.picture", "draw a report, a design, or which streams to meter"),
+    Command("chart", "report.chart", "chart the periods of one or more reports"),
     Command("page", "page.command", "the month's statement: a page, a workbook, a PDF"),
     Command("fleet", "fleet.command", "run a folder of sessions", takes_words=True),
-    Command("critical", "critical", "critical values as rows of a session"),
-    Command("from-scipy", "foreign", "another program's figures in the form of a report"),
-    Command("schema", "commands:SCHEMA", "the rows of sessions and outputs as data"),
+    Command("critical", "study.critical", "critical values as rows of a session"),
+    Command("from-scipy", "study.foreign", "another program's figures in the form of a report"),
+    Command("schema", "commands.running:SCHEMA", "the rows of sessions and outputs as data"),
 )
 
 EPILOG = """

@@ -6,12 +6,12 @@ from collections.abc import Callable
 from pathlib import Path
 from typing import TYPE_CHECKING
 
+from plantbal.audit.believed import judge
 from plantbal.faults import InputFault, Place, read_bytes
-from plantbal.believed import judge
 from plantbal.forms import session_to_run
-from plantbal.output import Output, parse_report, verdict_frame
 from plantbal.program import call, words_of
-from plantbal.report import parse_rows
+from plantbal.report.blocks import parse_rows
+from plantbal.report.output import Output, parse_report, verdict_frame
 from plantbal.session import Session
 
 if TYPE_CHECKING:

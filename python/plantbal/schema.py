@@ -12,6 +12,8 @@ from functools import lru_cache
 from pathlib import Path
 from typing import Any
 
+FILE = Path(__file__).with_name("schema.json")
+
 
 @dataclass(frozen=True, slots=True)
 class Column:
@@ -211,7 +213,7 @@ def _codes(data: list[dict[str, Any]]) -> dict[int, Code]:
 @lru_cache(maxsize=1)
 def schema() -> Schema:
     """Return the rows and codes that the program has."""
-    data = json.loads(Path(__file__).with_name("schema.json").read_text(encoding="utf-8"))
+    data = json.loads(FILE.read_text(encoding="utf-8"))
     return Schema(
         limits=data["limits"],
         session=tuple(_row(row) for row in data["session"]),

@@ -13,11 +13,11 @@ from hypothesis import strategies as st
 from test_program import QUICK
 
 from plantbal import Fault, Output, Session
-from plantbal.advice import advise, plant_of, read_costs
-from plantbal.output import parse_report
+from plantbal.model.topology import Arc, classes_of
 from plantbal.page.command import page
-from plantbal.picture import advised
-from plantbal.topology import Arc, classes_of
+from plantbal.report.output import parse_report
+from plantbal.report.picture import advised
+from plantbal.study.advice import advise, plant_of, read_costs
 
 METERS = example("crude_unit_meters.csv")
 COSTS = {"CRUDE": 12000, "RES": 9000, "NAPH": 4000, "KERO": 4500, "SLOP": 300}

@@ -13,9 +13,8 @@ from conftest import TOP, Desk, Said, example, words_of
 from hypothesis import HealthCheck, given, settings
 from hypothesis import strategies as st
 
-from plantbal.archive import bundle_files
-from plantbal.build import Build, build_of
-from plantbal.bundle import (
+from plantbal.audit.archive import bundle_files
+from plantbal.audit.bundle import (
     DIGESTS,
     MANIFEST,
     NAMES,
@@ -27,13 +26,14 @@ from plantbal.bundle import (
     packed,
     unpacked,
 )
-from plantbal.changed import digest, digests_of_parts, where
+from plantbal.audit.changed import digest, digests_of_parts, where
+from plantbal.audit.held import Pair, answers_of, refused_differ
+from plantbal.audit.runwords import words_read
+from plantbal.build import Build, build_of
 from plantbal.faults import Fault, InputFault
-from plantbal.held import Pair, answers_of, refused_differ
 from plantbal.model.ledger import Ledger
+from plantbal.model.studies import studies_of
 from plantbal.program import call
-from plantbal.runwords import words_read
-from plantbal.studies import studies_of
 
 QUICK = settings(max_examples=15, deadline=None, suppress_health_check=list(HealthCheck))
 TIME = ("--time", "2024-05-02T06:00:00Z")
@@ -385,7 +385,7 @@ def test_the_place_of_a_digit(bundles: dict[str, Path], data: st.DataObject) -> 
 
 def test_the_place_of_a_digit_in_a_long_text(monkeypatch: pytest.MonkeyPatch) -> None:
     """What a long manifest states is at its beginning, and is tried; the rest may not be."""
-    monkeypatch.setattr("plantbal.changed._MOST_BYTES", 1 << 20)
+    monkeypatch.setattr("plantbal.audit.changed._MOST_BYTES", 1 << 20)
     text = b"12" * 1000
     for place, wanted in ((0, told(text, 0, 51)), (1500, "")):
         assert where(with_digit(text, place, 51), digest(text)) == wanted
@@ -582,7 +582,7 @@ def test_totals_beyond_the_limits(say: Desk, tmp_path: Path) -> None:
 
 def test_another_program(say: Desk, tmp_path: Path, monkeypatch: pytest.MonkeyPatch) -> None:
     other = {"sha256": "0" * 64, "version": "unknown", "commit": "unknown", "from": "nowhere"}
-    monkeypatch.setattr("plantbal.archive.program_of", lambda path: other)
+    monkeypatch.setattr("plantbal.audit.archive.program_of", lambda path: other)
     bundle = tmp_path / "b.zip"
     assert say("archive", example("two_meters.csv"), "--out", bundle, *TIME).status == 0
     said = say("audit", bundle)

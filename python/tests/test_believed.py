@@ -10,8 +10,8 @@ from books import Type, files_of, fixture_book
 from conftest import Desk, example, text_of
 
 from plantbal import run
+from plantbal.audit.believed import judge, program_digest
 from plantbal.faults import InputFault
-from plantbal.believed import judge, program_digest
 
 __all__ = ["fixture_book"]
 

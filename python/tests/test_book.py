@@ -11,8 +11,8 @@ from books import PLANT, Sheets, Type, files_of, fixture_book, folder, journal_o
 from conftest import Desk, text_of
 
 from plantbal.book.meters import decimal, error_text, read_meters
-from plantbal.cells import Error
 from plantbal.program import call
+from plantbal.workbook.cells import Error
 
 __all__ = ["fixture_book"]
 

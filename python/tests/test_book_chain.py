@@ -14,11 +14,11 @@ import pytest
 from books import Type, files_of, fixture_book, folder, journal_of, month, rows_of
 from conftest import Desk, example, text_of
 
+from plantbal.audit.linked import manifest_of
 from plantbal.book.chain import Chain, checks_of, checks_text
 from plantbal.book.journal import HEAD_TEXT, Act, Kept, Line, chained, read_journal
 from plantbal.book.store import Action, Book
 from plantbal.faults import InputFault
-from plantbal.linked import manifest_of
 
 __all__ = ["fixture_book"]
 

@@ -15,9 +15,9 @@ from pathlib import Path
 import pytest
 from conftest import Desk, Said, example, text_of
 
-from plantbal import audit
-from plantbal.archive import bundle_files
-from plantbal.bundle import (
+from plantbal.audit import command as audit
+from plantbal.audit.archive import bundle_files
+from plantbal.audit.bundle import (
     DIGESTS,
     MANIFEST,
     MOST_BYTES,
@@ -29,7 +29,7 @@ from plantbal.bundle import (
     packed,
     unpacked,
 )
-from plantbal.changed import digest
+from plantbal.audit.changed import digest
 from plantbal.faults import InputFault
 from plantbal.newfile import write_new
 
@@ -299,7 +299,7 @@ def test_a_program_that_never_ends(say: Desk, tmp_path: Path) -> None:
 
 def test_a_stream_that_is_larger_than_it_says() -> None:
     """No more is unpacked of a stream than its entry says."""
-    from plantbal.container import _is_one_stream
+    from plantbal.audit.container import _is_one_stream
 
     packer = zlib.compressobj(9, zlib.DEFLATED, -15)
     stream = packer.compress(bytes(5 << 20)) + packer.flush()

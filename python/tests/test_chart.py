@@ -14,9 +14,9 @@ import pytest
 from conftest import Desk, example, text_of
 
 from plantbal import Output, read_report
-from plantbal.chart import Chart, write_chart
-from plantbal.output import parse_report
-from plantbal.trend import Trend, days_of_name, trend_of
+from plantbal.report.chart import Chart, write_chart
+from plantbal.report.output import parse_report
+from plantbal.report.trend import Trend, days_of_name, trend_of
 
 TESTED = example("concentrator/tested.out.csv")
 

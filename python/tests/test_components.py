@@ -15,13 +15,13 @@ from conftest import Desk, Said, assert_refused, example, session_of, text_of
 from pages import read
 
 from plantbal import Session, run, solve
-from plantbal.cells import Reader
 from plantbal.faults import Fault, Refusal
-from plantbal.output import read_report
 from plantbal.page.command import page
-from plantbal.recovery import Balance, balances_of, products_of, together
-from plantbal.report import parse_rows
-from plantbal.workbook import Cell, Sheet
+from plantbal.report.blocks import parse_rows
+from plantbal.report.output import read_report
+from plantbal.study.recovery import Balance, balances_of, products_of, together
+from plantbal.workbook.cells import Reader
+from plantbal.workbook.sheets import Cell, Sheet
 
 COPPER = example("flotation_copper.csv")
 OUT = example("flotation_copper.out.csv")

@@ -19,12 +19,12 @@ from hypothesis import given, settings
 from hypothesis import strategies as st
 
 from plantbal import convert
-from plantbal.cells import Reader
 from plantbal.faults import Fault
 from plantbal.program import call
 from plantbal.session import Session
-from plantbal.template import KINDS, heads, template
-from plantbal.workbook import EPOCH, Cell, Sheet, letters, read_workbook
+from plantbal.workbook.cells import Reader
+from plantbal.workbook.sheets import EPOCH, Cell, Sheet, letters, read_workbook
+from plantbal.workbook.template import KINDS, heads, template
 
 Rows = list[list[Any]]
 Book = dict[str, Rows]

@@ -51,7 +51,9 @@ def test_help_of(command: desk.Command) -> None:
     assert command.word in text
 
 
-@pytest.mark.parametrize("module", ["plantbal", "plantbal.session.builder", "plantbal.trend"])
+@pytest.mark.parametrize(
+    "module", ["plantbal", "plantbal.session.builder", "plantbal.report.trend"]
+)
 def test_examples_of_docstrings(module: str) -> None:
     found = doctest.testmod(importlib.import_module(module))
     assert found.attempted > 0 and found.failed == 0

@@ -25,7 +25,7 @@ from plantbal.fleet.keep import checksums
 from plantbal.fleet.rows import HEADS
 from plantbal.fleet.sites import sites
 from plantbal.inert import inert
-from plantbal.report import Subject, over_of, parse_rows, subjects_of
+from plantbal.report.blocks import Subject, over_of, parse_rows, subjects_of
 
 SITE = """unit,U
 stream,FEED,env,U,metered,1

@@ -26,7 +26,7 @@ from plantbal.fleet.sites import Site, sites
 from plantbal.fleet.taking import Taker
 from plantbal.inert import inert
 from plantbal.limits import SESSION_BYTES
-from plantbal.report import Subject
+from plantbal.report.blocks import Subject
 
 NIGHT = "2026-11-29"
 BLOCK = """report,{0},{1},2,1,10,5000

@@ -12,9 +12,9 @@ from hypothesis import strategies as st
 
 from plantbal import Output, Session, check, read_report, run, solve
 from plantbal.faults import Fault
-from plantbal.output import parse_report
 from plantbal.program import call
-from plantbal.solver import Uncertified
+from plantbal.report.output import parse_report
+from plantbal.study.solver import Uncertified
 
 NAMES = ["heat_exchanger", "refinery_day", "badly_typed", "concentrator/session"]
 HEAT = example("heat_exchanger.out.csv")
@@ -150,7 +150,7 @@ def test_solve_examples(program: Path, path: Path) -> None:
 
 def test_uncertified(program: Path, monkeypatch: pytest.MonkeyPatch) -> None:
     """What doesn't get a yes isn't handed out."""
-    from plantbal import solver
+    from plantbal.study import solver
 
     flows_of = solver.flows_of
 

@@ -14,8 +14,8 @@ from conftest import TOP, Desk, example
 
 from plantbal.faults import Fault
 from plantbal.inert import csv_text, inert, is_computed, printable
-from plantbal.output import parse_report
 from plantbal.page import paper
+from plantbal.report.output import parse_report
 
 FORMULA = '=HYPERLINK("http://evil/","x")'
 

@@ -16,8 +16,8 @@ from plantbal import limits
 from plantbal.explain import explain_bytes
 from plantbal.faults import InputFault, read_beginning, read_bytes
 from plantbal.page.command import page
-from plantbal.report import csv_of, parse_rows
-from plantbal.rows import Numbers, Rows
+from plantbal.report.blocks import csv_of, parse_rows
+from plantbal.report.rows import Numbers, Rows
 from plantbal.session import Session
 
 PLANT = "unit,U\nstream,F,env,U,metered,1\nstream,P,U,env,metered,1\nperiod,m,2024-05-01,2024-05-31\n"

@@ -15,15 +15,15 @@ from mistakes import BASE, MISTAKES, Mistake
 import plantbal
 from plantbal.fleet.command import lint_plants
 from plantbal.fleet.rows import Plant, Row
-from plantbal.fleet.taking import Taker
 from plantbal.fleet.sites import sites
+from plantbal.fleet.taking import Taker
 from plantbal.lint import brief, lint_session, summary
 from plantbal.lint.findings import RULES, SEVERITIES
 from plantbal.lint.plant import near_pairs, one_letter_apart
+from plantbal.model.topology import Arc, classes_of, degrees_of_freedom
 from plantbal.program import call
-from plantbal.report import Block, blocks_of, parse_rows
+from plantbal.report.blocks import Block, blocks_of, parse_rows
 from plantbal.session import LIMITS
-from plantbal.topology import Arc, classes_of, degrees_of_freedom
 
 # A unit with a tank after it, over two days.
 PLANT = """\

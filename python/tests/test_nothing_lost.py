@@ -16,9 +16,9 @@ from hypothesis import given, settings
 from hypothesis import strategies as st
 
 from plantbal import convert, limits
-from plantbal.conversion_account import SheetAccount
 from plantbal.faults import InputFault
-from plantbal.workbook import read_workbook
+from plantbal.workbook.account import SheetAccount
+from plantbal.workbook.sheets import read_workbook
 
 TICKETS = text_of(example("refinery_workbook/tickets.csv")).splitlines()
 

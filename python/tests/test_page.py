@@ -14,15 +14,15 @@ from hypothesis import strategies as some
 from pages import read
 
 from plantbal.faults import InputFault
+from plantbal.model.ledger import Ledger
 from plantbal.page.account import account_of
 from plantbal.page.command import page
 from plantbal.page.head import program_text
-from plantbal.model.ledger import Ledger
 from plantbal.page.render import certificate, soft, worded
 from plantbal.page.statement import Line, Worth
 from plantbal.page.verdict import plus_minus
+from plantbal.report.blocks import Values, parse_rows
 from plantbal.runs import run
-from plantbal.report import Values, parse_rows
 
 # The machine may be busy.
 QUICK = settings(deadline=None, max_examples=60)

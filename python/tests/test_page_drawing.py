@@ -11,13 +11,13 @@ from hypothesis import strategies as some
 from pages import read
 from test_page import QUICK, SAMPLES, cells, page_of
 
-from plantbal import picture
+from plantbal.model.topology import Arc
 from plantbal.page.command import page
 from plantbal.page.drawing import MOST, Draftsman, width_of
 from plantbal.page.layout import near
 from plantbal.page.statement import Line
-from plantbal.report import parse_rows
-from plantbal.topology import Arc
+from plantbal.report import picture
+from plantbal.report.blocks import parse_rows
 
 
 def test_width_by_tonnes() -> None:

@@ -10,9 +10,10 @@ from pathlib import Path
 import pytest
 from conftest import Desk, example, text_of
 
-from plantbal import desk, picture
+from plantbal import desk
 from plantbal.faults import Fault
 from plantbal.plain import plain
+from plantbal.report import picture
 
 DAY = text_of(example("refinery_day.out.csv"))
 TESTED = text_of(example("heat_exchanger_suspect.out.csv"))

@@ -12,7 +12,7 @@ from pathlib import Path
 import pytest
 from conftest import TOP, Desk, example, text_of
 
-from plantbal.progress import Progress, reports_asked
+from plantbal.commands.progress import Progress, reports_asked
 
 PLANT = """unit,U
 stream,A,env,U,metered,1

@@ -20,10 +20,10 @@ from hypothesis import strategies as st
 
 import plantbal
 from plantbal import InputFault, Output, Session, read_report
-from plantbal.output import parse_report
 from plantbal.program import call
-from plantbal.report import Block
-from plantbal.uncertainty import COLUMNS, uncertainty_of
+from plantbal.report.blocks import Block
+from plantbal.report.output import parse_report
+from plantbal.study.uncertainty import COLUMNS, uncertainty_of
 
 CONCENTRATOR = example("concentrator/session.out.csv")
 

@@ -9,11 +9,11 @@ from conftest import Desk, example
 from hypothesis import HealthCheck, given, settings
 from hypothesis import strategies as st
 
+from plantbal.audit.verdicts import _PASSED_OVER, explain_check
 from plantbal.checker import PASSED_OVER
 from plantbal.explain import Told
 from plantbal.program import call
 from plantbal.schema import schema
-from plantbal.verdicts import _PASSED_OVER, explain_check
 
 GOOD = """refused,9,4,number
 report,p,0,3,5,10,5000

@@ -11,7 +11,7 @@ import pytest
 from conftest import TOP, example
 
 from plantbal import checker
-from plantbal.verify import find_verify, second_verdict
+from plantbal.audit.verify import find_verify, second_verdict
 
 VERIFY = TOP / "coq" / "plantbal-verify"
 pytestmark = pytest.mark.skipif(not VERIFY.exists(), reason="make -C coq hasn't built it")

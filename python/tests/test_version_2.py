@@ -18,17 +18,17 @@ from hypothesis import strategies as st
 from test_program import QUICK, judged, refusals
 
 from plantbal import Session, convert
+from plantbal.audit.held import Pair, answers_of, refused_differ
 from plantbal.faults import Refusal
-from plantbal.held import Pair, answers_of, refused_differ
-from plantbal.model.ledger import Ledger
 from plantbal.lint import lint_session
-from plantbal.output import parse_report
+from plantbal.model.ledger import Ledger
+from plantbal.model.studies import studies_of
 from plantbal.page.command import page
 from plantbal.program import call
-from plantbal.report import parse_rows
-from plantbal.studies import studies_of
-from plantbal.tables import frame, pivot, with_deviations
-from plantbal.trend import trend_of
+from plantbal.report.blocks import parse_rows
+from plantbal.report.output import parse_report
+from plantbal.report.tables import frame, pivot, with_deviations
+from plantbal.report.trend import trend_of
 
 __all__ = ["fixture_book"]
 
@@ -97,7 +97,7 @@ def test_readings_at_once() -> None:
     days = ["2024-03-15", "2024-03-17"]
     columns = ["a", "b"], ["A", "A"], days, ["5", "5"], ["0", "0"]
     frame = pandas.DataFrame(dict(zip(("id", "stream", "day", "grams", "variance"), columns)))
-    from plantbal.frames import Table
+    from plantbal.session.frames import Table
 
     session.take_readings(columns, Table("readings", frame).place)
     assert [(each.row[1], each.code) for each in session.refused] == [("b", 12)]

@@ -13,9 +13,9 @@ from conftest import Desk, Said, assert_refused, example, session_of, text_of
 from plantbal import Session, run, solve
 from plantbal.book.window import undipped
 from plantbal.faults import Refusal
-from plantbal.output import Output, read_report
 from plantbal.page.command import page
-from plantbal.report import blocks_of, last_blocks, parse_rows, reports_of
+from plantbal.report.blocks import blocks_of, last_blocks, parse_rows, reports_of
+from plantbal.report.output import Output, read_report
 from plantbal.schema import schema
 
 MISSED = example("missed_dip.csv")

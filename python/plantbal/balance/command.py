@@ -7,18 +7,18 @@ import json
 import sys
 from collections.abc import Iterable
 
-from plantbal.advice import plant_of
 from plantbal.balance.certify import pulls_of, session_of
 from plantbal.balance.known import Class, Known
 from plantbal.balance.reading import GRAMS, Asked, asked_of
 from plantbal.balance.solve import solve
 from plantbal.balance.table import Line, lines_of, recoveries_of, said_of
+from plantbal.commands.options import add_program
 from plantbal.faults import read_bytes
 from plantbal.files import write_text
-from plantbal.options import add_program
-from plantbal.output import Output
-from plantbal.report import last_blocks
+from plantbal.report.blocks import last_blocks
+from plantbal.report.output import Output
 from plantbal.runs import check, run as run_program
+from plantbal.study.advice import plant_of
 
 HELP = """
 SESSION is a session with assays. The flows of PERIOD and the grades in them are reconciled at once:

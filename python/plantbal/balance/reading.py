@@ -8,7 +8,7 @@ from dataclasses import dataclass
 from plantbal.balance.problem import Flow, Measured, Problem
 from plantbal.faults import InputFault, Place
 from plantbal.records import read_records, text_of, without_empty_end
-from plantbal.report import Block, last_blocks
+from plantbal.report.blocks import Block, last_blocks
 from plantbal.runs import run
 
 # Grams of a tonne, and parts per million of the whole.

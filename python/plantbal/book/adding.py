@@ -16,13 +16,13 @@ from plantbal.book.reading import ANOTHER_VALUE, converted, raise_all
 from plantbal.book.said import FIRST, added, changed, counted, doubts, lacking
 from plantbal.book.store import METERS, PLANT, Act, Action, Book
 from plantbal.book.years import Years
-from plantbal.conversion_facts import Converter
+from plantbal.commands.options import add_reading
 from plantbal.faults import Fault, InputFault, Refusal
 from plantbal.model.causes import Cause, Reason
-from plantbal.options import add_reading
 from plantbal.records import text_of
 from plantbal.session import Period
-from plantbal.workbook import Cell
+from plantbal.workbook.facts import Converter
+from plantbal.workbook.sheets import Cell
 
 
 def add_arguments(parser: argparse.ArgumentParser) -> None:

@@ -9,20 +9,20 @@ import argparse
 from collections.abc import Iterable
 from pathlib import Path
 
+from plantbal.audit.believed import program_digest
 from plantbal.book.forms import JOURNAL, is_year, is_year_file, year_file
 from plantbal.book.ledger import PLANT_KINDS, rows_text
 from plantbal.book.meters import Meter, meters_of, meters_text
 from plantbal.book.reading import reader_of, say_faults, sheets_of
 from plantbal.book.said import counted, listed
 from plantbal.book.store import METERS, PLANT, Act, Action, Book
-from plantbal.conversion import Conversion
-from plantbal.conversion_facts import Converter
-from plantbal.conversion_tables import PLANT_SHEETS
+from plantbal.commands.options import add_program, add_reading
 from plantbal.faults import Fault, InputFault, Place
-from plantbal.believed import program_digest
-from plantbal.options import add_program, add_reading
 from plantbal.program import call
-from plantbal.report import parse_rows
+from plantbal.report.blocks import parse_rows
+from plantbal.workbook.conversion import Conversion
+from plantbal.workbook.facts import Converter
+from plantbal.workbook.tables import PLANT_SHEETS
 
 
 def add_arguments(parser: argparse.ArgumentParser) -> None:

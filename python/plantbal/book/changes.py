@@ -7,9 +7,9 @@ from dataclasses import dataclass, field, replace
 
 from plantbal.book.ledger import Fact, Ledger
 from plantbal.book.years import Years
-from plantbal.conversion_facts import Converter
 from plantbal.faults import Fault
 from plantbal.session import Period
+from plantbal.workbook.facts import Converter
 
 
 @dataclass(frozen=True)

@@ -7,6 +7,7 @@ from dataclasses import dataclass, replace
 from fractions import Fraction
 from types import SimpleNamespace
 
+from plantbal.audit.believed import program_digest
 from plantbal.book.forms import report_file
 from plantbal.book.ledger import Fact, Ledger
 from plantbal.book.meters import Meter, read_meters, taken
@@ -21,11 +22,10 @@ from plantbal.book.reporting import (
 from plantbal.book.said import lacks, unassayed
 from plantbal.book.store import METERS, Act, Action, Book
 from plantbal.book.years import Years
-from plantbal.cells import Reader, check_locale
-from plantbal.conversion_plant import Tank
+from plantbal.commands.options import add_run
 from plantbal.faults import Fault, Refusal
-from plantbal.believed import program_digest
-from plantbal.options import add_run
+from plantbal.workbook.cells import Reader, check_locale
+from plantbal.workbook.plant import Tank
 
 
 # ---- other values

@@ -12,6 +12,7 @@ from dataclasses import replace
 from pathlib import Path
 
 from plantbal.amounts import tonnes_of
+from plantbal.audit.believed import program_digest
 from plantbal.book.beginning import check_year, classes_of, plant_of
 from plantbal.book.contents import contents_of
 from plantbal.book.ledger import Fact, Ledger, plain, rows_text
@@ -20,9 +21,8 @@ from plantbal.book.naming import day_of
 from plantbal.book.said import counted
 from plantbal.book.store import METERS, PLANT, Act, Action, Book
 from plantbal.book.years import Years, calendar_year, periods_of
+from plantbal.commands.options import add_program, add_reading
 from plantbal.faults import Fault, InputFault, Place, Refusal
-from plantbal.believed import program_digest
-from plantbal.options import add_program, add_reading
 from plantbal.records import read_records
 
 _DAY = datetime.timedelta(1)

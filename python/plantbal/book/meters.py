@@ -12,9 +12,9 @@ from dataclasses import dataclass
 from fractions import Fraction
 from pathlib import Path
 
-from plantbal.cells import DENSITIES, GRAMS, VOLUMES, Error, Reader
-from plantbal.conversion_plant import Plant, Stream, Tank
-from plantbal.workbook import Cell, Sheet, read_csv
+from plantbal.workbook.cells import DENSITIES, GRAMS, VOLUMES, Error, Reader
+from plantbal.workbook.plant import Plant, Stream, Tank
+from plantbal.workbook.sheets import Cell, Sheet, read_csv
 
 HEADS = ("name", "tag", "unit", "density", "error")
 _LONGEST = 60

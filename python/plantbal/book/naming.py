@@ -9,9 +9,9 @@ from dataclasses import dataclass
 from plantbal.book.ledger import Fact, Ledger
 from plantbal.book.meters import Meter
 from plantbal.book.years import Years
-from plantbal.cells import Reader, check_locale
 from plantbal.faults import Fault, Place
-from plantbal.workbook import Cell, Sheet
+from plantbal.workbook.cells import Reader, check_locale
+from plantbal.workbook.sheets import Cell, Sheet
 
 _DAY = datetime.timedelta(1)
 

@@ -12,14 +12,14 @@ from pathlib import Path
 
 from plantbal.book.meters import Meter, taken
 from plantbal.book.said import counted, listed
-from plantbal.cells import MISSING, Reader, check_locale
-from plantbal.conversion import Conversion
-from plantbal.conversion_facts import Converter
-from plantbal.conversion_plant import Stream, Tank
-from plantbal.conversion_tables import OTHER_HEADS, SHEETS
 from plantbal.faults import Fault, InputFault, Refusal
 from plantbal.memory import uncollected
-from plantbal.workbook import Sheet, read_workbook
+from plantbal.workbook.cells import MISSING, Reader, check_locale
+from plantbal.workbook.conversion import Conversion
+from plantbal.workbook.facts import Converter
+from plantbal.workbook.plant import Stream, Tank
+from plantbal.workbook.sheets import Sheet, read_workbook
+from plantbal.workbook.tables import OTHER_HEADS, SHEETS
 
 _PLANT = ("boundaries", "units", "tanks", "straps")
 _FIRST = 12  # faults that are said; the others are counted

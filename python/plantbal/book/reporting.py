@@ -6,19 +6,19 @@ import argparse
 from collections.abc import Sequence
 from decimal import Decimal
 
+from plantbal.audit.believed import judge, program_digest
 from plantbal.book.forms import earlier_file, old_earlier_file, report_file, year_file
 from plantbal.book.ledger import Ledger, plain
 from plantbal.book.meters import read_meters
 from plantbal.book.said import counted, lacks
 from plantbal.book.store import METERS, Act, Action, Book
 from plantbal.book.years import Years
+from plantbal.commands.options import add_run
 from plantbal.faults import Fault
 from plantbal.files import write_text
-from plantbal.believed import judge, program_digest
-from plantbal.options import add_run
-from plantbal.output import Output, parse_report
 from plantbal.program import call, words_of
-from plantbal.report import Block, last_blocks
+from plantbal.report.blocks import Block, last_blocks
+from plantbal.report.output import Output, parse_report
 
 _MOST = 5  # suspects that are named
 

@@ -11,9 +11,9 @@ from plantbal.book.forms import JOURNAL
 from plantbal.book.ledger import PLANT_KINDS, Fact, Ledger
 from plantbal.book.meters import Meter
 from plantbal.book.store import Book
-from plantbal.conversion_facts import days_of, spans, tank_days
 from plantbal.lint import RULES, lint_session
 from plantbal.session import Period, day_of_number, in_service, is_served, period_days
+from plantbal.workbook.facts import days_of, spans, tank_days
 
 FIRST = 12  # things of which each is shown; the others are counted
 _NEW = {

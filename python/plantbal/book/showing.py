@@ -12,8 +12,8 @@ from plantbal.book.naming import Names, day_of
 from plantbal.book.said import waiting_said
 from plantbal.book.store import METERS, Book
 from plantbal.book.years import Years
-from plantbal.cells import GRAMS, VOLUMES
 from plantbal.faults import Fault
+from plantbal.workbook.cells import GRAMS, VOLUMES
 
 
 def add_arguments(parser: argparse.ArgumentParser) -> None:

@@ -8,13 +8,13 @@ import re
 from collections.abc import Iterator
 from types import SimpleNamespace
 
+from plantbal.audit.changed import digest
+from plantbal.audit.linked import manifest_of
 from plantbal.book.chain import state_of
 from plantbal.book.forms import JOURNAL, there
 from plantbal.book.said import counted, waiting_said
 from plantbal.book.store import Act, Action, Book, Head
-from plantbal.changed import digest
 from plantbal.faults import Fault, read_bytes
-from plantbal.linked import manifest_of
 
 _DIGEST = re.compile(r"(?:([0-9]+) )?([0-9a-f]{64})")
 

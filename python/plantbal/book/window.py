@@ -7,6 +7,7 @@ import argparse
 from collections.abc import Iterator
 
 from plantbal.amounts import tonnes_text
+from plantbal.audit.believed import program_digest
 from plantbal.book.forms import window_file, year_file
 from plantbal.book.overview import window_behind
 from plantbal.book.reporting import (
@@ -17,12 +18,11 @@ from plantbal.book.reporting import (
 )
 from plantbal.book.store import Act, Action, Book
 from plantbal.book.years import Years
+from plantbal.commands.options import add_run
 from plantbal.faults import Fault, Refusal
 from plantbal.files import write_text
-from plantbal.believed import program_digest
-from plantbal.options import add_run
-from plantbal.report import Block
-from plantbal.uncertainty import uncertainty_of
+from plantbal.report.blocks import Block
+from plantbal.study.uncertainty import uncertainty_of
 
 
 def add_arguments(parser: argparse.ArgumentParser) -> None:

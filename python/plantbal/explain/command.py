@@ -15,7 +15,7 @@ from plantbal.faults import InputFault, Place, read_bytes
 from plantbal.files import write_text
 from plantbal.plain import plain
 from plantbal.records import read_records, without_empty_end
-from plantbal.report import Values, read_rows
+from plantbal.report.blocks import Values, read_rows
 from plantbal.schema import schema
 
 _MOST_RECORD = (1 << 56) - 1
@@ -99,7 +99,7 @@ def run(options: argparse.Namespace) -> int:
     """Write the explanation."""
     source, data = read_bytes(options.session)
     if is_report(data):
-        from plantbal.verdicts import explain_check
+        from plantbal.audit.verdicts import explain_check
 
         said = explain_check(source, data, options.output, options.program)
     else:

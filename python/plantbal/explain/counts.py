@@ -7,8 +7,8 @@ from collections.abc import Iterable, Sequence
 from dataclasses import dataclass
 
 from plantbal.explain.text import quoted
-from plantbal.meant import day_meant, number_meant
 from plantbal.model.forms import FIRST_DAY, LAST_DAY, field_fits, rows_of_kind, rows_of_word
+from plantbal.model.meant import day_meant, number_meant
 from plantbal.schema import Column, Row
 
 

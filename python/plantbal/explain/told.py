@@ -5,7 +5,7 @@ from __future__ import annotations
 from collections.abc import Sequence
 from dataclasses import dataclass, field
 
-from plantbal.refusals import Refusals
+from plantbal.model.refusals import Refusals
 
 
 @dataclass(slots=True)

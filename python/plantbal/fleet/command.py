@@ -16,6 +16,7 @@ from contextlib import closing, contextmanager
 from dataclasses import dataclass, field, replace
 from pathlib import Path
 
+from plantbal.commands.options import seconds_of
 from plantbal.faults import Fault, InputFault
 from plantbal.files import write_text
 from plantbal.fleet.engines import WHY, Asked, Ended, Engine, Job
@@ -24,7 +25,6 @@ from plantbal.fleet.night import Kept, Night, Run, alone
 from plantbal.fleet.rows import Plant, failed, summary
 from plantbal.fleet.sites import NIGHT, Site, sites
 from plantbal.fleet.taking import Taker
-from plantbal.options import seconds_of
 from plantbal.program import find_program
 
 HELP = """

@@ -9,7 +9,7 @@ from functools import cached_property
 from itertools import islice
 from pathlib import Path
 
-from plantbal.believed import judge
+from plantbal.audit.believed import judge
 from plantbal.faults import InputFault, decoded, read_bytes
 from plantbal.fleet.engines import WHY
 from plantbal.fleet.given import Given, days_of, has_critical
@@ -28,7 +28,7 @@ from plantbal.fleet.rows import Plant, Row, failed
 from plantbal.fleet.sites import Site
 from plantbal.program import STATUSES
 from plantbal.records import read_records
-from plantbal.report import (
+from plantbal.report.blocks import (
     Block,
     Subject,
     Values,
@@ -270,7 +270,7 @@ def _of_solution(told: Told, block: Block, solved: Values) -> list[str]:
 
 def _of_components(plant: Plant, output: Path, size: int) -> None:
     """Say which streams carry more of a component than there is of them."""
-    from plantbal.carried import impossible
+    from plantbal.report.carried import impossible
 
     if size > JUDGED_BYTES:
         return  # it isn't judged, which is said

@@ -58,7 +58,10 @@ def template() -> Template:
     except ImportError as error:
         raise ToolMissing("jinja2", "python3-jinja2") from error
     environment = Environment(
-        loader=PackageLoader("plantbal"), autoescape=True, trim_blocks=True, lstrip_blocks=True
+        loader=PackageLoader("plantbal.fleet"),
+        autoescape=True,
+        trim_blocks=True,
+        lstrip_blocks=True,
     )
     return environment.get_template("fleet.html.j2")
 

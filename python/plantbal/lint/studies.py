@@ -9,7 +9,7 @@ from plantbal.lint.findings import Finding, place_in, some_of
 from plantbal.model.forms import LIMITS
 from plantbal.model.ledger import Ledger, Seen
 from plantbal.model.periods import Period
-from plantbal.topology import classes_of, degrees_of_freedom
+from plantbal.model.topology import classes_of, degrees_of_freedom
 
 
 def classes_in(ledger: Ledger, reported: Seen | None = None) -> dict[str, str]:

@@ -17,7 +17,7 @@ from plantbal.model.facts import At
 from plantbal.model.forms import LIMITS, day_of, day_text
 from plantbal.model.periods import Period
 from plantbal.model.plant import ENV, Critical, Service, Stream, most_streams
-from plantbal.topology import Arc
+from plantbal.model.topology import Arc
 
 if TYPE_CHECKING:
     from plantbal.model.state import State

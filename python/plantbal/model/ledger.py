@@ -22,11 +22,11 @@ from plantbal.model.facts import At, Edit, Fact
 from plantbal.model.file import Rows, Step, steps
 from plantbal.model.periods import Period
 from plantbal.model.plant import ENV, Stream
+from plantbal.model.refusals import Refusals
 from plantbal.model.state import State
+from plantbal.model.topology import Arc
 from plantbal.model.words import refusal_of
 from plantbal.records import without_empty_end
-from plantbal.refusals import Refusals
-from plantbal.topology import Arc
 
 # The dips that open and close a tank over a period, if they are there.
 Dips = tuple[Fact | None, Fact | None]
@@ -137,7 +137,7 @@ class Seen:
 
     @property
     def subject(self) -> str:
-        """What is asked for, as `plantbal.report.Block.subject` says it."""
+        """What is asked for, as `plantbal.report.blocks.Block.subject` says it."""
         if self.component:
             return f"{self.component} in {self.period.name}"
         return f"{self.period.name} to {self.last}" if self.last else self.period.name

@@ -9,7 +9,7 @@ from typing import NamedTuple
 
 from plantbal.model.forms import LIMITS, day_of
 from plantbal.model.periods import Period
-from plantbal.topology import Arc
+from plantbal.model.topology import Arc
 
 ENV = "env"
 # From the first to the last day on which a stream or tank is in service, both counted; None is

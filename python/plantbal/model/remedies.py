@@ -8,7 +8,6 @@ from collections.abc import Callable, Iterable
 from dataclasses import dataclass
 from typing import TYPE_CHECKING
 
-from plantbal.meant import day_meant, number_meant
 from plantbal.model.causes import Reason, Refused
 from plantbal.model.forms import (
     DATE,
@@ -23,6 +22,7 @@ from plantbal.model.forms import (
     rows_of_kind,
     word_of,
 )
+from plantbal.model.meant import day_meant, number_meant
 from plantbal.model.plant import ENV, most_streams
 from plantbal.schema import schema
 

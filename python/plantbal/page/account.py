@@ -7,7 +7,6 @@ from dataclasses import dataclass, replace
 from decimal import Decimal
 from typing import TYPE_CHECKING
 
-from plantbal.carried import Impossible, impossible
 from plantbal.model.forms import day_text
 from plantbal.model.ledger import Ledger, Seen
 from plantbal.page.statement import (
@@ -22,7 +21,8 @@ from plantbal.page.statement import (
     Worth,
 )
 from plantbal.page.verdict import Lost, Verdict, names_of, plus_minus, verdict_of, whither
-from plantbal.report import Block, Values, Window, advice_of, blocks_of, designs_of
+from plantbal.report.blocks import Block, Values, Window, advice_of, blocks_of, designs_of
+from plantbal.report.carried import Impossible, impossible
 
 if TYPE_CHECKING:
     from plantbal.lint import Finding

@@ -11,23 +11,23 @@ from pathlib import Path
 from typing import TYPE_CHECKING
 
 from plantbal import limits
+from plantbal.audit.linked import named_book
+from plantbal.commands.options import add_timeout
 from plantbal.faults import Fault, InputFault, Place
 from plantbal.files import write_text
 from plantbal.forms import read_session, session_to_run
-from plantbal.judged import judge_rows
-from plantbal.linked import named_book
 from plantbal.model.ledger import Ledger
-from plantbal.options import add_timeout
 from plantbal.page.account import account_of
 from plantbal.page.head import Origin
 from plantbal.page.render import render
 from plantbal.page.statement import Prepared, Refused, Worth
-from plantbal.report import Values, blocks_of, csv_of, last_blocks, read_rows
+from plantbal.report.blocks import Values, blocks_of, csv_of, last_blocks, read_rows
+from plantbal.report.judged import judge_rows
 from plantbal.schema import schema
 
 if TYPE_CHECKING:
     from plantbal.explain import Told
-    from plantbal.output import Output
+    from plantbal.report.output import Output
 
 HELP = """
 OUTPUT is what plantbal wrote, as JSON lines or as CSV; without it standard input is read. The page
@@ -84,7 +84,7 @@ def worth_of(rows: Sequence[Values]) -> tuple[dict[tuple[int, str], Worth], str]
         The worth by the number of the block and the name of the stream; and why there is none,
         empty if there is.
     """
-    from plantbal.uncertainty import uncertainty_of
+    from plantbal.study.uncertainty import uncertainty_of
 
     last = last_blocks(blocks_of(rows))
     try:
@@ -195,8 +195,8 @@ def _check_facts(name: str, ledger: Ledger, source: Source) -> None:
     InputFault
         If it is so: edits and dips of the session would stand beside flows that don't have them.
     """
-    from plantbal.held import answers_of, pairs_of
-    from plantbal.studies import studies_of
+    from plantbal.audit.held import answers_of, pairs_of
+    from plantbal.model.studies import studies_of
 
     answers = answers_of(csv_of(source.rows).encode("utf-8"))
     for pair in pairs_of(studies_of(ledger), answers):

@@ -8,9 +8,9 @@ from math import hypot
 
 from plantbal.amounts import tonnes_text
 from plantbal.faults import Fault
+from plantbal.model.topology import Arc
 from plantbal.page.layout import Box, Layout, Plan, Point, Route, layout_of, near, plan_of
 from plantbal.page.statement import Line
-from plantbal.topology import Arc
 
 # Above this many streams the neighbourhood of one is drawn.
 MOST = 60

@@ -8,7 +8,7 @@ from collections.abc import Iterable, Mapping, Sequence
 from dataclasses import dataclass
 
 from plantbal.faults import Fault, ToolMissing
-from plantbal.topology import Arc
+from plantbal.model.topology import Arc
 
 # Points a letter takes, of the fonts that browsers have.
 LETTER = 7.0

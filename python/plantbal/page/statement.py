@@ -11,7 +11,7 @@ from typing import TYPE_CHECKING
 from plantbal.model.facts import Edit as Change
 from plantbal.model.ledger import Ledger, Seen
 from plantbal.page.verdict import Verdict, names_of
-from plantbal.report import Block
+from plantbal.report.blocks import Block
 
 if TYPE_CHECKING:
     from plantbal.explain import Told

@@ -7,7 +7,7 @@ from dataclasses import dataclass, field, replace
 from math import log10
 from typing import TYPE_CHECKING
 
-from plantbal.report import Block
+from plantbal.report.blocks import Block
 
 if TYPE_CHECKING:
     from plantbal.page.statement import Line, Worth
@@ -169,7 +169,7 @@ def whither(block: Block) -> list[str]:
     block : Block
         A round of its balance.
     """
-    from plantbal.recovery import Balance
+    from plantbal.study.recovery import Balance
 
     balance = Balance(block)
     if balance.unknown:

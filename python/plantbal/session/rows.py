@@ -19,10 +19,10 @@ from plantbal.model.facts import At
 from plantbal.model.file import Rows, Step, readings_of, steps
 from plantbal.model.periods import Period
 from plantbal.model.plant import Service
+from plantbal.model.refusals import Refusals
 from plantbal.model.state import State
 from plantbal.model.words import refusal_of
 from plantbal.records import without_empty_end
-from plantbal.refusals import Refusals
 
 if TYPE_CHECKING:
     import pandas
@@ -340,7 +340,7 @@ class SessionRows:
         Fault
             If a table lacks a column, or an amount isn't exact.
         """
-        from plantbal.frames import fill
+        from plantbal.session.frames import fill
 
         session = cls(strict=strict)
         fill(

@@ -1,0 +1,1 @@
+"""The subcommands around a run, and the words that several subcommands have."""

@@ -1,0 +1,1 @@
+"""What the program writes: its rows, the blocks that they make, tables and pictures of them."""

@@ -1,0 +1,673 @@
+"""What the program wrote, as tables: period and round in every row, whole numbers kept exact."""
+
+from __future__ import annotations
+
+from collections.abc import Iterable, Sequence
+from functools import cached_property
+from itertools import chain
+from numbers import Integral
+from pathlib import Path
+from typing import TYPE_CHECKING, Any
+
+from plantbal.amounts import tonnes_of
+from plantbal.faults import Fault, ToolMissing, read_text
+from plantbal.files import replacing, write_text
+from plantbal.inert import keep_text, printable
+from plantbal.report.blocks import (
+    Block,
+    Values,
+    blocks_of,
+    csv_of,
+    last_blocks,
+    parse_rows,
+    read_rows,
+)
+from plantbal.report.judged import judge_rows
+from plantbal.schema import Column, schema
+
+if TYPE_CHECKING:
+    import pandas
+
+_INT64 = range(-(2**63), 2**63)
+# A spreadsheet keeps fifteen digits of a number.
+_MOST_OF_A_SHEET = 10**15
+_GRAMS = ("value", "flow", "lo", "hi", "least_lo", "least_hi")
+
+
+class NotOk(Fault):
+    """An output that a person has to look at before it is booked.
+
+    Attributes
+    ----------
+    output : Output
+        The output.
+    """
+
+    def __init__(self, output: Output) -> None:
+        super().__init__(
+            "; ".join(output.why), remedy="look at it, and say anyway=True if that is meant"
+        )
+        self.output = output
+
+
+def whole_numbers(values: Sequence[int | None]) -> Any:
+    """Return whole numbers as a column: Int64 if all of them fit, else Python's own ints.
+
+    Parameters
+    ----------
+    values : sequence of int or None
+        The numbers; None is one that is missing.
+    """
+    import pandas
+
+    import numpy
+
+    there = [value for value in values if value is not None]
+    if there and not (min(there) in _INT64 and max(there) in _INT64):
+        return pandas.array(list(values), dtype=object)
+    missing = numpy.array([value is None for value in values], dtype=bool)
+    numbers = numpy.array([value or 0 for value in values], dtype=numpy.int64)
+    return pandas.arrays.IntegerArray(numbers, missing)
+
+
+def _column(column: Column, texts: list[str | None]) -> Any:
+    """Return the texts of a column by its type."""
+    import pandas
+
+    if column.type == "number":
+        return whole_numbers([int(text) if text else None for text in texts])
+    return pandas.array([text if text is not None else "" for text in texts], dtype=object)
+
+
+def _frame(
+    kind: str, rows: Sequence[Values], front: dict[str, Any], skip: Sequence[str] = ()
+) -> pandas.DataFrame:
+    """Return rows of a kind as a table, with further columns in front."""
+    import pandas
+
+    data = dict(front)
+    for column in schema().output[kind].columns:
+        if column.name not in skip:
+            data[column.name] = _column(column, [row.get(column.name) for row in rows])
+    return pandas.DataFrame(data)
+
+
+class Output:
+    """What the program wrote.
+
+    Parameters
+    ----------
+    rows : list of dict
+        Its rows in order, as `plantbal.report.blocks.parse_rows` gives them.
+    source : str
+        What it is called in what is said.
+    status : int or None
+        The status that the program ended with, if it was run.
+    left_out : int
+        How many rows were left out of the session before it was run.
+
+    Attributes
+    ----------
+    blocks_in_order : list of Block
+        The rounds of its reports, and those of windows and of the balances of components.
+
+    Notes
+    -----
+    Each table is made when it is first asked for. `block` is the number of the round in the output,
+    counted from 0; two reports of one period differ by it. `period` says what the round is of: a
+    period, ``cu in may`` for the balance of a component, ``may to june`` for a window.
+    """
+
+    def __init__(
+        self,
+        rows: Sequence[Values],
+        *,
+        source: str = "output",
+        status: int | None = None,
+        left_out: int = 0,
+    ) -> None:
+        self.rows = rows
+        self.source = source
+        self.status = status
+        self.left_out = left_out
+        self.blocks_in_order: list[Block] = blocks_of(rows)
+
+    def __repr__(self) -> str:
+        state = "ok" if self.ok else "; ".join(self.why)
+        return f"<Output of {self.source}: {len(self.blocks_in_order)} blocks, {state}>"
+
+    def _of_kind(self, kind: str) -> list[Values]:
+        return [row for row in self.rows if row["row"] == kind]
+
+    # ---- whether it may be booked
+
+    @cached_property
+    def why(self) -> list[str]:
+        """Why it isn't ok, a sentence each; nothing if it is."""
+        said = []
+        if self.status is not None and self.status not in (0, 1):
+            said.append(f"the program ended with status {self.status}")
+        refused = sum(row["row"] == "refused" for row in self.rows)
+        if refused or self.left_out:
+            count = refused + self.left_out
+            rows = "1 row of the session was" if count == 1 else f"{count} rows of the session were"
+            said.append(f"{rows} refused")
+        blocks = self.blocks_in_order
+        if not blocks:
+            said.append("there is no report")
+        over = [f"the total of {row['stream']} in {row['period']}" for row in self._of_kind("over")]
+        if over:
+            said.append(f"{', '.join(over)} is beyond the limits")
+        for what, some in (
+            ("is cut off", [b for b in blocks if not b.ended or b.solved is None]),
+            (
+                "isn't converged",
+                [b for b in blocks if b.solved and b.solved["state"] != "converged"],
+            ),
+        ):
+            said += [f"{block.title} {what}" for block in some]
+        for block, later in zip(blocks, [*blocks[1:], None]):
+            if block.whole and block.whole["verdict"] == "reject":
+                taken = later.taken[len(block.taken) :] if later and later.round else []
+                before = f" before {block.taken_said(taken)}" if taken else ""
+                said.append(f"{block.title} is rejected by the global test{before}")
+        wrong = self._of_kind("no") + self._of_kind("unreadable")
+        if wrong:
+            said.append(f"a check finds fault with {len(wrong)} blocks or rows")
+        return said
+
+    @property
+    def ok(self) -> bool:
+        """Whether it may be booked without a look.
+
+        It is false if a row was refused, no report came, a total is beyond the limits, a report is
+        cut off or isn't converged, or a global test rejects.
+        """
+        return not self.why
+
+    @cached_property
+    def impossible(self) -> list[str]:
+        """Which streams carry more of a component than there is of them, a sentence each.
+
+        The output may be ok all the same: a balance of a component is one of its assays alone.
+        """
+        from plantbal.report.carried import impossible
+
+        return [str(each) for each in impossible(self.blocks_in_order)]
+
+    def require(self) -> Output:
+        """Return the output itself if it is ok.
+
+        Raises
+        ------
+        NotOk
+            If it isn't; the exception has the output.
+        """
+        if not self.ok:
+            raise NotOk(self)
+        return self
+
+    # ---- tables
+
+    def _in_blocks(self, kind: str, rows: list[list[Values]]) -> pandas.DataFrame:
+        """Return the rows of a kind, with the block, the period and the round of each."""
+        blocks = self.blocks_in_order
+        count = [len(some) for some in rows]
+        front = {
+            "block": _repeat([block.number for block in blocks], count),
+            "period": _repeat([block.subject for block in blocks], count),
+            "round": _repeat([block.round for block in blocks], count),
+        }
+        return _frame(kind, [row for some in rows for row in some], front)
+
+    @cached_property
+    def reports(self) -> list[Block]:
+        """The rounds of reports of periods: no windows, and no balances of components."""
+        return [block for block in self.blocks_in_order if block.is_report]
+
+    @cached_property
+    def streams(self) -> pandas.DataFrame:
+        """The streams of each block: measured values, flows and bounds in grams, certificates."""
+        return self._in_blocks("stream", [block.streams for block in self.blocks_in_order])
+
+    @cached_property
+    def nodes(self) -> pandas.DataFrame:
+        """The nodes of each block with their prices."""
+        return self._in_blocks("node", [block.nodes for block in self.blocks_in_order])
+
+    @cached_property
+    def solved(self) -> pandas.DataFrame:
+        """How the flows of each block were found, and how well they fit."""
+        return self._in_blocks(
+            "solved", [[block.solved] if block.solved else [] for block in self.blocks_in_order]
+        )
+
+    @cached_property
+    def blocks(self) -> pandas.DataFrame:
+        """A row a block: its head, its `solved` row, its global test, and what was taken before it.
+
+        The column `component` has the component whose balance it is, `window` the last period of a
+        window, and both are empty of a period's report. `last` says whether it is the last block
+        of the last report of its period, component or window.
+        """
+        import pandas
+
+        blocks = self.blocks_in_order
+        heads = _frame("report", [{**b.head, "period": b.subject} for b in blocks], {})
+        heads.insert(0, "block", range(len(blocks)))
+        none: Values = {}
+        solved = _frame("solved", [block.solved or none for block in blocks], {})
+        whole = _frame("global", [block.whole or none for block in blocks], {})
+        last = {block.number for block in last_blocks(blocks).values()}
+        rest = pandas.DataFrame(
+            {
+                "component": [block.component for block in blocks],
+                "window": [block.window.last if block.window else "" for block in blocks],
+                "taken": [" ".join(block.taken) for block in blocks],
+                "suspects": [" ".join(block.suspects()) for block in blocks],
+                "ended": [block.ended for block in blocks],
+                "last": [block.number in last for block in blocks],
+            }
+        )
+        return pandas.concat([heads, solved, whole, rest], axis=1)
+
+    @cached_property
+    def tests(self) -> pandas.DataFrame:
+        """All tests of each block.
+
+        `test` is ``global``, ``nodal`` or ``measure``, `name` the node or the stream. `low` and
+        `high` are the ends of the statistic in thousandths; a nodal test has `net` and `variance`
+        instead.
+        """
+        import pandas
+
+        blocks = self.blocks_in_order
+        rows: list[list[Values]] = []
+        for block in blocks:
+            ends = {"low": _of(block, "low"), "high": _of(block, "high")}
+            whole: list[Values] = [{**block.whole, **ends}] if block.whole else []
+            rows.append([*whole, *block.nodal, *block.measure])
+        count, flat = [len(some) for some in rows], [row for some in rows for row in some]
+        data: dict[str, Any] = {
+            "block": _repeat([block.number for block in blocks], count),
+            "period": _repeat([block.subject for block in blocks], count),
+            "round": _repeat([block.round for block in blocks], count),
+            "test": [row["row"] for row in flat],
+            "name": [row.get("stream") or row.get("node") or "" for row in flat],
+        }
+        for name in ("low", "high", "net", "variance", "critical"):
+            texts = [row.get(name) for row in flat]
+            data[name] = whole_numbers([int(text) if text else None for text in texts])
+        data["verdict"] = [row["verdict"] for row in flat]
+        return pandas.DataFrame(data)
+
+    @cached_property
+    def refused(self) -> pandas.DataFrame:
+        """The refused rows of the session, with what each code means and what to do."""
+        rows = self._of_kind("refused")
+        frame = _frame("refused", rows, {})
+        codes = [schema().refusals.get(int(row["code"])) for row in rows]
+        frame["about"] = [code.about if code else "" for code in codes]
+        frame["remedy"] = [code.remedy if code else "" for code in codes]
+        return frame
+
+    @cached_property
+    def history(self) -> pandas.DataFrame:
+        """The edits that touch periods, with the period and its state in each row."""
+        rows: list[Values] = []
+        front: dict[str, list[str]] = {"period": [], "state": []}
+        head: Values = {}
+        for row in self.rows:
+            if row["row"] == "history":
+                head = row
+            elif row["row"] == "edit":
+                rows.append(row)
+                for name, texts in front.items():
+                    texts.append(head.get(name, ""))
+        return _frame("edit", rows, dict(front))
+
+    @cached_property
+    def histories(self) -> pandas.DataFrame:
+        """The periods whose history was asked for: open or closed, and how many edits."""
+        return _frame("history", self._of_kind("history"), {})
+
+    @cached_property
+    def over(self) -> pandas.DataFrame:
+        """The periods without a report, since a total is beyond the limits."""
+        return _frame("over", self._of_kind("over"), {})
+
+    @cached_property
+    def taken(self) -> pandas.DataFrame:
+        """The streams that were taken between two rounds."""
+        return _frame("taken", self._of_kind("taken"), {})
+
+    @cached_property
+    def stops(self) -> pandas.DataFrame:
+        """Why each elimination ended."""
+        return _frame("stop", self._of_kind("stop"), {})
+
+    @cached_property
+    def uncertainty(self) -> pandas.DataFrame:
+        """The standard deviation of each measured or observable stream, in grams, of each block.
+
+        `plantbal.study.uncertainty.uncertainty_of` has its columns.
+        """
+        from plantbal.study.uncertainty import uncertainty_of
+
+        return uncertainty_of(self)
+
+    @cached_property
+    def classes(self) -> pandas.DataFrame:
+        """The streams of designs; `design` is the number of the design, counted from 0."""
+        return self._under("design", "class")
+
+    @cached_property
+    def advice(self) -> pandas.DataFrame:
+        """The streams to meter of each `advise` row, with what each costs and its cycle.
+
+        `advice` is the number of the row, counted from 0; `parts` is the stream and the way back
+        over streams that stay without a meter, none of which costs less.
+        """
+        return self._under("advise", "meter", "advice")
+
+    @cached_property
+    def components(self) -> pandas.DataFrame:
+        """The streams of the last balance of each component in each period.
+
+        `component` and `period` say whose balance it is; the other columns are those of `streams`.
+        """
+        blocks = [b for b in last_blocks(self.blocks_in_order).values() if b.component]
+        count = [len(block.streams) for block in blocks]
+        front = {
+            "component": _repeat([block.component for block in blocks], count),
+            "period": _repeat([block.period for block in blocks], count),
+            "block": _repeat([block.number for block in blocks], count),
+        }
+        return _frame("stream", [row for block in blocks for row in block.streams], front)
+
+    @cached_property
+    def windows(self) -> pandas.DataFrame:
+        """The streams of the last report of each window, by their declared names and periods.
+
+        `window` is the last period of the window, `period` and `declared` the period and the name
+        that the code `name` stands for, and `what` is ``flow``, ``before`` (what a tank holds
+        before the first period) or ``after`` (what it holds after its period). The other columns
+        are those of `streams`.
+        """
+        rows: list[Values] = []
+        front: dict[str, list[Any]] = {
+            name: [] for name in ("first", "window", "period", "declared", "what", "block")
+        }
+        for block in last_blocks(self.blocks_in_order).values():
+            for row in block.streams if block.window else ():
+                assert block.window is not None
+                spot = block.window.spots[row["name"]]
+                what = "before" if spot.is_opening else "after"
+                said = (block.window.first, block.window.last, spot.period, spot.name)
+                found = (*said, what if spot.is_content else "flow", block.number)
+                for values, value in zip(front.values(), found):
+                    values.append(value)
+                rows.append(row)
+        return _frame("stream", rows, dict(front))
+
+    @cached_property
+    def verdicts(self) -> pandas.DataFrame:
+        """What a check found, of the output of a check."""
+        return verdict_frame(self.rows)
+
+    def tonnes(self, *, exact: bool = True, anyway: bool = False) -> pandas.DataFrame:
+        """Return the streams of each period's last round with their amounts in tonnes.
+
+        Windows and components have rows of their own, by what stands in the column `period`.
+
+        Parameters
+        ----------
+        exact : bool
+            Whether amounts are Decimals. Otherwise they are floats, to draw or to fit.
+        anyway : bool
+            Whether an output that isn't ok is taken as well.
+
+        Raises
+        ------
+        NotOk
+            If the output isn't ok, and that isn't said to be meant.
+        """
+        if not anyway:
+            self.require()
+        last = [block.number for block in last_blocks(self.blocks_in_order).values()]
+        frame = self.streams[self.streams["block"].isin(last)].copy()
+        for name in _GRAMS:
+            amounts = [
+                None if _is_missing(grams) else tonnes_of(int(grams)) for grams in frame[name]
+            ]
+            if exact:
+                frame[name] = _objects(amounts, frame.index)
+            else:
+                frame[name] = [float("nan") if t is None else float(t) for t in amounts]
+        return frame.reset_index(drop=True)
+
+    def _under(self, head: str, kind: str, name: str = "") -> pandas.DataFrame:
+        """Return the rows of a kind, each with the number of the head that it follows, from 0."""
+        rows: list[Values] = []
+        numbers: list[int] = []
+        number = -1
+        for row in self.rows:
+            if row["row"] == head:
+                number += 1
+            elif row["row"] == kind:
+                rows.append(row)
+                numbers.append(number)
+        return _frame(kind, rows, {name or head: numbers})
+
+    def _booked(self) -> pandas.DataFrame:
+        """Return the flows to book and what belongs to them in tonnes, with standard deviations."""
+        keys = ["block", "name"]
+        found = self.tonnes(anyway=True).drop(columns=["side", "parts", "shape"])
+        deviations = self.uncertainty.set_index(keys)["sd"] / 1e6
+        sd = deviations.reindex(found.set_index(keys).index).to_numpy()
+        found.insert(list(found.columns).index("flow") + 1, "sd", sd)
+        return found
+
+    # ---- files
+
+    def to_csv(self, path: str | Path | None = None) -> str:
+        """Return the rows as the program writes them in CSV, and write them if a file is named.
+
+        So a report that came as JSON lines can be checked.
+        """
+        text = csv_of(self.rows)
+        if path is not None:
+            write_text(path, text)
+        return text
+
+    write_csv = to_csv
+
+    def tables(self) -> dict[str, pandas.DataFrame]:
+        """Return the tables that have rows, by their names."""
+        names = "blocks streams uncertainty nodes tests refused over taken stops histories history"
+        more = ["classes", "advice", "components", "windows"]
+        found = {name: getattr(self, name) for name in [*names.split(), *more]}
+        found["verdicts"] = self.verdicts
+        return {name: table for name, table in found.items() if len(table)}
+
+    def to_sqlite(self, path: str | Path) -> None:
+        """Write a database of SQLite with one table a kind.
+
+        A column with a number beyond 64 bits is one of texts.
+
+        Parameters
+        ----------
+        path : str or Path
+            The database, which is written whole or not at all.
+        """
+        import sqlite3
+        from contextlib import closing
+
+        with replacing(path) as made, closing(sqlite3.connect(made)) as base:
+            for name, table in self.tables().items():
+                flat = table.copy()
+                for column in flat.columns:
+                    if any(isinstance(v, int) and v not in _INT64 for v in flat[column]):
+                        flat[column] = _texts(flat[column])
+                flat.to_sql(name, base, index=False)
+            base.commit()
+
+    def to_xlsx(self, path: str | Path) -> None:
+        """Write a workbook with one table a sheet.
+
+        The first sheet, `tonnes`, has the flows to book, each with its standard deviation `sd`
+        beside it.
+
+        A column with a number of more than fifteen digits is one of texts, since a spreadsheet
+        would round it.
+
+        Parameters
+        ----------
+        path : str or Path
+            The workbook, which is written whole or not at all.
+        """
+        import pandas
+
+        try:
+            import openpyxl  # noqa: F401
+        except ImportError as error:
+            raise ToolMissing("openpyxl", "python3-openpyxl") from error
+        tables = self.tables()
+        if self.blocks_in_order:
+            tables = {"tonnes": self._booked(), **tables}
+        with replacing(path) as made:
+            with pandas.ExcelWriter(made, engine="openpyxl") as book:
+                for name, table in (tables or {"empty": pandas.DataFrame()}).items():
+                    flat = table.copy()
+                    for column in flat.columns:
+                        if any(
+                            isinstance(v, Integral) and abs(int(v)) >= _MOST_OF_A_SHEET
+                            for v in flat[column]
+                        ):
+                            flat[column] = _texts(flat[column])
+                        elif flat[column].dtype == object:
+                            flat[column] = [printable(value) for value in flat[column]]
+                    flat.to_excel(book, sheet_name=name, index=False, freeze_panes=(1, 0))
+                    for cell in chain.from_iterable(book.sheets[name].iter_rows()):
+                        keep_text(cell)
+                    _widen(book.sheets[name], flat)
+
+
+def _objects(values: list[Any], index: Any) -> Any:
+    import pandas
+
+    return pandas.Series(values, index=index, dtype=object)
+
+
+def _texts(column: Iterable[Any]) -> list[str | None]:
+    return [None if _is_missing(value) else str(value) for value in column]
+
+
+def _is_missing(value: Any) -> bool:
+    import pandas
+
+    return value is None or value is pandas.NA
+
+
+def _of(block: Block, name: str) -> str:
+    return block.solved[name] if block.solved else ""
+
+
+def _repeat(values: list[Any], count: list[int]) -> Any:
+    import numpy
+
+    if not values:
+        return numpy.array([], dtype=object)
+    kind = object if isinstance(values[0], str) else numpy.int64
+    return numpy.repeat(numpy.array(values, dtype=kind), count)
+
+
+def _widen(sheet: Any, table: pandas.DataFrame) -> None:
+    """Make the columns of a sheet as wide as their texts, up to a limit."""
+    from openpyxl.utils import get_column_letter
+
+    for number, name in enumerate(table.columns, 1):
+        texts = [str(name), *map(str, table[name].head(200))]
+        sheet.column_dimensions[get_column_letter(number)].width = min(40, 2 + max(map(len, texts)))
+
+
+def verdict_frame(rows: Iterable[Values]) -> pandas.DataFrame:
+    """Return the rows of a check as a table: a row a block, and one for a row that can't be
+    read."""
+    import pandas
+
+    names = ("period", "round", "at", "code", "word", "name", "stated", "found")
+    judged = [row for row in rows if row["row"] in ("yes", "no", "unreadable")]
+    data: dict[str, Any] = {"verdict": [row["row"] for row in judged]}
+    for name in names:
+        texts = [row.get(name, "") for row in judged]
+        if name in ("period", "word", "name"):
+            data[name] = texts
+        else:
+            data[name] = whole_numbers([int(text) if text else None for text in texts])
+    codes = {"no": schema().tests, "unreadable": schema().unreadable}
+    found = [codes[row["row"]].get(int(row["code"])) if "code" in row else None for row in judged]
+    data["about"] = [code.about if code else "" for code in found]
+    return pandas.DataFrame(data)
+
+
+def read_report(path: str | Path) -> Output:
+    """Return what the program wrote, from a file: CSV or JSON lines.
+
+    Parameters
+    ----------
+    path : str or Path
+        The file; ``-`` is standard input.
+
+    Raises
+    ------
+    InputFault
+        If it can't be read, or a row is none of the program's; the fault has file and line.
+    """
+    source, text = read_text(path)
+    rows = parse_rows(source, text)
+    judge_rows(rows, source, checks=True)
+    return Output(rows, source=source)
+
+
+def read_whole(path: str | Path, *wanted: str) -> Output:
+    """Return an output that is whole, and no check's.
+
+    Parameters
+    ----------
+    path : str or Path
+        The file; ``-`` is standard input.
+    *wanted : str
+        Kinds of rows of which one at least has to be there.
+
+    Raises
+    ------
+    InputFault
+        If it can't be read, is empty or cut off, is what a check said, or has no such row.
+    """
+    return read_all([path], *wanted)
+
+
+def read_all(paths: Sequence[str | Path], *wanted: str) -> Output:
+    """Return several outputs, each of them whole, as one: one after another.
+
+    Parameters
+    ----------
+    paths : sequence of str or Path
+        The files; ``-`` is standard input.
+    *wanted : str
+        Kinds of rows of which each has to have one at least.
+
+    Raises
+    ------
+    InputFault
+        If one can't be read, is empty or cut off, is what a check said, or has no such row.
+    """
+    names = ["standard input" if str(path) == "-" else str(path) for path in paths]
+    rows = [row for path in paths for row in read_rows(path, *wanted)]
+    return Output(rows, source=", ".join(names))
+
+
+def parse_report(text: str, source: str = "output", status: int | None = None) -> Output:
+    """Return what the program wrote, from its text."""
+    return Output(parse_rows(source, text), source=source, status=status)

@@ -1,0 +1,1 @@
+"""What is computed about a study outside the program: solutions, uncertainty, recovery, advice."""

@@ -1,0 +1,507 @@
+"""Cells as numbers, days, amounts and errors, written as a locale writes them."""
+
+from __future__ import annotations
+
+import datetime
+import math
+import re
+from dataclasses import dataclass, field
+from decimal import ROUND_HALF_EVEN, Context, Decimal, Inexact
+from fractions import Fraction
+from functools import lru_cache
+
+from plantbal.faults import Fault, InputFault
+from plantbal.workbook.sheets import Cell, NoValue, Percent
+
+GRAMS = {
+    "t": Fraction(10**6),
+    "kt": Fraction(10**9),
+    "kg": Fraction(1000),
+    "g": Fraction(1),
+    "lb": Fraction("453.59237"),
+    "klb": Fraction("453592.37"),
+}
+# In cubic metres; a barrel has 42 gallons of 231 cubic inches.
+VOLUMES = {
+    "m3": Fraction(1),
+    "L": Fraction(1, 1000),
+    "mL": Fraction(1, 10**6),
+    "bbl": Fraction("0.158987294928"),
+}
+DENSITIES = {
+    "kg/m3": Fraction(1000),
+    "g/m3": Fraction(1),
+    "g/L": Fraction(1000),
+    "t/m3": Fraction(10**6),
+    "kg/L": Fraction(10**6),
+    "g/cm3": Fraction(10**6),
+    "g/mL": Fraction(10**6),
+}
+LENGTHS = {"mm": Fraction(1), "cm": Fraction(10), "m": Fraction(1000)}
+# In parts per million.
+GRADES = {
+    "%": Fraction(10_000),
+    "ppm": Fraction(1),
+    "g/t": Fraction(1),
+    "mg/kg": Fraction(1),
+    "kg/t": Fraction(1000),
+}
+_OTHER_WORDS = {
+    "tonne": "t",
+    "tonnes": "t",
+    "to": "t",
+    "dmt": "t",
+    "m³": "m3",
+    "cbm": "m3",
+    "ltr": "L",
+    "litre": "L",
+    "liter": "L",
+    "litres": "L",
+    "liters": "L",
+    "barrel": "bbl",
+    "barrels": "bbl",
+    "kg/m³": "kg/m3",
+    "t/m³": "t/m3",
+    "g/m³": "g/m3",
+    "g/cm³": "g/cm3",
+}
+MISSING = frozenset(
+    "- -- --- – — . n/a na #n/a #n/a! #nv nv nan null none nil missing fehlt fehlend k.a. ? bad "
+    "no_data nodata".split()
+) | {"no data", "bad input", "i/o timeout", "pt created", "not available", "#n/a n/a"}
+# Between a figure's thousands nothing else can be meant by these.
+_SPACES = " \u00a0\u2009\u202f'\u2019"
+_SPACED = re.compile(rf"[+-]?[0-9]{{1,3}}(?:[{_SPACES}][0-9]{{3}})+(?:[.,][0-9]*)?")
+_EXPONENT = re.compile(r"(.*[0-9.,])[eE]([+-]?[0-9]{1,3})")
+_EITHER = re.compile(r"[+-]?[1-9][0-9]{0,2}[.,][0-9]{3}")
+_DAY = re.compile(r"([0-9]{1,4})([./-])\s?([0-9]{1,2})\2\s?([0-9]{1,4})\.?")
+_TIME = re.compile(r"(.*?)[ T]+([0-9]{1,2}:[0-9]{2}(?::[0-9]{2}(?:[.,][0-9]+)?)?)")
+_NAMED = re.compile(r"([0-9]{1,2})\.?[ -]([^\W\d]+)\.?[ -]([0-9]{4})")
+_GRADE = re.compile(r"(.*?[0-9])\s*(%|[^\W\d_]+(?:/[^\W\d_]+)?)")
+_RATE = re.compile(r"[\[(]?([^\W\d_][\w³]*)/(?:hr?|hours?|d|day|min|s)[\])]?", re.IGNORECASE)
+_EXACT = Context(prec=400, traps=[Inexact])
+# Days that Excel's numbers stand for: 1954 to 2119.
+_FIRST_SERIAL, _LAST_SERIAL = 20_000, 80_000
+
+
+@lru_cache
+def symbols(locale: str) -> tuple[str, str]:
+    """Return the decimal mark of a locale, and what it puts between thousands."""
+    try:
+        from babel.numbers import get_decimal_symbol, get_group_symbol
+    except ImportError as error:
+        from plantbal.faults import ToolMissing
+
+        raise ToolMissing("babel", "python3-babel") from error
+    return get_decimal_symbol(locale), get_group_symbol(locale)
+
+
+@lru_cache
+def day_order(locale: str) -> str:
+    """Return the order in which a locale writes day, month, year: ``dmy``, ``mdy``, ``ymd``."""
+    from babel.dates import get_date_format
+
+    pattern = str(get_date_format("short", locale=locale).pattern).casefold()
+    return "".join(sorted("dmy", key=pattern.index))
+
+
+@lru_cache
+def month_names(locale: str) -> dict[str, int]:
+    """Return the months by their names, in English and in a locale."""
+    from babel.dates import get_month_names
+
+    found = {}
+    for language in ("en", locale or "en"):
+        for width in ("wide", "abbreviated"):
+            for number, name in get_month_names(width, locale=language).items():
+                found[str(name).rstrip(".").casefold()] = int(number)
+    return found
+
+
+def plain_number(text: str, mark: str, group: str) -> Decimal | None:
+    """Return the number of a text with this decimal mark and these thousands, or None."""
+    mark, group = re.escape(mark), re.escape(group)
+    form = rf"[+-]?(?:[0-9]+|[0-9]{{1,3}}(?:{group}[0-9]{{3}})+)(?:{mark}[0-9]+)?"
+    if len(text) > 60 or not re.fullmatch(form, text):
+        return None
+    plain = re.sub(group, "", text) if group else text
+    return Decimal(re.sub(mark, ".", plain))
+
+
+@dataclass(frozen=True, slots=True)
+class Error:
+    """The standard deviation of a figure: the greatest of its parts.
+
+    Attributes
+    ----------
+    share : Fraction
+        This share of the figure.
+    grams : Fraction
+        This many grams.
+    mm : Fraction
+        This many millimetres of level.
+    """
+
+    share: Fraction = Fraction(0)
+    grams: Fraction = Fraction(0)
+    mm: Fraction = Fraction(0)
+
+    def variance(self, grams: int, slope: Fraction = Fraction(0)) -> int:
+        """Return the variance in squared grams, rounded up.
+
+        Parameters
+        ----------
+        grams : int
+            The figure.
+        slope : Fraction
+            Grams for a millimetre of level.
+        """
+        deviation = max(self.share * abs(grams), self.grams, self.mm * slope)
+        return math.ceil(deviation * deviation)
+
+
+@dataclass
+class Reader:
+    """Reads cells, and keeps what was rounded.
+
+    Attributes
+    ----------
+    locale : str
+        Whose numbers and days are read, such as ``de`` or ``en_GB``; empty for digits with a point,
+        and days that can be read in one way alone.
+    missing : frozenset of str
+        What stands for nothing, in small letters.
+    divisor : int
+        What errors are divided by: 2 if they are limits that hold 95 times in 100.
+    rounded : dict
+        Of each sheet how many figures were rounded, the first of them, and the most by which.
+    """
+
+    locale: str = ""
+    missing: frozenset[str] = MISSING
+    divisor: int = 1
+    rounded: dict[str, tuple[int, Cell, Fraction]] = field(default_factory=dict)
+
+    def fault(self, cell: Cell, what: str, remedy: str = "", head: str = "") -> InputFault:
+        """Return a fault at a cell."""
+        return InputFault(what, place=cell.place(head), text=cell.text, remedy=remedy)
+
+    def is_missing(self, cell: Cell) -> bool:
+        """Say whether nothing stands in a cell, or a word for nothing."""
+        return cell.value is None or cell.text.casefold() in self.missing
+
+    # ---- numbers
+
+    def number(self, cell: Cell, head: str = "") -> Decimal:
+        """Return the number of a cell."""
+        value = cell.value
+        if isinstance(value, Decimal):
+            return value
+        if not isinstance(value, str):
+            raise self.fault(cell, *self._no_number(cell), head)
+        return self.number_of(cell, value, head)
+
+    def _no_number(self, cell: Cell) -> tuple[str, str]:
+        if isinstance(cell.value, NoValue):
+            return "its formula has no value", "open the workbook in a spreadsheet, and save it"
+        if isinstance(cell.value, Percent):
+            return f"{cell.text} is a percentage", "write a figure"
+        if isinstance(cell.value, datetime.datetime | datetime.time):
+            what = f"{cell.text} is a date"
+            return what, "give the cell the form of a number, and look whether its figure is right"
+        return f"{cell.text!r} is no figure", "write a figure, or leave the cell empty"
+
+    def number_of(self, cell: Cell, text: str, head: str = "") -> Decimal:
+        """Return the number of a text in a cell."""
+        plain = text.strip().replace("\u2212", "-")
+        if _SPACED.fullmatch(plain):
+            plain = re.sub(f"[{_SPACES}]", "", plain)
+        exponent = _EXPONENT.fullmatch(plain)
+        if exponent:
+            plain = exponent.group(1)
+        number = plain_number(plain, *self._symbols())
+        if number is None or (not self.locale and not exponent and _EITHER.fullmatch(plain)):
+            raise self.fault(cell, *self._why_not(text, plain), head)
+        return number.scaleb(int(exponent.group(2)), _EXACT) if exponent else number
+
+    def _symbols(self) -> tuple[str, str]:
+        return symbols(self.locale) if self.locale else (".", "")
+
+    def _why_not(self, text: str, plain: str) -> tuple[str, str]:
+        """Return what is wrong with a text that is no number, and what to do."""
+        if not self.locale and _EITHER.fullmatch(plain):
+            what = f"{text!r} is a decimal number in one country, and thousands in another"
+            return what, "say --locale en, --locale de or another"
+        for locale in ("en", "de"):
+            if plain_number(plain, *symbols(locale)) is not None:
+                mark = "a decimal point" if locale == "en" else "a decimal comma"
+                own = f", and --locale is {self.locale}" if self.locale else ""
+                return f"{text!r} has {mark}{own}", f"say --locale {locale}, or write it otherwise"
+        what = f"{text!r} is no figure"
+        if _of_rate(text.rpartition(" ")[2]):
+            return what, _of_rate(text.rpartition(" ")[2])
+        if text.startswith("#"):
+            return f"{text} stands here: its formula fails", "correct it, or clear the cell"
+        return what, f"correct it, or say --missing {text!r} if it means that there is none"
+
+    # ---- days
+
+    def day(self, cell: Cell, head: str = "") -> datetime.date:
+        """Return the day of a cell."""
+        value = cell.value
+        time: datetime.time | str | None = None
+        found: datetime.date | None = None
+        if isinstance(value, datetime.datetime):
+            found, time = value.date(), value.time()
+        elif isinstance(value, Decimal):
+            found = self._serial(cell, value)
+            time = None if value == int(value) else f"{value % 1:f} of a day"
+        elif isinstance(value, str):
+            split = _TIME.fullmatch(value)
+            time = split.group(2) if split else None
+            found = self._day_of(cell, split.group(1) if split else value, head)
+        if found is None:
+            remedy = self._of_order(cell.text)
+            if isinstance(value, NoValue):
+                remedy = "open the workbook and save it"
+            what = f"{cell.text!r} is no day" if cell.text else "there is no day"
+            raise self.fault(cell, what, remedy or "write it as 2024-06-30", head)
+        if time is not None and not re.fullmatch(r"0?0:00(:00([.,]0+)?)?", str(time)):
+            remedy = "a figure is a day's: add the hours of a day up, and write the day alone"
+            raise self.fault(cell, f"{cell.text} has a time of the day, {time}", remedy, head)
+        return found
+
+    def _of_order(self, text: str) -> str:
+        """Return what to do if a text is a day once its day and month are exchanged."""
+        match = _DAY.fullmatch(text)
+        if not self.locale or match is None or match.group(2) == "." or len(match.group(1)) == 4:
+            return ""
+        order = day_order(self.locale)
+        months = [part for part in match.group(1, 3) if int(part) <= 12]
+        if order == "ymd" or len(months) != 1:
+            return ""
+        first = "month" if order == "mdy" else "day"
+        remedy = "say --locale en_GB" if order == "mdy" else "write it as 2024-06-30"
+        return f"--locale {self.locale} has the {first} first: {remedy}"
+
+    def _serial(self, cell: Cell, number: Decimal) -> datetime.date | None:
+        """Return the day of one of Excel's numbers."""
+        if not _FIRST_SERIAL <= number <= _LAST_SERIAL:
+            return None
+        return cell.sheet.epoch + datetime.timedelta(int(number))
+
+    def _day_of(self, cell: Cell, text: str, head: str) -> datetime.date | None:
+        text = text.strip()
+        if re.fullmatch(r"[0-9]{5}", text):
+            return self._serial(cell, Decimal(text))
+        named = _NAMED.fullmatch(text)
+        if named:
+            month = month_names(self.locale).get(named.group(2).casefold())
+            return _date(int(named.group(3)), month or 0, int(named.group(1)))
+        match = _DAY.fullmatch(text)
+        if not match:
+            return None
+        first, part, second, third = match.groups()
+        if len(first) == 4:
+            return _date(int(first), int(second), int(third))
+        order = self._order(cell, text, part, int(first), int(second), head)
+        numbers = dict(zip(order, (first, second, third)))
+        if len(numbers["y"]) not in (2, 4):
+            return None
+        year = int(numbers["y"])
+        if len(numbers["y"]) == 2:
+            year += 2000 if year < 70 else 1900
+        return _date(year, int(numbers["m"]), int(numbers["d"]))
+
+    def _order(self, cell: Cell, text: str, part: str, first: int, second: int, head: str) -> str:
+        """Return the order of a day's parts, of which the year is not the first."""
+        if part == ".":
+            return "dmy"
+        if self.locale:
+            order = day_order(self.locale)
+            if order != "ymd":
+                return order
+        elif max(first, second) > 12:
+            return "dmy" if first > 12 else "mdy"
+        remedy = "say --locale en_GB if the day comes first, --locale en_US if the month does"
+        raise self.fault(cell, f"{text!r} can be read as two days", remedy, head)
+
+    # ---- amounts
+
+    def unit(self, cell: Cell | None, kinds: dict[str, Fraction], default: str) -> str:
+        """Return the unit that a cell names, or the one that holds without it."""
+        if cell is None or self.is_missing(cell):
+            return default
+        found = unit_of(cell.text)
+        if found not in kinds:
+            remedy = _of_rate(cell.text) or f"write one of {', '.join(kinds)}"
+            if cell.text.casefold() in ("ton", "tons", "short ton", "short tons", "st", "lt"):
+                remedy = "write t for 1,000 kg; 2,000 lb are 2 klb"
+            elif cell.text.casefold() == "wmt":
+                remedy = "wet tonnes have water in them: write the dry ones, in t or dmt"
+            raise self.fault(cell, f"{cell.text!r} is no unit", remedy, "unit")
+        return found
+
+    def split(self, cell: Cell, kinds: dict[str, Fraction], head: str) -> tuple[Decimal, str]:
+        """Return the number of a cell, and the unit that stands after it, or nothing."""
+        if isinstance(cell.value, str):
+            parted = re.fullmatch(r"(.*?[0-9.,])\s*([^\W\d_][\w³]*(?:/[\w³]+)?)", cell.value)
+            if parted and unit_of(parted.group(2)) in kinds:
+                return self.number_of(cell, parted.group(1), head), unit_of(parted.group(2))
+        return self.number(cell, head), ""
+
+    def grams(self, cell: Cell, unit: str, density: Fraction | None, head: str = "") -> int:
+        """Return an amount in whole grams; a volume is multiplied by its density in g/m3."""
+        number, own = self.split(cell, GRAMS | VOLUMES, head)
+        exact = Fraction(number) * self.factor(cell, own or unit, density, head)
+        return self.whole(cell, exact)
+
+    def factor(self, cell: Cell, unit: str, density: Fraction | None, head: str = "") -> Fraction:
+        """Return the grams of one unit."""
+        if unit in GRAMS:
+            return GRAMS[unit]
+        if density is None:
+            remedy = "write a density, such as 862 (kg/m3), in the row or in that of its stream"
+            raise self.fault(cell, f"{cell.text} {unit} have no density", remedy, head)
+        return VOLUMES[unit] * density
+
+    def whole(self, cell: Cell, exact: Fraction) -> int:
+        """Return a number rounded to a whole one, halves to the even one, and keep that it was."""
+        if exact.denominator == 1:
+            return int(exact)
+        whole = round(exact)
+        name = cell.sheet.name
+        count, first, most = self.rounded.get(name, (0, cell, Fraction(0)))
+        self.rounded[name] = count + 1, first, max(most, abs(exact - whole))
+        return whole
+
+    def density(self, cell: Cell | None) -> Fraction | None:
+        """Return a density in g/m3; a plain number is in kg/m3."""
+        if cell is None or self.is_missing(cell):
+            return None
+        number, unit = self.split(cell, DENSITIES, "density")
+        if number <= 0 or (not unit and not 20 <= number <= 20_000):
+            remedy = "kg/m3 stands without a unit, others with it: 862, 0.862 t/m3, 862000 g/m3"
+            raise self.fault(cell, f"{cell.text} kg/m3 is no density", remedy, "density")
+        return Fraction(number) * DENSITIES[unit or "kg/m3"]
+
+    def level(self, cell: Cell, head: str = "level") -> int:
+        """Return a level in whole millimetres."""
+        number, unit = self.split(cell, LENGTHS, head)
+        return self.whole(cell, Fraction(number) * LENGTHS[unit or "mm"])
+
+    def grade(self, cell: Cell, unit: Cell | None = None, head: str = "grade") -> Fraction:
+        """Return a grade in parts per million; it needs a unit after it or in a cell of its own."""
+        if isinstance(cell.value, Percent):
+            return Fraction(cell.value.number) * GRADES["%"]
+        own = ""
+        if isinstance(cell.value, str):
+            parted = _GRADE.fullmatch(cell.value.strip())
+            if parted and unit_of(parted.group(2)) in GRADES:
+                number, own = self.number_of(cell, parted.group(1), head), unit_of(parted.group(2))
+                return Fraction(number) * GRADES[own]
+        number = self.number(cell, head)
+        own = self.unit(unit, GRADES, "")
+        if not own:
+            remedy = "write its unit after it, such as 0.9 %, 120 g/t or 9000 ppm"
+            raise self.fault(cell, f"the grade {cell.text} has no unit", remedy, head)
+        return Fraction(number) * GRADES[own]
+
+    # ---- errors
+
+    def grade_error(self, cell: Cell, grade: Fraction, head: str = "error") -> Fraction:
+        """Return the standard deviation of a grade in parts per million.
+
+        A percentage is one of the grade, as it is of other figures; `180 ppm` and `2 g/t` are
+        absolute.
+        """
+        if isinstance(cell.value, Percent):
+            return Fraction(cell.value.number) / 100 * grade / self.divisor
+        found = []
+        for part in re.split(r"\s+(?:or|oder|ou)\s+", cell.text):
+            parted = _GRADE.fullmatch(part.strip())
+            unit = unit_of(parted.group(2)) if parted else ""
+            if parted is None or unit not in GRADES:
+                what = f"{cell.text!r} is no error with its unit"
+                remedy = "write `2 %` of the grade, `180 ppm`, or `2 % or 20 ppm`"
+                raise self.fault(cell, what, remedy, head)
+            number = Fraction(self.number_of(cell, parted.group(1), head)) / self.divisor
+            if number < 0:
+                raise self.fault(cell, f"{cell.text} is below 0", "an error is 0 or more", head)
+            found.append(number / 100 * grade if unit == "%" else number * GRADES[unit])
+        return max(found)
+
+    def error(
+        self, cell: Cell, density: Fraction | None = None, level: bool = False, head: str = "error"
+    ) -> Error:
+        """Return a standard deviation, such as `1.5 % or 0.2 t`, or `3 mm` of a level."""
+        if isinstance(cell.value, Percent):
+            return Error(share=Fraction(cell.value.number) / 100 / self.divisor)
+        share = grams = mm = Fraction(0)
+        units = {"%": Fraction(1)} | GRAMS | VOLUMES | (LENGTHS if level else {})
+        for part in re.split(r"\s+(?:or|oder|ou)\s+", cell.text):
+            parted = re.fullmatch(r"(.*?[0-9])\s*(%|[^\W\d_][\w³]*)", part.strip())
+            unit = unit_of(parted.group(2)) if parted else ""
+            if parted is None or unit not in units:
+                such = "`3 mm` or `8 t`" if level else "`1.5 %`, `0.2 t`, or `1.5 % or 0.2 t`"
+                what = f"{cell.text!r} is no error with its unit"
+                raise self.fault(cell, what, f"write {such}", head)
+            number = Fraction(self.number_of(cell, parted.group(1), head)) / self.divisor
+            if number < 0:
+                raise self.fault(cell, f"{cell.text} is below 0", "an error is 0 or more", head)
+            if unit == "%":
+                share = number / 100
+            elif unit in LENGTHS and level:
+                mm = number * LENGTHS[unit]
+            else:
+                grams = number * self.factor(cell, unit, density, head)
+        return Error(share, grams, mm)
+
+
+def unit_of(text: str) -> str:
+    """Return a unit as it is written here."""
+    plain = text.strip().strip("[]()").strip()
+    units = (*GRAMS, *VOLUMES, *DENSITIES, *LENGTHS, *GRADES)
+    known = {name.casefold(): name for name in units}
+    plain = _OTHER_WORDS.get(plain.casefold(), plain)
+    return known.get(plain.casefold(), plain)
+
+
+def is_rate(text: str) -> bool:
+    """Say whether a text is a unit of what flows in a time, such as `kg/h`."""
+    return bool(_RATE.fullmatch(text))
+
+
+def _of_rate(text: str) -> str:
+    """Return what to do with a figure in such a unit, or nothing if a text is another."""
+    match = _RATE.fullmatch(text)
+    if match is None:
+        return ""
+    return f"a figure is what flowed in all of its day, not a rate: write it in {match.group(1)}"
+
+
+def _date(year: int, month: int, day: int) -> datetime.date | None:
+    try:
+        return datetime.date(year, month, day)
+    except ValueError:
+        return None
+
+
+def check_locale(locale: str) -> str:
+    """Return a locale, or say that there is none of this name."""
+    if not locale:
+        return ""
+    from babel import Locale, UnknownLocaleError
+
+    try:
+        return str(Locale.parse(locale.replace("-", "_")))
+    except (ValueError, UnknownLocaleError):
+        raise Fault(
+            f"there is no locale {locale!r}", text=locale, remedy="say de, en_GB, fr or another"
+        ) from None
+
+
+def rounded_down(number: Fraction, places: int) -> str:
+    """Return a number with some decimals, to say how much was rounded."""
+    scaled = Decimal(number.numerator) / Decimal(number.denominator)
+    return f"{scaled.quantize(Decimal(1).scaleb(-places), rounding=ROUND_HALF_EVEN):f}"

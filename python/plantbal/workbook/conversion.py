@@ -1,0 +1,186 @@
+"""Makes a session of plantbal from a plant's workbook, or says everything that is wrong in it."""
+
+from __future__ import annotations
+
+import argparse
+import re
+import sys
+from collections.abc import Iterable
+from dataclasses import dataclass, field
+from pathlib import Path
+
+from plantbal.commands.options import add_reading
+from plantbal.faults import Fault, InputFault, Place
+from plantbal.lint import say_brief
+from plantbal.memory import uncollected
+from plantbal.session import Session
+from plantbal.workbook.account import SheetAccount
+from plantbal.workbook.cells import MISSING, Reader, check_locale
+from plantbal.workbook.facts import Converter
+from plantbal.workbook.sheets import read_workbook
+
+HELP = """
+WORKBOOK is an xlsx file, or a folder of CSV files, each of which is the sheet of its name:
+  streams    tag, stream, from, to, kind, unit, density, error, base, since, until
+  units      name (without it, units are the ends of streams that aren't tanks)
+  boundaries name: other names for env, such as a jetty, a rail head, a pipeline
+  tanks      tank, error, base, density, since, until
+  straps     tank, level, volume, unit (m3 without it)
+  readings   the days down and a column for each tag; or days across; or long: day, tag, value, unit
+  dips       tank, day, level, density, error
+  tickets    id, stream, first, last, amount, unit, density, error
+  estimates  tag, day, amount, unit, density, error: a figure with a wide error for a missing day
+  assays     component, stream, period, grade, error, unit
+  critical   test, dof, value
+  periods    name, first, last (without it, each calendar month with a reading is a period)
+  windows    first, last: periods to reconcile together as well, from the first to the last
+  rows       rows of a session, unchanged, such as amend, strike and close
+
+Columns may be in any order; titles above, sums below, remarks and other columns are skipped, and
+standard error says so; a column or row of figures or units that isn't read is a fault.
+Units are t, kt, kg, g, lb, klb, and with a density m3, L, mL, bbl; densities are in kg/m3 and
+levels in mm unless a unit comes after them. An error is `1.5 %`, `0.2 t`, or both with `or`
+between; a tank's may be `3 mm`. A grade has its unit after it, %, ppm or g/t, and an error in
+percent is a percentage of the grade; a balance is asked for each component of a period. What is
+finer than a gram is rounded, and a note says so. A stream or tank is in service from its day
+`since` to its day `until`, both inclusive; without a day there is no such end. With these columns,
+or with boundaries, the session is of version 2. If there is a fault, no session is written; all
+faults are reported at once.
+
+examples:
+  plantbal-desk convert april.xlsx --out april.csv
+  plantbal-desk convert --locale de_DE april_folder --out april.csv
+"""
+_SAID = 12  # faults of one sort in a sheet; the others are counted
+
+
+@dataclass
+class Conversion:
+    """What a workbook gives.
+
+    Attributes
+    ----------
+    session : Session
+        The session; it is whole only if there is no fault.
+    faults : list of Fault
+        All that is wrong, each with its place.
+    notes : list of str
+        What was rounded, passed over or is missing.
+    account : list of SheetAccount
+        What became of the rows of each sheet.
+    """
+
+    session: Session
+    faults: list[Fault]
+    notes: list[str]
+    account: list[SheetAccount] = field(default_factory=list)
+
+    @property
+    def ok(self) -> bool:
+        """Whether nothing is wrong."""
+        return not self.faults
+
+    def said(self) -> list[str]:
+        """Return the faults as sentences; of many alike in a sheet the first, and their number."""
+        groups: dict[tuple[str, str, str], list[Fault]] = {}
+        for fault in self.faults:
+            sort = re.sub(r"'[^']*'|[0-9][\w.,:/-]*", "", fault.what)
+            key = fault.place.file, fault.place.sheet, sort
+            groups.setdefault(key, []).append(fault)
+        lines = []
+        for faults in groups.values():
+            lines += [str(fault) for fault in faults[:_SAID]]
+            if len(faults) > _SAID:
+                last = str(faults[-1].place).rstrip(":")
+                lines.append(f"{last}: the last of {len(faults) - _SAID:,} more like these")
+        return lines
+
+
+def convert(
+    path: str | Path,
+    *,
+    locale: str = "",
+    missing: Iterable[str] = (),
+    skip: Iterable[str] = (),
+    limits: bool = False,
+    design: bool = False,
+) -> Conversion:
+    """Return the session of a workbook, all that is wrong in it and all that has to be said.
+
+    Parameters
+    ----------
+    path : str or Path
+        An xlsx file, or a folder of CSV files.
+    locale : str
+        Whose numbers and days are read, such as ``de``; empty for digits with a decimal point.
+    missing : iterable of str
+        Further words that stand for a missing figure.
+    skip : iterable of str
+        Heads of columns that are left out.
+    limits : bool
+        Whether errors are limits that hold 95 times in 100, of which half is taken.
+    design : bool
+        Whether the design is asked for before the reports.
+
+    Raises
+    ------
+    Fault
+        If the workbook itself can't be read, or there is no such locale.
+    """
+    words = MISSING | {word.casefold() for word in missing}
+    reader = Reader(check_locale(locale), words, 2 if limits else 1)
+    with uncollected():
+        work = Converter(read_workbook(path), reader, tuple(skip))
+        if not work.sheets["streams"] and not work.sheets["rows"] and not work.faults:
+            what, remedy = "there is no sheet streams", "plantbal-desk template writes one"
+            raise InputFault(what, place=Place(file=str(path)), remedy=remedy)
+        work.read_plant()
+        if design:
+            work.session.design()
+        work.read_facts()
+        work.put_assays()
+        work.read_rows()
+        work.ask()
+        work.check_whole(design)
+        work.say_unread()
+        if not work.faults:  # what is missing would mostly follow from these
+            work.check_days()
+            work.say_rounded()
+    work.faults += work.session.refused
+    return Conversion(work.session, work.faults, work.notes, work.account.of_sheets())
+
+
+def add_arguments(parser: argparse.ArgumentParser) -> None:
+    """Add the words of the command."""
+    parser.add_argument("workbook", metavar="WORKBOOK")
+    parser.add_argument("--out", metavar="FILE", default="-", help="the session")
+    add_reading(parser)
+    parser.add_argument(
+        "--design", action="store_true", help="ask for the design before the reports"
+    )
+
+
+def run(options: argparse.Namespace) -> int:
+    """Write the session, or say all that is wrong."""
+    found = convert(
+        options.workbook,
+        locale=options.locale,
+        missing=options.missing,
+        skip=options.skip,
+        limits=options.limits,
+        design=options.design,
+    )
+    for line in found.notes:
+        print(f"{options.prog}: {line}", file=sys.stderr)
+    if found.ok:
+        found.session.to_csv(options.out)
+        say_brief(options.prog, found.session)
+        return 0
+    for line in found.said():
+        print(f"{options.prog}: {line}", file=sys.stderr)
+    count = len(found.faults)
+    print(
+        f"{options.prog}: {count:,} fault{'s' if count > 1 else ''}, and no session is written",
+        file=sys.stderr,
+    )
+    return 1

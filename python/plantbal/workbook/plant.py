@@ -1,0 +1,336 @@
+"""The plant of a workbook: units, tanks and their tables, streams and meters, critical values."""
+
+from __future__ import annotations
+
+import difflib
+import re
+from collections.abc import Iterable, Sequence
+from dataclasses import dataclass, field
+from fractions import Fraction
+
+from plantbal.schema import schema
+from plantbal.session import ENV, dates_of_service, most_streams
+from plantbal.workbook.cells import GRAMS, VOLUMES, Error, Reader
+from plantbal.workbook.sheets import Cell, Sheet
+from plantbal.workbook.tables import Row, Tables
+
+_MOST_ID = schema().limits["most_name"] - len("_2024-04-01")
+
+
+@dataclass
+class Stream:
+    """A stream as its sheet has it."""
+
+    name: str
+    tag: str
+    kind: str
+    unit: str
+    density: Fraction | None
+    error: Error | None
+    cell: Cell
+
+    @property
+    def label(self) -> str:
+        """What its facts are called by: the tag, if it is a name that is short, or the stream."""
+        if re.fullmatch(rf"[A-Za-z0-9_.-]{{1,{_MOST_ID}}}", self.tag):
+            return self.tag
+        return self.name
+
+    @property
+    def said(self) -> str:
+        """What it is called in what is said."""
+        return f"{self.tag} ({self.name})" if self.tag else self.name
+
+
+@dataclass
+class Tank:
+    """A tank as its sheet has it, and its table."""
+
+    name: str
+    error: Error | None
+    density: Fraction | None
+    points: list[tuple[int, int]] = field(default_factory=list)
+
+    def slope(self, mm: int, density: Fraction) -> Fraction:
+        """Return the grams of a millimetre at a level: of the steeper part, if it is at a point."""
+        steep = [
+            Fraction(above[1] - below[1], above[0] - below[0])
+            for below, above in zip(self.points, self.points[1:])
+            if below[0] <= mm <= above[0]
+        ]
+        return max(steep, default=Fraction(0)) * density / 10**6
+
+
+class Plant(Tables):
+    """Reads the sheets of the plant.
+
+    Parameters
+    ----------
+    sheets : list of Sheet
+        The workbook.
+    reader : Reader
+        How its cells are written.
+    skip : tuple of str
+        Heads of columns to leave out.
+    """
+
+    def __init__(self, sheets: list[Sheet], reader: Reader, skip: Sequence[str] = ()) -> None:
+        super().__init__(sheets, reader, skip)
+        self.streams: dict[str, Stream] = {}
+        self.tags: dict[str, Stream] = {}
+        self.tanks: dict[str, Tank] = {}
+        self.bad: set[str] = set()
+
+    def begin(self, known: Iterable[tuple[str, ...]] = ()) -> None:
+        """Begin the session: it is of version 2 if the workbook needs it, or what is known already.
+
+        Parameters
+        ----------
+        known : iterable of tuple of str
+            The rows of a plant that is known. Its boundaries are taken if the workbook has none.
+        """
+        rows = list(known)
+        if ("version", "2") in rows or self._needs_version_2():
+            self.session.row("version", "2")
+        if not self.sheets["boundaries"]:
+            for row in rows:
+                if row[0] == "boundary":
+                    self.session.row(*row)
+
+    def _needs_version_2(self) -> bool:
+        """Say whether there are boundaries, columns of dates of service, or very many streams."""
+        sheets = [*self.sheets["streams"], *self.sheets["tanks"]]
+        heads = {
+            value.strip().casefold()
+            for sheet in sheets
+            for _, values in sheet.lines[:40]
+            for value in values
+            if isinstance(value, str)
+        }
+        many = sum(len(sheet.lines) for sheet in sheets) > most_streams(1)
+        said = any(cells[0].text == "version" for s in self.sheets["rows"] for cells in s.rows())
+        return bool(self.sheets["boundaries"]) or bool({"since", "until"} & heads) or many or said
+
+    def read_plant(self) -> None:
+        """Read boundaries, units, tanks, tables, streams and critical values."""
+        if not len(self.session):
+            self.begin()
+        for row in self.rows("boundaries"):
+            if not self.put(["boundary", row.text("name")], {"name": row["name"]}):
+                self.bad.add(row.text("name"))
+        self._read_tanks()
+        ends = [(row, self._stream_of(row)) for row in self.rows("streams")]
+        self._declare_units([row for row, _ in ends])
+        for fields, cells in self._tank_rows:
+            if not self.put(["tank", *fields], cells):
+                self.bad.add(fields[0])
+        self._read_straps()
+        for row, stream in ends:
+            if stream is not None:
+                self._declare_stream(row, stream)
+            else:
+                self.bad |= {row.text("stream"), row.text("tag")}
+        self._check_ends([row for row, _ in ends])
+        self.read_critical()
+
+    def take_tanks(self, rows: Iterable[tuple[str, ...]], tanks: Iterable[Tank]) -> None:
+        """Take tanks and tables that are known already, as rows of a session."""
+        self.tanks |= {tank.name: tank for tank in tanks}
+        for row in rows:
+            self.session.row(*row)
+
+    def take_straps(self, rows: Iterable[tuple[str, ...]]) -> None:
+        """Take the tables of its tanks that are known already, as rows of a session."""
+        for _, tank, mm, ml in rows:
+            if tank in self.tanks and self.session.row("strap", tank, mm, ml):
+                self.tanks[tank].points.append((int(mm), int(ml)))
+
+    def take_plant(
+        self, rows: Iterable[tuple[str, ...]], streams: Iterable[Stream], tanks: Iterable[Tank]
+    ) -> None:
+        """Take a plant that is known already, as rows of a session, in place of its sheets.
+
+        Parameters
+        ----------
+        rows : iterable of tuple of str
+            The rows.
+        streams, tanks : iterable of Stream and of Tank
+            Their streams and tanks.
+        """
+        self.take_tanks(rows, tanks)
+        for stream in streams:
+            self.streams[stream.name] = stream
+            if stream.tag:
+                self.tags[stream.tag] = stream
+
+    def _base(self, cell: Cell, density: Fraction | None) -> int:
+        """Return the variance of a base."""
+        if self.reader.is_missing(cell):
+            return 1
+        return max(1, self.reader.error(cell, density, head="base").variance(0))
+
+    def _service(self, row: Row) -> tuple[str, ...]:
+        """Return the dates of service of a row as fields; none if it has no date."""
+        since, until = (
+            None if self.reader.is_missing(row[head]) else self.reader.day(row[head], head)
+            for head in ("since", "until")
+        )
+        return dates_of_service(since, until)
+
+    def _read_tanks(self) -> None:
+        self._tank_rows: list[tuple[tuple[str, ...], dict[str, Cell]]] = []
+        for row in self.rows("tanks"):
+            name = row.text("tank")
+            self.bad.add(name)
+            with self.kept():
+                density = self.reader.density(row["density"])
+                base = self._base(row["base"], density)
+                error = None
+                if not self.reader.is_missing(row["error"]):
+                    error = self.reader.error(row["error"], density, level=True)
+                if error is not None and error.share:
+                    what = "a tank's error in percent says nothing of a level"
+                    raise self.reader.fault(row["error"], what, "write `3 mm` or `8 t`", "error")
+                service = self._service(row)
+                self.tanks.setdefault(name, Tank(name, error, density))
+                cells = {"name": row["tank"], "base": row["base"], "since": row["since"]}
+                self._tank_rows.append(((name, str(base), *service), cells))
+                self.bad.discard(name)
+
+    def _read_straps(self) -> None:
+        for row in self.rows("straps"):
+            with self.kept():
+                mm = self.reader.level(row["level"])
+                unit = self.reader.unit(row["unit"], VOLUMES, "m3")
+                number, own = self.reader.split(row["volume"], VOLUMES, "volume")
+                exact = Fraction(number) * VOLUMES[own or unit] * 10**6
+                ml = self.reader.whole(row["volume"], exact)
+                name = row.text("tank")
+                if name in self.bad:
+                    continue
+                cells = {"tank": row["tank"], "mm": row["level"], "ml": row["volume"]}
+                if self.put(["strap", name, str(mm), str(ml)], cells):
+                    self.tanks[name].points.append((mm, ml))
+
+    def _stream_of(self, row: Row) -> Stream | None:
+        """Return a stream, or None if something of it is wrong."""
+        count = len(self.faults)
+        tag = "" if self.reader.is_missing(row["tag"]) else row.text("tag")
+        kind = row.text("kind").casefold() or ("metered" if tag else "plain")
+        if kind not in ("metered", "batch", "plain"):
+            remedy = "write metered, batch or plain"
+            self.fault(row["kind"], f"{row.text('kind')!r} is no kind of stream", remedy, "kind")
+        unit, density, error = "", None, None
+        with self.kept():
+            unit = self.reader.unit(row["unit"], GRAMS | VOLUMES, "")
+        with self.kept():
+            density = self.reader.density(row["density"])
+        with self.kept():
+            if not self.reader.is_missing(row["error"]):
+                error = self.reader.error(row["error"], density)
+        if kind == "metered" and tag and error is None and len(self.faults) == count:
+            what = f"the meter {tag} has no error"
+            self.fault(row["error"], what, "write `1.5 %`, `0.2 t`, or both with `or`", "error")
+        if len(self.faults) > count:
+            return None
+        name = row.text("stream")
+        return Stream(name, tag, kind, unit, density, error, row["stream"])
+
+    def _declare_units(self, rows: list[Row]) -> None:
+        listed = [row["name"] for row in self.rows("units")]
+        seen = {*self.tanks, *self.bad, *self.session.boundaries, ENV}
+        if not self.sheets["units"]:
+            ends = [row[head] for row in rows for head in ("from", "to")]
+            listed = list({cell.text: cell for cell in reversed(ends) if cell.text}.values())
+            order = {cell.text: at for at, cell in reversed(list(enumerate(ends)))}
+            listed = [cell for cell in listed if cell.text not in seen]
+            listed.sort(key=lambda cell: order[cell.text])
+        for cell in listed:
+            if not self.put(["unit", cell.text], {"name": cell}):
+                self.bad.add(cell.text)
+
+    def _declare_stream(self, row: Row, stream: Stream) -> None:
+        """Give a stream to the session."""
+        ends = row["from"], row["to"]
+        tag = self.tags.get(stream.tag) if stream.tag else None
+        if tag is not None:
+            other = str(tag.cell.place()).rstrip(":")
+            self.fault(row["tag"], f"{stream.tag} is the tag of {tag.name} too ({other})")
+        if tag is not None or any(cell.text in self.bad for cell in ends):
+            self.bad |= {stream.name, stream.tag} - {""} if tag is None else {stream.name}
+            return
+        base = 0
+        with self.kept():
+            base = self._base(row["base"], stream.density)
+            if stream.kind == "plain":
+                if not self.reader.is_missing(row["base"]):
+                    raise self.reader.fault(
+                        row["base"], "a plain stream has no base", "empty the cell", "base"
+                    )
+                base = 0
+            cells = {"name": row["stream"], "from": ends[0], "to": ends[1], "base": row["base"]}
+            cells["since"] = row["since"]
+            fields = [stream.name, ends[0].text, ends[1].text, stream.kind, str(base)]
+            if self.put(["stream", *fields, *self._service(row)], cells):
+                self.streams[stream.name] = stream
+                if stream.tag:
+                    self.tags[stream.tag] = stream
+                return
+        self.bad |= {stream.name, stream.tag} - {""}
+
+    def _check_ends(self, rows: list[Row]) -> None:
+        """Say which units have nothing coming in, or nothing going out: their flows would be 0."""
+        ins: dict[str, Cell] = {row.text("to"): row["to"] for row in rows}
+        outs: dict[str, Cell] = {row.text("from"): row["from"] for row in rows}
+        units = [name for name, kind in self.session.nodes.items() if kind == "unit"]
+        for name in units:
+            if (name in ins) == (name in outs) and name in ins:
+                continue
+            cell = ins.get(name) or outs.get(name)
+            lacks = "going out" if name in ins else "coming in"
+            others = [*(other for other in self.session.nodes if other != name), ENV]
+            others += self.session.boundaries
+            near = difflib.get_close_matches(name, others, n=1, cutoff=0.75)
+            remedy = "write `env`, the world outside, or name it in a sheet boundaries"
+            if near:
+                remedy = f"did you mean {near[0]}?"
+            if cell is None:
+                self.notes.append(f"the unit {name} stands in no stream")
+            else:
+                self.fault(cell, f"{name} has nothing {lacks}, so its flows would be 0", remedy)
+
+    def read_critical(self) -> None:
+        """Read critical values; one that the session has already is none more."""
+        there = set(self.session)
+        for row in self.rows("critical"):
+            with self.kept():
+                test = row.text("test").casefold()
+                if test not in ("global", "nodal", "measure"):
+                    what = f"{row.text('test')!r} is no test"
+                    remedy = "write global, nodal or measure"
+                    raise self.reader.fault(row["test"], what, remedy, "test")
+                number = Fraction(self.reader.number(row["value"], "value"))
+                freedom = []
+                if test == "global":
+                    freedom = [f"{self.reader.number(row['dof'], 'dof'):f}"]
+                if number > 100 + 10 * Fraction(freedom[0] if freedom else 1):
+                    what = f"{row.text('value')} is no critical value: no test would reject"
+                    remedy = f"is it in thousandths? Then write {float(number / 1000):g}"
+                    raise self.reader.fault(row["value"], what, remedy, "value")
+                value = str(self.reader.whole(row["value"], number * 1000))
+                cells = {"value": row["value"], "dof": row["dof"]}
+                fields = "critical", test, *freedom, value
+                if fields not in there:
+                    self.put(fields, cells)
+
+    def named(self, cell: Cell, head: str) -> Stream | None:
+        """Return the stream of a tag or a name, or None if its own row is at fault."""
+        found = self.tags.get(cell.text) or self.streams.get(cell.text)
+        if found is None and cell.text not in self.bad:
+            names = [*self.tags, *self.streams]
+            near = [name for name in names if name.casefold() == cell.text.casefold()]
+            near += difflib.get_close_matches(cell.text, names, n=1)
+            remedy = f"did you mean {near[0]}?" if near else "write it into the sheet streams"
+            what = f"there is no tag or stream {cell.text!r}" if cell.text else "there is no tag"
+            self.fault(cell, what, remedy, head)
+        return found

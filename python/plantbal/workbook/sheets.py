@@ -1,0 +1,341 @@
+"""Workbooks: the sheets of an xlsx file or a folder of CSV files, as cells with their places.
+
+No row is lost in silence: a quote out of place is a fault with its line, and a sheet's `notes` say
+what a reader of the workbook might not expect, such as hidden rows.
+"""
+
+from __future__ import annotations
+
+import csv
+import datetime
+import io
+import re
+import sys
+from collections.abc import Iterator, Sequence
+from dataclasses import dataclass, field
+from decimal import Decimal
+from pathlib import Path
+
+from plantbal import limits
+from plantbal.faults import InputFault, Place, read_bytes, unread
+
+# How the letters of columns begin: Z is the 26th.
+_LETTERS = 26
+# Days are counted from here by Excel, and by workbooks that count from 1904.
+EPOCH = datetime.date(1899, 12, 30)
+EPOCH_1904 = datetime.date(1904, 1, 1)
+_TABLES = (".csv", ".txt", ".tsv")
+_WORKBOOKS = (".xlsx", ".xlsm", ".xls", ".xlsb", ".ods")
+
+
+@dataclass(frozen=True, slots=True)
+class Percent:
+    """A number that its cell shows in percent.
+
+    Attributes
+    ----------
+    number : Decimal
+        The percents: 1.5 for 1.5 %.
+    """
+
+    number: Decimal
+
+
+@dataclass(frozen=True, slots=True)
+class NoValue:
+    """A formula whose value isn't in the file."""
+
+
+Value = str | Decimal | Percent | datetime.datetime | datetime.time | bool | NoValue | None
+
+
+@dataclass(frozen=True, slots=True)
+class Cell:
+    """A cell: what stands in it, and where it is.
+
+    Attributes
+    ----------
+    sheet : Sheet
+        Its sheet.
+    line, column : int
+        Its row and column, counted from 1; column 0 if the sheet has no such column.
+    value : str, Decimal, datetime or None
+        What stands in it; a text without spaces around it, and None for nothing.
+    """
+
+    sheet: Sheet
+    line: int
+    column: int
+    value: Value
+
+    @property
+    def text(self) -> str:
+        """What stands in it, as a text."""
+        value = self.value
+        if value is None:
+            return ""
+        if isinstance(value, Percent):
+            return f"{value.number:f} %"
+        if isinstance(value, Decimal):
+            return f"{value:f}"
+        if isinstance(value, datetime.datetime) and value.time() == datetime.time():
+            return value.date().isoformat()
+        return str(value)
+
+    def place(self, head: str = "") -> Place:
+        """Return where it is."""
+        return self.sheet.place(self.line, self.column, head)
+
+
+@dataclass
+class Sheet:
+    """A sheet of a workbook, or a CSV file of a folder.
+
+    Attributes
+    ----------
+    file : str
+        The file.
+    name : str
+        The sheet's name; a CSV file's name without its ending.
+    lines : list of (int, list of Value)
+        The rows that aren't empty, each with its number, counted from 1.
+    is_csv : bool
+        Whether it is a CSV file.
+    epoch : date
+        The day from which days are counted.
+    notes : list of str
+        What is to be said of how it was read.
+    """
+
+    file: str
+    name: str
+    lines: list[tuple[int, list[Value]]]
+    is_csv: bool = False
+    epoch: datetime.date = EPOCH
+    notes: list[str] = field(default_factory=list)
+
+    def place(self, line: int | None = None, column: int | None = None, head: str = "") -> Place:
+        """Return a place in it; column 0 is that of a cell whose column isn't there."""
+        column = column or None
+        if self.is_csv:
+            return Place(file=self.file, line=line, column=column, head=head)
+        cell = f"{letters(column)}{line}" if line is not None and column is not None else ""
+        return Place(file=self.file, sheet=self.name, cell=cell, line=None if cell else line)
+
+    def rows(self) -> Iterator[list[Cell]]:
+        """Give the rows as cells, empty ones at the end left out."""
+        for line, values in self.lines:
+            yield [Cell(self, line, at, value) for at, value in enumerate(values, 1)]
+
+
+def letters(column: int) -> str:
+    """Return the letters of a column, counted from 1."""
+    text = ""
+    while column:
+        column, rest = divmod(column - 1, _LETTERS)
+        text = chr(ord("A") + rest) + text
+    return text
+
+
+def read_workbook(path: str | Path) -> list[Sheet]:
+    """Return the sheets of a workbook, or of a folder of CSV files.
+
+    Parameters
+    ----------
+    path : str or Path
+        An xlsx file, a CSV file, or a folder.
+
+    Raises
+    ------
+    InputFault
+        If it can't be read, or holds more than `plantbal.limits` has.
+    """
+    place = Path(path)
+    try:
+        if place.is_dir():
+            return _read_folder(place)
+    except OSError as error:
+        raise unread(path, error) from error
+    if place.suffix.lower() in _TABLES:
+        return [read_csv(place)]
+    from plantbal.workbook.xlsx import read_xlsx
+
+    return read_xlsx(place)
+
+
+def _read_folder(folder: Path) -> list[Sheet]:
+    """Return the CSV files of a folder; of a workbook in it, that it isn't read."""
+    entries = []
+    for entry in folder.iterdir():
+        entries.append(entry)
+        if len(entries) > limits.FOLDER_FILES:
+            raise InputFault(
+                f"this folder has more than {limits.FOLDER_FILES:,} files",
+                place=Place(file=str(folder)),
+                remedy="name a folder with the files of one workbook",
+            )
+    sheets = [read_csv(file) for file in sorted(entries) if file.suffix.lower() in _TABLES]
+    if not sheets:
+        raise InputFault(
+            "there is no CSV file in this folder",
+            place=Place(file=str(folder)),
+            remedy="write streams.csv, readings.csv and so on into it",
+        )
+    note = "it isn't read: of a folder only CSV files are"
+    for file in sorted(entries):
+        if file.suffix.lower() in _WORKBOOKS and not file.name.startswith((".", "~")):
+            sheets.append(Sheet(str(file), file.stem, [], is_csv=True, notes=[note]))
+    return sheets
+
+
+def without_end(values: list[Value]) -> list[Value]:
+    """Return values without empty ones at the end."""
+    while values and values[-1] is None:
+        values.pop()
+    return values
+
+
+class Held:
+    """Counts what the sheets of a workbook hold, and refuses one that holds too much.
+
+    Attributes
+    ----------
+    cells : int
+        The cells so far, each row from its first column to its last one with a value.
+    """
+
+    def __init__(self) -> None:
+        self.cells = 0
+
+    def take(self, place: Place, values: Sequence[Value]) -> None:
+        """Count the cells of a row.
+
+        Raises
+        ------
+        InputFault
+            If it has too many columns, the workbook too many cells, or a cell too long a text.
+        """
+        self.cells += len(values)
+        longest = max((len(value) for value in values if isinstance(value, str)), default=0)
+        for count, most, what in (
+            (len(values), limits.COLUMNS, "columns in a row"),
+            (self.cells, limits.CELLS, "cells in the workbook"),
+            (longest, limits.CELL_CHARACTERS, "characters in a cell"),
+        ):
+            if count > most:
+                raise InputFault(
+                    f"there are more than {most:,} {what}",
+                    place=place,
+                    remedy="give the plant's workbook, of which no sheet has as many",
+                )
+
+
+# ---- CSV
+
+
+def read_csv(path: Path) -> Sheet:
+    """Return a CSV file as a sheet, whatever parts its fields.
+
+    Raises
+    ------
+    InputFault
+        If it can't be read, or a double quote in it isn't closed.
+    """
+    name, data = read_bytes(path, limits.WORKBOOK_BYTES)
+    text, notes = _decoded(name, data)
+    first, _, rest = text.partition("\n")
+    marked = re.fullmatch(r"sep=(.)\r?", first.lower())
+    part = marked.group(1) if marked else _parting(text)
+    sheet = Sheet(name, path.stem, [], is_csv=True, notes=notes)
+    held = Held()
+    for row in csv_rows(rest if marked else text, part, name, 1 + bool(marked)):
+        values: list[Value] = [each.strip(" \t\u00a0\u202f") or None for each in row.fields]
+        if any(value is not None for value in values):
+            sheet.lines.append((row.first, without_end(values)))
+            held.take(sheet.place(row.first), values)
+            _say_lines(sheet, row, part)
+    return sheet
+
+
+@dataclass(frozen=True, slots=True)
+class CsvRow:
+    """A row of a CSV file: its fields, and the first and the last line that it stands in."""
+
+    fields: list[str]
+    first: int
+    last: int
+
+
+def csv_rows(text: str, part: str, name: str, begin: int = 1) -> Iterator[CsvRow]:
+    """Give the rows of a CSV text that begins in a line.
+
+    Raises
+    ------
+    InputFault
+        If a double quote isn't closed, or stands within a field.
+    """
+    csv.field_size_limit(sys.maxsize)
+    at = begin
+    try:
+        reader = csv.reader(io.StringIO(text, newline=""), delimiter=part, strict=True)
+        for fields in reader:
+            last = begin + reader.line_num - 1
+            yield CsvRow(fields, at, last)
+            at = last + 1
+    except (csv.Error, TypeError) as error:  # a quote can't part fields
+        raise InputFault(
+            "a double quote in this row isn't closed, or stands within a field: "
+            "rows after it would be lost",
+            place=Place(file=name, line=at),
+            remedy="take it out, or write it twice within double quotes",
+        ) from error
+
+
+def _say_lines(sheet: Sheet, row: CsvRow, part: str) -> None:
+    """Say that a field goes over several lines.
+
+    Raises
+    ------
+    InputFault
+        If one of them has the fields of a row.
+    """
+    if row.first == row.last:
+        return
+    fields = len(sheet.lines[0][1])
+    for text in row.fields:
+        inner = re.split(r"\r\n|\r|\n", text)[1:]
+        if any(line.count(part) + 1 >= max(2, fields) for line in inner):
+            raise InputFault(
+                f"a field within double quotes goes to line {row.last}, with rows in it",
+                place=sheet.place(row.first),
+                remedy="take the double quote out, or write it twice within double quotes",
+            )
+    sheet.notes.append(f"line {row.first}: a field within double quotes goes to line {row.last}")
+
+
+def _decoded(name: str, data: bytes) -> tuple[str, list[str]]:
+    """Return the text of a file, and what is to be said of its encoding."""
+    place = Place(file=name)
+    if data.startswith((b"\xff\xfe", b"\xfe\xff")):
+        try:
+            return data.decode("utf-16"), []
+        except UnicodeDecodeError as error:
+            what = "this is UTF-16 that is cut off or damaged"
+            raise InputFault(what, place=place, remedy='save it as "CSV UTF-8"') from error
+    if b"\0" in data:
+        raise InputFault(
+            "this is no text", place=place, remedy='save it as "CSV UTF-8" or as xlsx'
+        )
+    try:
+        return data.decode("utf-8-sig"), []
+    except UnicodeDecodeError:
+        return data.decode("cp1252", errors="replace"), ["it is no UTF-8, and read as Windows-1252"]
+
+
+def _parting(text: str) -> str:
+    """Return what parts the fields: a tab, semicolon or bar that most lines have, or a comma."""
+    lines = [line for line in text.splitlines() if line.strip()]
+    for part in "\t;|":
+        if 2 * sum(part in line for line in lines) > len(lines):
+            return part
+    return ","

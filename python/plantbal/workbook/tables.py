@@ -1,0 +1,345 @@
+"""The tables of a plant's workbook: its sheets by their kinds, their heads, their rows."""
+
+from __future__ import annotations
+
+import datetime
+import difflib
+import re
+from collections.abc import Container, Iterator, Mapping, Sequence
+from contextlib import contextmanager
+from dataclasses import dataclass
+from decimal import Decimal
+
+from plantbal.faults import Fault, InputFault, Refusal
+from plantbal.session import Session
+from plantbal.workbook.account import Account, Fate, is_figure, unread_column, unread_rows
+from plantbal.workbook.cells import Reader
+from plantbal.workbook.sheets import Cell, Sheet
+
+# The columns of each sheet: those that it needs, and others.
+SHEETS: dict[str, tuple[tuple[str, ...], tuple[str, ...]]] = {
+    "streams": (
+        ("stream", "from", "to"),
+        ("tag", "kind", "unit", "density", "error", "base", "since", "until"),
+    ),
+    "boundaries": (("name",), ()),
+    "units": (("name",), ()),
+    "tanks": (("tank",), ("error", "base", "density", "since", "until")),
+    "straps": (("tank", "level", "volume"), ("unit",)),
+    "readings": ((), ()),
+    "dips": (("tank", "day", "level"), ("density", "error")),
+    "tickets": (("id", "stream", "first", "amount"), ("last", "unit", "density", "error")),
+    "estimates": (("day", "amount", "error"), ("tag", "stream", "unit", "density")),
+    "assays": (("component", "stream", "period", "grade", "error"), ("unit",)),
+    "critical": (("test", "value"), ("dof",)),
+    "periods": (("name", "first", "last"), ()),
+    "windows": (("first", "last"), ()),
+    "rows": ((), ()),
+}
+# The sheets that have the plant itself.
+PLANT_SHEETS = ("streams", "boundaries", "units", "tanks", "straps", "critical")
+_PASSED = ("about", "lists")
+HEADS_WITHIN = 40  # rows of a sheet
+_HEADS_THAT_TELL = 3  # with fewer columns a sheet of another kind might be meant
+OTHER_HEADS = {"date": "day", "datum": "day", "volume (m3)": "volume", "level (mm)": "level"}
+TOTALS = frozenset(
+    "total totals sum summe summen gesamt somme totale suma σ average mean mittelwert mittel "
+    "min max minimum maximum count anzahl mtd ytd".split()
+)
+
+
+@dataclass(frozen=True)
+class Row:
+    """A row of a sheet, by the heads of its columns."""
+
+    cells: Mapping[str, Cell]
+
+    def __getitem__(self, head: str) -> Cell:
+        return self.cells[head]
+
+    def text(self, head: str) -> str:
+        """Return the text of a cell."""
+        return self.cells[head].text
+
+
+def kind_of_heads(sheet: Sheet) -> str:
+    """Return the kind of a sheet that has a row with the heads of one, or nothing."""
+    for _, values in sheet.lines[:HEADS_WITHIN]:
+        texts = {value.strip().casefold() for value in values if isinstance(value, str)}
+        heads = {OTHER_HEADS.get(text, text) for text in texts}
+        for kind, (needed, _) in SHEETS.items():
+            if len(needed) >= _HEADS_THAT_TELL and heads.issuperset(needed):
+                return kind
+    return ""
+
+
+class Tables:
+    """Reads the tables of a workbook, and keeps what is wrong.
+
+    Parameters
+    ----------
+    sheets : list of Sheet
+        The workbook.
+    reader : Reader
+        How its cells are written.
+    skip : tuple of str
+        Heads of columns to leave out.
+
+    Attributes
+    ----------
+    account : Account
+        What became of each row.
+    """
+
+    def __init__(self, sheets: list[Sheet], reader: Reader, skip: Sequence[str] = ()) -> None:
+        self.reader = reader
+        self.skip = {head.casefold() for head in skip}
+        self.session = Session(strict=False)
+        self.faults: list[Fault] = []
+        self.notes: list[str] = []
+        self.written: list[Cell] = []
+        self.account = Account(sheets)
+        self.sheets = self._by_kind(sheets)
+
+    def _by_kind(self, sheets: list[Sheet]) -> dict[str, list[Sheet]]:
+        found: dict[str, list[Sheet]] = {kind: [] for kind in SHEETS}
+        for sheet in sheets:
+            self.notes += [f"{sheet.place()} {note}" for note in sheet.notes]
+            word = re.split(r"[^a-z]", sheet.name.strip().casefold(), maxsplit=1)[0]
+            if word in found:
+                # without a row below its heads a sheet is as if it weren't there
+                if len(sheet.lines) > (0 if word in ("streams", "rows") else 1):
+                    found[word].append(sheet)
+                else:
+                    self._take_heads(sheet, word)
+                continue
+            near = difflib.get_close_matches(word, SHEETS, n=1, cutoff=0.8)
+            if near:
+                remedy = f"call it {near[0]}"
+                what = f"there is no sheet of the kind {sheet.name!r}"
+                self.faults.append(InputFault(what, place=sheet.place(), remedy=remedy))
+            else:
+                self._pass_over(sheet, word)
+        return found
+
+    def _take_heads(self, sheet: Sheet, kind: str) -> None:
+        """Take the row of a sheet that has no other: its heads, or one that isn't read."""
+        needed, others = SHEETS[kind]
+        for cells in sheet.rows():
+            if not any(is_figure(self.reader, cell) for cell in cells):
+                self.account.put(Fate.HEADS, cells)
+
+    def _pass_over(self, sheet: Sheet, word: str) -> None:
+        """Say that a sheet is passed over; one with the heads of a table is a fault."""
+        self.account.put_sheet(Fate.PASSED, sheet)
+        if word in _PASSED or not sheet.lines:
+            return
+        kind = kind_of_heads(sheet)
+        if kind and len(sheet.lines) > 1:
+            what = f"the sheet has the heads of the sheet {kind}, and isn't read"
+            self.faults.append(InputFault(what, place=sheet.place(), remedy=f"call it {kind}"))
+        else:
+            self.notes.append(f"{sheet.place()} the sheet is passed over")
+
+    @contextmanager
+    def kept(self) -> Iterator[None]:
+        """Keep a fault of the block."""
+        try:
+            yield
+        except Fault as fault:
+            self.faults.append(fault)
+
+    def fault(self, cell: Cell, what: str, remedy: str = "", head: str = "") -> None:
+        """Keep a fault at a cell."""
+        self.faults.append(self.reader.fault(cell, what, remedy, head))
+
+    def put(self, fields: Sequence[str], cells: Mapping[str, Cell]) -> bool:
+        """Give a row to the session; if it is refused, that is a fault at the cell of its column.
+
+        Parameters
+        ----------
+        fields : sequence of str
+            The row.
+        cells : mapping of str to Cell
+            The cells by the columns of the row; the first stands for all others.
+        """
+        if self.session.row(*fields):
+            return True
+        refusal: Refusal = self.session.refused.take_back()
+        cell = cells.get(refusal.column) or next(iter(cells.values()))
+        refusal.place = cell.place()
+        self.faults.append(refusal)
+        return False
+
+    def rows(self, kind: str, facts: bool = False) -> Iterator[Row]:
+        """Give the rows of the sheets of a kind."""
+        for sheet in self.sheets[kind]:
+            with self.kept():
+                yield from self._rows_of(sheet, kind, facts)
+
+    def _rows_of(self, sheet: Sheet, kind: str, facts: bool) -> Iterator[Row]:
+        needed, others = SHEETS[kind]
+        lines = list(sheet.rows())
+        at, heads = self._heads(sheet, lines, needed, others)
+        self.account.put(Fate.HEADS, lines[at])
+        wrong = self._wrong_heads(lines[at], heads, others)
+        self.say_columns(lines[at], lines[at + 1 :], {*heads.values(), *wrong})
+        for cells in lines[at + 1 :]:
+            row = {
+                head: cells[column] if column < len(cells) else self._beside(cells, column)
+                for head, column in heads.items()
+            }
+            for head in (*needed, *others):
+                row.setdefault(head, Cell(sheet, cells[0].line, 0, None))
+            if all(self.reader.is_missing(row[head]) for head in heads):
+                continue
+            if facts and self._is_total(cells):
+                continue
+            self.account.put(Fate.READ, cells)
+            yield Row(row)
+
+    def _beside(self, cells: list[Cell], column: int) -> Cell:
+        """Return the empty cell of a column that a row doesn't reach."""
+        return Cell(cells[0].sheet, cells[0].line, column + 1, None)
+
+    def _heads(
+        self,
+        sheet: Sheet,
+        lines: list[list[Cell]],
+        needed: tuple[str, ...],
+        others: tuple[str, ...],
+    ) -> tuple[int, dict[str, int]]:
+        """Return which row has the heads, and the column of each."""
+        best: tuple[int, dict[str, int]] = 0, {}
+        for at, cells in enumerate(lines[:HEADS_WITHIN]):
+            found: dict[str, int] = {}
+            for column, cell in enumerate(cells):
+                head = cell.text.casefold()
+                head = OTHER_HEADS.get(head, head)
+                if head in (*needed, *others):
+                    found.setdefault(head, column)
+            if len(found) > len(best[1]):
+                best = at, found
+        at, heads = best
+        for head in needed:
+            if head not in heads:
+                like = self._near_head(lines[at], head)
+                remedy = f"the columns are {', '.join(needed)}"
+                if others:
+                    remedy += f", and, as they are wanted, {', '.join(others)}"
+                if like:
+                    remedy = f"{like} is nearly its name"
+                place = sheet.place(lines[at][0].line)
+                raise InputFault(f"there is no column {head!r}", place=place, remedy=remedy)
+        return at, heads
+
+    def _wrong_heads(
+        self, cells: list[Cell], heads: dict[str, int], others: tuple[str, ...]
+    ) -> set[int]:
+        """Keep the faults of heads that stand twice or are misspelt, and return their columns."""
+        wrong = set()
+        for column, cell in enumerate(cells):
+            if cell.text.casefold() in self.skip:
+                continue
+            head = OTHER_HEADS.get(cell.text.casefold(), cell.text.casefold())
+            if heads.get(head, column) != column:
+                self.fault(cell, f"there are two columns {head!r}", "take one of both out")
+                wrong.add(column)
+            near = difflib.get_close_matches(cell.text.casefold(), others, n=1, cutoff=0.75)
+            if near and near[0] not in heads:
+                what = f"there is no column {cell.text!r} here"
+                self.fault(cell, what, f"did you mean {near[0]}?")
+                wrong.add(column)
+        return wrong
+
+    def _near_head(self, cells: list[Cell], head: str) -> str:
+        texts = [cell.text for cell in cells if cell.text]
+        return next(iter(difflib.get_close_matches(head, texts, n=1)), "")
+
+    def _is_total(self, cells: list[Cell]) -> bool:
+        """Say whether a row is a sum or the like, and note that it is passed over."""
+        first = next((cell for cell in cells if cell.value is not None), None)
+        if first is None or not isinstance(first.value, str):
+            return False
+        words = re.split(r"[\s:.]+", first.text.casefold())
+        if words[0] not in TOTALS:
+            return False
+        self.pass_row(cells, first)
+        return True
+
+    def pass_row(self, cells: list[Cell], first: Cell) -> None:
+        """Pass over a row, and say so by its first cell with a value."""
+        self.account.put(Fate.PASSED, cells)
+        self.notes.append(f"{first.place()} the row {first.text!r} is passed over")
+
+    # ---- what isn't read
+
+    def pass_sheet(self, sheet: Sheet, why: str) -> None:
+        """Pass over a sheet, and say why."""
+        self.account.put_sheet(Fate.PASSED, sheet)
+        self.notes.append(f"{sheet.place()} the sheet is passed over: {why}")
+
+    def say_columns(self, heads: list[Cell], lines: list[list[Cell]], read: set[int]) -> None:
+        """Say which columns aren't read; one of figures or units is a fault.
+
+        Parameters
+        ----------
+        heads : list of Cell
+            The row of heads.
+        lines : list of list of Cell
+            The rows below it.
+        read : set of int
+            The columns that are read, counted from 0.
+        """
+        for column in range(max(map(len, [heads, *lines]))):
+            head = heads[column] if column < len(heads) else self._beside(heads, column)
+            if column in read or head.text.casefold() in self.skip:
+                continue
+            below = (cells[column] for cells in lines if column < len(cells))
+            fault, note = unread_column(self.reader, head, below)
+            if fault is not None:
+                self.faults.append(fault)
+            elif note:
+                self.notes.append(note)
+
+    def say_unread(self, kinds: Container[str] = tuple(SHEETS)) -> None:
+        """Say which rows of the sheets of these kinds aren't read; rows of figures are faults."""
+        self.account.put_faults(self.faults)
+        for kind, sheets in self.sheets.items():
+            for sheet in sheets if kind in kinds else ():
+                self._say_rows(self.account.left(sheet))
+        for sheet in self.account.sheets:
+            if len(sheet.lines) == 1:
+                self._say_rows(self.account.left(sheet))
+
+    def _say_rows(self, rows: list[list[Cell]]) -> None:
+        for said in unread_rows(self.reader, rows):
+            if isinstance(said, InputFault):
+                self.faults.append(said)
+            else:
+                self.notes.append(said)
+        self.account.put_faults(self.faults)
+        self.account.put(Fate.PASSED, *rows)
+
+    # ---- days
+
+    def _maybe_day(self, cell: Cell) -> bool:
+        """Say whether a cell looks like a day."""
+        if isinstance(cell.value, str) and not re.search(r"[0-9]{2}", cell.value):
+            return False
+        if isinstance(cell.value, Decimal) and not 36_000 <= cell.value <= 73_000:
+            return False
+        try:
+            self.reader.day(cell)
+        except Fault:
+            return False
+        return True
+
+    def _day(self, cell: Cell) -> datetime.date | None:
+        """Return a day, or None with a fault."""
+        with self.kept():
+            day = self.reader.day(cell, "day")
+            if isinstance(cell.value, str):
+                self.written.append(cell)
+            return day
+        return None

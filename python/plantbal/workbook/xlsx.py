@@ -1,0 +1,244 @@
+"""Workbooks of Excel: their sheets by the cells that they hold, and not by their corners.
+
+The size of what is packed is looked at first. Then each sheet is read twice as a stream, once with
+the values of formulas and once with the formulas: a cell far away or a merge of a million cells
+takes no memory. Hidden sheets, rows and columns and cells that are struck through are read as all
+others, and said.
+"""
+
+from __future__ import annotations
+
+import datetime
+import io
+import zipfile
+from collections.abc import Iterator
+from contextlib import contextmanager
+from dataclasses import dataclass, field
+from decimal import Decimal
+from pathlib import Path
+from typing import Any
+
+from plantbal import limits
+from plantbal.faults import InputFault, Place, ToolMissing, read_bytes
+from plantbal.workbook.sheets import (
+    EPOCH,
+    EPOCH_1904,
+    Held,
+    NoValue,
+    Percent,
+    Sheet,
+    Value,
+    letters,
+    without_end,
+)
+
+_SAID = 5  # rows, columns or cells of a kind that a note names
+_TRUE = ("1", "true")
+
+
+def read_xlsx(path: Path) -> list[Sheet]:
+    """Return the sheets of an xlsx file.
+
+    Raises
+    ------
+    InputFault
+        If it can't be read, or holds more than `plantbal.limits` has.
+    ToolMissing
+        If openpyxl isn't installed.
+    """
+    name, data = read_bytes(path, limits.WORKBOOK_BYTES)
+    if not data.startswith(b"PK"):
+        old = data.startswith(b"\xd0\xcf\x11\xe0")
+        raise InputFault(
+            "this is a workbook of the old form" if old else "this is no xlsx workbook",
+            place=Place(file=name),
+            remedy="save it as xlsx, or give a folder of CSV files",
+        )
+    try:
+        import openpyxl
+    except ImportError as error:
+        raise ToolMissing("openpyxl", "python3-openpyxl") from error
+    with _readable(name):
+        _check_size(name, data)
+        values = openpyxl.load_workbook(io.BytesIO(data), read_only=True, data_only=True)
+        written = openpyxl.load_workbook(io.BytesIO(data), read_only=True, data_only=False)
+        epoch = EPOCH_1904 if values.epoch.year == EPOCH_1904.year else EPOCH
+        held = Held()
+        pairs = zip(values.worksheets, written.worksheets)
+        return [_Reading(name, one, other, epoch).sheet(held) for one, other in pairs]
+
+
+@contextmanager
+def _readable(name: str) -> Iterator[None]:
+    """Say of whatever openpyxl raises that the workbook can't be read."""
+    try:
+        yield
+    except InputFault:
+        raise
+    except Exception as error:  # openpyxl raises whatever its parts raise
+        raise InputFault(
+            f"this workbook can't be read ({str(error)[:200] or type(error).__name__})",
+            place=Place(file=name),
+            remedy="open it and save it as xlsx again",
+        ) from error
+
+
+def _check_size(name: str, data: bytes) -> None:
+    """Refuse a workbook that is too large once it is unpacked; zipfile unpacks no more than this."""
+    with zipfile.ZipFile(io.BytesIO(data)) as packed:
+        size = sum(entry.file_size for entry in packed.infolist())
+    if size > limits.UNPACKED_BYTES:
+        raise InputFault(
+            f"this workbook has {size:,} bytes once it is unpacked, and at most "
+            f"{limits.UNPACKED_BYTES:,} are read",
+            place=Place(file=name),
+            remedy="take out sheets and pictures that aren't the plant's",
+        )
+
+
+@dataclass
+class _Reading:
+    """Reads a sheet of openpyxl in both forms.
+
+    Attributes
+    ----------
+    file : str
+        The workbook's name.
+    values, written : ReadOnlyWorksheet
+        The sheet with the values of its formulas, and with the formulas.
+    epoch : date
+        The day from which the workbook counts days.
+    struck, hidden : list of str, list of int
+        The cells that are struck through, and the rows that are hidden, of those that have values.
+    styles : dict of int to (bool, bool)
+        Of each style whether it shows percent, and whether it strikes through.
+    """
+
+    file: str
+    values: Any
+    written: Any
+    epoch: datetime.date
+    struck: list[str] = field(default_factory=list)
+    hidden: list[int] = field(default_factory=list)
+    styles: dict[int, tuple[bool, bool]] = field(default_factory=dict)
+
+    def sheet(self, held: Held) -> Sheet:
+        """Return the sheet, with notes on what is hidden or struck through."""
+        made = Sheet(self.file, self.values.title, [], epoch=self.epoch)
+        rows: dict[int, list[Value]] = {}
+        with _parser(self.values) as one, _parser(self.written) as other:
+            for (line, cells), (_, twins) in zip(one.parse(), other.parse()):
+                self._check_place(line, cells)
+                found = without_end(self._row(line, cells, twins, rows.get(line, [])))
+                if found:
+                    rows[line] = found
+                    held.take(made.place(line), found)
+                    if one.row_dimensions.get(str(line), {}).get("hidden") in _TRUE:
+                        self.hidden.append(line)
+            columns = _hidden_columns(one)
+        made.lines = sorted(rows.items())
+        made.notes = list(self._notes(columns, max(map(len, rows.values()), default=0)))
+        return made
+
+    def _check_place(self, line: int, cells: list[dict[str, Any]]) -> None:
+        """Refuse a row or a column that no sheet has."""
+        column = max((cell["column"] for cell in cells), default=1)
+        if not 1 <= line <= limits.ROWS or column > limits.COLUMNS:
+            raise InputFault(
+                f"there is a cell in row {line:,}, column {column:,}",
+                place=Place(file=self.file, sheet=self.values.title),
+                remedy=f"a sheet has {limits.ROWS:,} rows and {limits.COLUMNS:,} columns",
+            )
+
+    def _row(
+        self,
+        line: int,
+        cells: list[dict[str, Any]],
+        twins: list[dict[str, Any]],
+        row: list[Value],
+    ) -> list[Value]:
+        """Return the values of a row by their columns; `row` has those that stand there already."""
+        for cell, twin in zip(cells, twins):
+            value = self._value(cell, twin)
+            if value is None:
+                continue
+            place = cell["column"] - 1
+            row += [None] * (place + 1 - len(row))
+            row[place] = value
+            if self._style(cell)[1]:
+                self.struck.append(f"{letters(cell['column'])}{line}")
+        return row
+
+    def _style(self, cell: dict[str, Any]) -> tuple[bool, bool]:
+        """Return whether a cell shows percent, and whether it is struck through."""
+        number = cell["style_id"]
+        if number not in self.styles:
+            from openpyxl.cell.read_only import ReadOnlyCell
+
+            shown = ReadOnlyCell(self.values, **cell)
+            percent = "%" in str(shown.number_format or "")
+            self.styles[number] = percent, bool(shown.font.strike)
+        return self.styles[number]
+
+    def _value(self, cell: dict[str, Any], written: dict[str, Any]) -> Value:
+        """Return what stands in a cell; numbers become Decimals as the file has them."""
+        value = cell["value"]
+        if value is None:
+            return NoValue() if written["data_type"] == "f" else None
+        if isinstance(value, (bool, datetime.datetime, datetime.time)):
+            return value
+        if isinstance(value, (int, float)):
+            # `repr` gives the digits of the file, of which a cell has at most 17
+            number = Decimal(repr(value))
+            return Percent((number * 100).normalize()) if self._style(cell)[0] else number
+        if isinstance(value, datetime.date):
+            return datetime.datetime.combine(value, datetime.time())
+        return str(value).strip() or None
+
+    def _notes(self, columns: list[int], width: int) -> Iterator[str]:
+        """Give what is to be said of what a reader of the workbook doesn't see, or sees struck."""
+        if self.values.sheet_state != "visible" and width:
+            yield "the sheet is hidden, and is read"
+        if self.hidden:
+            yield f"{_listed('row', map(str, self.hidden))} hidden, and read"
+        some = [letters(column) for column in columns if column <= width]
+        if some:
+            yield f"{_listed('column', some)} hidden, and read"
+        if self.struck:
+            yield f"{_listed('cell', self.struck)} struck through, and read"
+
+
+@contextmanager
+def _parser(sheet: Any) -> Iterator[Any]:
+    """Give openpyxl's parser of a sheet's rows, which gives the cells that are there alone."""
+    from openpyxl.worksheet._reader import WorkSheetParser
+
+    book = sheet.parent
+    with sheet._get_source() as source:
+        yield WorkSheetParser(
+            source,
+            sheet._shared_strings,
+            data_only=book.data_only,
+            epoch=book.epoch,
+            date_formats=book._date_formats,
+            timedelta_formats=book._timedelta_formats,
+        )
+
+
+def _hidden_columns(parser: Any) -> list[int]:
+    """Return the columns that a sheet hides."""
+    found: list[int] = []
+    for column in parser.column_dimensions.values():
+        if column.get("hidden") in _TRUE:
+            last = min(int(column["max"]), limits.COLUMNS)
+            found += range(int(column["min"]), last + 1)
+    return found
+
+
+def _listed(what: str, names: Any) -> str:
+    """Return several rows, columns or cells as the beginning of a sentence."""
+    every = list(names)
+    if len(every) == 1:
+        return f"{what} {every[0]} is"
+    more = f" and {len(every) - _SAID:,} more" if len(every) > _SAID else ""
+    return f"{what}s {', '.join(every[:_SAID])}{more} are"
