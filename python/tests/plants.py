@@ -112,88 +112,230 @@ def plants(rng: random.Random, most: int, components: int) -> Iterator[Plant]:
             yield Plant(ends, flows, grades)
 
 
-def reference(found: Solution) -> tuple[Any, Any]:
-    """Return the numbers of the minimum and their deviations, by the second solver."""
-    from mpmath import lu_solve, matrix, mp, mpf, norm, sqrt
+class Conditions:
+    """All conditions of the minimum, at 50 digits: at a place, with the multipliers there.
 
-    mp.dps = 50
-    system, active = found.system, list(found.active)
-    linear, products = system._parts
-    loose = [not known for known in Known(found).is_determined]
-    count, rows = system.size, len(system.names) + len(active)
-    weight = [mpf(0) if math.isinf(v) else 1 / mpf(float(v)) for v in system.variance]
-    wanted = [mpf(0) if math.isnan(v) else mpf(float(v)) for v in system.measured]
-    start = [mpf(float(v)) for v in found.vector]
-    pulls = [float(v) for v in [*found.multipliers, *(-found.pulls)]]
-    at = matrix([*start, *(mpf(v) for v in pulls)])
+    Parameters
+    ----------
+    found : Solution
+        The minimum that the package found: its equations are taken, and the bounds that hold.
+    """
 
-    def whole(second: bool) -> tuple[Any, Any]:
-        """The matrix of the conditions, and by how much they don't hold."""
-        square, off = matrix(count + rows), matrix(count + rows, 1)
+    def __init__(self, found: Solution) -> None:
+        from mpmath import mp, mpf
+
+        mp.dps = 50
+        system, self.active = found.system, list(found.active)
+        self.linear, self.products = system._parts
+        self.count = system.size
+        self.rows = len(system.names) + len(self.active)
+        self.first_bound = len(system.names)
+        loose = [not known for known in Known(found).is_determined]
+        # so little that it counts for nothing else, and enough for 50 digits
+        self.hold = [mpf(10) ** -20 if each else mpf(0) for each in loose]
+        self.weight = [mpf(0) if math.isinf(v) else 1 / mpf(float(v)) for v in system.variance]
+        self.wanted = [mpf(0) if math.isnan(v) else mpf(float(v)) for v in system.measured]
+
+    def at(self, place: list[Any], begin: list[Any], second: bool) -> tuple[Any, list[Any]]:
+        """Return the matrix of the conditions, by its entries, and by how much they don't hold."""
+        from mpmath import mpf
+
+        entries: dict[tuple[int, int], Any] = {}
+        count, off = self.count, [mpf(0)] * (self.count + self.rows)
         for j in range(count):
-            # so little that it counts for nothing else, and enough for 50 digits
-            hold = mpf(10) ** -20 if loose[j] else mpf(0)
-            square[j, j] = weight[j] + hold
-            off[j] = weight[j] * (at[j] - wanted[j]) + hold * (at[j] - start[j])
+            entries[j, j] = self.weight[j] + self.hold[j]
+            off[j] = self.weight[j] * (place[j] - self.wanted[j])
+            off[j] += self.hold[j] * (place[j] - begin[j])
 
-        def derivative(row: int, column: int, factor: Any) -> None:
-            square[count + row, column] += factor
-            square[column, count + row] += factor
-            off[column] += factor * at[count + row]
+        def put(row: int, column: int, factor: Any) -> None:
+            for key in ((count + row, column), (column, count + row)):
+                entries[key] = entries.get(key, 0) + factor
+            off[column] += factor * place[count + row]
 
-        for row, j, factor in linear:
-            derivative(row, j, mpf(factor))
-            off[count + row] += factor * at[j]
-        for row, j, k, factor in products:
-            derivative(row, j, factor * at[k])
-            derivative(row, k, factor * at[j])
-            off[count + row] += factor * at[j] * at[k]
-            if second:
-                square[j, k] += factor * at[count + row]
-                square[k, j] += factor * at[count + row]
-        for row, bound in enumerate(active, len(system.names)):
+        for row, j, factor in self.linear:
+            put(row, j, mpf(factor))
+            off[count + row] += factor * place[j]
+        for row, j, k, factor in self.products:
+            put(row, j, factor * place[k])
+            put(row, k, factor * place[j])
+            off[count + row] += factor * place[j] * place[k]
+            for key in ((j, k), (k, j)) if second else ():
+                entries[key] = entries.get(key, 0) + factor * place[count + row]
+        for row, bound in enumerate(self.active, self.first_bound):
             off[count + row] -= mpf(bound.limit)
             for j, factor in bound.terms:
-                derivative(row, j, mpf(factor))
-                off[count + row] += factor * at[j]
-        return square, off
+                put(row, j, mpf(factor))
+                off[count + row] += factor * place[j]
+        return entries, off
 
-    for _ in range(8):
-        square, off = whole(True)
-        step = lu_solve(square, -off)
-        for j in range(count + rows):
-            at[j] += step[j]
-        if norm(step, mp.inf) < mpf(10) ** -40:
+    def factored(self, entries: Any) -> tuple[Any, Any, Any]:
+        """Return a matrix with rows and columns of about 1, their scales, and its factors."""
+        from scipy.linalg import lu_factor
+
+        size = self.count + self.rows
+        dense, scale = numpy.zeros((size, size), numpy.longdouble), numpy.ones(size)
+        for (row, column), value in entries.items():
+            dense[row, column] = float(value)
+        for _ in range(4):
+            step = 1 / numpy.sqrt(numpy.maximum(abs(dense).max(axis=1).astype(float), 1e-300))
+            dense, scale = dense * step[:, None] * step, scale * step
+        return dense, scale, lu_factor(dense.astype(float))
+
+    def solved(self, entries: Any, right: list[Any]) -> list[Any]:
+        """Solve linear equations to 30 digits: by factors in floats, refined at 50 digits."""
+        from mpmath import mpf
+        from scipy.linalg import lu_solve
+
+        _, scale, factors = self.factored(entries)
+        by_row: list[list[tuple[int, Any]]] = [[] for _ in right]
+        for (row, column), value in entries.items():
+            by_row[row].append((column, value))
+
+        def size_of(values: list[Any]) -> float:
+            return max(abs(float(value)) * factor for value, factor in zip(values, scale))
+
+        answer, left, begun = [mpf(0)] * len(right), right, size_of(right)
+        now = begun
+        while now > begun * 1e-30:
+            guess = lu_solve(factors, [float(v / mpf(now)) * f for v, f in zip(left, scale)])
+            step = [mpf(float(g * f)) * mpf(now) for g, f in zip(guess, scale)]
+            answer = [one + other for one, other in zip(answer, step)]
+            left = [
+                value - sum((factor * answer[column] for column, factor in parts), mpf(0))
+                for value, parts in zip(right, by_row)
+            ]
+            before, now = now, size_of(left)
+            if not now < before / 2:
+                raise ZeroDivisionError("an equation follows from others")
+        return answer
+
+    def deviations(self, entries: Any) -> list[float]:
+        """Return the roots of the inverse's diagonal: in floats, refined with more digits."""
+        from scipy.linalg import lu_solve
+
+        dense, scale, factors = self.factored(entries)
+        units = numpy.eye(len(scale))[:, : self.count]
+        inverse = lu_solve(factors, units).astype(numpy.longdouble)
+        for _ in range(4):
+            left = units - dense @ inverse
+            inverse = inverse + lu_solve(factors, left.astype(float))
+        if not abs(units - dense @ inverse).max() < 1e-9:
+            raise ZeroDivisionError("an equation follows from others")
+        own = numpy.diag(inverse).astype(float) * scale[: self.count] ** 2
+        return [float(value) for value in numpy.sqrt(numpy.abs(own))]
+
+
+def reference(found: Solution, begin: list[float]) -> tuple[Any, Any]:
+    """Return the numbers of the minimum and their deviations, by the second solver.
+
+    Parameters
+    ----------
+    found : Solution
+        What the package found.
+    begin : list of float
+        Where the search begins: not where the package ended.
+    """
+    from mpmath import mp, mpf
+
+    conditions = Conditions(found)
+    count = conditions.count
+    start = [mpf(float(v)) for v in begin]
+    place = [*start, *[mpf(0)] * conditions.rows]
+    for _ in range(60):
+        entries, off = conditions.at(place, start, True)
+        step = conditions.solved(entries, [-value for value in off])
+        place = [one + other for one, other in zip(place, step)]
+        if max(abs(value) for value in step[:count]) < mpf(10) ** -40:
             break
-    inverse = whole(False)[0] ** -1
-    return at[:count], [sqrt(abs(inverse[j, j])) for j in range(count)]
+    else:
+        raise ArithmeticError("the second solver ends nowhere")
+    for row, bound in enumerate(conditions.active, conditions.first_bound):
+        assert place[count + row] <= mpf(10) ** -9, bound.said  # it pulls the right way
+    entries, _ = conditions.at(place, start, False)
+    return place[:count], conditions.deviations(entries)
 
 
-def worst(count: int, seed: int, most: int = 5, components: int = 3) -> tuple[float, float, int]:
-    """Return the greatest difference of numbers and, as a part, of deviations, over random plants."""
+@dataclass
+class Compared:
+    """What came of random plants.
+
+    Attributes
+    ----------
+    number, deviation : float
+        The greatest difference of numbers, in parts of the scale, and of deviations, as a part.
+    same, other, left : int
+        How many plants have the same minimum, another one, and equations that follow from others.
+    streams : int
+        The most streams of a plant.
+    """
+
+    number: float = 0.0
+    deviation: float = 0.0
+    same: int = 0
+    other: int = 0
+    left: int = 0
+    streams: int = 0
+
+    def take(self, found: Solution, begin: list[float]) -> None:
+        """Compare a plant."""
+        try:
+            numbers, deviations = reference(found, begin)
+        except ZeroDivisionError:
+            self.left += 1
+            return
+        except ArithmeticError:
+            self.other += 1
+            return
+        known = Known(found)
+        sure = [int(j) for j in numpy.flatnonzero(known.is_determined)]
+        off = max(abs(float(numbers[j]) - float(found.vector[j])) for j in sure)
+        if off > 1e-4:
+            self.other += 1
+            return
+        self.same += 1
+        self.number = max(self.number, off)
+        self.streams = max(self.streams, len(found.system.problem.flows))
+        for j in sure:
+            true = float(deviations[j])
+            # a figure that a bound holds has no error but rounding
+            part = abs(known.deviation({j: 1.0}) - true) / max(true, 1e-6)
+            self.deviation = max(self.deviation, part)
+
+
+def begin_of(plant: Plant, found: Solution) -> list[float]:
+    """Return the true numbers of a plant: where the second solver begins."""
+    system = found.system
+    truth = numpy.zeros(system.size)
+    for (name, component), column in system.columns.items():
+        flow = plant.flows[name]
+        grade = plant.grades.get((name, component), 0.0)
+        if not component:
+            truth[column] = flow / system.scale
+        elif (name, component) in system.problem.grades:
+            truth[column] = grade
+        else:
+            truth[column] = flow * grade / system.scale
+    return [float(value) for value in truth]
+
+
+def compared(
+    count: int, seed: int, most: int = 5, components: int = 3, streams: int = 40
+) -> Compared:
+    """Compare random plants of at most that many nodes, components and streams."""
     rng = random.Random(seed)
-    off, off_deviation, done = 0.0, 0.0, 0
+    result = Compared()
     for plant in plants(rng, most, components):
-        if done == count:
-            return off, off_deviation, done
+        if result.same + result.other >= count:
+            break
+        if len(plant.flows) > streams:
+            continue
         try:
             problem = plant.problem(rng, rng.uniform(0.4, 0.9), rng.uniform(0.5, 0.95))
         except Fault:
             continue  # too few assays of a component
         found = solve(problem)
-        known = Known(found)
-        try:
-            numbers, deviations = reference(found)
-        except ZeroDivisionError:
-            continue  # an equation follows from others
-        done += 1
-        for j in numpy.flatnonzero(known.is_determined):
-            off = max(off, abs(float(numbers[int(j)]) - float(found.vector[j])))
-            sure = float(deviations[int(j)])
-            # a figure that a bound holds has no error but rounding
-            part = abs(known.deviation({int(j): 1.0}) - sure) / max(sure, 1e-6)
-            off_deviation = max(off_deviation, part)
-    raise AssertionError
+        result.take(found, begin_of(plant, found))
+    return result
 
 
 def coverage(count: int, seed: int) -> tuple[list[float], list[float]]:
@@ -236,7 +378,5 @@ if __name__ == "__main__":
     if sys.argv[1:2] == ["coverage"]:
         print("flows and grades within 1 and 2 deviations:", coverage(int(sys.argv[2]), 1))
     else:
-        print(
-            "worst number, worst deviation, plants:",
-            worst(int(sys.argv[1]), int((sys.argv + ["1"])[2])),
-        )
+        count, seed = int(sys.argv[1]), int((sys.argv + ["1"])[2])
+        print(compared(count, seed, most=22, components=4))

@@ -48,7 +48,10 @@ def run(options: argparse.Namespace) -> int:
         years = Years(book)
         year = years.named(options.year)
         meters = read_meters(book.path(METERS))
-        work = converted(options, year.plant, meters)
+        wide = any(meter.base for meter in meters.values())
+        of_years = years.all() if wide else [year]  # periods are asked only for what they share
+        periods = [each for ledger in of_years for each in ledger.periods.values()]
+        work = converted(options, year.plant, meters, periods)
         facts = [Fact.of(row) for row in work.session if row[0] in (*FACT_KINDS, "late")]
         raise_all(options.prog, years.outside(facts))
         plant = put_plant(year, work)

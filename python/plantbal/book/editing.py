@@ -24,6 +24,7 @@ from plantbal.book.store import METERS, Act, Action, Book
 from plantbal.book.years import Years
 from plantbal.commands.options import add_run
 from plantbal.faults import Fault, Refusal
+from plantbal.workbook.base import Span, share_at
 from plantbal.workbook.cells import Reader, check_locale
 from plantbal.workbook.plant import Tank
 
@@ -50,8 +51,10 @@ class Other:
     error: str
     locale: str
 
-    def of(self, fact: Fact, meter: Meter, tank: Tank | None) -> Fact:
+    def of(self, fact: Fact, meter: Meter, tank: Tank | None, born: int = 0) -> Fact:
         """Return a fact with these values, its variance by the error of its meter.
+
+        What its day bears of a wide systematic error is added.
 
         Raises
         ------
@@ -78,7 +81,17 @@ class Other:
                 remedy="say it: --error '0.2 t'; or write it into meters.csv",
             )
         variance = error.variance(0 if fact.kind == "dip" else values[0], slope)
-        return replace(fact, values=values, variance=variance)
+        return replace(fact, values=values, variance=variance + born)
+
+
+def _born(ledger: Ledger, fact: Fact, meter: Meter) -> int:
+    """Return what the day of a reading bears of a systematic error that is wider than a row."""
+    excess = meter.stream("metered", cell_of("")).excess
+    if not excess or fact.kind != "reading":
+        return 0
+    spans = [Span(each.first, each.last) for each in ledger.periods.values()]
+    service = ledger.session.service(fact.place)
+    return share_at(excess, spans, service, fact.first.toordinal())
 
 
 # ---- amend
@@ -112,7 +125,8 @@ def _amend(options: argparse.Namespace) -> int:
         tanks = {tank.name: tank for tank in taken(places[-1][0].plant, meters)[1]}
         other = Other(options.amount, options.density, options.error, options.locale)
         meter = meters.get(fact.place, Meter(fact.place))
-        new = other.of(fact, meter, tanks.get(fact.place))
+        born = _born(places[-1][0], fact, meter)
+        new = other.of(fact, meter, tanks.get(fact.place), born)
         if (new.values, new.variance) == (fact.values, fact.variance):
             print(f"{fact.id} is {fact.said()} already")
             return 0

@@ -17,6 +17,8 @@ from plantbal.workbook.plant import Plant, Stream, Tank
 from plantbal.workbook.sheets import Cell, Sheet, read_csv
 
 HEADS = ("name", "tag", "unit", "density", "error")
+# A column more if a meter's systematic error is wider than a row of the plant bears.
+BASE = "base"
 _LONGEST = 60
 
 
@@ -34,6 +36,8 @@ class Meter:
         The error of its meter or gauge.
     cell : Cell or None
         Where its name stands.
+    base : Error or None
+        Its systematic error, if that is wider than a row of the plant bears.
     """
 
     name: str
@@ -42,6 +46,7 @@ class Meter:
     density: Fraction | None = None
     error: Error | None = None
     cell: Cell | None = None
+    base: Error | None = None
 
     def row(self) -> tuple[str, ...]:
         """Return it as a row of the file."""
@@ -49,6 +54,19 @@ class Meter:
         if self.density is not None:
             density = decimal(self.density / DENSITIES["kg/m3"]) + " kg/m3"
         return self.name, self.tag, self.unit, density, error_text(self.error)
+
+    def stream(self, kind: str, cell: Cell) -> Stream:
+        """Return the stream of a kind whose meter it is; the cell is for one without a row."""
+        return Stream(
+            self.name,
+            self.tag,
+            kind,
+            self.unit,
+            self.density,
+            self.error,
+            self.cell or cell,
+            self.base,
+        )
 
 
 def decimal(number: Fraction) -> str:
@@ -80,7 +98,7 @@ def error_text(error: Error | None) -> str:
 def meters_of(plant: Plant) -> list[Meter]:
     """Return the rows of the streams and tanks of a workbook."""
     found = [
-        Meter(each.name, each.tag, each.unit, each.density, each.error)
+        Meter(each.name, each.tag, each.unit, each.density, each.error, base=each.base)
         for each in plant.streams.values()
     ]
     tanks = plant.tanks.values()
@@ -91,8 +109,11 @@ def meters_text(meters: Iterable[Meter]) -> str:
     """Return the file of meters."""
     out = io.StringIO()
     writer = csv.writer(out, lineterminator="\n")
-    writer.writerow(HEADS)
-    writer.writerows(meter.row() for meter in meters)
+    rows = list(meters)
+    wide = any(meter.base for meter in rows)
+    writer.writerow((*HEADS, BASE) if wide else HEADS)
+    for meter in rows:
+        writer.writerow((*meter.row(), error_text(meter.base)) if wide else meter.row())
     return out.getvalue()
 
 
@@ -108,15 +129,19 @@ def read_meters(path: Path) -> dict[str, Meter]:
     reader = Reader("en")
     found = {}
     for cells in list(sheet.rows())[1:]:
-        row = dict(zip(HEADS, cells))
-        row = {head: row.get(head, Cell(sheet, cells[0].line, 0, None)) for head in HEADS}
+        heads = (*HEADS, BASE)
+        row = dict(zip(heads, cells))
+        row = {head: row.get(head, Cell(sheet, cells[0].line, 0, None)) for head in heads}
         unit = reader.unit(row["unit"], GRAMS | VOLUMES, "")
         density = reader.density(row["density"])
         error = None
         if not reader.is_missing(row["error"]):
             error = reader.error(row["error"], density, level=True)
+        base = None
+        if not reader.is_missing(row[BASE]):
+            base = reader.error(row[BASE], density, head=BASE)
         name = row["name"].text
-        found[name] = Meter(name, row["tag"].text, unit, density, error, row["name"])
+        found[name] = Meter(name, row["tag"].text, unit, density, error, row["name"], base)
     return found
 
 
@@ -129,17 +154,7 @@ def taken(
     for kind, name, *rest in plant:
         meter = meters.get(name, Meter(name))
         if kind == "stream":
-            streams.append(
-                Stream(
-                    name,
-                    meter.tag,
-                    rest[2],
-                    meter.unit,
-                    meter.density,
-                    meter.error,
-                    meter.cell or nowhere,
-                )
-            )
+            streams.append(meter.stream(rest[2], nowhere))
         elif kind == "tank":
             tanks[name] = Tank(name, meter.error, meter.density)
         elif kind == "strap":

@@ -5,7 +5,7 @@ from __future__ import annotations
 
 import argparse
 import sys
-from collections.abc import Iterator, Sequence
+from collections.abc import Iterable, Iterator, Sequence
 from dataclasses import replace
 from itertools import islice
 from pathlib import Path
@@ -14,6 +14,8 @@ from plantbal.book.meters import Meter, taken
 from plantbal.book.said import counted, listed
 from plantbal.faults import Fault, InputFault, Refusal
 from plantbal.memory import uncollected
+from plantbal.session import Period
+from plantbal.workbook.base import Span
 from plantbal.workbook.cells import MISSING, Reader, check_locale
 from plantbal.workbook.conversion import Conversion
 from plantbal.workbook.facts import Converter
@@ -94,9 +96,12 @@ def _together(faults: Sequence[Fault], then: str) -> Fault:
 
 
 def converted(
-    options: argparse.Namespace, plant: list[tuple[str, ...]], meters: dict[str, Meter]
+    options: argparse.Namespace,
+    plant: list[tuple[str, ...]],
+    meters: dict[str, Meter],
+    periods: Iterable[Period] = (),
 ) -> Converter:
-    """Return what a workbook holds; what it doesn't have of the plant is the book's.
+    """Return what a workbook holds; what it doesn't have of the plant, or of periods, is the book's.
 
     Raises
     ------
@@ -106,6 +111,7 @@ def converted(
     with uncollected():
         work = Converter(sheets_of(options.workbook), reader_of(options), tuple(options.skip))
         work.whole = False
+        work.spans = [Span(each.first, each.last) for each in periods]
         _read_plant(work, plant, meters)
         work.read_facts()
         edits = list(_edits(work))

@@ -84,7 +84,8 @@ class Converter(Readings):
                     "grams": row["amount"],
                     "variance": row["error"],
                 }
-                if self.put(["transfer", *fields, str(error.variance(grams))], cells):
+                variance = self.variance(error, grams, row["amount"])
+                if self.put(["transfer", *fields, str(variance)], cells):
                     self.tickets.append((first, last, row["id"]))
 
     def _amount(self, row: Row, stream: Stream) -> tuple[Fraction | None, int]:
@@ -128,7 +129,7 @@ class Converter(Readings):
             what = f"{name} has a dip of {day} already ({other})"
             raise self.reader.fault(row["level"], what, "leave one of both out")
         whole = self.reader.whole(row["density"], density)
-        variance = error.variance(0, tank.slope(mm, density))
+        variance = self.variance(error, 0, row["level"], slope=tank.slope(mm, density))
         cells = {"mm": row["level"], "density": row["density"], "day": row["day"]}
         fields = [f"{name}_{day}", name, str(day), str(mm), str(whole), str(variance)]
         if self.put(["dip", *fields], cells):
@@ -190,6 +191,7 @@ class Converter(Readings):
         self.read_dips()
         if not self.sheets["periods"]:
             self.read_periods()
+        self.check_bases()
         self.read_assays()
 
     # ---- periods

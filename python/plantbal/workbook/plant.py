@@ -10,6 +10,7 @@ from fractions import Fraction
 
 from plantbal.schema import schema
 from plantbal.session import ENV, dates_of_service, most_streams
+from plantbal.workbook.base import MOST_VARIANCE, tonnes_of
 from plantbal.workbook.cells import GRAMS, VOLUMES, Error, Reader
 from plantbal.workbook.sheets import Cell, Sheet
 from plantbal.workbook.tables import Row, Tables
@@ -19,7 +20,21 @@ _MOST_ID = schema().limits["most_name"] - len("_2024-04-01")
 
 @dataclass
 class Stream:
-    """A stream as its sheet has it."""
+    """A stream as its sheet has it.
+
+    Attributes
+    ----------
+    name, tag, kind, unit : str
+        Its name, its tag, its kind, and the unit of its figures.
+    density : Fraction or None
+        Its density in g/m3.
+    error : Error or None
+        The error of its meter.
+    cell : Cell
+        Where its name stands.
+    base : Error or None
+        Its systematic error, if that is wider than a row bears.
+    """
 
     name: str
     tag: str
@@ -28,6 +43,12 @@ class Stream:
     density: Fraction | None
     error: Error | None
     cell: Cell
+    base: Error | None = None
+
+    @property
+    def excess(self) -> int:
+        """The variance of its systematic error that its row doesn't bear."""
+        return max(0, self.base.variance(0) - MOST_VARIANCE) if self.base else 0
 
     @property
     def label(self) -> str:
@@ -79,6 +100,7 @@ class Plant(Tables):
         self.streams: dict[str, Stream] = {}
         self.tags: dict[str, Stream] = {}
         self.tanks: dict[str, Tank] = {}
+        self.bases: dict[str, Cell] = {}
         self.bad: set[str] = set()
 
     def begin(self, known: Iterable[tuple[str, ...]] = ()) -> None:
@@ -163,11 +185,34 @@ class Plant(Tables):
             if stream.tag:
                 self.tags[stream.tag] = stream
 
-    def _base(self, cell: Cell, density: Fraction | None) -> int:
-        """Return the variance of a base."""
+    def _base(self, cell: Cell, density: Fraction | None) -> Error | None:
+        """Return a base, a systematic error; None without one.
+
+        Raises
+        ------
+        InputFault
+            If it is a percentage, of which nobody knows of what.
+        """
         if self.reader.is_missing(cell):
-            return 1
-        return max(1, self.reader.error(cell, density, head="base").variance(0))
+            return None
+        found = self.reader.error(cell, density, head="base")
+        if found.share:
+            remedy = "write it in tonnes a period: 0.5 % of 930,000 t are 4650 t"
+            raise self.reader.fault(cell, "a base has no figure to be a part of", remedy, "base")
+        return found
+
+    def _base_variance(self, cell: Cell, base: Error | None, kind: str) -> int:
+        """Return the variance of a base as a row bears it.
+
+        Only a metered stream may have a wider one: its readings bear the rest.
+        """
+        variance = max(1, base.variance(0)) if base else 1
+        if variance > MOST_VARIANCE and kind != "metered":
+            has = f"a {kind} has a systematic error of at most {tonnes_of(MOST_VARIANCE)}"
+            remedy = "write the rest into the column error of its "
+            remedy += "tickets" if kind == "batch stream" else "dips"
+            raise self.reader.fault(cell, has, remedy, "base")
+        return min(variance, MOST_VARIANCE)
 
     def _service(self, row: Row) -> tuple[str, ...]:
         """Return the dates of service of a row as fields; none if it has no date."""
@@ -184,7 +229,7 @@ class Plant(Tables):
             self.bad.add(name)
             with self.kept():
                 density = self.reader.density(row["density"])
-                base = self._base(row["base"], density)
+                base = self._base_variance(row["base"], self._base(row["base"], density), "tank")
                 error = None
                 if not self.reader.is_missing(row["error"]):
                     error = self.reader.error(row["error"], density, level=True)
@@ -261,13 +306,17 @@ class Plant(Tables):
             return
         base = 0
         with self.kept():
-            base = self._base(row["base"], stream.density)
+            wide = self._base(row["base"], stream.density)
+            kind = "metered" if stream.kind == "metered" else f"{stream.kind} stream"
+            base = self._base_variance(row["base"], wide, kind) if stream.kind != "plain" else 0
+            if wide and wide.variance(0) > MOST_VARIANCE:
+                stream.base = wide
+                self.bases[stream.name] = row["base"]
             if stream.kind == "plain":
                 if not self.reader.is_missing(row["base"]):
                     raise self.reader.fault(
                         row["base"], "a plain stream has no base", "empty the cell", "base"
                     )
-                base = 0
             cells = {"name": row["stream"], "from": ends[0], "to": ends[1], "base": row["base"]}
             cells["since"] = row["since"]
             fields = [stream.name, ends[0].text, ends[1].text, stream.kind, str(base)]

@@ -2,11 +2,14 @@
 
 from __future__ import annotations
 
+import calendar
 import datetime
 import re
 
 from plantbal.faults import Fault, InputFault
+from plantbal.session import period_days
 from plantbal.workbook.account import Fate, is_unit
+from plantbal.workbook.base import MOST_VARIANCE, Span, share_at, tonnes_of
 from plantbal.workbook.cells import GRAMS, VOLUMES, Error, Reader, day_order, is_rate, unit_of
 from plantbal.workbook.plant import Plant, Stream
 from plantbal.workbook.sheets import Cell, Sheet
@@ -40,6 +43,8 @@ class Readings(Plant):
         The streams that have a column or a row, with figures or without.
     whole : bool
         Whether each meter of the plant has to have a column.
+    spans : list of Span
+        The periods that are known already; a day in none of them is in its calendar month.
     """
 
     def __init__(self, sheets: list[Sheet], reader: Reader, skip: tuple[str, ...] = ()) -> None:
@@ -47,6 +52,7 @@ class Readings(Plant):
         self.days: dict[str, dict[datetime.date, Cell]] = {}
         self.listed: set[str] = set()
         self.whole = True
+        self.spans: list[Span] = []
 
     def reading(self, stream: Stream, cell: Cell, day: datetime.date | None, unit: str) -> None:
         """Take a reading."""
@@ -75,7 +81,50 @@ class Readings(Plant):
             raise self.reader.fault(cell, what, "empty one of both")
         days[day] = cell
         fields = [f"{stream.label}_{day}", stream.name, str(day), str(grams)]
-        self.put(["reading", *fields, str(error.variance(grams))], {"grams": cell})
+        variance = self.variance(error, grams, cell, self._born(stream, day))
+        self.put(["reading", *fields, str(variance)], {"grams": cell})
+
+    def _born(self, stream: Stream, day: datetime.date) -> int:
+        """Return what a day bears of a systematic error that is wider than a row."""
+        if not stream.excess:
+            return 0
+        service = self.session.service(stream.name)
+        return share_at(stream.excess, self.spans_at(day), service, day.toordinal())
+
+    def spans_at(self, day: datetime.date) -> list[Span]:
+        """Return the periods that a day may be in; its month if no period is declared."""
+        if self.sheets["periods"]:
+            return [Span(*map(_ordinal, period_days(each))) for each in self.session.periods]
+        known = [span for span in self.spans if span.first <= day.toordinal() <= span.last]
+        last = day.replace(day=calendar.monthrange(day.year, day.month)[1])
+        return known or [Span(_ordinal(day.replace(day=1)), _ordinal(last))]
+
+    def check_bases(self) -> None:
+        """Say of each wide systematic error that readings bear it, or keep why they can't.
+
+        It can't be shared if a day is in two periods of which each would want its own shares.
+        """
+        periods = [Span(*map(_ordinal, period_days(each))) for each in self.session.periods]
+        for name, cell in self.bases.items():
+            stream = self.streams.get(name)
+            if stream is None or not stream.excess:
+                continue
+            service = self.session.service(name)
+            for span in periods:
+                days = span.days(service)
+                sums = sum(
+                    share_at(stream.excess, self.spans_at(_day(at)), service, at) for at in days
+                )
+                if days and sums != stream.excess:
+                    what = f"a base of {cell.text} is shared over the days of a period, and from "
+                    what += f"{_day(span.first)} to {_day(span.last)} days are in two periods"
+                    remedy = f"write at most {tonnes_of(MOST_VARIANCE)}, or ask for one of both"
+                    self.fault(cell, what, remedy, "base")
+                    break
+            else:
+                note = f"{str(cell.place()).rstrip(':')}: a base of {cell.text} is wider than the "
+                note += f"{tonnes_of(MOST_VARIANCE)} of a row: the readings of each period bear "
+                self.notes.append(note + "the rest, and the variance of the period is the same")
 
     def read_readings(self) -> None:
         """Read the readings, in whatever form they stand."""
@@ -314,6 +363,16 @@ class Readings(Plant):
             own_locale = self.reader.locale
             what = f"read as {own_locale}, days from {texts[0].text} on don't follow each other"
             self.fault(texts[0], what, f"read as {other} they do: say --locale {other}")
+
+
+def _ordinal(day: datetime.date) -> int:
+    """Return a day as a number."""
+    return day.toordinal()
+
+
+def _day(number: int) -> datetime.date:
+    """Return the day of a number."""
+    return datetime.date.fromordinal(number)
 
 
 def _headless(heads: list[Cell], lines: list[list[Cell]]) -> set[int]:

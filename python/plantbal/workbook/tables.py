@@ -9,11 +9,13 @@ from collections.abc import Container, Iterator, Mapping, Sequence
 from contextlib import contextmanager
 from dataclasses import dataclass
 from decimal import Decimal
+from fractions import Fraction
 
 from plantbal.faults import Fault, InputFault, Refusal
 from plantbal.session import Session
 from plantbal.workbook.account import Account, Fate, is_figure, unread_column, unread_rows
-from plantbal.workbook.cells import Reader
+from plantbal.workbook.base import MOST_GRAMS, MOST_VARIANCE, tonnes_of
+from plantbal.workbook.cells import Error, Reader
 from plantbal.workbook.sheets import Cell, Sheet
 
 # The columns of each sheet: those that it needs, and others.
@@ -170,6 +172,23 @@ class Tables:
         refusal.place = cell.place()
         self.faults.append(refusal)
         return False
+
+    def variance(
+        self, error: Error, grams: int, cell: Cell, more: int = 0, slope: Fraction = Fraction(0)
+    ) -> int:
+        """Return the variance of a figure, and of what else it bears, in squared grams.
+
+        Raises
+        ------
+        InputFault
+            If it is wider than a row bears.
+        """
+        found = error.variance(grams, slope) + more
+        if found > MOST_VARIANCE and abs(grams) <= MOST_GRAMS:  # else the figure is refused
+            what = f"the error of {cell.text} is {tonnes_of(found)}, and a row bears at most "
+            remedy = "look at the error's unit, or enter the figure in several parts"
+            raise self.reader.fault(cell, what + tonnes_of(MOST_VARIANCE), remedy)
+        return found
 
     def rows(self, kind: str, facts: bool = False) -> Iterator[Row]:
         """Give the rows of the sheets of a kind."""
