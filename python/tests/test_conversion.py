@@ -400,7 +400,7 @@ REFUSED: dict[str, tuple[Make, dict[str, Any], str]] = {
     "wet tonnes": (
         english(units_below(["", "t", "wmt"], FEED)),
         {},
-        "line 2, column 3 (unit): 'wmt' is no unit: wet tonnes have water in them",
+        "12400 wmt of P-1 (PRODUCT) have no moisture on 2024-04-01: add it to a sheet moistures",
     ),
     "a critical value in thousandths": (
         lambda room: xlsx_of(

@@ -70,6 +70,13 @@ class Other:
             slope = tank.slope(mm, exact) if tank is not None else Fraction(0)
         else:
             unit = meter.unit or "t"
+            if reader.is_wet(cell_of(self.amount), unit):
+                raise Fault(
+                    f"{self.amount} is wet, and what is booked is dry",
+                    text=self.amount,
+                    remedy="say the dry amount in tonnes, such as '1104.2 t', or add the workbook "
+                    "with its moisture again",
+                )
             values = (reader.grams(cell_of(self.amount), unit, density),)
             slope = Fraction(0)
         error = meter.error

@@ -12,7 +12,7 @@ from dataclasses import dataclass
 from fractions import Fraction
 from pathlib import Path
 
-from plantbal.workbook.cells import DENSITIES, GRAMS, VOLUMES, Error, Reader
+from plantbal.workbook.cells import AMOUNTS, DENSITIES, GRAMS, Error, Reader
 from plantbal.workbook.plant import Plant, Stream, Tank
 from plantbal.workbook.sheets import Cell, Sheet, read_csv
 
@@ -132,7 +132,7 @@ def read_meters(path: Path) -> dict[str, Meter]:
         heads = (*HEADS, BASE)
         row = dict(zip(heads, cells))
         row = {head: row.get(head, Cell(sheet, cells[0].line, 0, None)) for head in heads}
-        unit = reader.unit(row["unit"], GRAMS | VOLUMES, "")
+        unit = reader.unit(row["unit"], AMOUNTS, "")
         density = reader.density(row["density"])
         error = None
         if not reader.is_missing(row["error"]):

@@ -13,7 +13,7 @@ from plantbal.book.said import waiting_said
 from plantbal.book.store import METERS, Book
 from plantbal.book.years import Years
 from plantbal.faults import Fault
-from plantbal.workbook.cells import GRAMS, VOLUMES
+from plantbal.workbook.cells import GRAMS, VOLUMES, WET
 
 
 def add_arguments(parser: argparse.ArgumentParser) -> None:
@@ -61,7 +61,7 @@ def line_of(ledger: Ledger, fact: Fact, meter: Meter | None = None) -> str:
 
 def in_unit(fact: Fact, meter: Meter | None) -> str:
     """Return a reading in the unit of its meter, in brackets; nothing if that is tonnes."""
-    if meter is None or fact.kind != "reading" or meter.unit in ("", "t"):
+    if meter is None or fact.kind != "reading" or meter.unit in ("", "t", *WET):
         return ""
     unit = GRAMS.get(meter.unit) or VOLUMES[meter.unit] * (meter.density or 0)
     if not unit:

@@ -13,10 +13,10 @@ from collections.abc import Iterable, Iterator, Sequence
 from dataclasses import dataclass, field
 
 from plantbal.faults import Fault, InputFault, Place
-from plantbal.workbook.cells import DENSITIES, GRAMS, GRADES, LENGTHS, VOLUMES, Reader, unit_of
+from plantbal.workbook.cells import AMOUNTS, DENSITIES, GRADES, LENGTHS, Reader, unit_of
 from plantbal.workbook.sheets import Cell, NoValue, Sheet
 
-_UNITS = frozenset({*GRAMS, *VOLUMES, *DENSITIES, *LENGTHS, *GRADES})
+_UNITS = frozenset({*AMOUNTS, *DENSITIES, *LENGTHS, *GRADES})
 _CELL = re.compile(r"[A-Z]+([0-9]+)")
 # What a column of remarks, or of running numbers, is called: such a column is no figure lost.
 _REMARKS = frozenset(

@@ -21,6 +21,8 @@ GRAMS = {
     "lb": Fraction("453.59237"),
     "klb": Fraction("453592.37"),
 }
+# In grams with their water in them.
+WET = {"wmt": Fraction(10**6)}
 # In cubic metres; a barrel has 42 gallons of 231 cubic inches.
 VOLUMES = {
     "m3": Fraction(1),
@@ -46,6 +48,7 @@ GRADES = {
     "mg/kg": Fraction(1),
     "kg/t": Fraction(1000),
 }
+AMOUNTS = GRAMS | VOLUMES | WET
 _OTHER_WORDS = {
     "tonne": "t",
     "tonnes": "t",
@@ -337,7 +340,7 @@ class Reader:
             remedy = _of_rate(cell.text) or f"write one of {', '.join(kinds)}"
             if cell.text.casefold() in ("ton", "tons", "short ton", "short tons", "st", "lt"):
                 remedy = "write t for 1,000 kg; 2,000 lb are 2 klb"
-            elif cell.text.casefold() == "wmt":
+            elif found in WET:
                 remedy = "wet tonnes have water in them: write the dry ones, in t or dmt"
             raise self.fault(cell, f"{cell.text!r} is no unit", remedy, "unit")
         return found
@@ -352,14 +355,18 @@ class Reader:
 
     def grams(self, cell: Cell, unit: str, density: Fraction | None, head: str = "") -> int:
         """Return an amount in whole grams; a volume is multiplied by its density in g/m3."""
-        number, own = self.split(cell, GRAMS | VOLUMES, head)
+        number, own = self.split(cell, AMOUNTS, head)
         exact = Fraction(number) * self.factor(cell, own or unit, density, head)
         return self.whole(cell, exact)
 
+    def is_wet(self, cell: Cell, unit: str, head: str = "") -> bool:
+        """Say whether an amount has its water in it, by the unit after it or the one beside."""
+        return (self.split(cell, AMOUNTS, head)[1] or unit) in WET
+
     def factor(self, cell: Cell, unit: str, density: Fraction | None, head: str = "") -> Fraction:
         """Return the grams of one unit."""
-        if unit in GRAMS:
-            return GRAMS[unit]
+        if unit in GRAMS or unit in WET:
+            return (GRAMS | WET)[unit]
         if density is None:
             remedy = "write a density, such as 862 (kg/m3), in the row or in that of its stream"
             raise self.fault(cell, f"{cell.text} {unit} have no density", remedy, head)
@@ -461,7 +468,7 @@ class Reader:
 def unit_of(text: str) -> str:
     """Return a unit as it is written here."""
     plain = text.strip().strip("[]()").strip()
-    units = (*GRAMS, *VOLUMES, *DENSITIES, *LENGTHS, *GRADES)
+    units = (*AMOUNTS, *DENSITIES, *LENGTHS, *GRADES)
     known = {name.casefold(): name for name in units}
     plain = _OTHER_WORDS.get(plain.casefold(), plain)
     return known.get(plain.casefold(), plain)

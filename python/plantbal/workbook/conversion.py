@@ -30,6 +30,8 @@ WORKBOOK is an xlsx file, or a folder of CSV files, each of which is the sheet o
   dips       tank, day, level, density, error
   tickets    id, stream, first, last, amount, unit, density, error
   estimates  tag, day, amount, unit, density, error: a figure with a wide error for a missing day
+  moistures  stream, day, moisture, error: what part of wet tonnes (wmt) is water; or with a
+             ticket's id; or first and last; of a shift with its wet tonnes in amount
   assays     component, stream, period, grade, error, unit
   critical   test, dof, value
   periods    name, first, last (without it, each calendar month with a reading is a period)
@@ -40,12 +42,12 @@ Columns may be in any order; titles above, sums below, remarks and other columns
 standard error says so; a column or row of figures or units that isn't read is a fault.
 Units are t, kt, kg, g, lb, klb, and with a density m3, L, mL, bbl; densities are in kg/m3 and
 levels in mm unless a unit comes after them. An error is `1.5 %`, `0.2 t`, or both with `or`
-between; a tank's may be `3 mm`. A grade has its unit after it, %, ppm or g/t, and an error in
-percent is a percentage of the grade; a balance is asked for each component of a period. What is
-finer than a gram is rounded, and a note says so. A stream or tank is in service from its day
-`since` to its day `until`, both inclusive; without a day there is no such end. With these columns,
-or with boundaries, the session is of version 2. If there is a fault, no session is written; all
-faults are reported at once.
+between; a tank's may be `3 mm`. What is in wmt is booked dry, with the variance of both errors. A
+grade has its unit after it, %, ppm or g/t, and an error in percent is a percentage of the grade; a
+balance is asked for each component of a period. What is finer than a gram is rounded, and a note
+says so. A stream or tank is in service from its day `since` to its day `until`, both inclusive;
+without a day there is no such end. With these columns, or with boundaries, the session is of
+version 2. If there is a fault, no session is written; all faults are reported at once.
 
 examples:
   plantbal-desk convert april.xlsx --out april.csv

@@ -7,6 +7,7 @@ import datetime
 import difflib
 import math
 from collections.abc import Iterable
+from dataclasses import dataclass
 from decimal import Decimal
 from fractions import Fraction
 
@@ -14,11 +15,25 @@ from plantbal.faults import InputFault, Place
 from plantbal.schema import Column, schema
 from plantbal.session import Service, dip_days, in_service, is_served, period_days
 from plantbal.workbook.account import Fate
-from plantbal.workbook.cells import GRADES, GRAMS, VOLUMES, Reader, rounded_down
+from plantbal.workbook.cells import AMOUNTS, GRADES, Error, Reader, rounded_down
+from plantbal.workbook.drying import Figure
+from plantbal.workbook.moisture import Moisture
 from plantbal.workbook.plant import Stream
 from plantbal.workbook.readings import Readings
 from plantbal.workbook.sheets import Cell, Sheet
 from plantbal.workbook.tables import Row
+
+
+@dataclass(frozen=True)
+class Ticket:
+    """A ticket of a batch: its row, stream, days, grams and error."""
+
+    row: Row
+    stream: Stream
+    first: datetime.date
+    last: datetime.date
+    grams: int
+    error: Error
 
 
 class Converter(Readings):
@@ -49,13 +64,14 @@ class Converter(Readings):
             if stream is None:
                 continue
             with self.kept():
-                density, grams = self._amount(row, stream)
+                density, grams, is_wet = self._amount(row, stream)
                 error = self.reader.error(row["error"], density)
                 if day is not None:
-                    self._book(stream, day, grams, error, row["amount"])
+                    self._book(stream, day, grams, error, row["amount"], is_wet)
 
     def read_tickets(self) -> None:
         """Read the tickets of batches."""
+        wet: list[tuple[Ticket, Moisture]] = []
         for row in self.rows("tickets", facts=True):
             stream = self.named(row["stream"], "stream")
             first = self._day(row["first"])
@@ -63,7 +79,7 @@ class Converter(Readings):
             if stream is None:
                 continue
             with self.kept():
-                density, grams = self._amount(row, stream)
+                density, grams, is_wet = self._amount(row, stream)
                 if not self.reader.is_missing(row["error"]):
                     error = self.reader.error(row["error"], density)
                 elif stream.error is not None:
@@ -75,24 +91,54 @@ class Converter(Readings):
                     )
                 if first is None or last is None:
                     continue
-                fields = [row.text("id"), stream.name, str(first), str(last), str(grams)]
-                cells = {
-                    "id": row["id"],
-                    "stream": row["stream"],
-                    "first": row["first"],
-                    "last": row["last"],
-                    "grams": row["amount"],
-                    "variance": row["error"],
-                }
-                variance = self.variance(error, grams, row["amount"])
-                if self.put(["transfer", *fields, str(variance)], cells):
-                    self.tickets.append((first, last, row["id"]))
+                ticket = Ticket(row, stream, first, last, grams, error)
+                if is_wet:
+                    wet.append((ticket, self._moisture_of(ticket)))
+                else:
+                    self._put_ticket(ticket, Figure(grams, error.variance(grams)))
+        self._put_wet(wet)
 
-    def _amount(self, row: Row, stream: Stream) -> tuple[Fraction | None, int]:
-        """Return the density of a row, or of its stream, and the row's amount in grams."""
+    def _put_ticket(self, ticket: Ticket, figure: Figure) -> None:
+        """Give a ticket to the session."""
+        row = ticket.row
+        days = str(ticket.first), str(ticket.last)
+        fields = [row.text("id"), ticket.stream.name, *days, str(figure.grams)]
+        cells = {head: row[head] for head in ("id", "stream", "first", "last")}
+        cells |= {"grams": row["amount"], "variance": row["error"]}
+        variance = self.bearable(figure.variance, figure.grams, row["amount"])
+        if self.put(["transfer", *fields, str(variance)], cells):
+            self.tickets.append((ticket.first, ticket.last, row["id"]))
+
+    def _moisture_of(self, ticket: Ticket) -> Moisture:
+        """Return the moisture of a wet ticket: its own, or that of its days."""
+        found = self.moistures.of_tickets.get(ticket.row.text("id"))
+        days = days_of(ticket.first, ticket.last)
+        found = found or self.moistures.of_days(ticket.stream.name, days)
+        if found is None:
+            name = f"in the ticket {ticket.row.text('id')}"
+            raise self.no_moisture(ticket.stream, ticket.row["amount"], name)
+        return found
+
+    def _put_wet(self, wet: list[tuple[Ticket, Moisture]]) -> None:
+        """Give wet tickets to the session as dry ones; those of one moisture share its error."""
+        sums: dict[int, int] = {}
+        for ticket, moisture in wet:
+            sums[id(moisture)] = sums.get(id(moisture), 0) + abs(ticket.grams)
+        for ticket, moisture in wet:
+            with self.kept():
+                times = Fraction(sums[id(moisture)], abs(ticket.grams) or 1)
+                exact, variance = self.dried(
+                    moisture, ticket.stream, ticket.grams, ticket.error, times
+                )
+                grams = self.reader.whole(ticket.row["amount"], exact)
+                self._put_ticket(ticket, Figure(grams, variance))
+
+    def _amount(self, row: Row, stream: Stream) -> tuple[Fraction | None, int, bool]:
+        """Return the density of a row, or of its stream, its grams, and whether they are wet."""
         density = self.reader.density(row["density"]) or stream.density
-        unit = self.reader.unit(row["unit"], GRAMS | VOLUMES, stream.unit or "t")
-        return density, self.reader.grams(row["amount"], unit, density, "amount")
+        unit = self.reader.unit(row["unit"], AMOUNTS, stream.unit or "t")
+        grams = self.reader.grams(row["amount"], unit, density, "amount")
+        return density, grams, self.reader.is_wet(row["amount"], unit, "amount")
 
     def read_dips(self) -> None:
         """Read the dips of tanks."""
@@ -129,7 +175,7 @@ class Converter(Readings):
             what = f"{name} has a dip of {day} already ({other})"
             raise self.reader.fault(row["level"], what, "leave one of both out")
         whole = self.reader.whole(row["density"], density)
-        variance = self.variance(error, 0, row["level"], slope=tank.slope(mm, density))
+        variance = self.bearable(error.variance(0, tank.slope(mm, density)), 0, row["level"])
         cells = {"mm": row["level"], "density": row["density"], "day": row["day"]}
         fields = [f"{name}_{day}", name, str(day), str(mm), str(whole), str(variance)]
         if self.put(["dip", *fields], cells):
@@ -185,6 +231,7 @@ class Converter(Readings):
         """Read all facts, and the periods: before them if they have a sheet."""
         if self.sheets["periods"]:
             self.read_periods()
+        self.read_moistures()
         self.read_readings()
         self.read_estimates()
         self.read_tickets()
@@ -192,6 +239,7 @@ class Converter(Readings):
         if not self.sheets["periods"]:
             self.read_periods()
         self.check_bases()
+        self.say_moistures()
         self.read_assays()
 
     # ---- periods

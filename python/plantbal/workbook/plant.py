@@ -11,7 +11,7 @@ from fractions import Fraction
 from plantbal.schema import schema
 from plantbal.session import ENV, dates_of_service, most_streams
 from plantbal.workbook.base import MOST_VARIANCE, tonnes_of
-from plantbal.workbook.cells import GRAMS, VOLUMES, Error, Reader
+from plantbal.workbook.cells import AMOUNTS, VOLUMES, Error, Reader
 from plantbal.workbook.sheets import Cell, Sheet
 from plantbal.workbook.tables import Row, Tables
 
@@ -267,7 +267,7 @@ class Plant(Tables):
             self.fault(row["kind"], f"{row.text('kind')!r} is no kind of stream", remedy, "kind")
         unit, density, error = "", None, None
         with self.kept():
-            unit = self.reader.unit(row["unit"], GRAMS | VOLUMES, "")
+            unit = self.reader.unit(row["unit"], AMOUNTS, "")
         with self.kept():
             density = self.reader.density(row["density"])
         with self.kept():

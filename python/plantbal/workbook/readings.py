@@ -10,8 +10,9 @@ from plantbal.faults import Fault, InputFault
 from plantbal.session import period_days
 from plantbal.workbook.account import Fate, is_unit
 from plantbal.workbook.base import MOST_VARIANCE, Span, share_at, tonnes_of
-from plantbal.workbook.cells import GRAMS, VOLUMES, Error, Reader, day_order, is_rate, unit_of
-from plantbal.workbook.plant import Plant, Stream
+from plantbal.workbook.cells import AMOUNTS, Error, Reader, day_order, is_rate, unit_of
+from plantbal.workbook.drying import Drying, Figure
+from plantbal.workbook.plant import Stream
 from plantbal.workbook.sheets import Cell, Sheet
 from plantbal.workbook.tables import HEADS_WITHIN, TOTALS
 
@@ -23,7 +24,7 @@ _LONG = {
 }
 
 
-class Readings(Plant):
+class Readings(Drying):
     """Reads the sheets of readings.
 
     Parameters
@@ -57,7 +58,8 @@ class Readings(Plant):
     def reading(self, stream: Stream, cell: Cell, day: datetime.date | None, unit: str) -> None:
         """Take a reading."""
         with self.kept():
-            grams = self.reader.grams(cell, unit or stream.unit or "t", stream.density, stream.tag)
+            own = unit or stream.unit or "t"
+            grams = self.reader.grams(cell, own, stream.density, stream.tag)
             if day is None:
                 return
             error = stream.error or Error()
@@ -68,20 +70,29 @@ class Readings(Plant):
                 remedy = "give its meter one in tonnes as well, such as `1.5 % or 0.2 t`"
                 what = "a reading of 0 has no error in percent"
                 raise self.reader.fault(cell, what, remedy, stream.tag)
-            self._book(stream, day, grams, error, cell)
+            self._book(stream, day, grams, error, cell, self.reader.is_wet(cell, own))
 
     def _book(
-        self, stream: Stream, day: datetime.date, grams: int, error: Error, cell: Cell
+        self,
+        stream: Stream,
+        day: datetime.date,
+        grams: int,
+        error: Error,
+        cell: Cell,
+        is_wet: bool = False,
     ) -> None:
-        """Give a reading or an estimate to the session."""
+        """Give a reading or an estimate to the session; a wet one as it is dry."""
         days = self.days.setdefault(stream.name, {})
         if day in days:
             other = str(days[day].place()).rstrip(":")
             what = f"{stream.said} has a figure of {day} already ({other})"
             raise self.reader.fault(cell, what, "empty one of both")
         days[day] = cell
-        fields = [f"{stream.label}_{day}", stream.name, str(day), str(grams)]
-        variance = self.variance(error, grams, cell, self._born(stream, day))
+        figure = Figure(grams, error.variance(grams))
+        if is_wet:
+            figure = self.dried_on(stream, day, grams, error, cell)
+        fields = [f"{stream.label}_{day}", stream.name, str(day), str(figure.grams)]
+        variance = self.bearable(figure.variance + self._born(stream, day), figure.grams, cell)
         self.put(["reading", *fields, str(variance)], {"grams": cell})
 
     def _born(self, stream: Stream, day: datetime.date) -> int:
@@ -193,7 +204,7 @@ class Readings(Plant):
             if self.reader.is_missing(row["value"]):
                 continue
             with self.kept():
-                unit = self.reader.unit(row.get("unit"), GRAMS | VOLUMES, "")
+                unit = self.reader.unit(row.get("unit"), AMOUNTS, "")
                 self.reading(stream, row["value"], day, unit)
 
     def _columns(
@@ -234,7 +245,7 @@ class Readings(Plant):
         """Return the units of a row below the heads, or None if it is none."""
         texts = {column: cells[column] for column in columns if column < len(cells)}
         units = {column: cell for column, cell in texts.items() if cell.text}
-        known = GRAMS | VOLUMES
+        known = AMOUNTS
         if not units or not all(
             isinstance(cell.value, str) and re.fullmatch(r"[\[(]?[^\W\d_][\w³/]*[\])]?", cell.text)
             for cell in units.values()
@@ -326,7 +337,7 @@ class Readings(Plant):
             if stream is None:
                 continue
             self.listed.add(stream.name)
-            units = [c.text for c in cells[:first] if unit_of(c.text) in GRAMS | VOLUMES]
+            units = [c.text for c in cells[:first] if unit_of(c.text) in AMOUNTS]
             for column, day in days.items():
                 if column < len(cells) and not self.reader.is_missing(cells[column]):
                     unit = unit_of(units[0]) if units else ""

@@ -9,13 +9,12 @@ from collections.abc import Container, Iterator, Mapping, Sequence
 from contextlib import contextmanager
 from dataclasses import dataclass
 from decimal import Decimal
-from fractions import Fraction
 
 from plantbal.faults import Fault, InputFault, Refusal
 from plantbal.session import Session
 from plantbal.workbook.account import Account, Fate, is_figure, unread_column, unread_rows
 from plantbal.workbook.base import MOST_GRAMS, MOST_VARIANCE, tonnes_of
-from plantbal.workbook.cells import Error, Reader
+from plantbal.workbook.cells import Reader
 from plantbal.workbook.sheets import Cell, Sheet
 
 # The columns of each sheet: those that it needs, and others.
@@ -32,6 +31,10 @@ SHEETS: dict[str, tuple[tuple[str, ...], tuple[str, ...]]] = {
     "dips": (("tank", "day", "level"), ("density", "error")),
     "tickets": (("id", "stream", "first", "amount"), ("last", "unit", "density", "error")),
     "estimates": (("day", "amount", "error"), ("tag", "stream", "unit", "density")),
+    "moistures": (
+        ("moisture", "error"),
+        ("stream", "tag", "id", "day", "first", "last", "amount", "unit"),
+    ),
     "assays": (("component", "stream", "period", "grade", "error"), ("unit",)),
     "critical": (("test", "value"), ("dof",)),
     "periods": (("name", "first", "last"), ()),
@@ -173,17 +176,14 @@ class Tables:
         self.faults.append(refusal)
         return False
 
-    def variance(
-        self, error: Error, grams: int, cell: Cell, more: int = 0, slope: Fraction = Fraction(0)
-    ) -> int:
-        """Return the variance of a figure, and of what else it bears, in squared grams.
+    def bearable(self, found: int, grams: int, cell: Cell) -> int:
+        """Return the variance of a figure, in squared grams.
 
         Raises
         ------
         InputFault
             If it is wider than a row bears.
         """
-        found = error.variance(grams, slope) + more
         if found > MOST_VARIANCE and abs(grams) <= MOST_GRAMS:  # else the figure is refused
             what = f"the error of {cell.text} is {tonnes_of(found)}, and a row bears at most "
             remedy = "look at the error's unit, or enter the figure in several parts"

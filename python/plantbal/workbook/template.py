@@ -9,7 +9,7 @@ from typing import Any
 
 from plantbal.faults import Fault, ToolMissing
 from plantbal.files import replacing
-from plantbal.workbook.cells import GRADES, GRAMS, VOLUMES
+from plantbal.workbook.cells import GRADES, GRAMS, VOLUMES, WET
 from plantbal.workbook.tables import SHEETS
 
 HELP = """
@@ -51,6 +51,7 @@ KINDS: dict[str, tuple[str, ...]] = {
         "dips",
         "estimates",
         "tickets",
+        "moistures",
         "assays",
         "critical",
         "periods",
@@ -70,6 +71,8 @@ ABOUT = {
     "dips": "the levels of the tanks at the end of a day, that of the day before a period too",
     "tickets": "the batches of ships, trains and trucks",
     "estimates": "a figure with a wide error for a day without a reading",
+    "moistures": "what part of wet tonnes is water: of a ticket by its id, of a day, of a day's "
+    "shifts with their wet tonnes, or of several days",
     "assays": "the grades of components, each of a period, entered before it is closed",
     "critical": "critical values of the tests, such as 3.841, which rows of a session have as 3841",
     "periods": "the periods; without a row each calendar month with a reading is one",
@@ -101,6 +104,7 @@ _HEADS = {
     "dof": "the degrees of freedom, of the global test",
     "component": "such as cu",
     "period": "the name of a period: of a calendar month such as 2024-04",
+    "moisture": "with its unit: 8.2 %; or alone, with the unit beside it",
     "grade": "with its unit: 0.9 %, 120 g/t, 9000 ppm; or alone, with the unit beside it",
 }
 # What is otherwise in a sheet.
@@ -110,6 +114,9 @@ _HEADS_OF = {
     ("tanks", "error"): "the standard deviation of the gauge: 3 mm, or 8 t; not in percent",
     ("straps", "unit"): "of the volumes: m3 without it",
     ("dips", "error"): "the standard deviation: 3 mm, or 8 t; the tank's without it",
+    ("moistures", "amount"): "the wet tonnes of a shift, if a day has several",
+    ("moistures", "error"): "the standard deviation: 3 % of the moisture, or 2500 ppm",
+    ("moistures", "unit"): "of the moistures: %; empty if it stands after them",
     ("assays", "error"): "the standard deviation: 2 % of the grade, 180 ppm, or 2 % or 20 ppm",
     ("assays", "unit"): "of the grades: %, ppm or g/t; empty if it stands after them",
 }
@@ -135,7 +142,7 @@ class Choice:
 
 def choices(kind: str) -> dict[tuple[str, str], Choice]:
     """Return what may stand in columns of the sheets of a kind of plant."""
-    masses, volumes = ",".join(GRAMS), ",".join(VOLUMES)
+    masses, volumes = ",".join([*GRAMS, *WET]), ",".join(VOLUMES)
     units = Choice(f'"{masses},{volumes}"')
     streams = Choice(f"streams!$B$2:$B${_LAST}")
     found = {

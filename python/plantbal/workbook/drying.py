@@ -1,0 +1,148 @@
+"""Reads the moistures of a workbook, and makes dry figures of wet ones by them."""
+
+from __future__ import annotations
+
+import datetime
+from collections.abc import Sequence
+from dataclasses import dataclass
+from fractions import Fraction
+
+from plantbal.workbook.base import Span
+from plantbal.workbook.cells import WET, Error, Reader
+from plantbal.faults import InputFault
+from plantbal.workbook.moisture import WHOLE, Moisture, Moistures
+from plantbal.workbook.plant import Plant, Stream
+from plantbal.workbook.sheets import Cell, Sheet
+from plantbal.workbook.tables import Row
+
+
+@dataclass(frozen=True)
+class Figure:
+    """An amount as it is booked.
+
+    Attributes
+    ----------
+    grams, variance : int
+        The dry amount, and its variance in squared grams.
+    """
+
+    grams: int
+    variance: int
+
+
+class Drying(Plant):
+    """Reads the sheet of moistures.
+
+    Parameters
+    ----------
+    sheets : list of Sheet
+        The workbook.
+    reader : Reader
+        How its cells are written.
+    skip : tuple of str
+        Heads of columns to leave out.
+
+    Attributes
+    ----------
+    moistures : Moistures
+        What was read.
+    """
+
+    def __init__(self, sheets: list[Sheet], reader: Reader, skip: Sequence[str] = ()) -> None:
+        super().__init__(sheets, reader, skip)
+        self.moistures = Moistures()
+
+    def read_moistures(self) -> None:
+        """Read the moistures: of a ticket, of a day, of a day's shifts, or of several days."""
+        for row in self.rows("moistures", facts=True):
+            with self.kept():
+                found = self._moisture(row)
+                if not self.reader.is_missing(row["id"]):
+                    name = row.text("id")
+                    if name in self.moistures.of_tickets:
+                        what = f"the ticket {name} has a moisture already"
+                        raise self.reader.fault(row["id"], what, "leave one of both out", "id")
+                    self.moistures.of_tickets[name] = found
+                    continue
+                cell = row["stream"] if self.reader.is_missing(row["tag"]) else row["tag"]
+                stream = self.named(cell, "stream")
+                if stream is not None:
+                    self._keep(stream, row, found)
+
+    def _moisture(self, row: Row) -> Moisture:
+        """Return the moisture of a row."""
+        part = self.reader.grade(row["moisture"], row["unit"], "moisture")
+        if not 0 <= part < WHOLE:
+            what = f"{row.text('moisture')} is no moisture"
+            remedy = "it is what part of the wet tonnes is water, from 0 to less than 100 %"
+            raise self.reader.fault(row["moisture"], what, remedy, "moisture")
+        error = self.reader.grade_error(row["error"], part)
+        first, last = (
+            None if self.reader.is_missing(row[head]) else self.reader.day(row[head], head)
+            for head in ("first" if self.reader.is_missing(row["day"]) else "day", "last")
+        )
+        if last is not None and (first is None or last < first):
+            what = "there is no day before the last one"
+            raise self.reader.fault(row["last"], what, "write the first day too", "last")
+        return Moisture(part / WHOLE, (error / WHOLE) ** 2, row["moisture"], first, last or first)
+
+    def _keep(self, stream: Stream, row: Row, found: Moisture) -> None:
+        """Keep a moisture of a stream; another one of the same days is that of another shift."""
+        own = self.moistures.of_streams.setdefault(stream.name, [])
+        same = [each for each in own if (each.first, each.last) == (found.first, found.last)]
+        tonnes = None
+        if not self.reader.is_missing(row["amount"]):
+            tonnes = Fraction(self.reader.number(row["amount"], "amount"))
+            if tonnes <= 0:
+                what = f"{row.text('amount')} t are no shift's"
+                raise self.reader.fault(row["amount"], what, "write its wet tonnes", "amount")
+        if same and (tonnes is None or not same[0].shifts):
+            other = str(same[0].cell.place()).rstrip(":")
+            what = f"{stream.said} has a moisture of these days already ({other})"
+            remedy = "write the wet tonnes of each shift into a column amount"
+            raise self.reader.fault(row["moisture"], what, remedy, "moisture")
+        shift = same[0] if same else found
+        if tonnes is not None:
+            shift.add_shift(tonnes, found.part, found.variance)
+        if not same:
+            own.append(found)
+
+    def spans_at(self, day: datetime.date) -> list[Span]:
+        """Return the periods that a day may be in."""
+        raise NotImplementedError
+
+    def no_moisture(self, stream: Stream, cell: Cell, of: str) -> InputFault:
+        """Return the fault that nothing says how wet an amount is."""
+        unit = next(iter(WET))
+        what = f"{cell.text} {unit} of {stream.said} have no moisture {of}"
+        remedy = "add it to a sheet moistures (stream, day, moisture, error), or write dry tonnes"
+        return self.reader.fault(cell, what, remedy)
+
+    def dried(
+        self, moisture: Moisture, stream: Stream, grams: int, error: Error, times: Fraction
+    ) -> tuple[Fraction, int]:
+        """Return a dry amount in grams and its variance."""
+        self.moistures.use(stream.name, moisture)
+        variance = moisture.dry_variance(grams, error.variance(grams), times)
+        return moisture.dry(grams), variance
+
+    def dried_on(
+        self, stream: Stream, day: datetime.date, grams: int, error: Error, cell: Cell
+    ) -> Figure:
+        """Return the dry figure of a day."""
+        moisture = self.moistures.on(stream.name, day)
+        if moisture is None:
+            raise self.no_moisture(stream, cell, f"on {day}")
+        spans = [each for each in self.spans_at(day) if each.first <= day.toordinal() <= each.last]
+        days = max((moisture.days_in(each.first, each.last) for each in spans), default=1)
+        exact, variance = self.dried(moisture, stream, grams, error, Fraction(max(1, days)))
+        return Figure(self.reader.whole(cell, exact), variance)
+
+    def say_moistures(self) -> None:
+        """Say what was dried, and keep a fault for each moisture of a stream without wet figures."""
+        self.notes += self.moistures.notes()
+        for name, moisture in self.moistures.unused():
+            if name in self.streams and not self.faults:
+                what = f"no figure of {name} is in {next(iter(WET))}, so its moistures dry nothing"
+                remedy = "write wmt as the unit of its figures, or take the moistures out"
+                self.fault(moisture.cell, what, remedy, "moisture")
