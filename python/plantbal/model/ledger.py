@@ -143,6 +143,40 @@ class Seen:
         return f"{self.period.name} to {self.last}" if self.last else self.period.name
 
 
+def view_of(state: State, period: Period) -> View:
+    """Return what a session by now has of a period, or of any other days.
+
+    Parameters
+    ----------
+    state : State
+        The session.
+    period : Period
+        The days. They needn't be those of a declared period.
+    """
+    facts = state.facts
+    streams = state.plant.served(period)
+    tanks = [stream for stream in streams if stream.kind == "tank"]
+    ends = {each.arc.name: each.ends_of(period) for each in tanks}
+    return View(
+        period,
+        state.plant.nodes_in(period, state.version),
+        streams,
+        {each.arc.name: _facts(state, each, period) for each in streams},
+        {tank: (facts.on(tank, a), facts.on(tank, b)) for tank, (a, b) in ends.items()},
+    )
+
+
+def _facts(state: State, stream: Stream, period: Period) -> list[Fact]:
+    """Return the readings or the transfers of a stream that count in a period."""
+    facts, name = state.facts, stream.arc.name
+    if stream.kind == "metered":
+        return facts.on_days(name, stream.days_in(period))
+    if stream.kind != "batch":
+        return []
+    first, last = period.first, period.last
+    return [each for each in facts.transfers(name) if each.first <= last and first <= each.last]
+
+
 class Ledger:
     """A whole session.
 
@@ -247,28 +281,8 @@ class Ledger:
         """Return what a row sees of a period."""
         view = self._views.get(period.name)
         if view is None:
-            state, facts = self.state, self.state.facts
-            streams = state.plant.served(period)
-            tanks = [stream for stream in streams if stream.kind == "tank"]
-            ends = {each.arc.name: each.ends_of(period) for each in tanks}
-            view = self._views[period.name] = View(
-                period,
-                state.plant.nodes_in(period, state.version),
-                streams,
-                {each.arc.name: self._facts(each, period) for each in streams},
-                {tank: (facts.on(tank, a), facts.on(tank, b)) for tank, (a, b) in ends.items()},
-            )
+            view = self._views[period.name] = view_of(self.state, period)
         return view
-
-    def _facts(self, stream: Stream, period: Period) -> list[Fact]:
-        """Return the readings or the transfers of a stream that count in a period."""
-        facts, name = self.state.facts, stream.arc.name
-        if stream.kind == "metered":
-            return facts.on_days(name, stream.days_in(period))
-        if stream.kind != "batch":
-            return []
-        first, last = period.first, period.last
-        return [each for each in facts.transfers(name) if each.first <= last and first <= each.last]
 
     # ---- what is there in the end
 

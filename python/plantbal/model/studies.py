@@ -136,7 +136,7 @@ def study_of(state: State, seen: Seen) -> Study:
         What the row saw.
     """
     if not seen.last:
-        return Study(seen, seen.view.nodes, _measured_in(state, seen.view))
+        return Study(seen, seen.view.nodes, measured_in(state, seen.view))
     nodes = [
         (f"n{turn}.{place}", view.period.name, name)
         for turn, view in enumerate(seen.views, 1)
@@ -159,7 +159,7 @@ def share(total: int, fact: Fact, period: Period) -> int:
     return total * upto // days - total * before // days
 
 
-def _measured_in(state: State, view: View) -> dict[str, Measured]:
+def measured_in(state: State, view: View) -> dict[str, Measured]:
     """Return what the facts of a period give its streams."""
     return {
         each.arc.name: _tank(state, each, view) if each.kind == "tank" else _stream(each, view)
@@ -203,7 +203,7 @@ def _flows(
     places = []
     for turn, view in enumerate(views, 1):
         when, tanks = view.period.name, state.plant.tables
-        for place, (name, found) in enumerate(_measured_in(state, view).items()):
+        for place, (name, found) in enumerate(measured_in(state, view).items()):
             if name not in tanks:
                 ends = [code.get((when, end), ENV) for end in (found.arc.from_, found.arc.to)]
                 arc = Arc(f"s{turn}.{place}", *ends)
