@@ -132,12 +132,12 @@ def answers_of(block: Block) -> tuple[dict[str, int], Any, Any]:
     import numpy
 
     asked = _known(block)
-    plant = _plant_of(block)
+    plant = plant_in(block)
     variance = numpy.array([float(plant.variance[j]) for j in plant.measured])
     columns = {stream["name"]: column for column, stream in enumerate(asked)}
     if not asked:
         return columns, numpy.zeros((len(variance), 0)), variance
-    return columns, _answers(plant, variance, _weights(plant, asked)), variance
+    return columns, answers_to(plant, variance, _weights(plant, asked)), variance
 
 
 def _known(block: Block) -> list[Values]:
@@ -152,10 +152,10 @@ def _rows_of(block: Block) -> list[tuple[Any, ...]]:
     asked = _known(block)
     if not asked:
         return []
-    plant = _plant_of(block)
+    plant = plant_in(block)
     variance = numpy.array([float(plant.variance[j]) for j in plant.measured])
     weights = _weights(plant, asked)
-    parts = _answers(plant, variance, weights) ** 2 * variance[:, None]
+    parts = answers_to(plant, variance, weights) ** 2 * variance[:, None]
     total, before = parts.sum(axis=0), weights.power(2).T @ variance
     total[total <= _NOTHING**2 * before] = 0.0
     leading = _greatest(parts)
@@ -188,7 +188,7 @@ def _greatest(parts: Any) -> list[Any]:
     return found
 
 
-def _plant_of(block: Block) -> Plant:
+def plant_in(block: Block) -> Plant:
     """Return the plant of a block, or say what is wrong with it."""
     try:
         plant = plant_of(block)
@@ -238,7 +238,7 @@ def _members(plant: Plant, stream: Values) -> list[tuple[int, int]]:
     return others
 
 
-def _answers(plant: Plant, variance: Any, weights: Any) -> Any:
+def answers_to(plant: Plant, variance: Any, weights: Any) -> Any:
     """Return how each flow that is asked answers to one more gram of each meter.
 
     Parameters

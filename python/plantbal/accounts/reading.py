@@ -1,0 +1,291 @@
+"""Reads the sheet `accounts`, says at its cells what is wrong, and writes the file of a book."""
+
+from __future__ import annotations
+
+import csv
+import io
+import re
+from collections.abc import Mapping
+from fractions import Fraction
+from pathlib import Path
+
+from plantbal.accounts.sheet import (
+    NO_ACCOUNT,
+    OUTGOING,
+    Account,
+    Accounts,
+    Kind,
+    Ownership,
+    Rule,
+    SalesUnit,
+)
+from plantbal.book.meters import decimal
+from plantbal.cells import DENSITIES, GRAMS, VOLUMES, Reader
+from plantbal.conversion_tables import Tables
+from plantbal.faults import InputFault
+from plantbal.model.plant import ENV, Plant
+from plantbal.workbook import Cell, read_csv
+
+HEADS = ("name", "kind", "product", "group", "owner", "unit", "density")
+SHEET = "accounts"
+_KINDS = {kind.value: kind for kind in Kind}
+_RULES = {rule.value: rule for rule in (Rule.BY_RECEIPTS, Rule.BY_STOCK)}
+_PART = re.compile(r"\s*(.+?)\s+(?:([0-9][0-9.,]*)\s*%|([0-9]+)/([0-9]+))\s*(?:[;,+]\s*|$)")
+_LONGEST = 60  # letters of a product, a group or an owner
+_MOST_OWNERS = 50
+
+
+class SheetReader:
+    """Reads the rows of the sheet, one by one.
+
+    Parameters
+    ----------
+    reader : Reader
+        How its cells are written.
+    plant : Plant
+        The streams and tanks.
+    """
+
+    def __init__(self, reader: Reader, plant: Plant) -> None:
+        self.reader = reader
+        self.plant = plant
+        self.rows: dict[str, Account] = {}
+        self._cells: dict[str, Cell] = {}
+        self._spelt: dict[tuple[str, str], tuple[str, Cell]] = {}
+        self._groups: dict[str, tuple[str, Cell]] = {}
+
+    def take(self, row: Mapping[str, Cell]) -> None:
+        """Take a row.
+
+        Raises
+        ------
+        InputFault
+            If something of it is wrong; its place is the cell.
+        """
+        name = row["name"].text
+        kind = self.plant.kind_of(name)
+        if kind not in ("tank", "metered", "batch", "plain"):
+            what = f"there is no stream or tank {name!r}" if name else "there is no name"
+            raise self._fault(row["name"], what, "write a name of the sheet streams or tanks")
+        if name in self._cells:
+            other = str(self._cells[name].place()).rstrip(":")
+            what = f"{name} has two accounts ({other})"
+            raise self._fault(row["name"], what, "leave one of both: each is in one account")
+        self._cells[name] = row["name"]
+        product = self._word(row["product"], "product")
+        group = self._word(row["group"], "group") or product
+        if product:
+            self._check_group(product, group, row["group"])
+        self.rows[name] = Account(
+            name,
+            self._kind(row["kind"], name),
+            product or group or NO_ACCOUNT,
+            group or NO_ACCOUNT,
+            self._owner(row["owner"], name),
+            self._unit(row["unit"], row["density"]),
+        )
+
+    def _fault(self, cell: Cell, what: str, remedy: str, head: str = "") -> InputFault:
+        return self.reader.fault(cell, what, remedy, head)
+
+    # ---- what a stream is
+
+    def _kind(self, cell: Cell, name: str) -> Kind | None:
+        """Return the kind of a stream; None of a tank."""
+        stream = self.plant.stream(name)
+        word = " ".join(cell.text.casefold().split())
+        if stream is None:
+            if not self.reader.is_missing(cell):
+                what = f"{name} is a tank, and its stock is no {cell.text}"
+                raise self._fault(cell, what, "empty the cell: a tank has no kind", "kind")
+            return None
+        if self.reader.is_missing(cell):
+            return None
+        kind = _KINDS.get(word)
+        if kind is None:
+            named = [each for each in _KINDS if re.search(rf"\b{each}s?\b", word)]
+            what = f"{cell.text!r} is no kind of account"
+            if len(named) > 1:
+                what = f"{name} is both {' and '.join(named)}"
+            remedy = f"write one of {', '.join(_KINDS)}"
+            if len(named) > 1:
+                remedy = "write one of them: what does both is two streams"
+            raise self._fault(cell, what, remedy, "kind")
+        self._check_ends(cell, kind, name, stream.arc.from_, stream.arc.to)
+        return kind
+
+    def _check_ends(self, cell: Cell, kind: Kind, name: str, start: str, end: str) -> None:
+        """Refuse a kind that the ends of a stream can't have."""
+        comes, goes = start == ENV, end == ENV
+        why = ""
+        if kind is Kind.RECEIPT and not comes:
+            why = f"it comes from {start}, within the plant"
+        elif kind in OUTGOING and not goes:
+            why = f"it goes to {end}, within the plant"
+        elif kind in (Kind.PRODUCTION, Kind.INTERNAL) and (comes or goes):
+            why = "it comes from outside" if comes else "it leaves the plant"
+        elif kind is Kind.PRODUCTION and self.plant.kind_of(end) != "tank":
+            why = f"it goes to {end}, which is no tank"
+        elif kind is Kind.PRODUCTION and self.plant.kind_of(start) != "unit":
+            why = f"it comes from {start}, which is no unit"
+        if why:
+            remedy = "receipts come from env, shipments, own use, flare and loss go there; "
+            remedy += "production goes from a unit to a tank; write internal for all others"
+            raise self._fault(cell, f"{name} is no {kind.value}: {why}", remedy, "kind")
+
+    # ---- words
+
+    def _word(self, cell: Cell, head: str) -> str:
+        """Return a product, a group or an owner; one that is spelt in two ways is a fault."""
+        return "" if self.reader.is_missing(cell) else self._spelling(cell, cell.text, head)
+
+    def _spelling(self, cell: Cell, text: str, head: str) -> str:
+        word = " ".join(text.split())
+        if len(word) > _LONGEST or not word.isprintable():
+            what = f"this {head} has {len(word)} letters, or some that can't be printed"
+            raise self._fault(cell, what, f"write at most {_LONGEST} letters", head)
+        if word.casefold() == NO_ACCOUNT:
+            raise self._fault(cell, f"no {head} can be called {word!r}", "empty the cell", head)
+        was, where = self._spelt.setdefault((head, word.casefold()), (word, cell))
+        if was != word:
+            what = f"{word!r} is {was!r} at {str(where.place()).rstrip(':')}"
+            raise self._fault(cell, what, "spell it in one way", head)
+        return word
+
+    def _check_group(self, product: str, group: str, cell: Cell) -> None:
+        was, where = self._groups.setdefault(product, (group, cell))
+        if was != group:
+            what = f"{product} is in the group {was!r} at {str(where.place()).rstrip(':')}"
+            raise self._fault(cell, what, "a product is in one group", "group")
+
+    # ---- owners
+
+    def _owner(self, cell: Cell, name: str) -> Ownership:
+        """Return whose a stream or tank is."""
+        if self.reader.is_missing(cell):
+            return Ownership()
+        rule = _RULES.get(" ".join(cell.text.casefold().split()))
+        if rule is not None:
+            stream = self.plant.stream(name)
+            if rule is Rule.BY_RECEIPTS and stream is not None and stream.arc.from_ == ENV:
+                what = f"{name} comes in, and can't be shared by what comes in"
+                raise self._fault(cell, what, "write its owners", "owner")
+            return Ownership(rule)
+        if "%" not in cell.text and not re.search(r"\s[0-9]+/[0-9]+", cell.text):
+            return Ownership(Rule.FIXED, {self._spelling(cell, cell.text, "owner"): Fraction(1)})
+        return Ownership(Rule.FIXED, self._parts(cell))
+
+    def _parts(self, cell: Cell) -> dict[str, Fraction]:
+        """Return the fixed parts of owners, by name."""
+        parts: dict[str, Fraction] = {}
+        at, text = 0, cell.text
+        while at < len(text):
+            found = _PART.match(text, at)
+            if found is None or len(parts) >= _MOST_OWNERS:
+                what = f"{cell.text!r} isn't a list of shares"
+                remedy = "write `Alpha 60 %; Beta 40 %`, `Alpha 1/3; Beta 2/3`, one owner, "
+                raise self._fault(cell, what, f"{remedy}`by receipts` or `by stock`", "owner")
+            part = self._part(cell, found)
+            name = self._spelling(cell, found[1], "owner")
+            if name in parts:
+                raise self._fault(cell, f"{name} stands here twice", "add both shares up", "owner")
+            parts[name] = part
+            at = found.end()
+        total = sum(parts.values(), Fraction(0))
+        if total != 1:
+            what = f"these shares add up to {float(100 * total):.10g} %"
+            raise self._fault(cell, what, "they have to add up to 100 %", "owner")
+        return dict(sorted(parts.items()))
+
+    def _part(self, cell: Cell, found: re.Match[str]) -> Fraction:
+        if found[2] is not None:
+            part = Fraction(self.reader.number_of(cell, found[2], "owner")) / 100
+        else:
+            part = Fraction(int(found[3]), int(found[4]) or 1) if int(found[4]) else Fraction(0)
+        if part <= 0:
+            raise self._fault(cell, f"a share of {cell.text!r} is 0", "take it out", "owner")
+        return part
+
+    # ---- units
+
+    def _unit(self, cell: Cell, beside: Cell) -> SalesUnit:
+        """Return the sales unit of a row."""
+        unit = self.reader.unit(cell, GRAMS | VOLUMES, "t")
+        density = self.reader.density(beside)
+        if unit in GRAMS:
+            is_dry = cell.text.casefold() == "dmt"
+            return SalesUnit("dmt" if is_dry else unit)
+        if density is None:
+            what = f"the unit {unit} has no density"
+            raise self._fault(cell, what, "write one beside it, such as 862 (kg/m3)", "unit")
+        return SalesUnit(unit, density)
+
+
+def read_accounts(work: Tables) -> Accounts:
+    """Return the accounts of a workbook; what is wrong with a row is kept as a fault.
+
+    Parameters
+    ----------
+    work : Tables
+        The workbook, whose plant has been read.
+    """
+    sheet = SheetReader(work.reader, work.session.state.plant)
+    for row in work.rows(SHEET):
+        with work.kept():
+            sheet.take(row.cells)
+    if work.sheets[SHEET] and not work.faults:
+        work.notes += lacking(sheet.rows, sheet.plant)
+    return Accounts(sheet.rows.values())
+
+
+def lacking(rows: Mapping[str, Account], plant: Plant) -> list[str]:
+    """Return what is to be said of streams and tanks that no row of the sheet names."""
+    names = [name for name in plant.streams if name not in rows]
+    if not names:
+        return []
+    shown = ", ".join(names[:12]) + (f" and {len(names) - 12:,} more" if len(names) > 12 else "")
+    are = "is" if len(names) == 1 else "are"
+    return [f"{shown} {are} in no account: write {'it' if are == 'is' else 'them'} into {SHEET}"]
+
+
+# ---- the file of a book
+
+
+def accounts_text(accounts: Accounts) -> str:
+    """Return the file of accounts, with numbers as in English."""
+    out = io.StringIO()
+    writer = csv.writer(out, lineterminator="\n")
+    writer.writerow(HEADS)
+    for row in accounts.values():
+        product = "" if row.product == NO_ACCOUNT else row.product
+        group = "" if row.group == NO_ACCOUNT else row.group
+        density = ""
+        if row.unit.density is not None:
+            density = decimal(row.unit.density / DENSITIES["kg/m3"]) + " kg/m3"
+        kind = row.kind.value if row.kind is not None else ""
+        writer.writerow((row.name, kind, product, group, row.owner, row.unit.label, density))
+    return out.getvalue()
+
+
+def read_file(path: Path, plant: Plant) -> Accounts:
+    """Return the accounts of a file, such as that of a book; none if it isn't there.
+
+    Raises
+    ------
+    InputFault
+        If a cell can't be read.
+    """
+    if not path.is_file():
+        return Accounts()
+    table = read_csv(path)
+    sheet = SheetReader(Reader("en"), plant)
+    lines = list(table.rows())
+    heads = [cell.text.casefold() for cell in lines[0]] if lines else []
+    if "name" not in heads:
+        remedy = f"its heads are {', '.join(HEADS)}"
+        raise InputFault("there is no column 'name'", place=table.place(), remedy=remedy)
+    for cells in lines[1:]:
+        row = {head: Cell(table, cells[0].line, 0, None) for head in HEADS}
+        row |= {head: cell for head, cell in zip(heads, cells) if head in HEADS}
+        sheet.take(row)
+    return Accounts(sheet.rows.values())
