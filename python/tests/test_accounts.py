@@ -19,7 +19,7 @@ from plantbal.accounts.sheet import Account, Accounts, Kind, Ownership, Rule, Sa
 from plantbal.accounts.spread import Sum, deviations
 from plantbal.accounts.stock import Opened, Why, rolled
 from plantbal.model.ledger import Ledger
-from plantbal.report import last_blocks, blocks_of, read_rows
+from plantbal.report.blocks import last_blocks, blocks_of, read_rows
 
 FIRST = datetime.date(2024, 11, 1)
 DAY = datetime.timedelta(1)

@@ -46,6 +46,13 @@ _OUT = {
 }
 
 
+def line_of_kind(kind: Kind | None, comes: bool) -> Line:
+    """Return the line of a stream that comes from outside, or goes there."""
+    if comes:
+        return Line.RECEIPTS
+    return _OUT.get(kind, Line.SHIPMENTS) if kind is not None else Line.SHIPMENTS
+
+
 @dataclass(frozen=True, slots=True)
 class Entry:
     """What a stream or tank brings to a line of an account.
@@ -119,8 +126,7 @@ def _stream_entries(at: int, flow: Flow, tanks: set[str], accounts: Accounts) ->
         return
     for end, sign in ends:
         if end == ENV:
-            line = Line.RECEIPTS if sign > 0 else _OUT.get(own.kind or Kind.SHIPMENT)
-            yield entry(line or Line.SHIPMENTS, sign)
+            yield entry(line_of_kind(own.kind, sign > 0), sign)
         elif end not in tanks:
             yield entry(Line.PRODUCTION if sign > 0 else Line.PROCESSED, sign)
         else:

@@ -8,7 +8,7 @@ from dataclasses import dataclass, field
 from enum import StrEnum
 
 from plantbal.model.ledger import Ledger, Seen
-from plantbal.report import Block, Values
+from plantbal.report.blocks import Block, Values
 
 _DAY = datetime.date.fromordinal
 

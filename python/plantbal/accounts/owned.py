@@ -62,7 +62,7 @@ class _Month:
     before : dict
         What owners had, and as which sum.
     first : bool
-        Whether it is the first month: then the tanks say whose the opening stock is.
+        Whether it is the first month: then the tanks' own rows say whose the opening stock is.
     """
 
     def __init__(
@@ -77,9 +77,13 @@ class _Month:
                 self._receipts[name] = self._receipts.get(name, 0) + grams
         for name, (had, sums) in before.items():
             self._found[name].append(_own(Line.OPENING, _STOCK, had, sums))
+        for entry in entries if first else ():
+            if entry.line is Line.OPENING:
+                self._share(entry)
+        if first:
+            self._stock = {name: grams for name, (grams, _) in self.held().items()}
         for entry in entries:
-            opens = entry.line is Line.OPENING and first
-            if opens or entry.line in (*_CROSSING, Line.PROCESSED):
+            if entry.line in (*_CROSSING, Line.PROCESSED):
                 self._share(entry)
 
     def _weights(self, account: Account) -> Mapping[str, Fraction | int]:

@@ -5,9 +5,8 @@ from __future__ import annotations
 import csv
 import io
 import re
-from collections.abc import Mapping
+from collections.abc import Collection, Iterable, Mapping
 from fractions import Fraction
-from pathlib import Path
 
 from plantbal.accounts.sheet import (
     NO_ACCOUNT,
@@ -20,11 +19,12 @@ from plantbal.accounts.sheet import (
     SalesUnit,
 )
 from plantbal.book.meters import decimal
-from plantbal.cells import DENSITIES, GRAMS, VOLUMES, Reader
-from plantbal.conversion_tables import Tables
+from plantbal.workbook.cells import DENSITIES, GRAMS, VOLUMES, Reader
+from plantbal.workbook.plant import Plant as Workbook
 from plantbal.faults import InputFault
-from plantbal.model.plant import ENV, Plant
-from plantbal.workbook import Cell, read_csv
+from plantbal.inert import is_computed
+from plantbal.model.plant import ENV, Plant, Stream
+from plantbal.workbook.sheets import Cell, Sheet, Value
 
 HEADS = ("name", "kind", "product", "group", "owner", "unit", "density")
 SHEET = "accounts"
@@ -42,11 +42,11 @@ class SheetReader:
     ----------
     reader : Reader
         How its cells are written.
-    plant : Plant
-        The streams and tanks.
+    plant : Plant or None
+        The streams and tanks; None if names and ends were tested when the row was written.
     """
 
-    def __init__(self, reader: Reader, plant: Plant) -> None:
+    def __init__(self, reader: Reader, plant: Plant | None = None) -> None:
         self.reader = reader
         self.plant = plant
         self.rows: dict[str, Account] = {}
@@ -63,7 +63,7 @@ class SheetReader:
             If something of it is wrong; its place is the cell.
         """
         name = row["name"].text
-        kind = self.plant.kind_of(name)
+        kind = "tank" if self.plant is None else self.plant.kind_of(name)
         if kind not in ("tank", "metered", "batch", "plain"):
             what = f"there is no stream or tank {name!r}" if name else "there is no name"
             raise self._fault(row["name"], what, "write a name of the sheet streams or tanks")
@@ -92,9 +92,11 @@ class SheetReader:
 
     def _kind(self, cell: Cell, name: str) -> Kind | None:
         """Return the kind of a stream; None of a tank."""
-        stream = self.plant.stream(name)
+        stream = self.plant.stream(name) if self.plant is not None else None
         word = " ".join(cell.text.casefold().split())
         if stream is None:
+            if self.plant is None:
+                return _KINDS.get(word)
             if not self.reader.is_missing(cell):
                 what = f"{name} is a tank, and its stock is no {cell.text}"
                 raise self._fault(cell, what, "empty the cell: a tank has no kind", "kind")
@@ -111,11 +113,13 @@ class SheetReader:
             if len(named) > 1:
                 remedy = "write one of them: what does both is two streams"
             raise self._fault(cell, what, remedy, "kind")
-        self._check_ends(cell, kind, name, stream.arc.from_, stream.arc.to)
+        self._check_ends(cell, kind, stream)
         return kind
 
-    def _check_ends(self, cell: Cell, kind: Kind, name: str, start: str, end: str) -> None:
+    def _check_ends(self, cell: Cell, kind: Kind, stream: Stream) -> None:
         """Refuse a kind that the ends of a stream can't have."""
+        assert self.plant is not None
+        name, start, end = stream.arc.name, stream.arc.from_, stream.arc.to
         comes, goes = start == ENV, end == ENV
         why = ""
         if kind is Kind.RECEIPT and not comes:
@@ -144,6 +148,9 @@ class SheetReader:
         if len(word) > _LONGEST or not word.isprintable():
             what = f"this {head} has {len(word)} letters, or some that can't be printed"
             raise self._fault(cell, what, f"write at most {_LONGEST} letters", head)
+        if is_computed(word):
+            what = f"a spreadsheet would compute {word!r}"
+            raise self._fault(cell, what, "let it begin with a letter or a digit", head)
         if word.casefold() == NO_ACCOUNT:
             raise self._fault(cell, f"no {head} can be called {word!r}", "empty the cell", head)
         was, where = self._spelt.setdefault((head, word.casefold()), (word, cell))
@@ -166,7 +173,7 @@ class SheetReader:
             return Ownership()
         rule = _RULES.get(" ".join(cell.text.casefold().split()))
         if rule is not None:
-            stream = self.plant.stream(name)
+            stream = self.plant.stream(name) if self.plant is not None else None
             if rule is Rule.BY_RECEIPTS and stream is not None and stream.arc.from_ == ENV:
                 what = f"{name} comes in, and can't be shared by what comes in"
                 raise self._fault(cell, what, "write its owners", "owner")
@@ -221,31 +228,36 @@ class SheetReader:
         return SalesUnit(unit, density)
 
 
-def read_accounts(work: Tables) -> Accounts:
+def read_accounts(work: Workbook, known: Iterable[str] = ()) -> Accounts:
     """Return the accounts of a workbook; what is wrong with a row is kept as a fault.
 
     Parameters
     ----------
-    work : Tables
+    work : Workbook
         The workbook, whose plant has been read.
+    known : iterable of str
+        Streams and tanks that have an account elsewhere.
     """
     sheet = SheetReader(work.reader, work.session.state.plant)
     for row in work.rows(SHEET):
-        with work.kept():
-            sheet.take(row.cells)
-    if work.sheets[SHEET] and not work.faults:
-        work.notes += lacking(sheet.rows, sheet.plant)
+        if row.text("name") not in work.bad:
+            with work.kept():
+                sheet.take(row.cells)
+    if work.sheets[SHEET]:
+        work.notes += _lacking(work, {*sheet.rows, *known})
     return Accounts(sheet.rows.values())
 
 
-def lacking(rows: Mapping[str, Account], plant: Plant) -> list[str]:
-    """Return what is to be said of streams and tanks that no row of the sheet names."""
-    names = [name for name in plant.streams if name not in rows]
+def _lacking(work: Workbook, known: Collection[str]) -> list[str]:
+    """Return what is to be said of streams and tanks that are in no account."""
+    names = [name for name in work.session.state.plant.streams if name not in known]
     if not names:
         return []
     shown = ", ".join(names[:12]) + (f" and {len(names) - 12:,} more" if len(names) > 12 else "")
-    are = "is" if len(names) == 1 else "are"
-    return [f"{shown} {are} in no account: write {'it' if are == 'is' else 'them'} into {SHEET}"]
+    stream = work.streams.get(names[0])
+    place = stream.cell.place() if stream is not None else work.sheets[SHEET][0].place()
+    are, it = ("is", "it") if len(names) == 1 else ("are", "them")
+    return [f"{place} {shown} {are} in no account: write {it} into the sheet {SHEET}"]
 
 
 # ---- the file of a book
@@ -267,25 +279,31 @@ def accounts_text(accounts: Accounts) -> str:
     return out.getvalue()
 
 
-def read_file(path: Path, plant: Plant) -> Accounts:
-    """Return the accounts of a file, such as that of a book; none if it isn't there.
+def parse_accounts(name: str, text: str) -> Accounts:
+    """Return the accounts of a file that `accounts_text` has written.
+
+    Parameters
+    ----------
+    name : str
+        The file, for what is said of it.
+    text : str
+        Its text.
 
     Raises
     ------
     InputFault
-        If a cell can't be read.
+        If a cell can't be read, or two rows contradict each other.
     """
-    if not path.is_file():
-        return Accounts()
-    table = read_csv(path)
-    sheet = SheetReader(Reader("en"), plant)
+    rows = csv.reader(io.StringIO(text))
+    values: list[list[Value]] = [[each or None for each in row] for row in rows]
+    table = Sheet(name, SHEET, list(enumerate(values, 1)), is_csv=True)
+    sheet = SheetReader(Reader("en"))
     lines = list(table.rows())
-    heads = [cell.text.casefold() for cell in lines[0]] if lines else []
-    if "name" not in heads:
+    heads = tuple(cell.text for cell in lines[0]) if lines else ()
+    if lines and heads != HEADS:
         remedy = f"its heads are {', '.join(HEADS)}"
-        raise InputFault("there is no column 'name'", place=table.place(), remedy=remedy)
+        raise InputFault("this is no file of accounts", place=table.place(1), remedy=remedy)
     for cells in lines[1:]:
         row = {head: Cell(table, cells[0].line, 0, None) for head in HEADS}
-        row |= {head: cell for head, cell in zip(heads, cells) if head in HEADS}
-        sheet.take(row)
+        sheet.take(row | dict(zip(HEADS, cells)))
     return Accounts(sheet.rows.values())

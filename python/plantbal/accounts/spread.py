@@ -25,8 +25,8 @@ from functools import cached_property
 from typing import Any
 
 from plantbal.accounts.month import Month
-from plantbal.solver import Plant
-from plantbal.uncertainty import answers_to, plant_in
+from plantbal.study.solver import Plant
+from plantbal.study.uncertainty import answers_to, plant_in
 
 Terms = Mapping[str, float]
 

@@ -9,6 +9,7 @@ import sys
 from collections.abc import Mapping
 from pathlib import Path
 
+from plantbal.book.accounting import accounts_of, put_accounts
 from plantbal.book.changes import Changes, compare, gone, strayed
 from plantbal.book.ledger import FACT_KINDS, PLANT_KINDS, Fact, Ledger, rows_text
 from plantbal.book.meters import meters_of, meters_text, read_meters
@@ -51,7 +52,8 @@ def run(options: argparse.Namespace) -> int:
         wide = any(meter.base for meter in meters.values())
         of_years = years.all() if wide else [year]  # periods are asked only for what they share
         periods = [each for ledger in of_years for each in ledger.periods.values()]
-        work = converted(options, year.plant, meters, periods)
+        accounts = accounts_of(book)
+        work = converted(options, year.plant, meters, periods, accounts)
         facts = [Fact.of(row) for row in work.session if row[0] in (*FACT_KINDS, "late")]
         raise_all(options.prog, years.outside(facts))
         plant = put_plant(year, work)
@@ -71,7 +73,8 @@ def run(options: argparse.Namespace) -> int:
         if meters_text(found.values()) != meters_text(meters.values()):
             action.written[METERS] = meters_text(found.values())
 
-        lines = [added(ledger) for ledger in years.used]
+        told = put_accounts(accounts, work.accounts, book, action)
+        lines = [*(added(ledger) for ledger in years.used), *told]
         lines += changed(changes, name, options.strike)
         for ledger in years.used:
             lines += doubts(book.text(f"{ledger.name}.csv"), ledger.added_text())

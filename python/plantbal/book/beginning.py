@@ -6,13 +6,16 @@ The workbook's readings are added by `add`.
 from __future__ import annotations
 
 import argparse
-from collections.abc import Iterable
+from collections.abc import Collection, Iterable
 from pathlib import Path
 
+from plantbal.accounts.reading import read_accounts
+from plantbal.accounts.sheet import Accounts
 from plantbal.audit.believed import program_digest
+from plantbal.book.accounting import put_accounts
 from plantbal.book.forms import JOURNAL, is_year, is_year_file, year_file
 from plantbal.book.ledger import PLANT_KINDS, rows_text
-from plantbal.book.meters import Meter, meters_of, meters_text
+from plantbal.book.meters import meters_of, meters_text
 from plantbal.book.reading import reader_of, say_faults, sheets_of
 from plantbal.book.said import counted, listed
 from plantbal.book.store import METERS, PLANT, Act, Action, Book
@@ -36,7 +39,8 @@ def add_arguments(parser: argparse.ArgumentParser) -> None:
 def run(options: argparse.Namespace) -> int:
     """Make the book."""
     check_year(options.year)
-    rows, meters, notes = plant_of(options, options.workbook)
+    rows, work = plant_of(options, options.workbook)
+    meters = meters_of(work)
     book = Book(options.book)
     with book.opened(new=True):
         check_nothing_is_there(book, options.year)
@@ -44,10 +48,12 @@ def run(options: argparse.Namespace) -> int:
         action.program = program_digest(options.program)
         action.written = {PLANT: rows_text(rows), METERS: meters_text(meters)}
         action.written[year_file(options.year)] = rows_text(rows)
+        told = put_accounts(Accounts(), work.accounts, book, action)
         action.rows = [f"{options.year}: 1 to {len(rows)}"]
         classes = classes_of(rows, options.program)
         book.do(action)
-    lines = [f"{options.year}.csv: {counted(len(rows), 'row')} of the plant", *classes, *notes]
+    lines = [f"{options.year}.csv: {counted(len(rows), 'row')} of the plant", *classes, *told]
+    lines += work.notes
     print("\n".join(lines))
     return 0
 
@@ -94,9 +100,9 @@ def check_year(name: str) -> None:
 
 
 def plant_of(
-    options: argparse.Namespace, workbook: str
-) -> tuple[list[tuple[str, ...]], list[Meter], list[str]]:
-    """Return the rows and the meters of the plant that a workbook has, and what is passed over.
+    options: argparse.Namespace, workbook: str, accounts: Collection[str] = ()
+) -> tuple[list[tuple[str, ...]], Converter]:
+    """Return the rows of the plant that a workbook has, and what was read of it.
 
     Raises
     ------
@@ -108,11 +114,12 @@ def plant_of(
         what, remedy = "there is no sheet streams", "plantbal-desk template writes one"
         raise InputFault(what, place=Place(file=workbook), remedy=remedy)
     work.read_plant()
+    work.accounts = read_accounts(work, accounts)
     work.say_unread(PLANT_SHEETS)
     work.faults += work.session.refused
     found = Conversion(work.session, work.faults, work.notes)
     say_faults(options.prog, found, "nothing is made")
-    return [row for row in work.session if row[0] in PLANT_KINDS], meters_of(work), work.notes
+    return [row for row in work.session if row[0] in PLANT_KINDS], work
 
 
 def classes_of(rows: Iterable[tuple[str, ...]], program: str | None) -> list[str]:

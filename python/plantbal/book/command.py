@@ -13,9 +13,11 @@ HELP = """
 The book is the current folder, or that of --book. It has
   plant.csv     the rows of the plant, with which the next year begins
   meters.csv    tags, units, densities and errors of meters and gauges
+  accounts.csv  products, groups, owners and sales units, under which the account adds up
   2024.csv      the session of a year; rows are added to it, and never changed
   reports/      the last report of each period, with its history, and of each window; those that
                 went out before are in reports/earlier/
+  posted/       what was handed over of each period
   journal.csv   a line for each action: when, who, what, why, which rows it added, and the digests
                 of the line before it and of each file that it left
 
@@ -72,6 +74,9 @@ COMMANDS: Sequence[Inner] = (
     Inner("report", "reporting", "write the reports of periods"),
     Inner("window", "window", "reconcile several periods at once, over a dip that is missing"),
     Inner("close", "editing:CLOSE", "close a period with its report"),
+    Inner("difference", "difference:DIFFERENCE", "say what two reports have otherwise, and why"),
+    Inner("posted", "difference:POST", "record what is handed over of a period, once"),
+    Inner("account", "account", "show a period's account: stocks, receipts, shipments, losses"),
     Inner("status", "overview", "say what is open, what is missing, and how full the year is"),
     Inner("next", "following", "begin the next year"),
     Inner("verify", "verifying:VERIFY", "test every file of the book against its journal"),

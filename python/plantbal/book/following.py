@@ -13,10 +13,11 @@ from pathlib import Path
 
 from plantbal.amounts import tonnes_of
 from plantbal.audit.believed import program_digest
+from plantbal.book.accounting import accounts_of, put_accounts
 from plantbal.book.beginning import check_year, classes_of, plant_of
 from plantbal.book.contents import contents_of
 from plantbal.book.ledger import Fact, Ledger, plain, rows_text
-from plantbal.book.meters import meters_text, read_meters
+from plantbal.book.meters import meters_of, meters_text, read_meters
 from plantbal.book.naming import day_of
 from plantbal.book.said import counted
 from plantbal.book.store import METERS, PLANT, Act, Action, Book
@@ -111,11 +112,13 @@ def begun(
     file, text = str(book.path(PLANT)), book.text(PLANT)
     notes: list[str] = []
     if options.plant:
-        rows, meters, notes = plant_of(options, options.plant)
-        kept = read_meters(book.path(METERS)) | {meter.name: meter for meter in meters}
+        accounts = accounts_of(book)
+        rows, work = plant_of(options, options.plant, accounts)
+        kept = read_meters(book.path(METERS)) | {each.name: each for each in meters_of(work)}
         file, text = options.plant, rows_text(rows)
         action.what = Path(options.plant).name
         action.written = {PLANT: text, METERS: meters_text(kept.values())}
+        notes = [*put_accounts(accounts, work.accounts, book, action), *work.notes]
     new = Ledger.read(options.year, file, text, first, datetime.date.max)
     for record in read_records(text.encode("utf-8")):
         if record.fields not in new.plant:

@@ -13,9 +13,11 @@ from pathlib import Path
 
 PLANT = "plant.csv"
 METERS = "meters.csv"
+ACCOUNTS = "accounts.csv"
 JOURNAL = "journal.csv"
 REPORTS = "reports"
 EARLIER = f"{REPORTS}/earlier"
+POSTED = "posted"
 CHECKS = ".checks"
 PENDING = ".pending"
 LOCK = ".lock"
@@ -23,7 +25,7 @@ LOCK = ".lock"
 _YEAR = r"[0-9]{4}[A-Za-z0-9_-]*"
 _NAME = r"[A-Za-z0-9_.-]{1,32}"
 _OWN = re.compile(
-    rf"(?:plant|meters|journal|{_YEAR})\.csv"
+    rf"(?:plant|meters|accounts|journal|{_YEAR})\.csv|{POSTED}/{_NAME}\.[0-9]+\.csv"
     rf"|{REPORTS}/{_NAME}(?:\+{_NAME})?\.csv|{EARLIER}/{_NAME}\.[0-9]+\.csv"
 )
 # Windows were called `may2_to_may3.csv` once, and an earlier report `2024-04.1.csv`.
@@ -77,6 +79,11 @@ def old_earlier_file(period: str, number: int) -> str:
     return f"{REPORTS}/{period}.{number}.csv"
 
 
+def posted_file(period: str, number: int) -> str:
+    """Return the name of what was posted of a period, the first time or a later one."""
+    return f"{POSTED}/{period}.{number}.csv"
+
+
 def begun_file(path: Path) -> Path:
     """Return where a file is written before it takes the place of another."""
     return path.with_name(f".{path.name}~")
@@ -100,7 +107,7 @@ def is_begun(inner: str, name: str) -> bool:
 
 def there(folder: Path) -> Iterable[str]:
     """Give the names of the files in a folder that are of the forms of a book's."""
-    for inner in ("", REPORTS, EARLIER):
+    for inner in ("", REPORTS, EARLIER, POSTED):
         for path in sorted((folder / inner).glob("*.csv")):
             name = f"{inner}/{path.name}" if inner else path.name
             if is_own(name):

@@ -57,6 +57,7 @@ class Act(StrEnum):
     REPORT = "report"
     WINDOW = "window"
     CLOSE = "close"
+    POSTED = "posted"
     NEXT = "next"
     ACCEPT = "accept"
     BEGIN = "begin"

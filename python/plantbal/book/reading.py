@@ -5,11 +5,12 @@ from __future__ import annotations
 
 import argparse
 import sys
-from collections.abc import Iterable, Iterator, Sequence
+from collections.abc import Collection, Iterable, Iterator, Sequence
 from dataclasses import replace
 from itertools import islice
 from pathlib import Path
 
+from plantbal.accounts.reading import read_accounts
 from plantbal.book.meters import Meter, taken
 from plantbal.book.said import counted, listed
 from plantbal.faults import Fault, InputFault, Refusal
@@ -100,8 +101,22 @@ def converted(
     plant: list[tuple[str, ...]],
     meters: dict[str, Meter],
     periods: Iterable[Period] = (),
+    accounts: Collection[str] = (),
 ) -> Converter:
     """Return what a workbook holds; what it doesn't have of the plant, or of periods, is the book's.
+
+    Parameters
+    ----------
+    options : Namespace
+        The words of the command.
+    plant : list of tuple of str
+        The rows of the book's plant.
+    meters : dict of str to Meter
+        The book's meters.
+    periods : iterable of Period
+        The book's periods.
+    accounts : collection of str
+        The streams and tanks that have an account in the book.
 
     Raises
     ------
@@ -113,6 +128,7 @@ def converted(
         work.whole = False
         work.spans = [Span(each.first, each.last) for each in periods]
         _read_plant(work, plant, meters)
+        work.accounts = read_accounts(work, accounts)
         work.read_facts()
         edits = list(_edits(work))
         if not edits:

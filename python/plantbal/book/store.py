@@ -29,6 +29,7 @@ from plantbal.book.forms import (
     METERS,
     PENDING,
     PLANT,
+    POSTED,
     REPORTS,
     is_begun,
     is_own,
@@ -223,7 +224,7 @@ class Book:
 
     def _tidy(self) -> None:
         """Remove files that were begun and never got their names."""
-        for inner in ("", REPORTS, EARLIER):
+        for inner in ("", REPORTS, EARLIER, POSTED):
             if inner and link_in(self.folder, inner) is not None:
                 continue  # nothing is removed elsewhere
             for path in (self.folder / inner).glob(".*"):

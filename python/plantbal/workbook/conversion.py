@@ -9,6 +9,7 @@ from collections.abc import Iterable
 from dataclasses import dataclass, field
 from pathlib import Path
 
+from plantbal.accounts.reading import read_accounts
 from plantbal.commands.options import add_reading
 from plantbal.faults import Fault, InputFault, Place
 from plantbal.lint import say_brief
@@ -36,6 +37,7 @@ WORKBOOK is an xlsx file, or a folder of CSV files, each of which is the sheet o
   critical   test, dof, value
   periods    name, first, last (without it, each calendar month with a reading is a period)
   windows    first, last: periods to reconcile together as well, from the first to the last
+  accounts   name, kind, product, group, owner, unit, density: where a book adds each stream up
   rows       rows of a session, unchanged, such as amend, strike and close
 
 Columns may be in any order; titles above, sums below, remarks and other columns are skipped, and
@@ -137,6 +139,7 @@ def convert(
             what, remedy = "there is no sheet streams", "plantbal-desk template writes one"
             raise InputFault(what, place=Place(file=str(path)), remedy=remedy)
         work.read_plant()
+        work.accounts = read_accounts(work)
         if design:
             work.session.design()
         work.read_facts()

@@ -11,6 +11,7 @@ from dataclasses import dataclass
 from decimal import Decimal
 from fractions import Fraction
 
+from plantbal.accounts.sheet import Accounts
 from plantbal.faults import InputFault, Place
 from plantbal.schema import Column, schema
 from plantbal.session import Service, dip_days, in_service, is_served, period_days
@@ -54,6 +55,7 @@ class Converter(Readings):
         self.dips: dict[str, dict[datetime.date, Cell]] = {}
         self.tickets: list[tuple[datetime.date, datetime.date, Cell]] = []
         self.assays: list[tuple[tuple[str, ...], dict[str, Cell]]] = []
+        self.accounts = Accounts()
 
     def read_estimates(self) -> None:
         """Read estimates, which stand for missing readings."""

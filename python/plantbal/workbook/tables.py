@@ -39,10 +39,11 @@ SHEETS: dict[str, tuple[tuple[str, ...], tuple[str, ...]]] = {
     "critical": (("test", "value"), ("dof",)),
     "periods": (("name", "first", "last"), ()),
     "windows": (("first", "last"), ()),
+    "accounts": (("name",), ("kind", "product", "group", "owner", "unit", "density")),
     "rows": ((), ()),
 }
 # The sheets that have the plant itself.
-PLANT_SHEETS = ("streams", "boundaries", "units", "tanks", "straps", "critical")
+PLANT_SHEETS = ("streams", "boundaries", "units", "tanks", "straps", "critical", "accounts")
 _PASSED = ("about", "lists")
 HEADS_WITHIN = 40  # rows of a sheet
 _HEADS_THAT_TELL = 3  # with fewer columns a sheet of another kind might be meant

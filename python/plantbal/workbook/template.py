@@ -7,6 +7,7 @@ from dataclasses import dataclass
 from pathlib import Path
 from typing import Any
 
+from plantbal.accounts.sheet import Kind
 from plantbal.faults import Fault, ToolMissing
 from plantbal.files import replacing
 from plantbal.workbook.cells import GRADES, GRAMS, VOLUMES, WET
@@ -41,6 +42,7 @@ KINDS: dict[str, tuple[str, ...]] = {
         "critical",
         "periods",
         "windows",
+        "accounts",
     ),
     "concentrator": (
         "units",
@@ -56,8 +58,9 @@ KINDS: dict[str, tuple[str, ...]] = {
         "critical",
         "periods",
         "windows",
+        "accounts",
     ),
-    "utility": ("units", "streams", "readings", "estimates", "critical", "periods"),
+    "utility": ("units", "streams", "readings", "estimates", "critical", "periods", "accounts"),
 }
 # What each sheet is for, and what each column holds.
 ABOUT = {
@@ -77,6 +80,7 @@ ABOUT = {
     "critical": "critical values of the tests, such as 3.841, which rows of a session have as 3841",
     "periods": "the periods; without a row each calendar month with a reading is one",
     "windows": "periods to reconcile at once too, if a dip between them is missing",
+    "accounts": "what each stream and tank is to the month's account: product, group, owner, unit",
 }
 _HEADS = {
     "name": "1 to 32 letters, digits, _, - or .",
@@ -105,6 +109,9 @@ _HEADS = {
     "component": "such as cu",
     "period": "the name of a period: of a calendar month such as 2024-04",
     "moisture": "with its unit: 8.2 %; or alone, with the unit beside it",
+    "product": "what it is called in the account, such as diesel",
+    "group": "the product's group, such as middle distillates; without it the product",
+    "owner": "whose it is: Alpha, or Alpha 60 %; Beta 40 %, or by receipts, or by stock",
     "grade": "with its unit: 0.9 %, 120 g/t, 9000 ppm; or alone, with the unit beside it",
 }
 # What is otherwise in a sheet.
@@ -118,6 +125,10 @@ _HEADS_OF = {
     ("moistures", "error"): "the standard deviation: 3 % of the moisture, or 2500 ppm",
     ("moistures", "unit"): "of the moistures: %; empty if it stands after them",
     ("assays", "error"): "the standard deviation: 2 % of the grade, 180 ppm, or 2 % or 20 ppm",
+    ("accounts", "name"): "a stream or a tank",
+    ("accounts", "kind"): "of a stream: receipt, shipment, production, own use, flare, loss, or "
+    "internal; empty for what its ends say; empty of a tank",
+    ("accounts", "unit"): "the sales unit: t without it, dmt, or a volume with its density beside",
     ("assays", "unit"): "of the grades: %, ppm or g/t; empty if it stands after them",
 }
 
@@ -155,6 +166,8 @@ def choices(kind: str) -> dict[tuple[str, str], Choice]:
         ("estimates", "stream"): streams,
         ("tickets", "stream"): streams,
         ("critical", "test"): Choice('"global,nodal,measure"'),
+        ("accounts", "kind"): Choice(f'"{",".join(kind.value for kind in Kind)}"'),
+        ("accounts", "unit"): Choice(f'"dmt,{masses},{volumes}"'),
     }
     tanks = Choice(f"tanks!$A$2:$A${_LAST}")
     found |= {(sheet, "tank"): tanks for sheet in ("straps", "dips")}

@@ -1,0 +1,179 @@
+"""The accounts' file of a book, and the months of its reports, from the first to the last.
+
+A report saw the rows that were booked by then, and so do its tanks' dips. The journal says how many
+these were. So the rows of a year are read once, with a row that asks for the report after those
+that each report saw.
+"""
+
+from __future__ import annotations
+
+import hashlib
+from collections.abc import Iterator, Mapping
+from dataclasses import dataclass
+
+from plantbal.accounts.account import Book as Rolled
+from plantbal.accounts.month import Month
+from plantbal.accounts.reading import accounts_text, parse_accounts
+from plantbal.accounts.sheet import Accounts
+from plantbal.book.forms import ACCOUNTS, report_file, year_file
+from plantbal.book.journal import Line
+from plantbal.book.said import counted
+from plantbal.book.store import Action, Book
+from plantbal.book.years import periods_of
+from plantbal.faults import Fault, InputFault, Place
+from plantbal.model.ledger import Ledger
+from plantbal.report.blocks import Block, blocks_of, last_blocks, parse_rows
+
+# ---- the sheet
+
+
+def accounts_of(book: Book) -> Accounts:
+    """Return the accounts of a book; none if it has no file of them."""
+    return parse_accounts(str(book.path(ACCOUNTS)), book.text(ACCOUNTS))
+
+
+def put_accounts(before: Accounts, new: Accounts, book: Book, action: Action) -> list[str]:
+    """Have an action write the accounts with those of a workbook, and return what is said of it.
+
+    Raises
+    ------
+    InputFault
+        If a row contradicts one that the book has already.
+    """
+    rows = {**before, **new}
+    text = accounts_text(Accounts(rows.values()))
+    if not new or text == book.text(ACCOUNTS):
+        return []
+    try:
+        parse_accounts(str(book.path(ACCOUNTS)), text)
+    except InputFault as fault:
+        raise Fault(
+            f"with these accounts {ACCOUNTS} would contradict itself: {fault.what}",
+            remedy="write all rows of that product, or of that owner, into the sheet accounts",
+        ) from fault
+    action.written[ACCOUNTS] = text
+    changed = [name for name, row in rows.items() if before.get(name) != row]
+    return [f"{ACCOUNTS}: {counted(len(changed), 'row')}, new or changed"]
+
+
+# ---- the months
+
+
+@dataclass(frozen=True)
+class Version:
+    """A report of a period, as it is or was.
+
+    Attributes
+    ----------
+    period, year : str
+        The period, and the year's name.
+    text : str
+        The report.
+    seen : int
+        How many rows of the year it saw.
+    line : Line
+        The line of the journal that says so.
+    """
+
+    period: str
+    year: str
+    text: str
+    seen: int
+    line: Line
+
+
+def versions_of(book: Book) -> dict[str, Version]:
+    """Return the report of each period that has one, in the order of the periods' last days."""
+    found = {}
+    for year in book.years:
+        periods = periods_of(book.text(year_file(year)))
+        for period in sorted(periods, key=lambda name: periods[name][1]):
+            text = book.text(report_file(period))
+            if text:
+                found[period] = version_of(book, period, year, text)
+    return found
+
+
+def version_of(book: Book, period: str, year: str, text: str) -> Version:
+    """Return a text as a report of a period, with the rows that it saw.
+
+    Raises
+    ------
+    InputFault
+        If the journal doesn't say how many these were.
+    """
+    digest = hashlib.sha256(text.encode("utf-8")).hexdigest()
+    for line in reversed(book.journal()):
+        kept = line.files.get(report_file(period))
+        rows = line.files.get(year_file(year))
+        if kept is not None and kept.digest == digest and rows is not None and rows.lines:
+            return Version(period, year, text, rows.lines, line)
+    raise InputFault(
+        f"the journal doesn't say which rows the report of {period} saw",
+        place=Place(file=str(book.path(report_file(period)))),
+        remedy=f"make it again: plantbal-desk book report {period}",
+    )
+
+
+def months_of(book: Book, versions: Mapping[str, Version]) -> list[Month]:
+    """Return the months of reports, in the order of their days.
+
+    Parameters
+    ----------
+    book : Book
+        The book.
+    versions : mapping of str to Version
+        The reports by their periods.
+    """
+    found: list[Month] = []
+    for year in book.years:
+        some = [each for each in versions.values() if each.year == year]
+        if some:
+            found += _months_of_year(book, year, some)
+    return sorted(found, key=lambda month: month.last)
+
+
+def _months_of_year(book: Book, year: str, some: list[Version]) -> Iterator[Month]:
+    """Give the months of a year's reports."""
+    rows = book.text(year_file(year)).splitlines(keepends=True)
+    parts, at = [], 0
+    ordered = sorted(some, key=lambda each: each.seen)
+    for each in ordered:
+        parts += [*rows[at : each.seen], f"report,{each.period}\n"]
+        at = each.seen
+    text = "".join([*parts, *rows[at:]])
+    ledger = Ledger(str(book.path(year_file(year))), text.encode("utf-8"))
+    seen = [each for each in ledger.seen if each.is_report]
+    for each, saw in zip(ordered, seen):
+        yield Month.of(_block_of(book, each), ledger, saw)
+
+
+def _block_of(book: Book, version: Version) -> Block:
+    """Return the round of a report that counts.
+
+    Raises
+    ------
+    InputFault
+        If it has none, such as one of a period that is beyond the limits.
+    """
+    name = str(book.path(report_file(version.period)))
+    block = last_blocks(blocks_of(parse_rows(name, version.text))).get(version.period)
+    if block is None or not block.ended:
+        remedy = f"look at it: plantbal-desk book report {version.period}"
+        what = f"there are no flows of {version.period} to add up"
+        raise InputFault(what, place=Place(file=name), remedy=remedy)
+    return block
+
+
+def rolled_of(book: Book) -> Rolled:
+    """Return the months of a book, rolled forward.
+
+    Raises
+    ------
+    Fault
+        If it has no report.
+    """
+    months = months_of(book, versions_of(book))
+    if not months:
+        raise Fault("no period has a report yet", remedy="plantbal-desk book report makes it")
+    return Rolled(months, accounts_of(book))

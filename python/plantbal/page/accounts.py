@@ -1,0 +1,97 @@
+"""The month's account as a part of the statement, and as a page of its own."""
+
+from __future__ import annotations
+
+from collections.abc import Sequence
+from typing import TYPE_CHECKING, Any
+
+from plantbal.accounts.account import MonthAccount, Table
+from plantbal.accounts.entries import Line
+from plantbal.accounts.tables import (
+    NOBODY,
+    basis_text,
+    deviation_text,
+    sales_text,
+    shown,
+    title_of,
+)
+from plantbal.page.render import environment
+
+if TYPE_CHECKING:
+    from jinja2 import Environment
+
+    from plantbal.accounts.trend import Unusual
+
+# Lines that a table of accounts has a column for, if some account has them.
+_COLUMNS: tuple[Line, ...] = tuple(each for each in Line)
+
+
+def _environment() -> Environment:
+    """Return the templates with the filters of accounts."""
+    made = environment()
+    made.filters.update(
+        sd=deviation_text,
+        sales=sales_text,
+        basis=basis_text,
+        account_title=title_of,
+        shown=lambda table: list(shown(table)),
+    )
+    return made
+
+
+def columns_of(tables: Sequence[Table]) -> list[Line]:
+    """Return the lines that some of these accounts have."""
+    return [line for line in _COLUMNS if any(line in table.lines for table in tables)]
+
+
+def part_of(account: MonthAccount, unusual: Sequence[Unusual] = ()) -> Any:
+    """Return the account as a part of the statement: the plant, its groups, its stocks, owners.
+
+    Parameters
+    ----------
+    account : MonthAccount
+        The accounts of the month.
+    unusual : sequence of Unusual
+        What is unusual beside the months before.
+    """
+    from markupsafe import Markup
+
+    made: Any = _environment().get_template("account.html.j2").module
+    return Markup(made.part(account, columns_of(account.groups), list(unusual), NOBODY))
+
+
+def page_of(
+    account: MonthAccount,
+    title: str = "",
+    owner: Table | None = None,
+    unusual: Sequence[Unusual] = (),
+) -> str:
+    """Return the page of a month's account, or of one owner's.
+
+    Parameters
+    ----------
+    account : MonthAccount
+        The accounts of the month.
+    title : str
+        The heading.
+    owner : Table, optional
+        The account of the owner, if it is one owner's page.
+    unusual : sequence of Unusual
+        What is unusual beside the months before.
+    """
+    name = (owner.name or NOBODY) if owner is not None else ""
+    heading = title or " ".join(filter(None, ("Account", account.month.name, name)))
+    return (
+        _environment()
+        .get_template("account_page.html.j2")
+        .render(
+            title=heading,
+            account=account,
+            owner=owner,
+            columns=columns_of(account.groups),
+            product_columns=columns_of(account.products),
+            unusual=list(unusual),
+            nobody=NOBODY,
+            whole={(entry.line, entry.name): entry.grams for entry in account.plant.entries},
+        )
+    )
