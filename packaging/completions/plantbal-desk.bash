@@ -70,6 +70,12 @@ _plantbal_desk() {
         book:--gap) :; return ;;
         book:--sweeps) :; return ;;
         book:--eliminate) :; return ;;
+        book:--xlsx) _plantbal_files -f; return ;;
+        book:--postings) _plantbal_files -f; return ;;
+        book:--by) _plantbal_words 'plant group product owner'; return ;;
+        book:--owner) :; return ;;
+        book:--page) _plantbal_files -f; return ;;
+        book:--title) :; return ;;
         book:--plant) _plantbal_files -f; return ;;
         book:--first) :; return ;;
         book:--head) :; return ;;
@@ -188,14 +194,14 @@ _plantbal_desk() {
         _plantbal_words '-h --help --out --locale --missing --skip --limits --design' ;;
     book)
         if [[ $here != -* ]]; then
-            if [[ ! " ${COMP_WORDS[*]:at + 1:COMP_CWORD - at - 1} " =~ ' '(new|add|show|amend|strike|report|window|close|status|next|verify|head|accept)' ' ]]; then
-                _plantbal_words 'new add show amend strike report window close status next verify head accept'
+            if [[ ! " ${COMP_WORDS[*]:at + 1:COMP_CWORD - at - 1} " =~ ' '(new|add|show|amend|strike|report|window|close|difference|posted|account|status|next|verify|head|accept)' ' ]]; then
+                _plantbal_words 'new add show amend strike report window close difference posted account status next verify head accept'
                 return
             fi
             _plantbal_files -f
             return
         fi
-        _plantbal_words '-h --help --program --locale --missing --skip --limits --book --who --why --strike --anyway --year --dry-run --density --error --session --gap --sweeps --no-tests --eliminate --all --plant --first --head' ;;
+        _plantbal_words '-h --help --program --locale --missing --skip --limits --book --who --why --strike --anyway --year --dry-run --density --error --session --gap --sweeps --no-tests --eliminate --csv --xlsx --postings --by --owner --tanks --page --title --all --plant --first --head' ;;
     template)
         if [[ $here != -* ]]; then
             if [[ ! " ${COMP_WORDS[*]:at + 1:COMP_CWORD - at - 1} " =~ ' '(refinery|concentrator|utility)' ' ]]; then
