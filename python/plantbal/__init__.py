@@ -22,7 +22,7 @@ if TYPE_CHECKING:
     from plantbal.lint import Finding
     from plantbal.program import find_program
     from plantbal.report.output import Output, read_report
-    from plantbal.runs import check, run
+    from plantbal.runs import arun, check, run, run_text
     from plantbal.session import Session
     from plantbal.study.advice import advise
     from plantbal.study.solver import solve
@@ -40,12 +40,14 @@ __all__ = [
     "ToolMissing",
     "__version__",
     "advise",
+    "arun",
     "check",
     "convert",
     "find_program",
     "lint_session",
     "read_report",
     "run",
+    "run_text",
     "solve",
     "uncertainty_of",
 ]
@@ -60,12 +62,14 @@ _HOMES = {
     "Session": "session",
     "ToolMissing": "faults",
     "advise": "study.advice",
+    "arun": "runs",
     "check": "runs",
     "convert": "workbook.conversion",
     "find_program": "program",
     "lint_session": "lint",
     "read_report": "report.output",
     "run": "runs",
+    "run_text": "runs",
     "solve": "study.solver",
     "uncertainty_of": "study.uncertainty",
 }

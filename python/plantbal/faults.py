@@ -8,7 +8,7 @@ import stat
 import sys
 from dataclasses import dataclass
 from pathlib import Path
-from typing import TYPE_CHECKING, BinaryIO
+from typing import TYPE_CHECKING, Any, BinaryIO, ClassVar
 
 from plantbal import limits
 
@@ -93,6 +93,9 @@ class Fault(Exception):
         What to do about it.
     """
 
+    # What `as_dict` has of a class beside what every fault has.
+    _SAID: ClassVar[tuple[str, ...]] = ()
+
     def __init__(
         self, what: str, *, place: Place | None = None, text: str = "", remedy: str = ""
     ) -> None:
@@ -105,6 +108,35 @@ class Fault(Exception):
     def __str__(self) -> str:
         said = f"{self.place} {self.what}".strip()
         return f"{said}: {self.remedy}" if self.remedy else said
+
+    def __reduce__(self) -> tuple[Any, ...]:
+        # an exception is otherwise made again of its args alone, which the words of __init__ aren't
+        return _made_again, (type(self), self.args, dict(self.__dict__))
+
+    def as_dict(self) -> dict[str, Any]:
+        """Return it as values that JSON has: its class, what it says, where, and what to do.
+
+        Returns
+        -------
+        dict
+            `fault` is the name of the class, `what`, `text` and `remedy` are its texts, and `place`
+            has what is known of file, sheet, line, column, head, record, row and cell. A
+            `ProgramFault` has `status` and `name`, a `Refusal` `code`, `word`, `column` and `row`,
+            a `ToolMissing` `tool` and `package` beside these.
+        """
+        place = {key: value for key, value in vars(self.place).items() if value not in ("", None)}
+        found = {"fault": type(self).__name__, "what": self.what, "place": place}
+        found |= {"text": self.text, "remedy": self.remedy}
+        more = {name: getattr(self, name) for name in self._SAID}
+        return found | {k: list(v) if isinstance(v, tuple) else v for k, v in more.items()}
+
+
+def _made_again(kind: type[Fault], args: tuple[Any, ...], state: dict[str, Any]) -> Fault:
+    """Return a fault of a class as it was before it was sent to another process."""
+    fault = kind.__new__(kind, *args)
+    fault.args = args
+    fault.__dict__.update(state)
+    return fault
 
 
 class InputFault(Fault):
@@ -121,6 +153,8 @@ class ToolMissing(Fault):
     package : str
         The package of Debian that has it.
     """
+
+    _SAID = ("tool", "package")
 
     def __init__(self, tool: str, package: str) -> None:
         remedy = f"install {package}"
@@ -141,6 +175,8 @@ class ProgramFault(Fault):
     name : str
         The name of the status, such as ``TooLarge``.
     """
+
+    _SAID = ("status", "name")
 
     def __init__(self, what: str, *, status: int, name: str, remedy: str = "") -> None:
         super().__init__(what, remedy=remedy)
@@ -168,6 +204,8 @@ class Refusal(Fault):
     says_form : bool
         Whether the remedy says what the field has to be, rather than what to write in its place.
     """
+
+    _SAID = ("code", "word", "column", "row")
 
     def __init__(
         self,

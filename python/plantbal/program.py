@@ -9,10 +9,12 @@ import subprocess
 import tempfile
 import time
 from collections.abc import Callable, Sequence
+from operator import index
 from pathlib import Path
 
 from plantbal import inside
-from plantbal.faults import ProgramFault, ToolMissing
+from plantbal.faults import InputFault, ProgramFault, ToolMissing
+from plantbal.schema import schema
 
 # The statuses beside 0 and 1, and what to do about each.
 STATUSES = {
@@ -59,9 +61,12 @@ def call(
     *,
     program: str | Path | None = None,
     timeout: float | None = None,
+    memory: int | None = None,
     watch: Callable[[bytes], None] | None = None,
 ) -> tuple[int, bytes]:
     """Run the program with its words on bytes, and return its status, 0 or 1, and what it wrote.
+
+    It may take as many seconds as `timeout` says and as many bytes of memory as `memory` says.
 
     `watch` gets what it writes piece by piece, and nothing once in a while. If neither a program
     nor a limit is named, here or in the environment, a run or a check takes place in this process,
@@ -72,18 +77,20 @@ def call(
     ProgramFault
         If it ends otherwise; the fault has the status and its name.
     """
-    if program is None and timeout is None and watch is None and not os.environ.get("PLANTBAL"):
+    limited = timeout is not None or memory is not None
+    if program is None and not limited and watch is None and not os.environ.get("PLANTBAL"):
         answered = inside.answer(words, data)
         if answered is not None:
             return answered
     found = find_program(program)
+    command = [*_memory_words(memory), str(found), *words]
     try:
         if watch is None:
             done = subprocess.run(
-                [found, *words], input=data, capture_output=True, timeout=timeout, check=False
+                command, input=data, capture_output=True, timeout=timeout, check=False
             )
         else:
-            done = _watched([str(found), *words], data, timeout, watch)
+            done = _watched(command, data, timeout, watch)
     except subprocess.TimeoutExpired as error:
         said = f"{found.name} {' '.join(words)} isn't done after {timeout} s"
         raise ProgramFault(said, status=-1, name="Timeout") from error
@@ -126,9 +133,44 @@ def _watched(
         return subprocess.CompletedProcess(command, status, b"".join(pieces), said.read())
 
 
+def _memory_words(memory: int | None) -> list[str]:
+    """Return what stands before a command that may take so many bytes of memory."""
+    if memory is None:
+        return []
+    if shutil.which("prlimit") is None:
+        raise ToolMissing("command prlimit", "util-linux")
+    return ["prlimit", f"--as={_whole('memory', memory, 1, 1 << 62)}", "--"]
+
+
+def _whole(name: str, value: int, low: int, high: int) -> int:
+    """Return a whole number of a range.
+
+    Raises
+    ------
+    InputFault
+        If it is none.
+    """
+    try:
+        number = index(value)
+    except TypeError:
+        number = low - 1
+    if isinstance(value, bool) or not low <= number <= high:
+        remedy = f"give a whole number from {low:,} to {high:,}"
+        raise InputFault(f"{name} is {value!r}", text=str(value), remedy=remedy)
+    return number
+
+
 def words_of(*, tests: bool, eliminate: int, gap: int, sweeps: int) -> list[str]:
-    """Return the words of a run."""
-    words = ["run", "--gap", str(gap), "--sweeps", str(sweeps)]
+    """Return the words of a run.
+
+    Raises
+    ------
+    InputFault
+        If a number isn't in its range.
+    """
+    most = schema().limits
+    words = ["run", "--gap", str(_whole("gap", gap, 1, most["most_gap"]))]
+    words += ["--sweeps", str(_whole("sweeps", sweeps, 0, most["most_sweeps"]))]
     if eliminate:
-        words += ["--eliminate", str(eliminate)]
+        words += ["--eliminate", str(_whole("eliminate", eliminate, 0, most["most_rounds"]))]
     return [*words, "--tests"] if tests else words

@@ -4,7 +4,7 @@ from __future__ import annotations
 
 from collections.abc import Callable
 from pathlib import Path
-from typing import TYPE_CHECKING
+from typing import TYPE_CHECKING, Any
 
 from plantbal.audit.believed import judge
 from plantbal.faults import InputFault, Place, read_bytes
@@ -24,15 +24,22 @@ def session_bytes(session: Session | str | Path | bytes) -> tuple[str, bytes, in
     Parameters
     ----------
     session : Session, bytes, str or Path
-        The session, its bytes, or a file; a text with a line feed is taken for rows. Of a file
-        with more bytes than a session may have, as many are read as show it.
+        The session, its bytes, or the name of a file. Of a file with more bytes than a session may
+        have, as many are read as show it.
+
+    Raises
+    ------
+    InputFault
+        If there is no such file, or the name is the text of a session.
     """
     if isinstance(session, Session):
         return "session", session.to_csv().encode("ascii"), session.refused.total
     if isinstance(session, bytes):
         return "session", session, 0
     if isinstance(session, str) and "\n" in session:
-        return "session", session.encode("utf-8"), 0
+        what = "a text is the name of a file, and this one has several lines"
+        remedy = "give the rows themselves to run_text, or as bytes"
+        raise InputFault(what, text=session[:80], remedy=remedy)
     return *session_to_run(session), 0
 
 
@@ -45,6 +52,7 @@ def run(
     sweeps: int = 5000,
     program: str | Path | None = None,
     timeout: float | None = None,
+    memory: int | None = None,
     watch: Callable[[bytes], None] | None = None,
     judged: bool = False,
 ) -> Output:
@@ -53,7 +61,7 @@ def run(
     Parameters
     ----------
     session : Session, bytes, str or Path
-        The session, its bytes, or a file.
+        The session, its bytes, or the name of a file. Rows in a text are for `run_text`.
     tests : bool
         Whether the global, nodal and measurement tests are made.
     eliminate : int
@@ -66,6 +74,9 @@ def run(
         The program, if it isn't the one that `find_program` finds.
     timeout : float, optional
         The most seconds that it may take.
+    memory : int, optional
+        The most bytes of memory that it may take, for a stranger's session; 100 bytes for each
+        byte of the session and 20,000,000 more are ample without tests.
     watch : callable, optional
         Gets what the program writes piece by piece, and an empty piece once in a while.
     judged : bool
@@ -83,16 +94,49 @@ def run(
     ProgramFault
         If the program ends with 2 to 6.
     InputFault
-        If a report is judged, and doesn't agree with itself.
+        If a number isn't in its range, or a report is judged, and doesn't agree with itself.
     """
     words = words_of(tests=tests, eliminate=eliminate, gap=gap, sweeps=sweeps)
     source, data, left_out = session_bytes(session)
-    status, text = call(words, data, program=program, timeout=timeout, watch=watch)
+    status, text = call(words, data, program=program, timeout=timeout, memory=memory, watch=watch)
     if judged:
         judge(text, f"the output of {source}", program)
     output = parse_report(text.decode("utf-8"), f"the output of {source}", status)
     output.left_out = left_out
     return output
+
+
+def run_text(text: str, **how: Any) -> Output:
+    """Run the rows of a text, which is never taken for the name of a file.
+
+    Parameters
+    ----------
+    text : str
+        The rows of a session.
+    **how
+        As in `run`.
+
+    Examples
+    --------
+    >>> print(run_text("unit,U\\nunit,U\\ndesign\\n").summary())
+    not ok: 1 row of the session was refused; there is no report
+    """
+    return run(text.encode("utf-8"), **how)
+
+
+async def arun(session: Session | str | Path | bytes, **how: Any) -> Output:
+    """Run a session, and let other coroutines go on meanwhile.
+
+    Parameters
+    ----------
+    session : Session, bytes, str or Path
+        As in `run`.
+    **how
+        As in `run`. Without a `timeout` a run that is given up goes on to its end.
+    """
+    import asyncio
+
+    return await asyncio.to_thread(run, session, **how)
 
 
 def check(

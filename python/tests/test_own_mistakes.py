@@ -384,7 +384,7 @@ def test_another_python(say: Desk, monkeypatch: pytest.MonkeyPatch) -> None:
 WORDS = [
     (["nope"], "invalid choice: 'nope'"),
     (["run", "--nope"], "unrecognized arguments: --nope"),
-    (["run", "--gap", "0.01"], "argument --gap: invalid int value: '0.01'"),
+    (["run", "--gap", "0.01"], "argument --gap: '0.01' isn't a whole number from 1 to 1,000,000"),
     (["lint", "--ignore", "nope"], "argument --ignore: invalid choice: 'nope'"),
     (["explain"], "the following arguments are required: SESSION"),
     (["check", "--format", "json"], "unrecognized arguments: --format"),

@@ -164,7 +164,7 @@ def test_run(program: Path) -> None:
     output = run(path, tests=False, program=program)
     assert output.to_csv() == text_of(example("refinery_day.out.csv"))
     assert output.ok and output.status == 0
-    for session in (path.read_bytes(), text_of(path), Session.read(path)):
+    for session in (path.read_bytes(), str(path), Session.read(path)):
         again = run(session, tests=False, program=program)
         assert again.streams.equals(output.streams)
 
@@ -206,7 +206,7 @@ def test_too_large(program: Path) -> None:
 
 def test_usage(program: Path) -> None:
     with pytest.raises(ProgramFault, match="status 2") as caught:
-        run(b"", gap=0, program=program)
+        call(["run", "--gap", "0"], b"", program=program)
     assert caught.value.name == "Usage"
 
 
@@ -275,7 +275,7 @@ MISTAKES = [
     (["report"], "a;b\n", 1, "save it with commas"),
     (["check"], "", 1, "it is empty: run a session that asks for a report"),
     (["check"], "unit,U\n", 1, ""),
-    (["run", "--gap", "x"], "", 2, "invalid int value: 'x'"),
+    (["run", "--gap", "x"], "", 2, "'x' isn't a whole number from 1 to 1,000,000"),
     (["reprot"], "", 2, "invalid choice: 'reprot'"),
     (["run", "--program", "/none"], "", 1, "there is no program /none"),
 ]
@@ -294,5 +294,5 @@ def test_desk_mistakes(
 
 
 def test_output_of_a_session_is_no_report(program: Path) -> None:
-    output: Output = run("unit,U\n", program=program)
+    output: Output = run(b"unit,U\n", program=program)
     assert not output.ok and output.why == ["there is no report"]

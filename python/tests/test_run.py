@@ -69,7 +69,7 @@ CASES: list[tuple[str, list[str], int, list[str]]] = [
         1,
         ["may: no report: the total of T is beyond the limits"],
     ),
-    (GOOD + "report,may\n", ["--gap", "0"], 2, ["ended with status 2"]),
+    (GOOD + "report,may\n", ["--gap", "0"], 2, ["'0' isn't a whole number from 1 to 1,000,000"]),
     (GOOD.replace(",", ";"), [], 1, ["fields have semicolons between them"]),
 ]
 

@@ -317,7 +317,7 @@ def test_concentrator() -> None:
     output = read_report(CONCENTRATOR)
     table = output.uncertainty
     assert tuple(table.columns) == COLUMNS
-    assert output.uncertainty is table
+    assert output.uncertainty.equals(table)
     rows = table.set_index(["period", "name"])
     for period, name, sd, meter, first in FIGURES:
         row = rows.loc[(period, name)]

@@ -3,6 +3,9 @@
 from __future__ import annotations
 
 import argparse
+from collections.abc import Callable
+
+from plantbal.schema import schema
 
 
 def seconds_of(text: str) -> float:
@@ -21,6 +24,27 @@ def seconds_of(text: str) -> float:
     raise argparse.ArgumentTypeError(f"{text!r} isn't a number of seconds: write 600")
 
 
+def whole_of(low: int, high: int) -> Callable[[str], int]:
+    """Return what reads a whole number of a range from a word.
+
+    Raises
+    ------
+    argparse.ArgumentTypeError
+        When it reads another word.
+    """
+
+    def read(text: str) -> int:
+        try:
+            if low <= int(text) <= high:
+                return int(text)
+        except ValueError:
+            pass
+        said = f"{text[:40]!r} isn't a whole number from {low:,} to {high:,}"
+        raise argparse.ArgumentTypeError(said)
+
+    return read
+
+
 def add_program(parser: argparse.ArgumentParser) -> None:
     """Add the word that names the program."""
     where = "the program (default: that of PLANTBAL, of the path, or of this checkout)"
@@ -35,10 +59,13 @@ def add_timeout(parser: argparse.ArgumentParser, *, condition: str = "") -> None
 
 def add_sweeps(parser: argparse.ArgumentParser) -> None:
     """Add the words that say how far a solution goes."""
+    most = schema().limits
     gap = "the greatest gap, in thousandths of a standard deviation (default: 10)"
-    parser.add_argument("--gap", metavar="N", type=int, default=10, help=gap)
+    gaps = whole_of(1, most["most_gap"])
+    parser.add_argument("--gap", metavar="N", type=gaps, default=10, help=gap)
     sweeps = "at most N sweeps (default: 5,000)"
-    parser.add_argument("--sweeps", metavar="N", type=int, default=5000, help=sweeps)
+    allowed = whole_of(0, most["most_sweeps"])
+    parser.add_argument("--sweeps", metavar="N", type=allowed, default=5000, help=sweeps)
 
 
 def add_run(parser: argparse.ArgumentParser) -> None:
@@ -47,7 +74,8 @@ def add_run(parser: argparse.ArgumentParser) -> None:
     add_sweeps(parser)
     parser.add_argument("--no-tests", action="store_true", help="make no tests")
     rounds = "take out at most N suspects, one in each round"
-    parser.add_argument("--eliminate", metavar="N", type=int, default=0, help=rounds)
+    allowed = whole_of(0, schema().limits["most_rounds"])
+    parser.add_argument("--eliminate", metavar="N", type=allowed, default=0, help=rounds)
 
 
 def add_reading(parser: argparse.ArgumentParser) -> None:

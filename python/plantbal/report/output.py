@@ -6,6 +6,7 @@ from collections.abc import Iterable, Sequence
 from functools import cached_property
 from itertools import chain
 from numbers import Integral
+from operator import eq
 from pathlib import Path
 from typing import TYPE_CHECKING, Any
 
@@ -23,6 +24,8 @@ from plantbal.report.blocks import (
     read_rows,
 )
 from plantbal.report.judged import judge_rows
+from plantbal.report.kept import kept_table
+from plantbal.report.shown import html_of, json_of, output_dict, summary_of
 from plantbal.schema import Column, schema
 
 if TYPE_CHECKING:
@@ -113,9 +116,12 @@ class Output:
 
     Notes
     -----
-    Each table is made when it is first asked for. `block` is the number of the round in the output,
-    counted from 0; two reports of one period differ by it. `period` says what the round is of: a
-    period, ``cu in may`` for the balance of a component, ``may to june`` for a window.
+    Each table is made when it is first asked for, and who asks gets a copy: a table that is changed
+    in place changes no other one, no amount and no file. `block` is the number of the round in the
+    output, counted from 0; two reports of one period differ by it. `period` says what the round is
+    of: a period, ``cu in may`` for the balance of a component, ``may to june`` for a window.
+
+    Two outputs are equal if their rows are.
     """
 
     def __init__(
@@ -135,6 +141,16 @@ class Output:
     def __repr__(self) -> str:
         state = "ok" if self.ok else "; ".join(self.why)
         return f"<Output of {self.source}: {len(self.blocks_in_order)} blocks, {state}>"
+
+    def __eq__(self, other: object) -> bool:
+        if not isinstance(other, Output):
+            return NotImplemented
+        return len(self.rows) == len(other.rows) and all(map(eq, self.rows, other.rows))
+
+    __hash__ = None  # type: ignore[assignment]  # equal outputs may have other sources
+
+    def _repr_html_(self) -> str:
+        return html_of(self)
 
     def _of_kind(self, kind: str) -> list[Values]:
         return [row for row in self.rows if row["row"] == kind]
@@ -225,24 +241,24 @@ class Output:
         """The rounds of reports of periods: no windows, and no balances of components."""
         return [block for block in self.blocks_in_order if block.is_report]
 
-    @cached_property
+    @kept_table
     def streams(self) -> pandas.DataFrame:
         """The streams of each block: measured values, flows and bounds in grams, certificates."""
         return self._in_blocks("stream", [block.streams for block in self.blocks_in_order])
 
-    @cached_property
+    @kept_table
     def nodes(self) -> pandas.DataFrame:
         """The nodes of each block with their prices."""
         return self._in_blocks("node", [block.nodes for block in self.blocks_in_order])
 
-    @cached_property
+    @kept_table
     def solved(self) -> pandas.DataFrame:
         """How the flows of each block were found, and how well they fit."""
         return self._in_blocks(
             "solved", [[block.solved] if block.solved else [] for block in self.blocks_in_order]
         )
 
-    @cached_property
+    @kept_table
     def blocks(self) -> pandas.DataFrame:
         """A row a block: its head, its `solved` row, its global test, and what was taken before it.
 
@@ -271,7 +287,7 @@ class Output:
         )
         return pandas.concat([heads, solved, whole, rest], axis=1)
 
-    @cached_property
+    @kept_table
     def tests(self) -> pandas.DataFrame:
         """All tests of each block.
 
@@ -301,7 +317,7 @@ class Output:
         data["verdict"] = [row["verdict"] for row in flat]
         return pandas.DataFrame(data)
 
-    @cached_property
+    @kept_table
     def refused(self) -> pandas.DataFrame:
         """The refused rows of the session, with what each code means and what to do."""
         rows = self._of_kind("refused")
@@ -311,7 +327,7 @@ class Output:
         frame["remedy"] = [code.remedy if code else "" for code in codes]
         return frame
 
-    @cached_property
+    @kept_table
     def history(self) -> pandas.DataFrame:
         """The edits that touch periods, with the period and its state in each row."""
         rows: list[Values] = []
@@ -326,27 +342,27 @@ class Output:
                     texts.append(head.get(name, ""))
         return _frame("edit", rows, dict(front))
 
-    @cached_property
+    @kept_table
     def histories(self) -> pandas.DataFrame:
         """The periods whose history was asked for: open or closed, and how many edits."""
         return _frame("history", self._of_kind("history"), {})
 
-    @cached_property
+    @kept_table
     def over(self) -> pandas.DataFrame:
         """The periods without a report, since a total is beyond the limits."""
         return _frame("over", self._of_kind("over"), {})
 
-    @cached_property
+    @kept_table
     def taken(self) -> pandas.DataFrame:
         """The streams that were taken between two rounds."""
         return _frame("taken", self._of_kind("taken"), {})
 
-    @cached_property
+    @kept_table
     def stops(self) -> pandas.DataFrame:
         """Why each elimination ended."""
         return _frame("stop", self._of_kind("stop"), {})
 
-    @cached_property
+    @kept_table
     def uncertainty(self) -> pandas.DataFrame:
         """The standard deviation of each measured or observable stream, in grams, of each block.
 
@@ -356,12 +372,12 @@ class Output:
 
         return uncertainty_of(self)
 
-    @cached_property
+    @kept_table
     def classes(self) -> pandas.DataFrame:
         """The streams of designs; `design` is the number of the design, counted from 0."""
         return self._under("design", "class")
 
-    @cached_property
+    @kept_table
     def advice(self) -> pandas.DataFrame:
         """The streams to meter of each `advise` row, with what each costs and its cycle.
 
@@ -370,7 +386,7 @@ class Output:
         """
         return self._under("advise", "meter", "advice")
 
-    @cached_property
+    @kept_table
     def components(self) -> pandas.DataFrame:
         """The streams of the last balance of each component in each period.
 
@@ -385,7 +401,7 @@ class Output:
         }
         return _frame("stream", [row for block in blocks for row in block.streams], front)
 
-    @cached_property
+    @kept_table
     def windows(self) -> pandas.DataFrame:
         """The streams of the last report of each window, by their declared names and periods.
 
@@ -410,7 +426,7 @@ class Output:
                 rows.append(row)
         return _frame("stream", rows, dict(front))
 
-    @cached_property
+    @kept_table
     def verdicts(self) -> pandas.DataFrame:
         """What a check found, of the output of a check."""
         return verdict_frame(self.rows)
@@ -467,6 +483,32 @@ class Output:
         sd = deviations.reindex(found.set_index(keys).index).to_numpy()
         found.insert(list(found.columns).index("flow") + 1, "sd", sd)
         return found
+
+    # ---- other forms
+
+    def summary(self) -> str:
+        """Return a few lines: whether it may be booked, why not, and the state of each block."""
+        return summary_of(self)
+
+    def to_dict(self) -> dict[str, Any]:
+        """Return its values as dicts and lists: numbers are whole grams and such, as ints.
+
+        The keys are `source`, `ok`, `why`, `status`, `refused` and `blocks`. A block has its
+        `period`, `component`, `window`, `round`, `taken`, `suspects`, whether it is `complete` and
+        the `last` of its period, its `streams`, `nodes`, `nodal` and `measure` tests as lists, and
+        `solved` and `global` as dicts, with the columns that these rows have.
+        """
+        return output_dict(self)
+
+    def to_json(self, path: str | Path | None = None, *, indent: int | None = None) -> str:
+        """Return `to_dict` as JSON, and write it if a file is named.
+
+        A whole number above 2^53 - 1 is a text of its digits, since many readers would round it.
+        """
+        text = json_of(self, indent)
+        if path is not None:
+            write_text(path, text + "\n")
+        return text
 
     # ---- files
 
