@@ -32,7 +32,7 @@ LIBRARY = lib/$(PYTHON_FOLDER)/dist-packages
 # zsh looks into /usr/share/zsh/vendor-completions and, for what no package has, into /usr/local/share/zsh/site-functions.
 ZSH = $(SHARE)/zsh/$(if $(filter /usr,$(PREFIX)),vendor-completions,site-functions)
 
-PROGRAM_DOCUMENTS = README.md CHANGELOG.md docs/GUIDE.md docs/FORMAT.md docs/DEFINITIONS.md docs/STATEMENT.md docs/ASSURANCE.md docs/DECISIONS.md
+PROGRAM_DOCUMENTS = README.md CHANGELOG.md docs/GUIDE.md docs/REFERENCE.md docs/AUDIT.md docs/FORMAT.md docs/DEFINITIONS.md docs/STATEMENT.md docs/ASSURANCE.md docs/DECISIONS.md
 VERIFY_DOCUMENTS = coq/README.md coq/Certified.v coq/Sound.v docs/ASSURANCE.md
 DESK_DOCUMENTS = docs/MONTH_END.md docs/PYTHON.md docs/OPERATIONS.md
 WORKBOOKS = examples/month_end examples/refinery_workbook examples/terminal_workbook examples/tank_farm_workbook

@@ -14,7 +14,7 @@ def made(sources: Sources) -> dict[str, str]:
     return {
         statement.STATEMENT: statement.document(sources),
         path: assurance,
-        guide.GUIDE: guide.document(sources),
+        **{page: guide.document(sources, page) for page in guide.PAGES},
         rows.SCHEMA: rows.text_of(guide.schema(sources)[0]),
         **numbers.times(sources),
     }

@@ -9,6 +9,7 @@ import re
 from collections.abc import Iterator
 from functools import cached_property
 
+from .guide import PAGES
 from .sources import Sources, Unknown
 
 # Documents of those who change the sources, and those of users.
@@ -22,11 +23,13 @@ INNER = (
 )
 OUTER = (
     "CHANGELOG.md",
+    "docs/AUDIT.md",
     "docs/FORMAT.md",
     "docs/GUIDE.md",
     "docs/MONTH_END.md",
     "docs/OPERATIONS.md",
     "docs/PYTHON.md",
+    "docs/REFERENCE.md",
 )
 # Folders of the repository: a path that begins with one of these is one of its files.
 FOLDERS = ("bench", "crates", "docs", "examples", "packaging", "python", ".ci")
@@ -197,24 +200,33 @@ def edits(sources: Sources) -> list[str]:
 
 
 def rows_of_examples(sources: Sources) -> list[str]:
-    """Return the rows that the guide quotes and that no example has.
+    """Return the rows that the pages for users quote and that no example has.
 
     What a command writes isn't looked up: the tests type it again.
     """
-    path, rows, typed = "docs/GUIDE.md", set(), False
+    rows: set[str] = set()
     for example in sources.files(r"examples/.*\.csv"):
         rows |= set(sources.text(example).splitlines())
-    kinds = "|".join(sorted({row.split(",")[0] for row in rows if "," in row}))
-    found = []
-    for number, line in enumerate(sources.text(path).splitlines(), 1):
+    return [
+        f"{path}:{number}: no example has the row {quoted}"
+        for path in PAGES
+        for number, quoted in quoted_rows(sources.text(path), rows)
+        if not any(row.startswith(quoted) for row in rows)
+    ]
+
+
+def quoted_rows(text: str, rows: set[str]) -> Iterator[tuple[int, str]]:
+    """Return the rows that a page quotes, with their lines, but not what a command writes.
+
+    A row in capitals is the form of one.
+    """
+    kinds, typed = "|".join(sorted({row.split(",")[0] for row in rows if "," in row})), False
+    for number, line in enumerate(text.splitlines(), 1):
         quoted = line[4:]
         typed = line.startswith("    ") and (typed or quoted.startswith("$ "))
-        if typed or not line.startswith("    ") or not re.match(rf"({kinds}),", quoted):
-            continue
-        shape = re.search(r",[A-Z]+,[A-Z]+", quoted)
-        if not shape and not any(row.startswith(quoted) for row in rows):
-            found.append(f"{path}:{number}: no example has the row {quoted}")
-    return found
+        if line.startswith("    ") and not typed and re.match(rf"({kinds}),", quoted):
+            if not re.search(r",[A-Z]+,[A-Z]+", quoted):
+                yield number, quoted
 
 
 def lemmas(sources: Sources) -> list[str]:

@@ -1,4 +1,4 @@
-"""What docs/GUIDE.md says of rows and codes, and the parts of it that are made."""
+"""What the pages for users say of rows and codes, and the parts of them that are made."""
 
 from __future__ import annotations
 
@@ -10,6 +10,9 @@ from .rows import Data, data_of
 from .sources import Sources, Unknown
 
 GUIDE = "docs/GUIDE.md"
+AUDIT = "docs/AUDIT.md"
+REFERENCE = "docs/REFERENCE.md"
+PAGES = (GUIDE, AUDIT, REFERENCE)
 CONTENTS = "<!-- contents: made by .ci/documents write -->"
 KEYS = "<!-- keys: made by .ci/documents write -->"
 # What the guide calls the number that stands in place of a base variance.
@@ -27,7 +30,7 @@ def between(text: str, mark: str, lines: list[str], path: str) -> str:
 def table_under(text: str, head: str) -> list[list[str]]:
     """Return the rows of the first table under a place, as lists of cells."""
     if head not in text:
-        raise Unknown(f"{GUIDE}: there is no {head.strip()}")
+        raise Unknown(f"{REFERENCE} and {AUDIT}: there is no {head.strip()}")
     lines = text[text.index(head) :].splitlines()
     while lines and not lines[0].startswith("|"):
         lines.pop(0)
@@ -77,7 +80,7 @@ class Guide:
 
     def say(self, what: str) -> None:
         """Note what is otherwise."""
-        self.complaints.append(f"{GUIDE}: {what}")
+        self.complaints.append(f"{REFERENCE}: {what}")
 
     def sessions(self, rows: list[Data]) -> None:
         """Give the rows of a session what the guide says of them."""
@@ -192,7 +195,7 @@ class Guide:
         for cells in table_under(self.text, heading):
             found = re.match(r"([0-9]+) (\w+)", cells[0])
             if found is None:
-                raise Unknown(f"{GUIDE}: there is no code in {cells[0]}")
+                raise Unknown(f"{AUDIT}: there is no code in {cells[0]}")
             said[int(found[1])] = (found[2], re.sub(r"\s+", " ", cells[1]))
         for item in wanted:
             if said.get(item["code"], ("", ""))[0] == item["word"]:
@@ -223,7 +226,8 @@ class Guide:
 @cache
 def schema(sources: Sources) -> tuple[Data, list[str]]:
     """Return the rows as data with the guide's words, and what the guide says otherwise of them."""
-    data, guide = data_of(sources), Guide(sources.text(GUIDE))
+    words = sources.text(REFERENCE) + sources.text(AUDIT)
+    data, guide = data_of(sources), Guide(words)
     guide.sessions(data["session"])
     guide.fields(data["session"], (data["limits"]["first_year"], data["limits"]["last_year"]))
     guide.outputs(data["output"])
@@ -254,8 +258,8 @@ def keys(sources: Sources) -> list[str]:
     return lines
 
 
-def document(sources: Sources) -> str:
-    """Return the guide with its list of contents and its table of keys."""
-    text = sources.text(GUIDE)
-    text = between(text, CONTENTS, contents_of(text.rpartition(CONTENTS)[2]), GUIDE)
-    return between(text, KEYS, keys(sources), GUIDE)
+def document(sources: Sources, path: str) -> str:
+    """Return a page with its list of contents, and the reference with its table of keys."""
+    text = sources.text(path)
+    text = between(text, CONTENTS, contents_of(text.rpartition(CONTENTS)[2]), path)
+    return between(text, KEYS, keys(sources), path) if path == REFERENCE else text

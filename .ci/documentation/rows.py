@@ -1,7 +1,7 @@
 """The rows of a session and of an output as data: python/plantbal/schema.json.
 
 Kinds, columns, keys, ranges and words stand in the two tables of `pb_form` alone, the limits in
-`pb_limits`, and what they mean in words in docs/GUIDE.md. A form of a table that isn't known here
+`pb_limits`, and what they mean in words in docs/REFERENCE.md. A form of a table that isn't known here
 ends with a sentence that names it.
 """
 
@@ -168,7 +168,7 @@ def data_of(sources: Sources) -> Data:
     """Return all that the definitions say of rows."""
     return {
         "about": "Made by .ci/documents write from the definitions of the program and from"
-        " docs/GUIDE.md.",
+        " docs/REFERENCE.md.",
         "limits": limits(sources),
         "session": session(sources),
         "output": output(sources),

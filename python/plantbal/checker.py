@@ -4,7 +4,7 @@
     python3 checker.py < report.csv
 
 It makes the tests that `plantbal check` makes, and writes the same rows: yes, no or unreadable. It
-is written from docs/GUIDE.md and docs/FORMAT.md, is a file by itself, and needs Python alone. Every
+is written from docs/AUDIT.md and docs/FORMAT.md, is a file by itself, and needs Python alone. Every
 number is a whole number or a fraction of two. The status is 0 if each block gets a yes, and 1 if
 one doesn't, if a row can't be read, or if there is no block; 2 if words are given.
 """

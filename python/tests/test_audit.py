@@ -546,7 +546,7 @@ def test_words_that_are_never_run(words: str) -> None:
 
 
 def test_the_guide_shows_what_comes(say: Desk, tmp_path: Path) -> None:
-    guide = (TOP / "docs" / "GUIDE.md").read_text(encoding="utf-8")
+    guide = (TOP / "docs" / "AUDIT.md").read_text(encoding="utf-8")
     bundle = tmp_path / "refinery_may1.zip"
     words = ("--plant", "refinery", "--out", bundle, *TIME)
     assert say("archive", example("refinery_day.csv"), *words).status == 0

@@ -11,6 +11,7 @@ from conftest import TOP, text_of
 # Each page, the folder in a copy of which it is typed, and the other folders that it speaks of.
 PAGES = [
     ("docs/GUIDE.md", "examples", []),
+    ("docs/AUDIT.md", "examples", []),
     (
         "docs/MONTH_END.md",
         "examples/month_end",

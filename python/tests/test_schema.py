@@ -16,7 +16,7 @@ from plantbal.schema import Column, Row, schema
 TOP = Path(__file__).resolve().parents[2]
 SESSION = "crates/pb_form/specs/SessionRows.antt"
 OUTPUT = "crates/pb_form/specs/OutputRows.antt"
-GUIDE = "docs/GUIDE.md"
+REFERENCE = "docs/REFERENCE.md"
 
 
 def otherwise(path: str, *changes: tuple[str, str]) -> Sources:
@@ -68,13 +68,13 @@ OTHERWISE = [
         "StreamBefore isn't a stream row",
     ),
     (
-        GUIDE,
+        REFERENCE,
         "| DOF | degrees of freedom | 1 | 2,000 |",
         "| DOF | degrees of freedom | 1 | 3,000 |",
         "DOF is from",
     ),
-    (GUIDE, "| k | sweeps done", "| sweeps | sweeps done", "`solved` rows have"),
-    (GUIDE, "`strike,ID,REASON`", "`strike,ID`", "no strike,ID,REASON"),
+    (REFERENCE, "| k | sweeps done", "| sweeps | sweeps done", "`solved` rows have"),
+    (REFERENCE, "`strike,ID,REASON`", "`strike,ID`", "no strike,ID,REASON"),
 ]
 
 
