@@ -17,6 +17,7 @@ import importlib
 from typing import TYPE_CHECKING, Any
 
 if TYPE_CHECKING:
+    from plantbal.book.library import Book
     from plantbal.faults import Fault, InputFault, ProgramFault, Refusal, ToolMissing
     from plantbal.lint import lint_session
     from plantbal.lint import Finding
@@ -30,6 +31,7 @@ if TYPE_CHECKING:
     from plantbal.workbook.conversion import convert
 
 __all__ = [
+    "Book",
     "Fault",
     "Finding",
     "InputFault",
@@ -53,6 +55,7 @@ __all__ = [
 ]
 
 _HOMES = {
+    "Book": "book.library",
     "Fault": "faults",
     "Finding": "lint",
     "InputFault": "faults",

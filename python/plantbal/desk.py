@@ -10,7 +10,7 @@ from collections.abc import Sequence
 from dataclasses import dataclass
 from typing import Any, NoReturn, Protocol, cast
 
-from plantbal.faults import Fault, ToolMissing
+from plantbal.faults import Fault, Faults, ToolMissing
 from plantbal.plain import plain_streams
 
 # Each is imported by the calls that need it, and is Debian's package python3-NAME.
@@ -69,7 +69,7 @@ COMMANDS: tuple[Command, ...] = (
     Command("report", "commands.running:REPORT", "turn a report into CSV, SQLite or a workbook"),
     Command("solve", "commands.running:SOLVE", "reconcile with scipy if sweeps don't come near"),
     Command("convert", "workbook.conversion", "a session from a plant's workbook"),
-    Command("book", "book.command", "keep a plant's book, a session for each year"),
+    Command("book", "commands.book.command", "keep a plant's book, a session for each year"),
     Command("template", "workbook.template", "an empty workbook for convert"),
     Command("from-spreadsheet", "workbook.spreadsheet", "a session from daily readings and tags"),
     Command("tables", "report.tables", "tables of flows, classes, suspects, imbalances"),
@@ -200,7 +200,8 @@ def _called(options: argparse.Namespace) -> int:
         sys.stdout.flush()
         return status
     except Fault as fault:
-        print(f"{options.prog}: {fault}", file=sys.stderr)
+        for said in [*(fault.lines if isinstance(fault, Faults) else ()), fault]:
+            print(f"{options.prog}: {said}", file=sys.stderr)
         return 1
     except ModuleNotFoundError as error:
         library = (error.name or "").partition(".")[0]

@@ -6,6 +6,7 @@ import errno
 import os
 import stat
 import sys
+from collections.abc import Sequence
 from dataclasses import dataclass
 from pathlib import Path
 from typing import TYPE_CHECKING, Any, BinaryIO, ClassVar
@@ -141,6 +142,23 @@ def _made_again(kind: type[Fault], args: tuple[Any, ...], state: dict[str, Any])
 
 class InputFault(Fault):
     """An input that can't be read: a file, a sheet, a report."""
+
+
+class Faults(Fault):
+    """Several faults, each said by itself before what comes of them.
+
+    Attributes
+    ----------
+    faults : tuple of Fault
+        All of them.
+    lines : tuple of str
+        What is said of them; of many alike the first, and how many there are.
+    """
+
+    def __init__(self, faults: Sequence[Fault], lines: Sequence[str], then: str) -> None:
+        super().__init__(f"{len(faults):,} fault{'' if len(faults) == 1 else 's'}, and {then}")
+        self.faults = tuple(faults)
+        self.lines = tuple(lines)
 
 
 class ToolMissing(Fault):

@@ -9,6 +9,7 @@ import subprocess
 import tempfile
 import time
 from collections.abc import Callable, Sequence
+from dataclasses import dataclass
 from operator import index
 from pathlib import Path
 
@@ -174,3 +175,35 @@ def words_of(*, tests: bool, eliminate: int, gap: int, sweeps: int) -> list[str]
     if eliminate:
         words += ["--eliminate", str(_whole("eliminate", eliminate, 0, most["most_rounds"]))]
     return [*words, "--tests"] if tests else words
+
+
+@dataclass(frozen=True)
+class RunSettings:
+    """How a session is run.
+
+    Attributes
+    ----------
+    tests : bool
+        Whether tests are made.
+    eliminate : int
+        The most suspects that are taken out, one in each round.
+    gap : int
+        The greatest gap, in thousandths of a standard deviation.
+    sweeps : int
+        The most sweeps.
+    program : str, Path or None
+        The program, as `find_program` takes it.
+    """
+
+    tests: bool = True
+    eliminate: int = 0
+    gap: int = 10
+    sweeps: int = 5000
+    program: str | Path | None = None
+
+    @property
+    def words(self) -> list[str]:
+        """The words of such a run."""
+        return words_of(
+            tests=self.tests, eliminate=self.eliminate, gap=self.gap, sweeps=self.sweeps
+        )

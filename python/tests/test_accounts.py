@@ -11,7 +11,7 @@ from conftest import example
 from hypothesis import given, settings
 from hypothesis import strategies as some
 
-from plantbal.accounts.account import Book, Level, Table
+from plantbal.accounts.account import Level, Rolled, Table
 from plantbal.accounts.entries import Line
 from plantbal.accounts.month import Basis, Flow, Gain, Month
 from plantbal.accounts.shares import split
@@ -117,7 +117,7 @@ def books(draw: some.DrawFn) -> tuple[list[Month], Accounts]:
 @given(books())
 def test_each_account_closes(found: tuple[list[Month], Accounts]) -> None:
     months, accounts = found
-    book = Book(months, accounts)
+    book = Rolled(months, accounts)
     before: dict[str, int] = {}
     owned: dict[str, int] = {}
     for month in months:
@@ -209,7 +209,7 @@ def test_regraded_and_direct() -> None:
         Account("NAPHTHA", Kind.SHIPMENT, "naphtha", "light"),
     ]
     one = Month("m", FIRST, FIRST, {f.name: f for f in flows}, {"T": Gain("T", 40, 8)})
-    account = Book([one], Accounts(rows)).account("m")
+    account = Rolled([one], Accounts(rows)).account("m")
     found = {
         table.name: {line.value: amount.grams for line, amount in table.lines.items()}
         for table in account.groups
@@ -245,7 +245,7 @@ def test_sales_units() -> None:
         {"IN": Flow("IN", "env", "T", 800 * 10**6)},
         {"T": Gain("T", 800 * 10**6, 0)},
     )
-    table = Book([one], Accounts(rows)).account("m").products[0]
+    table = Rolled([one], Accounts(rows)).account("m").products[0]
     assert (table.unit, table.lines[Line.RECEIPTS].sales, table.expansion) == ("m3", 1000, -200)
     assert SalesUnit("bbl", Fraction(862_000)).amount(10**9) == 10**9 / (
         Fraction("0.158987294928") * 862_000
@@ -328,7 +328,7 @@ def test_a_sum_may_be_determined_though_its_parts_are_not() -> None:
 def test_a_month_after_another_shares_its_dips() -> None:
     """The stock at the end of a month is no worse than its dip, however many months there were."""
     one = refinery()
-    account = Book([one], Accounts()).account("may1")
+    account = Rolled([one], Accounts()).account("may1")
     for each in account.tanks:
         gain = one.gains[each.stock.tank]
         base = int(

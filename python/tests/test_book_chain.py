@@ -17,7 +17,7 @@ from conftest import Desk, example, text_of
 from plantbal.audit.linked import manifest_of
 from plantbal.book.chain import Chain, checks_of, checks_text
 from plantbal.book.journal import HEAD_TEXT, Act, Kept, Line, chained, read_journal
-from plantbal.book.store import Action, Book
+from plantbal.book.store import Action, Store
 from plantbal.faults import InputFault
 
 __all__ = ["fixture_book"]
@@ -175,7 +175,7 @@ def fixture_mill(book: Type, tmp_path: Path) -> Path:
     """A book with a row of each kind that such a plant has, a report, and one that went out."""
     book("amend", "F-1", "2024-04-02", "1300 t", "--why", "log book")
     book("strike", "P-1", "2024-04-03", "--why", "frozen")
-    kept = Book(tmp_path / "mill")
+    kept = Store(tmp_path / "mill")
     with kept.opened():
         action = Action(Act.REPORT, "2024-04", who="anna", seen=["2024.csv"])
         action.written = {
@@ -294,7 +294,7 @@ def test_files_that_the_journal_does_not_know(mill: Path, book: Type) -> None:
     said = book("verify")
     assert said.status == 0
     assert "note: " in said.out and "no action of this book has written it" in said.out
-    kept = Book(mill)
+    kept = Store(mill)
     with kept.opened(), pytest.raises(InputFault, match="it isn't written over"):
         kept.do(Action(Act.REPORT, "2024-05", written={"reports/2024-05.csv": "x\n"}))
     assert text_of(mill / "reports" / "2024-05.csv") == "mine\n"
@@ -316,7 +316,7 @@ def test_what_stood_there(mill: Path, book: Type) -> None:
     assert "there stood report,2024-04,second (by mill_2024-04.zip)" in book("status").err
     put(reports, "third", "second")(mill)
     (mill / "mill_2024-04.zip").unlink()
-    kept = Book(mill)
+    kept = Store(mill)
     with kept.opened():
         row = "report,2024-04,third\nedit,20,amend,F-1_2024-04-02,log book\n"
         kept.do(Action(Act.REPORT, "2024-04", written={reports: row}))

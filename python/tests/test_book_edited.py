@@ -15,7 +15,7 @@ from hypothesis import strategies as st
 
 from plantbal import convert
 from plantbal.book.ledger import FACT_KINDS, Fact
-from plantbal.book.store import Book
+from plantbal.book.store import Store
 from plantbal.book.years import Years
 from plantbal.program import call
 from plantbal.report.blocks import Block, blocks_of, parse_rows
@@ -152,7 +152,7 @@ def test_a_book_reports_the_last_workbook(
             found = block_of((room / "mill/reports" / f"{period}.csv").read_bytes(), period)
             assert found == reported(whole.session, period)
         facts = [Fact.of(row) for row in whole.session if row[0] in FACT_KINDS]
-        years = Years(Book(room / "mill"))
+        years = Years(Store(room / "mill"))
         for ledger in years.all():
             wanted = [fact for fact in facts if ledger in years.of_fact(fact)]
             assert nameless(ledger.facts.values()) == nameless(wanted)

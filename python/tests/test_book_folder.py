@@ -18,7 +18,7 @@ from conftest import Desk, text_of
 
 from plantbal.book.forms import is_begun, is_own
 from plantbal.book.lock import locked
-from plantbal.book.store import Act, Action, Book
+from plantbal.book.store import Act, Action, Store
 from plantbal.faults import Fault
 
 __all__ = ["fixture_book"]
@@ -178,7 +178,7 @@ def test_a_reader_changes_nothing(book: Type, tmp_path: Path) -> None:
     mill, saved = tmp_path / "mill", tmp_path / "saved"
     shutil.copytree(mill, saved)
     book(*AMEND)
-    with Book(saved).opened(), failing("replace", ".2024.csv~", errno.EIO):
+    with Store(saved).opened(), failing("replace", ".2024.csv~", errno.EIO):
         pass
     entries = []
     for name in ("2024.csv", "journal.csv"):
@@ -308,14 +308,14 @@ def test_an_auditor_reads_without_the_right_to_write(book: Type, tmp_path: Path)
 
 def test_readers_share_the_lock(book: Type, tmp_path: Path) -> None:
     mill = tmp_path / "mill"
-    with Book(mill).opened(reading=True):
-        with Book(mill, seconds=0.2).opened(reading=True):
+    with Store(mill).opened(reading=True):
+        with Store(mill, seconds=0.2).opened(reading=True):
             pass
         with pytest.raises(Fault, match="another command is at work"):
-            with Book(mill, seconds=0.2).opened():
+            with Store(mill, seconds=0.2).opened():
                 pass
     with locked(mill / ".lock", 1), pytest.raises(Fault, match="another command is at work"):
-        with Book(mill, seconds=0.2).opened(reading=True):
+        with Store(mill, seconds=0.2).opened(reading=True):
             pass
 
 
@@ -352,7 +352,7 @@ def test_new_writes_over_nothing(say: Desk, book: Type, tmp_path: Path) -> None:
 def test_reports_never_meet(tmp_path: Path, book: Type) -> None:
     """The earlier report of one period has a name that another period's can't have."""
     mill = tmp_path / "mill"
-    kept = Book(mill)
+    kept = Store(mill)
     with kept.opened():
         action = Action(Act.REPORT, "2024-04")
         action.written = {

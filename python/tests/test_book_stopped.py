@@ -15,7 +15,7 @@ from books import PLANT, files_of, folder, journal_of, month, typed
 from conftest import TOP, Desk
 
 from plantbal.book.lock import locked
-from plantbal.book.store import Act, Action, Book
+from plantbal.book.store import Act, Action, Store
 from plantbal.faults import Fault
 
 
@@ -91,7 +91,7 @@ def test_killed_at_any_moment(
             shutil.copytree(saved, mill)
             if not killed_at(number, mill, words):
                 break
-            with Book(mill).opened(new=True):
+            with Store(mill).opened(new=True):
                 found = files_of(mill)
             assert found in (before, after), (name, number)
             typed(*words)
@@ -119,7 +119,7 @@ def test_killed_in_the_middle_of_its_time(
         except subprocess.TimeoutExpired:
             process.kill()
             process.wait()
-        with Book(mill).opened():
+        with Store(mill).opened():
             found.append(files_of(mill))
     typed(*words[1:])
     after = files_of(mill)
@@ -152,7 +152,7 @@ def test_a_book_that_is_locked(moments: dict[str, list[str]], tmp_path: Path) ->
     mill = tmp_path / "mill"
     typed(*moments["new"], "--book", mill)
     with locked(mill / ".lock", 1), pytest.raises(Fault, match="another command is at work"):
-        with Book(mill, seconds=0.2).opened():
+        with Store(mill, seconds=0.2).opened():
             pass
 
 
@@ -161,7 +161,7 @@ def test_another_program_writes_between(
 ) -> None:
     """What waits isn't put after rows that nobody here has written."""
     typed(*moments["new"], "--book", tmp_path / "mill")
-    kept = Book(tmp_path / "mill")
+    kept = Store(tmp_path / "mill")
     with kept.opened():
         kept.do(Action(Act.ADD))
         text = '[{"file": "2024.csv", "from": 5, "text": "unit,X\\n"}]'

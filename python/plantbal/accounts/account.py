@@ -195,7 +195,7 @@ class MonthAccount:
         return [self.plant, *self.groups, *self.products, *self.owners]
 
 
-class Book:
+class Rolled:
     """The months of a book, rolled forward, and their accounts.
 
     Parameters

@@ -11,15 +11,17 @@ import hashlib
 from collections.abc import Iterator, Mapping
 from dataclasses import dataclass
 
-from plantbal.accounts.account import Book as Rolled
+from plantbal.accounts.account import MonthAccount, Rolled
 from plantbal.accounts.month import Month
 from plantbal.accounts.reading import accounts_text, parse_accounts
 from plantbal.accounts.sheet import Accounts
 from plantbal.book.forms import ACCOUNTS, report_file, year_file
 from plantbal.book.journal import Line
-from plantbal.book.said import counted
-from plantbal.book.store import Action, Book
-from plantbal.book.years import periods_of
+from plantbal.book.overview import report_state
+from plantbal.book.results import ReportState
+from plantbal.book.said import counted, waiting_said
+from plantbal.book.store import Action, Store
+from plantbal.book.years import Years, periods_of
 from plantbal.faults import Fault, InputFault, Place
 from plantbal.model.ledger import Ledger
 from plantbal.report.blocks import Block, blocks_of, last_blocks, parse_rows
@@ -27,12 +29,12 @@ from plantbal.report.blocks import Block, blocks_of, last_blocks, parse_rows
 # ---- the sheet
 
 
-def accounts_of(book: Book) -> Accounts:
+def accounts_of(book: Store) -> Accounts:
     """Return the accounts of a book; none if it has no file of them."""
     return parse_accounts(str(book.path(ACCOUNTS)), book.text(ACCOUNTS))
 
 
-def put_accounts(before: Accounts, new: Accounts, book: Book, action: Action) -> list[str]:
+def put_accounts(before: Accounts, new: Accounts, book: Store, action: Action) -> list[str]:
     """Have an action write the accounts with those of a workbook, and return what is said of it.
 
     Raises
@@ -82,7 +84,7 @@ class Version:
     line: Line
 
 
-def versions_of(book: Book) -> dict[str, Version]:
+def versions_of(book: Store) -> dict[str, Version]:
     """Return the report of each period that has one, in the order of the periods' last days."""
     found = {}
     for year in book.years:
@@ -94,7 +96,7 @@ def versions_of(book: Book) -> dict[str, Version]:
     return found
 
 
-def version_of(book: Book, period: str, year: str, text: str) -> Version:
+def version_of(book: Store, period: str, year: str, text: str) -> Version:
     """Return a text as a report of a period, with the rows that it saw.
 
     Raises
@@ -115,12 +117,12 @@ def version_of(book: Book, period: str, year: str, text: str) -> Version:
     )
 
 
-def months_of(book: Book, versions: Mapping[str, Version]) -> list[Month]:
+def months_of(book: Store, versions: Mapping[str, Version]) -> list[Month]:
     """Return the months of reports, in the order of their days.
 
     Parameters
     ----------
-    book : Book
+    book : Store
         The book.
     versions : mapping of str to Version
         The reports by their periods.
@@ -133,7 +135,7 @@ def months_of(book: Book, versions: Mapping[str, Version]) -> list[Month]:
     return sorted(found, key=lambda month: month.last)
 
 
-def _months_of_year(book: Book, year: str, some: list[Version]) -> Iterator[Month]:
+def _months_of_year(book: Store, year: str, some: list[Version]) -> Iterator[Month]:
     """Give the months of a year's reports."""
     rows = book.text(year_file(year)).splitlines(keepends=True)
     parts, at = [], 0
@@ -148,7 +150,7 @@ def _months_of_year(book: Book, year: str, some: list[Version]) -> Iterator[Mont
         yield Month.of(_block_of(book, each), ledger, saw)
 
 
-def _block_of(book: Book, version: Version) -> Block:
+def _block_of(book: Store, version: Version) -> Block:
     """Return the round of a report that counts.
 
     Raises
@@ -165,7 +167,7 @@ def _block_of(book: Book, version: Version) -> Block:
     return block
 
 
-def rolled_of(book: Book) -> Rolled:
+def rolled_of(book: Store) -> Rolled:
     """Return the months of a book, rolled forward.
 
     Raises
@@ -177,3 +179,20 @@ def rolled_of(book: Book) -> Rolled:
     if not months:
         raise Fault("no period has a report yet", remedy="plantbal-desk book report makes it")
     return Rolled(months, accounts_of(book))
+
+
+def account(book: Store, period: str) -> tuple[MonthAccount, ReportState, list[str]]:
+    """Return the account of a period, how old its report is, and what waits in the book.
+
+    Raises
+    ------
+    Fault
+        If there is no such period, or it has no report.
+    """
+    with book.opened(reading=True):
+        ledger = Years(book).of_period(period)
+        state = report_state(book, ledger, book.journal(), period)
+        if state is ReportState.MISSING:
+            remedy = f"plantbal-desk book report {period}"
+            raise Fault(f"{period} has no report yet", remedy=remedy)
+        return rolled_of(book).account(period), state, waiting_said(book)

@@ -2,152 +2,166 @@
 
 from __future__ import annotations
 
-import argparse
 import calendar
 import datetime
-import sys
-from collections.abc import Mapping
+from collections.abc import Callable, Mapping, Sequence
 from pathlib import Path
 
 from plantbal.book.accounting import accounts_of, put_accounts
 from plantbal.book.changes import Changes, compare, gone, strayed
 from plantbal.book.ledger import FACT_KINDS, PLANT_KINDS, Fact, Ledger, rows_text
-from plantbal.book.meters import meters_of, meters_text, read_meters
+from plantbal.book.forms import year_file
+from plantbal.book.meters import Meter, meters_of, meters_text, read_meters
 from plantbal.book.reading import ANOTHER_VALUE, converted, raise_all
-from plantbal.book.said import FIRST, added, changed, counted, doubts, lacking
-from plantbal.book.store import METERS, PLANT, Act, Action, Book
+from plantbal.book.results import Added, YearAdded
+from plantbal.book.said import counted, doubts, lacking
+from plantbal.book.store import METERS, PLANT, Act, Action, Store
 from plantbal.book.years import Years
-from plantbal.commands.options import add_reading
 from plantbal.faults import Fault, InputFault, Refusal
 from plantbal.model.causes import Cause, Reason
 from plantbal.records import text_of
 from plantbal.session import Period
 from plantbal.workbook.facts import Converter
+from plantbal.workbook.options import ReadingOptions
 from plantbal.workbook.sheets import Cell
 
-
-def add_arguments(parser: argparse.ArgumentParser) -> None:
-    """Add the words of the command."""
-    parser.add_argument("workbook", metavar="WORKBOOK")
-    parser.add_argument("--why", metavar="TEXT", help="the reason of what is changed or struck")
-    parser.add_argument(
-        "--strike", action="store_true", help="strike facts that aren't in the workbook any more"
-    )
-    parser.add_argument("--anyway", action="store_true", help="strike also most of what is booked")
-    parser.add_argument("--year", metavar="YEAR", help="the year of its plant (default: the last)")
-    parser.add_argument(
-        "--dry-run", action="store_true", help="say what would be booked, and book nothing"
-    )
-    add_reading(parser)
+# Gives the reason of a change, by what is said of it.
+Why = Callable[[str], str]
 
 
-def run(options: argparse.Namespace) -> int:
-    """Add a workbook, and say what that was."""
-    book = Book(options.book)
-    name = Path(options.workbook).name
-    with book.opened(reading=options.dry_run):
+class Unreasoned(Fault):
+    """Changes for which no reason is given.
+
+    Attributes
+    ----------
+    changes : tuple of str
+        What would change, a line each.
+    """
+
+    def __init__(self, changes: Sequence[str]) -> None:
+        are = "is" if len(changes) == 1 else "are"
+        what = f"{counted(len(changes), 'fact')} {are} booked otherwise"
+        super().__init__(what, remedy='say why: --why "typed a digit short"; nothing is booked')
+        self.changes = tuple(changes)
+
+
+def add(
+    book: Store,
+    workbook: str | Path,
+    *,
+    why: str | Why = "",
+    strike: bool = False,
+    anyway: bool = False,
+    year: str | None = None,
+    reading: ReadingOptions = ReadingOptions(),
+    dry_run: bool = False,
+    who: str = "",
+) -> Added:
+    """Add a workbook; the parameters are those of `plantbal.Book.add`."""
+    name = Path(workbook).name
+    with book.opened(reading=dry_run):
         years = Years(book)
-        year = years.named(options.year)
+        into = years.named(year)
         meters = read_meters(book.path(METERS))
         wide = any(meter.base for meter in meters.values())
-        of_years = years.all() if wide else [year]  # periods are asked only for what they share
+        of_years = years.all() if wide else [into]  # periods are asked only for what they share
         periods = [each for ledger in of_years for each in ledger.periods.values()]
         accounts = accounts_of(book)
-        work = converted(options, year.plant, meters, periods, accounts)
+        work = converted(workbook, reading, into.plant, meters, periods, accounts)
         facts = [Fact.of(row) for row in work.session if row[0] in (*FACT_KINDS, "late")]
-        raise_all(options.prog, years.outside(facts))
-        plant = put_plant(year, work)
+        raise_all(years.outside(facts))
+        plant = put_plant(into, work)
         put_periods(years, work, facts)
-        changes = changes_of(options, years, work, facts)
-        check_reasons(options, changes)
-        reasons = Reasons(options.why or "")
-        changes.put(reasons, options.strike)
-        raise_all(options.prog, put_assays(years, work))
+        changes = changes_of(years, work, facts, strike)
+        if strike and not anyway:
+            check_most(changes, name)
+        reasons = Reasons(why)
+        check_reasons(changes, strike, why)
+        changes.put(reasons, strike)
+        raise_all(put_assays(years, work))
 
-        action = Action(Act.ADD, what=name, why=reasons.said(), who=options.who)
+        action = Action(Act.ADD, what=name, why=reasons.said(), who=who)
         for ledger in years.used:
             action.add(ledger)
-        if plant and year is years.last:
-            action.written[PLANT] = rows_text(year.plant)
+        if plant and into is years.last:
+            action.written[PLANT] = rows_text(into.plant)
         found = meters | {meter.name: meter for meter in meters_of(work)}
         if meters_text(found.values()) != meters_text(meters.values()):
             action.written[METERS] = meters_text(found.values())
 
         told = put_accounts(accounts, work.accounts, book, action)
-        lines = [*(added(ledger) for ledger in years.used), *told]
-        lines += changed(changes, name, options.strike)
-        for ledger in years.used:
-            lines += doubts(book.text(f"{ledger.name}.csv"), ledger.added_text())
-            lines += lacking(ledger, facts, found)
-        print("\n".join([*lines, *work.notes]))
-        if options.dry_run:
-            print("nothing is booked, as --dry-run says")
-        elif action.appended or action.written:
+        parts = tuple(_year_added(book, ledger, facts, found) for ledger in years.used)
+        is_booked = not dry_run and bool(action.appended or action.written)
+        if is_booked:
             book.do(action)
-    return 0
+    return Added(name, parts, tuple(told), changes, strike, tuple(work.notes), is_booked)
 
 
-def changes_of(
-    options: argparse.Namespace, years: Years, work: Converter, facts: list[Fact]
-) -> Changes:
+def _year_added(
+    book: Store, ledger: Ledger, facts: list[Fact], meters: dict[str, Meter]
+) -> YearAdded:
+    """Return what was put to a year, what of it looks wrong, and what is missing beside it."""
+    text = book.text(year_file(ledger.name))
+    found = doubts(text, ledger.added_text())
+    missing = lacking(ledger, facts, meters)
+    return YearAdded(ledger.name, tuple(ledger.added), tuple(found), tuple(missing))
+
+
+def changes_of(years: Years, work: Converter, facts: list[Fact], strike: bool) -> Changes:
     """Return what a workbook changes.
 
     Raises
     ------
     Fault
-        If a ticket has the id of another one, or most of what is booked would be struck.
+        If a ticket has the id of another one.
     """
     changes = compare(years, facts)
-    raise_all(options.prog, list(strayed(years, changes, facts)))
-    if work.sheets["readings"] or options.strike:
+    raise_all(list(strayed(years, changes, facts)))
+    if work.sheets["readings"] or strike:
         changes.gone = gone(years, work, facts)
-    there = changes.same + len(changes.changed) + len(changes.stale)
-    if options.strike and len(changes.gone) > there and not options.anyway:
-        raise Fault(
-            f"{len(changes.gone):,} of {len(changes.gone) + there:,} facts that are booked aren't "
-            f"in {Path(options.workbook).name}",
-            remedy="is it a part of the workbook? Single facts are struck by plantbal-desk book "
-            "strike; --anyway strikes all of them",
-        )
     return changes
 
 
-def _may_ask() -> bool:
-    """Say whether somebody sits at a terminal."""
-    return sys.stdin.isatty()
+def check_most(changes: Changes, name: str) -> None:
+    """Refuse to strike most of what is booked.
+
+    Raises
+    ------
+    Fault
+        If it is so.
+    """
+    there = changes.same + len(changes.changed) + len(changes.stale)
+    if len(changes.gone) > there:
+        raise Fault(
+            f"{len(changes.gone):,} of {len(changes.gone) + there:,} facts that are booked aren't "
+            f"in {name}",
+            remedy="is it a part of the workbook? Single facts are struck by plantbal-desk book "
+            "strike; --anyway strikes all of them",
+        )
 
 
 class Reasons:
-    """The reasons of changes: that of ``--why``, or those that are typed.
+    """The reasons of changes.
 
     Parameters
     ----------
-    why : str
-        The reason of all changes; empty if each is asked for.
+    why : str or callable
+        The reason of all changes, or what gives that of each.
 
     Attributes
     ----------
     given : dict of str to str
-        The reasons that were asked for, by the ids of facts.
+        The reasons by the ids of facts.
     """
 
-    def __init__(self, why: str) -> None:
+    def __init__(self, why: str | Why) -> None:
         self.why = why
         self.given: dict[str, str] = {}
 
     def __call__(self, identity: str, said: str) -> str:
-        """Return the reason of a change; an empty answer is the reason before."""
-        if self.why:
-            self.given[identity] = self.why
-        before = next(reversed(self.given.values()), "")
-        while identity not in self.given:
-            offer = f" [{before}]" if before else ""
-            try:
-                typed = input(f"{said}. Why?{offer} ").strip() or before
-            except EOFError:
-                raise Fault("a reason is wanted, and none came", remedy="say --why TEXT") from None
-            if typed:
-                self.given[identity] = typed
+        """Return the reason of a change."""
+        if identity not in self.given:
+            self.given[identity] = self.why if isinstance(self.why, str) else self.why(said)
         return self.given[identity]
 
     def said(self) -> str:
@@ -155,24 +169,19 @@ class Reasons:
         return "; ".join(dict.fromkeys(self.given.values()))
 
 
-def check_reasons(options: argparse.Namespace, changes: Changes) -> None:
-    """Refuse changes if there is no reason for them, and nobody to ask.
+def check_reasons(changes: Changes, strike: bool, why: str | Why) -> None:
+    """Refuse changes without a reason.
 
     Raises
     ------
-    Fault
+    Unreasoned
         If it is so.
     """
     lines = [change.said() for change in [*changes.changed, *changes.left]]
-    if options.strike:
+    if strike:
         lines += [f"{fact.id}: {fact.said()} is struck" for _, fact in changes.gone]
-    if options.why or not lines or _may_ask():
-        return
-    lines = list(dict.fromkeys(lines))
-    print("\n".join(lines[:FIRST]))
-    are = "is" if len(lines) == 1 else "are"
-    what = f"{counted(len(lines), 'fact')} {are} booked otherwise"
-    raise Fault(what, remedy='say why: --why "typed a digit short"; nothing is booked')
+    if lines and not why:
+        raise Unreasoned(list(dict.fromkeys(lines)))
 
 
 # ---- assays

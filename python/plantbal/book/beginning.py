@@ -5,7 +5,6 @@ The workbook's readings are added by `add`.
 
 from __future__ import annotations
 
-import argparse
 from collections.abc import Collection, Iterable
 from pathlib import Path
 
@@ -16,49 +15,44 @@ from plantbal.book.accounting import put_accounts
 from plantbal.book.forms import JOURNAL, is_year, is_year_file, year_file
 from plantbal.book.ledger import PLANT_KINDS, rows_text
 from plantbal.book.meters import meters_of, meters_text
-from plantbal.book.reading import reader_of, say_faults, sheets_of
-from plantbal.book.said import counted, listed
-from plantbal.book.store import METERS, PLANT, Act, Action, Book
-from plantbal.commands.options import add_program, add_reading
+from plantbal.book.reading import check_faults, sheets_of
+from plantbal.book.results import Begun
+from plantbal.book.store import METERS, PLANT, Act, Action, Store
 from plantbal.faults import Fault, InputFault, Place
 from plantbal.program import call
 from plantbal.report.blocks import parse_rows
 from plantbal.workbook.conversion import Conversion
 from plantbal.workbook.facts import Converter
+from plantbal.workbook.options import ReadingOptions
 from plantbal.workbook.tables import PLANT_SHEETS
 
 
-def add_arguments(parser: argparse.ArgumentParser) -> None:
-    """Add the words of the command."""
-    parser.add_argument("year", metavar="YEAR", help="the first year, such as 2024")
-    parser.add_argument("workbook", metavar="WORKBOOK", help="it has the sheets of the plant")
-    add_program(parser)
-    add_reading(parser)
-
-
-def run(options: argparse.Namespace) -> int:
-    """Make the book."""
-    check_year(options.year)
-    rows, work = plant_of(options, options.workbook)
-    meters = meters_of(work)
-    book = Book(options.book)
+def begin(
+    book: Store,
+    year: str,
+    workbook: str | Path,
+    *,
+    reading: ReadingOptions = ReadingOptions(),
+    program: str | Path | None = None,
+    who: str = "",
+) -> Begun:
+    """Make the book; the parameters are those of `plantbal.Book.begin`."""
+    check_year(year)
+    rows, work = plant_of(workbook, reading)
     with book.opened(new=True):
-        check_nothing_is_there(book, options.year)
-        action = Action(Act.NEW, options.year, Path(options.workbook).name, who=options.who)
-        action.program = program_digest(options.program)
-        action.written = {PLANT: rows_text(rows), METERS: meters_text(meters)}
-        action.written[year_file(options.year)] = rows_text(rows)
+        check_nothing_is_there(book, year)
+        action = Action(Act.NEW, year, Path(workbook).name, who=who)
+        action.program = program_digest(program)
+        action.written = {PLANT: rows_text(rows), METERS: meters_text(meters_of(work))}
+        action.written[year_file(year)] = rows_text(rows)
         told = put_accounts(Accounts(), work.accounts, book, action)
-        action.rows = [f"{options.year}: 1 to {len(rows)}"]
-        classes = classes_of(rows, options.program)
+        action.rows = [f"{year}: 1 to {len(rows)}"]
+        classes = classes_of(rows, program)
         book.do(action)
-    lines = [f"{options.year}.csv: {counted(len(rows), 'row')} of the plant", *classes, *told]
-    lines += work.notes
-    print("\n".join(lines))
-    return 0
+    return Begun(year, len(rows), classes, (*told, *work.notes))
 
 
-def check_nothing_is_there(book: Book, year: str) -> None:
+def check_nothing_is_there(book: Store, year: str) -> None:
     """Refuse to make a book where one is, or where something of one is left.
 
     A file whose name begins with a year counts only if it is that year's, or a session.
@@ -100,7 +94,7 @@ def check_year(name: str) -> None:
 
 
 def plant_of(
-    options: argparse.Namespace, workbook: str, accounts: Collection[str] = ()
+    workbook: str | Path, reading: ReadingOptions, accounts: Collection[str] = ()
 ) -> tuple[list[tuple[str, ...]], Converter]:
     """Return the rows of the plant that a workbook has, and what was read of it.
 
@@ -109,25 +103,25 @@ def plant_of(
     Fault
         If something is wrong with it.
     """
-    work = Converter(sheets_of(workbook), reader_of(options))
+    work = Converter(sheets_of(workbook), reading.reader)
     if not work.sheets["streams"] and not work.faults:
         what, remedy = "there is no sheet streams", "plantbal-desk template writes one"
-        raise InputFault(what, place=Place(file=workbook), remedy=remedy)
+        raise InputFault(what, place=Place(file=str(workbook)), remedy=remedy)
     work.read_plant()
     work.accounts = read_accounts(work, accounts)
     work.say_unread(PLANT_SHEETS)
     work.faults += work.session.refused
     found = Conversion(work.session, work.faults, work.notes)
-    say_faults(options.prog, found, "nothing is made")
+    check_faults(found, "nothing is made")
     return [row for row in work.session if row[0] in PLANT_KINDS], work
 
 
-def classes_of(rows: Iterable[tuple[str, ...]], program: str | None) -> list[str]:
-    """Return which streams of a plant have each class by its design, a line a class."""
+def classes_of(rows: Iterable[tuple[str, ...]], program: str | Path | None) -> dict[str, list[str]]:
+    """Return which streams of a plant have each class by its design."""
     text = rows_text(rows) + "design\n"
     _, output = call(["run"], text.encode("ascii"), program=program)
     found: dict[str, list[str]] = {}
     for row in parse_rows("the design", output.decode("ascii")):
         if row["row"] == "class":
             found.setdefault(row["class"], []).append(row["name"])
-    return [f"{word}: {listed(names)}" for word, names in found.items()]
+    return found

@@ -17,7 +17,7 @@ from plantbal.amounts import tonnes_text
 from plantbal.book.accounting import Version
 from plantbal.book.forms import year_file
 from plantbal.book.ledger import Fact
-from plantbal.book.store import Book
+from plantbal.book.store import Store
 from plantbal.model.ledger import Ledger
 from plantbal.model.facts import Fact as Booked
 
@@ -60,7 +60,7 @@ class Cause:
         return f"{self.short}, {self.said}, {self.when} by {self.who}{why}"
 
 
-def causes_of(book: Book, before: Version | None, after: Version) -> list[Cause]:
+def causes_of(book: Store, before: Version | None, after: Version) -> list[Cause]:
     """Return the facts that a report has otherwise than one before it."""
     name = year_file(after.year)
     first = before.seen if before is not None and before.year == after.year else 0
@@ -92,7 +92,7 @@ def _said(fact: Booked) -> str:
     return Fact.booked(fact).said()
 
 
-def _actions(book: Book, year: str) -> Mapping[int, tuple[str, str, str]]:
+def _actions(book: Store, year: str) -> Mapping[int, tuple[str, str, str]]:
     """Return who added each row of a year, when, and why."""
     found = {}
     for line in book.journal():

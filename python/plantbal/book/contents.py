@@ -4,6 +4,7 @@ from __future__ import annotations
 
 import datetime
 from collections.abc import Iterable
+from pathlib import Path
 
 from plantbal.book.ledger import Fact, rows_text
 from plantbal.faults import Fault
@@ -17,7 +18,7 @@ _MOST = schema().limits["most_units_and_tanks"]
 
 
 def contents_of(
-    plant: Iterable[tuple[str, ...]], dips: Iterable[Fact], program: str | None = None
+    plant: Iterable[tuple[str, ...]], dips: Iterable[Fact], program: str | Path | None = None
 ) -> dict[str, int]:
     """Return the grams in tanks by their dips, reckoned by the program.
 
@@ -51,7 +52,7 @@ def contents_of(
 
 
 def _reckoned(
-    tables: dict[str, list[tuple[int, int]]], dips: list[Fact], program: str | None
+    tables: dict[str, list[tuple[int, int]]], dips: list[Fact], program: str | Path | None
 ) -> dict[str, int]:
     rows: list[tuple[object, ...]] = []
     for at, dip in enumerate(dips):

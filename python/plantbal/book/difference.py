@@ -1,19 +1,16 @@
-"""Says what two reports of a period, or a report and what was posted, have otherwise, and why.
+"""What two reports of a period, or a report and what was posted, have otherwise, and why.
 
-FROM and TO are a number of an earlier report, `posted` for what was handed over last, or `now` for
-the report that the book has. Without them it is what was posted against now, or, if nothing was,
-the last earlier report against now.
+A state is the number of an earlier report, `posted` for what was handed over last, or `now` for the
+report that the book has. Without states it is what was posted against now, or, if nothing was, the
+last earlier report against now.
 """
 
 from __future__ import annotations
 
-import argparse
 from collections.abc import Sequence
-from dataclasses import dataclass
-from types import SimpleNamespace
+from dataclasses import dataclass, replace
 
-from plantbal.accounts.account import Book as Rolled
-from plantbal.accounts.account import MonthAccount
+from plantbal.accounts.account import MonthAccount, Rolled
 from plantbal.accounts.month import Month
 from plantbal.accounts.posting import (
     Change,
@@ -22,8 +19,6 @@ from plantbal.accounts.posting import (
     id_of,
     parse_posted,
     posted_text,
-    posting_rows,
-    postings_of,
     state_of,
 )
 from plantbal.book.accounting import (
@@ -33,18 +28,16 @@ from plantbal.book.accounting import (
     version_of,
     versions_of,
 )
-from plantbal.book.causes import Cause, causes_of, change_row, with_causes
+from plantbal.book.causes import Cause, causes_of, with_causes
 from plantbal.book.forms import earlier_file, posted_file, report_file, year_file
 from plantbal.book.journal import Kept
-from plantbal.book.overview import report_behind
-from plantbal.book.said import counted
-from plantbal.book.store import Act, Action, Book
+from plantbal.book.overview import report_state
+from plantbal.book.results import ReportState
+from plantbal.book.said import behind_said
+from plantbal.book.store import Act, Action, Store
 from plantbal.book.years import Years
 from plantbal.faults import Fault
-from plantbal.files import write_text
-from plantbal.inert import csv_text
 
-HEADS = ("stream or tank", "account", "product", "before, t", "after, t", "difference, t", "cause")
 NOW, POSTED = "now", "posted"
 
 
@@ -86,6 +79,8 @@ class Difference:
         The facts that are otherwise.
     id : str
         The id of the postings, if they are against what was posted.
+    report : ReportState
+        How old the period's report is.
     """
 
     period: str
@@ -93,9 +88,10 @@ class Difference:
     changes: list[Change]
     causes: list[Cause]
     id: str = ""
+    report: ReportState = ReportState.CURRENT
 
 
-def posted_numbers(book: Book, period: str) -> int:
+def posted_numbers(book: Store, period: str) -> int:
     """Return how many times a period was posted."""
     number = 0
     while book.has(posted_file(period, number + 1)):
@@ -103,7 +99,7 @@ def posted_numbers(book: Book, period: str) -> int:
     return number
 
 
-def last_posted(book: Book, period: str) -> Posted:
+def last_posted(book: Store, period: str) -> Posted:
     """Return what was posted of a period last; nothing if nothing was."""
     number = posted_numbers(book, period)
     if not number:
@@ -112,7 +108,7 @@ def last_posted(book: Book, period: str) -> Posted:
     return parse_posted(str(book.path(name)), book.text(name))
 
 
-def difference_of(book: Book, period: str, words: Sequence[str]) -> Difference:
+def difference_of(book: Store, period: str, words: Sequence[str]) -> Difference:
     """Return what two states of a period have otherwise.
 
     Raises
@@ -142,7 +138,7 @@ def difference_of(book: Book, period: str, words: Sequence[str]) -> Difference:
     return Difference(period, (one, other), changes, causes, identity)
 
 
-def _default(book: Book, period: str) -> str:
+def _default(book: Store, period: str) -> str:
     """Return against what the report is compared if nothing is said."""
     if posted_numbers(book, period):
         return POSTED
@@ -150,7 +146,7 @@ def _default(book: Book, period: str) -> str:
     return str(number) if number else POSTED
 
 
-def _earlier(book: Book, period: str) -> int:
+def _earlier(book: Store, period: str) -> int:
     """Return how many earlier reports a period has."""
     number = 0
     while book.has(earlier_file(period, number + 1)):
@@ -158,7 +154,7 @@ def _earlier(book: Book, period: str) -> int:
     return number
 
 
-def _side(book: Book, versions: dict[str, Version], period: str, word: str) -> Side:
+def _side(book: Store, versions: dict[str, Version], period: str, word: str) -> Side:
     """Return a state of a period.
 
     Raises
@@ -179,17 +175,17 @@ def _side(book: Book, versions: dict[str, Version], period: str, word: str) -> S
     return _of_version(book, versions, version_of(book, period, year, book.text(name)), word)
 
 
-def _of_version(book: Book, versions: dict[str, Version], version: Version, word: str) -> Side:
+def _of_version(book: Store, versions: dict[str, Version], version: Version, word: str) -> Side:
     account = account_by(book, versions | {version.period: version}, version.period)
     return Side(word, version, Posted("", state_of(account)), account.month)
 
 
-def account_by(book: Book, versions: dict[str, Version], period: str) -> MonthAccount:
+def account_by(book: Store, versions: dict[str, Version], period: str) -> MonthAccount:
     """Return the account of a period by some reports."""
     return Rolled(months_of(book, versions), accounts_of(book)).account(period)
 
 
-def _posted_side(book: Book, versions: dict[str, Version], period: str) -> Side:
+def _posted_side(book: Store, versions: dict[str, Version], period: str) -> Side:
     """Return what was posted last, with the report that it was made of."""
     number = posted_numbers(book, period)
     if not number:
@@ -213,92 +209,25 @@ def _posted_side(book: Book, versions: dict[str, Version], period: str) -> Side:
     return Side(POSTED, versions[period], posted)
 
 
-# ---- the commands
+# ---- the actions
 
 
-def _add_difference(parser: argparse.ArgumentParser) -> None:
-    parser.add_argument("period", metavar="PERIOD", help="the period")
-    what = "two states: the number of an earlier report, posted, now"
-    parser.add_argument("states", metavar="FROM TO", nargs="*", help=what)
-    parser.add_argument("--csv", metavar="FILE", help="the table as CSV")
-    parser.add_argument("--xlsx", metavar="FILE", help="the table and the postings as a workbook")
-    parser.add_argument("--postings", metavar="FILE", help="the postings, which add up to 0")
-
-
-def _difference(options: argparse.Namespace) -> int:
-    """Say what is otherwise."""
-    if len(options.states) > 2:
-        raise Fault("there are more than two states", remedy="say FROM and TO")
-    book = Book(options.book)
+def difference(book: Store, period: str, states: Sequence[str] = ()) -> Difference:
+    """Say what two states have otherwise; the parameters are those of `plantbal.Book.difference`."""
     with book.opened(reading=True):
-        years = Years(book)
-        ledger = years.of_period(options.period)
-        behind = report_behind(book, ledger, book.journal(), options.period)
-        found = difference_of(book, options.period, options.states)
-    for line in said(found):
-        print(line)
-    if behind:
-        print(f"{options.period}: {behind}")
-    _write(options, found)
-    return 0
+        ledger = Years(book).of_period(period)
+        state = report_state(book, ledger, book.journal(), period)
+        return replace(difference_of(book, period, states), report=state)
 
 
-def said(found: Difference) -> list[str]:
-    """Return a difference as lines of text: the changes, and the facts that caused them."""
-    one, other = found.sides
-    if not found.changes:
-        return [f"{found.period}: {one} and {other} have the same figures"]
-    rows = [change_row(change)[:-1] for change in found.changes]
-    widths = [max(len(row[at]) for row in [HEADS, *rows]) for at in range(len(HEADS) - 1)]
-    lines = []
-    for row in [HEADS[:-1], *rows]:
-        cells = [
-            text.ljust(width) if at < 3 else text.rjust(width)
-            for at, (text, width) in enumerate(zip(row, widths))
-        ]
-        lines.append("  ".join(cells).rstrip())
-    postings = postings_of(found.changes)
-    lines.append(f"{counted(len(postings), 'posting')}, which add up to 0 t")
-    causes = [str(cause) for cause in found.causes]
-    causes = causes or [change.cause for change in found.changes if change.cause]
-    lines += [f"cause: {cause}" for cause in dict.fromkeys(causes)]
-    return lines + ([f"id: {found.id}"] if found.id else [])
-
-
-def _write(options: argparse.Namespace, found: Difference) -> None:
-    """Write the files that are wanted."""
-    rows = [HEADS, *map(change_row, found.changes)]
-    if options.csv:
-        write_text(options.csv, csv_text(rows))
-    if options.postings:
-        write_text(options.postings, _postings_text(found))
-    if options.xlsx:
-        from plantbal.accounts.workbook import write_difference
-
-        write_difference(options.xlsx, found.id, found.period, found.changes, rows)
-
-
-def _postings_text(found: Difference) -> str:
-    identity = found.id or f"{found.period} {found.sides[0]} to {found.sides[1]}"
-    return csv_text(posting_rows(identity, found.period, postings_of(found.changes)))
-
-
-def _add_posted(parser: argparse.ArgumentParser) -> None:
-    parser.add_argument("period", metavar="PERIOD", help="the period")
-    parser.add_argument("--anyway", action="store_true", help="also if the period is open")
-    parser.add_argument("--why", metavar="TEXT", default="", help="what there is to say of it")
-    parser.add_argument("--postings", metavar="FILE", help="write the postings too")
-
-
-def _posted(options: argparse.Namespace) -> int:
-    """Record what is handed over."""
-    book, period = Book(options.book), options.period
+def post(book: Store, period: str, *, anyway: bool, why: str, who: str) -> Difference:
+    """Record what is handed over; the parameters are those of `plantbal.Book.post`."""
     with book.opened():
         ledger = Years(book).of_period(period)
-        behind = report_behind(book, ledger, book.journal(), period)
+        behind = behind_said(report_state(book, ledger, book.journal(), period), period)
         if behind:
             raise Fault(f"{period} isn't posted: {behind}", remedy="make the report first")
-        if not ledger.periods[period].closed and not options.anyway:
+        if not ledger.periods[period].closed and not anyway:
             remedy = f"plantbal-desk book close {period}, or say --anyway"
             raise Fault(f"{period} is open, and isn't posted", remedy=remedy)
         before = last_posted(book, period)
@@ -308,22 +237,9 @@ def _posted(options: argparse.Namespace) -> int:
             raise Fault(f"{period} is posted already, as {before.id}", remedy=remedy)
         number = posted_numbers(book, period) + 1
         account = account_by(book, versions_of(book), period)
-        action = Action(Act.POSTED, period, found.id, options.why, options.who)
+        action = Action(Act.POSTED, period, found.id, why, who)
         text = posted_text(found.id, period, state_of(account))
         action.written[posted_file(period, number)] = text
         action.seen = [year_file(ledger.name), report_file(period)]
         book.do(action)
-    if options.postings:
-        write_text(options.postings, _postings_text(found))
-    count = counted(len(postings_of(found.changes)), "posting")
-    print(f"{period}: posted as {found.id}, {count}")
-    return 0
-
-
-DIFFERENCE = SimpleNamespace(__doc__=__doc__, add_arguments=_add_difference, run=_difference)
-POST = SimpleNamespace(
-    __doc__="Records what is handed over of a closed period, with an id that is given once: the "
-    "next difference is against that. The same is never posted twice.",
-    add_arguments=_add_posted,
-    run=_posted,
-)
+    return found

@@ -1,28 +1,19 @@
-"""Changes of single facts, and the closing of periods."""
+"""Changes of single facts: other values, or none."""
 
 from __future__ import annotations
 
-import argparse
+import datetime
+from collections.abc import Iterator
 from dataclasses import dataclass, replace
 from fractions import Fraction
-from types import SimpleNamespace
 
-from plantbal.audit.believed import program_digest
 from plantbal.book.forms import report_file
 from plantbal.book.ledger import Fact, Ledger
 from plantbal.book.meters import Meter, read_meters, taken
-from plantbal.book.naming import Names, cell_of, day_of
-from plantbal.book.reporting import (
-    balances_said,
-    keep,
-    report_of,
-    state_of,
-    suspects_of,
-)
-from plantbal.book.said import lacks, unassayed
-from plantbal.book.store import METERS, Act, Action, Book
+from plantbal.book.naming import Names, cell_of
+from plantbal.book.results import Edited
+from plantbal.book.store import METERS, Act, Action, Store
 from plantbal.book.years import Years
-from plantbal.commands.options import add_run
 from plantbal.faults import Fault, Refusal
 from plantbal.workbook.base import Span, share_at
 from plantbal.workbook.cells import Reader, check_locale
@@ -101,50 +92,54 @@ def _born(ledger: Ledger, fact: Fact, meter: Meter) -> int:
     return share_at(excess, spans, service, fact.first.toordinal())
 
 
-# ---- amend
+# ---- amend and strike
 
 
-def _add_fact(parser: argparse.ArgumentParser) -> None:
-    parser.add_argument("name", metavar="NAME", help="a tag, stream or tank; or the id of a fact")
-    parser.add_argument("day", metavar="DAY", nargs="?", help="the day; not with an id")
-
-
-def _add_amend(parser: argparse.ArgumentParser) -> None:
-    _add_fact(parser)
-    parser.add_argument("amount", metavar="AMOUNT", help="12188 t, 151000 bbl; of a dip 13838 mm")
-    parser.add_argument("--why", metavar="TEXT", required=True, help="the reason")
-    parser.add_argument("--density", metavar="TEXT", default="", help="another density: 862")
-    parser.add_argument("--error", metavar="TEXT", default="", help="another error: 0.2 t")
-    form = "how numbers and days are written, such as de"
-    parser.add_argument("--locale", metavar="NAME", default="", help=form)
-
-
-def _amend(options: argparse.Namespace) -> int:
-    """Give a fact other values."""
-    book = Book(options.book)
+def amend(
+    book: Store,
+    name: str,
+    day: datetime.date | None,
+    other: Other,
+    *,
+    why: str,
+    who: str = "",
+) -> Edited:
+    """Give a fact other values; the parameters are those of `plantbal.Book.amend`."""
     with book.opened():
         meters = read_meters(book.path(METERS))
-        named = Names(Years(book), meters).find(options.name, day_of(options.day, options.locale))
+        named = Names(Years(book), meters).find(name, day)
         fact, places = named.fact, named.places
         if named.struck:
             remedy = "add it anew by a workbook: plantbal-desk book add"
-            raise Fault(f"{fact.id} was struck", text=options.name, remedy=remedy)
+            raise Fault(f"{fact.id} was struck", text=name, remedy=remedy)
         tanks = {tank.name: tank for tank in taken(places[-1][0].plant, meters)[1]}
-        other = Other(options.amount, options.density, options.error, options.locale)
         meter = meters.get(fact.place, Meter(fact.place))
         born = _born(places[-1][0], fact, meter)
         new = other.of(fact, meter, tanks.get(fact.place), born)
         if (new.values, new.variance) == (fact.values, fact.variance):
-            print(f"{fact.id} is {fact.said()} already")
-            return 0
-        action = Action(Act.AMEND, fact.id, new.said(), options.why, options.who)
+            return Edited(fact, new, is_booked=False)
+        action = Action(Act.AMEND, fact.id, new.said(), why, who)
         for ledger, there in places:
-            _put(ledger, new.amendment(there.id, options.why))
+            _put(ledger, new.amendment(there.id, why))
             action.add(ledger)
         book.do(action)
-        print(f"{fact.id}: {fact.said()} becomes {new.said()}, with an error of {new.error()}")
-        _say_stale(book, places)
-    return 0
+        return Edited(fact, new, True, tuple(_older(book, places)))
+
+
+def strike(book: Store, name: str, day: datetime.date | None, *, why: str, who: str = "") -> Edited:
+    """Take a fact out; the parameters are those of `plantbal.Book.strike`."""
+    with book.opened():
+        meters = read_meters(book.path(METERS))
+        named = Names(Years(book), meters).find(name, day)
+        fact = named.fact
+        if named.struck:
+            return Edited(fact, None, is_booked=False)
+        action = Action(Act.STRIKE, fact.id, why=why, who=who)
+        for ledger, there in named.places:
+            _put(ledger, ("strike", there.id, why))
+            action.add(ledger)
+        book.do(action)
+        return Edited(fact, None, True, tuple(_older(book, named.places)))
 
 
 def _put(ledger: Ledger, row: tuple[str, ...]) -> None:
@@ -155,106 +150,12 @@ def _put(ledger: Ledger, row: tuple[str, ...]) -> None:
         raise Fault(refusal.said, text=refusal.text, remedy=refusal.remedy) from refusal
 
 
-def _say_stale(book: Book, places: list[tuple[Ledger, Fact]]) -> None:
-    """Say which reports that are there have to be made anew."""
+def _older(book: Store, places: list[tuple[Ledger, Fact]]) -> Iterator[str]:
+    """Give the periods with a report that doesn't have the last values of a fact."""
     for ledger, fact in places:
         eve = 1 if fact.kind == "dip" else 0
         first, last = fact.first.toordinal(), fact.last.toordinal()
         for name, period in ledger.periods.items():
             touched = first <= period.last and last >= period.first - eve
             if touched and book.path(report_file(name)).is_file():
-                print(f"{name}: its report is older: plantbal-desk book report {name}")
-
-
-# ---- strike
-
-
-def _add_strike(parser: argparse.ArgumentParser) -> None:
-    _add_fact(parser)
-    parser.add_argument("--why", metavar="TEXT", required=True, help="the reason")
-    form = "how days are written, such as de"
-    parser.add_argument("--locale", metavar="NAME", default="", help=form)
-
-
-def _strike(options: argparse.Namespace) -> int:
-    """Take a fact out."""
-    book = Book(options.book)
-    with book.opened():
-        meters = read_meters(book.path(METERS))
-        named = Names(Years(book), meters).find(options.name, day_of(options.day, options.locale))
-        fact = named.fact
-        if named.struck:
-            print(f"{fact.id} is struck already")
-            return 0
-        action = Action(Act.STRIKE, fact.id, why=options.why, who=options.who)
-        for ledger, there in named.places:
-            _put(ledger, ("strike", there.id, options.why))
-            action.add(ledger)
-        book.do(action)
-        print(f"{fact.id}: {fact.said()} is struck")
-        _say_stale(book, named.places)
-    return 0
-
-
-# ---- close
-
-
-def _add_close(parser: argparse.ArgumentParser) -> None:
-    parser.add_argument("period", metavar="PERIOD", help="the period")
-    parser.add_argument(
-        "--anyway", action="store_true", help="also if its report needs a look before it is booked"
-    )
-    add_run(parser)
-
-
-def _close(options: argparse.Namespace) -> int:
-    """Close a period with its report."""
-    book = Book(options.book)
-    name = options.period
-    with book.opened():
-        years = Years(book)
-        ledger = years.of_period(name)
-        if ledger.periods[name].closed:
-            print(f"{name} is closed already")
-            return 0
-        missing = lacks(ledger, ledger.periods[name], read_meters(book.path(METERS)))
-        owed = unassayed(ledger, ledger.periods[name])
-        ledger.put("close", name)
-        text = book.text(f"{ledger.name}.csv") + ledger.added_text()
-        report, output = report_of(options, text, name, ledger.session.components_in(name))
-        said = [state_of(output, name), *suspects_of(output), *balances_said(output)]
-        for line in [*said, *missing]:
-            print(line)
-        why = output.why + (["assays are missing, and can't come after it"] if owed else [])
-        if output.impossible:  # assays can't be changed after it, either
-            why.append("a stream carries more of a component than there is of it, as said above")
-        if why and not options.anyway:
-            raise Fault(
-                f"{name} isn't closed: {'; '.join(why)}",
-                remedy="put that right first, or close it with --anyway",
-            )
-        action = Action(Act.CLOSE, name, who=options.who, program=program_digest(options.program))
-        action.add(ledger)
-        keep(book, action, ledger, name, report, closed=False)
-        book.do(action)
-        print(f"{name} is closed, with the report {book.path(report_file(name))}")
-    return 0
-
-
-AMEND = SimpleNamespace(
-    __doc__="Gives a reading, a dip or a ticket another value, with a reason. Its variance follows "
-    "from the error of its meter or gauge in meters.csv.",
-    add_arguments=_add_amend,
-    run=_amend,
-)
-STRIKE = SimpleNamespace(
-    __doc__="Takes a reading, a dip or a ticket out, with a reason.",
-    add_arguments=_add_strike,
-    run=_strike,
-)
-CLOSE = SimpleNamespace(
-    __doc__="Closes a period with its report: what is added to it from then on comes late, and its "
-    "history says so. If the report needs a look before it is booked, only with --anyway.",
-    add_arguments=_add_close,
-    run=_close,
-)
+                yield name

@@ -6,7 +6,6 @@ gram.
 
 from __future__ import annotations
 
-import argparse
 import datetime
 from dataclasses import replace
 from pathlib import Path
@@ -18,63 +17,50 @@ from plantbal.book.beginning import check_year, classes_of, plant_of
 from plantbal.book.contents import contents_of
 from plantbal.book.ledger import Fact, Ledger, plain, rows_text
 from plantbal.book.meters import meters_of, meters_text, read_meters
-from plantbal.book.naming import day_of
-from plantbal.book.said import counted
-from plantbal.book.store import METERS, PLANT, Act, Action, Book
+from plantbal.book.results import Begun
+from plantbal.book.store import METERS, PLANT, Act, Action, Store
 from plantbal.book.years import Years, calendar_year, periods_of
-from plantbal.commands.options import add_program, add_reading
 from plantbal.faults import Fault, InputFault, Place, Refusal
 from plantbal.records import read_records
+from plantbal.workbook.options import ReadingOptions
 
 _DAY = datetime.timedelta(1)
 
 
-def add_arguments(parser: argparse.ArgumentParser) -> None:
-    """Add the words of the command."""
-    parser.add_argument("year", metavar="YEAR", help="the next year, such as 2025")
-    parser.add_argument("--plant", metavar="WORKBOOK", help="another plant (default: plant.csv)")
-    parser.add_argument("--first", metavar="DAY", help="its first day (default: January 1st)")
-    add_program(parser)
-    add_reading(parser)
-
-
-def run(options: argparse.Namespace) -> int:
-    """Begin the next year."""
-    check_year(options.year)
-    book = Book(options.book)
+def follow(
+    book: Store,
+    year: str,
+    *,
+    plant: str | Path | None = None,
+    first: datetime.date | None = None,
+    reading: ReadingOptions = ReadingOptions(),
+    program: str | Path | None = None,
+    who: str = "",
+) -> Begun:
+    """Begin the next year; the parameters are those of `plantbal.Book.next`."""
+    check_year(year)
     with book.opened():
-        if options.year in book.years:
-            print(f"{options.year}.csv is there already")
-            return 0
+        if year in book.years:
+            return Begun(year, 0, {}, is_begun=False)
         old = Years(book).last
-        if options.year <= old.name:
-            what = f"{options.year} doesn't come after {old.name}, the last year"
-            raise Fault(what, text=options.year, remedy="say a later one")
-        first = first_day(options, book.text(f"{old.name}.csv"), old)
-        action = Action(Act.NEXT, options.year, who=options.who)
-        action.program = program_digest(options.program)
-        new, notes = begun(options, book, action, first)
-        contents = carry(old, new, first - _DAY, options.program)
-        classes = classes_of(new.plant, options.program) if options.plant else []
+        if year <= old.name:
+            what = f"{year} doesn't come after {old.name}, the last year"
+            raise Fault(what, text=year, remedy="say a later one")
+        first = first_day(year, first, book.text(f"{old.name}.csv"), old)
+        action = Action(Act.NEXT, year, who=who)
+        action.program = program_digest(program)
+        new, notes = begun(book, action, year, plant, first, reading)
+        contents = carry(old, new, first - _DAY, program)
+        classes = classes_of(new.plant, program) if plant else {}
         action.written[f"{new.name}.csv"] = rows_text(new.session)
         action.rows = [f"{new.name}: 1 to {new.count}"]
         book.do(action)
-    lines = [f"{new.name}.csv: from {first} on; {counted(len(new.plant), 'row')} of the plant"]
-    lines += classes
-    lines += [
-        f"{name}: {plain(tonnes_of(grams))} t at the end of {first - _DAY} and as the opening"
-        for name, grams in contents.items()
-    ]
-    lines += [
-        f"{name}: no dip of {first - _DAY}, so it has no opening yet"
-        for name, kind in new.session.nodes.items()
-        if kind == "tank" and name not in contents
-    ]
-    print("\n".join([*lines, *notes]))
-    return 0
+    tanks = [name for name, kind in new.session.nodes.items() if kind == "tank"]
+    unopened = tuple(name for name in tanks if name not in contents)
+    return Begun(year, len(new.plant), classes, tuple(notes), first, contents, unopened)
 
 
-def first_day(options: argparse.Namespace, text: str, old: Ledger) -> datetime.date:
+def first_day(name: str, wanted: datetime.date | None, text: str, old: Ledger) -> datetime.date:
     """Return the first day of the next year: the one after the last period of the year before it.
 
     Raises
@@ -85,20 +71,25 @@ def first_day(options: argparse.Namespace, text: str, old: Ledger) -> datetime.d
     eve = max((last for _, last in periods_of(text).values()), default=None)
     if eve is None:
         raise Fault(f"{old.name} has no period yet", remedy="add its workbooks first")
-    year = calendar_year(options.year)
+    year = calendar_year(name)
     first = eve + _DAY
-    wanted = first if year is None else datetime.date(year, 1, 1)
-    wanted = day_of(options.first, options.locale) or wanted
+    if wanted is None:
+        wanted = first if year is None else datetime.date(year, 1, 1)
     if wanted != first:
         raise Fault(
-            f"the last period of {old.name} ends on {eve}, and {options.year} begins on {wanted}",
+            f"the last period of {old.name} ends on {eve}, and {name} begins on {wanted}",
             remedy=f"add what lies between to {old.name} first, or say --first {first}",
         )
     return first
 
 
 def begun(
-    options: argparse.Namespace, book: Book, action: Action, first: datetime.date
+    book: Store,
+    action: Action,
+    year: str,
+    plant: str | Path | None,
+    first: datetime.date,
+    reading: ReadingOptions,
 ) -> tuple[Ledger, list[str]]:
     """Return the next year with its plant alone, and what is passed over of another plant.
 
@@ -111,15 +102,15 @@ def begun(
     """
     file, text = str(book.path(PLANT)), book.text(PLANT)
     notes: list[str] = []
-    if options.plant:
+    if plant:
         accounts = accounts_of(book)
-        rows, work = plant_of(options, options.plant, accounts)
+        rows, work = plant_of(plant, reading, accounts)
         kept = read_meters(book.path(METERS)) | {each.name: each for each in meters_of(work)}
-        file, text = options.plant, rows_text(rows)
-        action.what = Path(options.plant).name
+        file, text = str(plant), rows_text(rows)
+        action.what = Path(plant).name
         action.written = {PLANT: text, METERS: meters_text(kept.values())}
         notes = [*put_accounts(accounts, work.accounts, book, action), *work.notes]
-    new = Ledger.read(options.year, file, text, first, datetime.date.max)
+    new = Ledger.read(year, file, text, first, datetime.date.max)
     for record in read_records(text.encode("utf-8")):
         if record.fields not in new.plant:
             place = Place(file=file, line=record.line)
@@ -127,7 +118,9 @@ def begun(
     return new, notes
 
 
-def carry(old: Ledger, new: Ledger, eve: datetime.date, program: str | None) -> dict[str, int]:
+def carry(
+    old: Ledger, new: Ledger, eve: datetime.date, program: str | Path | None
+) -> dict[str, int]:
     """Put to a year what goes over from the one before it, and return the contents of its tanks.
 
     Raises

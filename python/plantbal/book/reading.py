@@ -3,8 +3,6 @@ book's."""
 
 from __future__ import annotations
 
-import argparse
-import sys
 from collections.abc import Collection, Iterable, Iterator, Sequence
 from dataclasses import replace
 from itertools import islice
@@ -13,13 +11,13 @@ from pathlib import Path
 from plantbal.accounts.reading import read_accounts
 from plantbal.book.meters import Meter, taken
 from plantbal.book.said import counted, listed
-from plantbal.faults import Fault, InputFault, Refusal
+from plantbal.faults import Fault, Faults, InputFault, Refusal
 from plantbal.memory import uncollected
 from plantbal.session import Period
 from plantbal.workbook.base import Span
-from plantbal.workbook.cells import MISSING, Reader, check_locale
 from plantbal.workbook.conversion import Conversion
 from plantbal.workbook.facts import Converter
+from plantbal.workbook.options import ReadingOptions
 from plantbal.workbook.plant import Stream, Tank
 from plantbal.workbook.sheets import Sheet, read_workbook
 from plantbal.workbook.tables import OTHER_HEADS, SHEETS
@@ -35,7 +33,7 @@ _HEADS_WITHIN = 40  # rows of a sheet
 _HEADS_THAT_TELL = 3  # with fewer columns a sheet of readings might be meant
 
 
-def sheets_of(path: str) -> list[Sheet]:
+def sheets_of(path: str | Path) -> list[Sheet]:
     """Return the sheets of a workbook; a CSV file of another name is what its heads say."""
     sheets = read_workbook(path)
     if len(sheets) == 1 and sheets[0].is_csv and not Path(path).is_dir():
@@ -56,48 +54,33 @@ def _kind_of(sheet: Sheet) -> str:
     return "readings"
 
 
-def reader_of(options: argparse.Namespace) -> Reader:
-    """Return how the cells of a workbook are read."""
-    words = MISSING | {word.casefold() for word in options.missing}
-    return Reader(check_locale(options.locale), words, 2 if options.limits else 1)
-
-
-def say_faults(prog: str, found: Conversion, then: str) -> None:
-    """Say what is wrong with a workbook on standard error, and raise.
+def check_faults(found: Conversion, then: str) -> None:
+    """Raise if something is wrong with a workbook.
 
     Raises
     ------
-    Fault
-        If something is wrong.
+    Faults
+        If it is so.
     """
-    if found.ok:
-        return
-    for line in found.said():
-        print(f"{prog}: {line}", file=sys.stderr)
-    raise _together(found.faults, then)
+    if not found.ok:
+        raise Faults(found.faults, found.said(), then)
 
 
-def raise_all(prog: str, faults: Sequence[Fault]) -> None:
-    """Say what is wrong with facts on standard error, and raise.
+def raise_all(faults: Sequence[Fault]) -> None:
+    """Raise if something is wrong with facts.
 
     Raises
     ------
-    Fault
-        If something is wrong.
+    Faults
+        If it is so.
     """
-    for fault in faults[:_FIRST]:
-        print(f"{prog}: {fault}", file=sys.stderr)
     if faults:
-        raise _together(faults, "nothing is booked")
-
-
-def _together(faults: Sequence[Fault], then: str) -> Fault:
-    """Return faults that have been said as one."""
-    return Fault(f"{len(faults):,} fault{'' if len(faults) == 1 else 's'}, and {then}")
+        raise Faults(faults, [str(fault) for fault in faults[:_FIRST]], "nothing is booked")
 
 
 def converted(
-    options: argparse.Namespace,
+    workbook: str | Path,
+    reading: ReadingOptions,
     plant: list[tuple[str, ...]],
     meters: dict[str, Meter],
     periods: Iterable[Period] = (),
@@ -107,8 +90,10 @@ def converted(
 
     Parameters
     ----------
-    options : Namespace
-        The words of the command.
+    workbook : str or Path
+        The workbook.
+    reading : ReadingOptions
+        How it is read.
     plant : list of tuple of str
         The rows of the book's plant.
     meters : dict of str to Meter
@@ -121,10 +106,10 @@ def converted(
     Raises
     ------
     Fault
-        If something is wrong with it, which has been said.
+        If something is wrong with it.
     """
     with uncollected():
-        work = Converter(sheets_of(options.workbook), reader_of(options), tuple(options.skip))
+        work = Converter(sheets_of(workbook), reading.reader, reading.skip)
         work.whole = False
         work.spans = [Span(each.first, each.last) for each in periods]
         _read_plant(work, plant, meters)
@@ -142,13 +127,11 @@ def converted(
     if work.faults:
         work.faults = [*_left_out(work, *taken(plant, meters)), *work.faults]
     found = Conversion(work.session, work.faults, work.notes)
-    say_faults(options.prog, found, "nothing is booked")
+    check_faults(found, "nothing is booked")
     return work
 
 
-def _read_plant(
-    work: Converter, plant: list[tuple[str, ...]], meters: dict[str, Meter]
-) -> None:
+def _read_plant(work: Converter, plant: list[tuple[str, ...]], meters: dict[str, Meter]) -> None:
     """Have a workbook's plant read, or take the book's with more critical values.
 
     Without tanks or tables these are the book's.

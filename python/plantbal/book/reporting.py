@@ -2,47 +2,34 @@
 
 from __future__ import annotations
 
-import argparse
-from collections.abc import Sequence
+from collections.abc import Iterator, Sequence
 from decimal import Decimal
 
 from plantbal.audit.believed import judge, program_digest
 from plantbal.book.forms import earlier_file, old_earlier_file, report_file, year_file
 from plantbal.book.ledger import Ledger, plain
 from plantbal.book.meters import read_meters
-from plantbal.book.said import counted, lacks
-from plantbal.book.store import METERS, Act, Action, Book
+from plantbal.book.results import Reported
+from plantbal.book.said import lacks
+from plantbal.book.store import METERS, Act, Action, Store
 from plantbal.book.years import Years
-from plantbal.commands.options import add_run
 from plantbal.faults import Fault
-from plantbal.files import write_text
-from plantbal.program import call, words_of
+from plantbal.program import RunSettings, call
 from plantbal.report.blocks import Block, last_blocks
 from plantbal.report.output import Output, parse_report
 
 _MOST = 5  # suspects that are named
 
 
-def add_arguments(parser: argparse.ArgumentParser) -> None:
-    """Add the words of the command."""
-    parser.add_argument(
-        "periods", metavar="PERIOD", nargs="*", help="the periods (default: all open ones)"
-    )
-    parser.add_argument(
-        "--session", metavar="FILE", help="write the session that asks for the reports too"
-    )
-    add_run(parser)
-
-
 def report_of(
-    options: argparse.Namespace, text: str, period: str, components: Sequence[str] = ()
+    settings: RunSettings, text: str, period: str, components: Sequence[str] = ()
 ) -> tuple[str, Output]:
     """Return the report of a period with its history, as the program writes it, and as tables.
 
     Parameters
     ----------
-    options : Namespace
-        The words of the command.
+    settings : RunSettings
+        How the session is run.
     text : str
         The session.
     period : str
@@ -50,29 +37,23 @@ def report_of(
     components : sequence of str
         The components whose balances are asked for too.
     """
-    return written_of(options, text + rows_asking(period, components), period)
+    return written_of(settings, text + rows_asking(period, components), period)
 
 
-def written_of(options: argparse.Namespace, asked: str, what: str) -> tuple[str, Output]:
+def written_of(settings: RunSettings, asked: str, what: str) -> tuple[str, Output]:
     """Return what the program writes of a session, and the same as tables.
 
     Parameters
     ----------
-    options : Namespace
-        The words of the command.
+    settings : RunSettings
+        How the session is run.
     asked : str
         The session.
     what : str
         What it asks for, in what is said.
     """
-    words = words_of(
-        tests=not options.no_tests,
-        eliminate=options.eliminate,
-        gap=options.gap,
-        sweeps=options.sweeps,
-    )
-    status, output = call(words, asked.encode("ascii"), program=options.program)
-    judge(output, f"the report of {what}", options.program)
+    status, output = call(settings.words, asked.encode("ascii"), program=settings.program)
+    judge(output, f"the report of {what}", settings.program)
     written = output.decode("ascii")
     return written, parse_report(written, f"the report of {what}", status)
 
@@ -129,7 +110,7 @@ def suspects_of_block(block: Block) -> list[str]:
     return [f"{block.subject}: suspects: {', '.join(names[:_MOST])}{more}"]
 
 
-def keep(book: Book, action: Action, ledger: Ledger, period: str, text: str, closed: bool) -> bool:
+def keep(book: Store, action: Action, ledger: Ledger, period: str, text: str, closed: bool) -> bool:
     """Have an action write a report, and keep the one before it if its period was closed then.
 
     Returns
@@ -147,7 +128,7 @@ def keep(book: Book, action: Action, ledger: Ledger, period: str, text: str, clo
     return keep_as(book, action, ledger, name, text)
 
 
-def keep_as(book: Book, action: Action, ledger: Ledger, name: str, text: str) -> bool:
+def keep_as(book: Store, action: Action, ledger: Ledger, name: str, text: str) -> bool:
     """Have an action write a report under a name.
 
     Returns
@@ -168,7 +149,7 @@ def reported_in(text: str) -> str:
     return next((row[1] for row in rows), "")
 
 
-def free_name(book: Book, period: str) -> str:
+def free_name(book: Store, period: str) -> str:
     """Return the name for an earlier report of a period: the first number that none has."""
     number = 1
     while book.has(earlier_file(period, number)) or book.has(old_earlier_file(period, number)):
@@ -176,41 +157,49 @@ def free_name(book: Book, period: str) -> str:
     return earlier_file(period, number)
 
 
-def run(options: argparse.Namespace) -> int:
-    """Write the reports."""
-    book = Book(options.book)
-    status = 0
+def reports(
+    book: Store, names: Sequence[str], settings: RunSettings, who: str = ""
+) -> Iterator[Reported]:
+    """Write the reports of periods, and give each when it is kept.
+
+    Raises
+    ------
+    Fault
+        If there is no such period, or none is open.
+    """
     with book.opened():
         years = Years(book)
         meters = read_meters(book.path(METERS))
-        periods = options.periods or years.open_periods()
+        periods = list(names) or years.open_periods()
         if not periods:
             raise Fault("no period is open", remedy="name the periods whose reports are wanted")
         for name in periods:
             ledger = years.of_period(name)
             components = ledger.session.components_in(name)
-            text, output = report_of(options, book.text(f"{ledger.name}.csv"), name, components)
-            action = Action(Act.REPORT, name, who=options.who)
-            action.program = program_digest(options.program)
+            text, output = report_of(settings, book.text(f"{ledger.name}.csv"), name, components)
+            action = Action(Act.REPORT, name, who=who)
+            action.program = program_digest(settings.program)
             new = keep(book, action, ledger, name, text, ledger.periods[name].closed)
             if new:
                 book.do(action)
-            print(state_of(output, name))
             missing = lacks(ledger, ledger.periods[name], meters)
-            for line in [*suspects_of(output), *balances_said(output), *missing]:
-                print(line)
-            edits = len([row for row in output.rows if row["row"] == "edit"])
-            history = f", with {counted(edits, 'edit')}" if edits else ""
-            print(
-                f"{name}: {book.path(report_file(name))}{history}" + ("" if new else ", as it was")
-            )
-            status = status if output.ok else 1
-        if options.session:
-            texts = {years.of_period(name).name: "" for name in periods}
-            ledger = years.of_period(periods[0])
-            if len(texts) > 1:
-                raise Fault("these periods are of several years", remedy="name those of one year")
-            text = book.text(f"{next(iter(texts))}.csv")
-            asked = [rows_asking(name, ledger.session.components_in(name)) for name in periods]
-            write_text(options.session, text + "".join(asked))
-    return status
+            yield Reported(name, output, book.path(report_file(name)), new, tuple(missing))
+
+
+def session_asking(book: Store, names: Sequence[str]) -> str:
+    """Return the session that asks for the reports of periods of one year.
+
+    Raises
+    ------
+    Fault
+        If they are of several years.
+    """
+    with book.opened(reading=True):
+        years = Years(book)
+        periods = list(names) or years.open_periods()
+        ledgers = {ledger.name: ledger for ledger in map(years.of_period, periods)}
+        if len(ledgers) > 1:
+            raise Fault("these periods are of several years", remedy="name those of one year")
+        text = "".join(book.text(year_file(name)) for name in ledgers)
+        session = years.of_period(periods[0]).session
+    return text + "".join(rows_asking(name, session.components_in(name)) for name in periods)

@@ -10,8 +10,9 @@ from plantbal.book.changes import Changes
 from plantbal.book.forms import JOURNAL
 from plantbal.book.ledger import PLANT_KINDS, Fact, Ledger
 from plantbal.book.meters import Meter
-from plantbal.book.store import Book
-from plantbal.lint import RULES, lint_session
+from plantbal.book.results import ReportState, YearAdded
+from plantbal.book.store import Store
+from plantbal.lint import RULES, Finding, lint_session
 from plantbal.session import Period, day_of_number, in_service, is_served, period_days
 from plantbal.workbook.facts import days_of, spans, tank_days
 
@@ -32,7 +33,7 @@ def counted(count: int, word: str) -> str:
     return f"{count:,} {word}{'' if count == 1 else 's'}"
 
 
-def waiting_said(book: Book) -> list[str]:
+def waiting_said(book: Store) -> list[str]:
     """Return what is to be said of an action that waits, if one does."""
     if not book.waits:
         return []
@@ -44,23 +45,30 @@ def waiting_said(book: Book) -> list[str]:
     ]
 
 
+def behind_said(state: ReportState, period: str) -> str:
+    """Return what is to be said of a period's report, or nothing if it has all that is booked."""
+    if state is ReportState.OLDER:
+        return f"changed since its report: plantbal-desk book report {period}"
+    return "not reported yet" if state is ReportState.MISSING else ""
+
+
 def listed(names: list[str]) -> str:
     """Return names with commas, of many the first."""
     more = f" and {len(names) - FIRST:,} more" if len(names) > FIRST else ""
     return ", ".join(names[:FIRST]) + more
 
 
-def added(ledger: Ledger) -> str:
-    """Return what was added to a ledger, in a line."""
-    counts = Counter(row[1] if row[0] == "late" else row[0] for row in ledger.added)
+def added(year: YearAdded) -> str:
+    """Return what was added to a year, in a line."""
+    counts = Counter(row[1] if row[0] == "late" else row[0] for row in year.rows)
     new = [counted(counts[kind], word) for kind, word in _NEW.items() if counts[kind]]
     plant = sum(counts[kind] for kind in PLANT_KINDS)
     new += [counted(plant, "row") + " of the plant"] if plant else []
-    late = sum(row[0] == "late" for row in ledger.added)
+    late = sum(row[0] == "late" for row in year.rows)
     parts = [f"new: {', '.join(new)}"] if new else []
     parts += [f"late: {late:,} of them"] if late else []
     parts += [f"{word}: {counts[kind]:,}" for kind, word in _EDITED.items() if counts[kind]]
-    return f"{ledger.name}.csv: {'; '.join(parts) or 'nothing new'}"
+    return f"{year.name}.csv: {'; '.join(parts) or 'nothing new'}"
 
 
 def changed(changes: Changes, name: str, struck: bool) -> list[str]:
@@ -97,7 +105,7 @@ def changed(changes: Changes, name: str, struck: bool) -> list[str]:
     return lines
 
 
-def doubts(before: str, added_rows: str) -> list[str]:
+def doubts(before: str, added_rows: str) -> list[Finding]:
     """Return what rows bring that looks wrong: another unit, an error of another size.
 
     Parameters
@@ -108,12 +116,12 @@ def doubts(before: str, added_rows: str) -> list[str]:
     if not added_rows:
         return []
     old, new = (_odd(text.encode("ascii")) for text in (before, before + added_rows))
-    return [f"look at it: {said}" for said in new if said not in old][:FIRST]
+    known = {(each.text, each.remedy) for each in old}
+    return [each for each in new if (each.text, each.remedy) not in known]
 
 
-def _odd(session: bytes) -> list[str]:
-    others = RULES.keys() - _ODD
-    return [f"{each.text}: {each.remedy}" for each in lint_session(session, ignore=others)]
+def _odd(session: bytes) -> list[Finding]:
+    return lint_session(session, ignore=RULES.keys() - _ODD)
 
 
 def lacking(ledger: Ledger, facts: Iterable[Fact], meters: dict[str, Meter]) -> list[str]:

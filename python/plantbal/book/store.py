@@ -55,7 +55,7 @@ from plantbal.book.writing import Writing, sync
 from plantbal.faults import Fault, InputFault, Place, decoded, read_bytes
 from plantbal.files import unwritten
 
-__all__ = ["METERS", "PLANT", "REPORTS", "Act", "Action", "Book", "Head", "Line"]
+__all__ = ["METERS", "PLANT", "REPORTS", "Act", "Action", "Head", "Line", "Store"]
 
 _MOST_FILES = 500  # that one line of the journal names
 _LOST = "its journal is lost: put back journal.csv, from a backup"
@@ -129,7 +129,7 @@ class Head:
         return f"{self.number} {self.digest}"
 
 
-class Book:
+class Store:
     """The folder of a book.
 
     Parameters

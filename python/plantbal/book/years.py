@@ -8,7 +8,7 @@ from collections.abc import Iterable
 from dataclasses import dataclass
 
 from plantbal.book.ledger import Fact, Ledger
-from plantbal.book.store import Act, Book
+from plantbal.book.store import Act, Store
 from plantbal.faults import Fault
 
 _DAY = datetime.timedelta(1)
@@ -57,7 +57,7 @@ def periods_of(text: str) -> dict[str, tuple[bool, datetime.date]]:
     return found
 
 
-def spans_of(book: Book) -> list[Span]:
+def spans_of(book: Store) -> list[Span]:
     """Return the days of each year, in order.
 
     A year begins on the day after the last period of the year before it, and goes up to the next.
@@ -86,7 +86,7 @@ class Years:
 
     Parameters
     ----------
-    book : Book
+    book : Store
         The book, which has been opened.
 
     Attributes
@@ -97,7 +97,7 @@ class Years:
         Of each year the rows that the commands `amend` and `strike` have written.
     """
 
-    def __init__(self, book: Book) -> None:
+    def __init__(self, book: Store) -> None:
         self.book = book
         self.spans = spans_of(book)
         self.typed: defaultdict[str, set[int]] = defaultdict(set)

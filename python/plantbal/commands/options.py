@@ -7,6 +7,9 @@ from collections.abc import Callable
 
 from plantbal.schema import schema
 
+from plantbal.program import RunSettings
+from plantbal.workbook.options import ReadingOptions
+
 
 def seconds_of(text: str) -> float:
     """Return a number of seconds.
@@ -100,4 +103,21 @@ def add_reading(parser: argparse.ArgumentParser) -> None:
         "--limits",
         action="store_true",
         help="errors are limits that hold 95 times in 100: half of each is taken",
+    )
+
+
+def reading_of(options: argparse.Namespace) -> ReadingOptions:
+    """Return how a workbook is read by the words of `add_reading`."""
+    skip = tuple(options.skip)
+    return ReadingOptions(options.locale, tuple(options.missing), skip, options.limits)
+
+
+def settings_of(options: argparse.Namespace) -> RunSettings:
+    """Return how a session is run by the words of `add_run`."""
+    return RunSettings(
+        tests=not options.no_tests,
+        eliminate=options.eliminate,
+        gap=options.gap,
+        sweeps=options.sweeps,
+        program=options.program,
     )

@@ -16,8 +16,8 @@ from plantbal.lint import say_brief
 from plantbal.memory import uncollected
 from plantbal.session import Session
 from plantbal.workbook.account import SheetAccount
-from plantbal.workbook.cells import MISSING, Reader, check_locale
 from plantbal.workbook.facts import Converter
+from plantbal.workbook.options import ReadingOptions
 from plantbal.workbook.sheets import read_workbook
 
 HELP = """
@@ -131,10 +131,10 @@ def convert(
     Fault
         If the workbook itself can't be read, or there is no such locale.
     """
-    words = MISSING | {word.casefold() for word in missing}
-    reader = Reader(check_locale(locale), words, 2 if limits else 1)
+    how = ReadingOptions(locale, tuple(missing), tuple(skip), limits)
+    reader = how.reader
     with uncollected():
-        work = Converter(read_workbook(path), reader, tuple(skip))
+        work = Converter(read_workbook(path), reader, how.skip)
         if not work.sheets["streams"] and not work.sheets["rows"] and not work.faults:
             what, remedy = "there is no sheet streams", "plantbal-desk template writes one"
             raise InputFault(what, place=Place(file=str(path)), remedy=remedy)

@@ -61,24 +61,34 @@ class Inner:
     def handler(self) -> Handler:
         """Return what does its work."""
         module, _, part = self.home.partition(":")
-        found = importlib.import_module(f"plantbal.book.{module}")
+        found = importlib.import_module(f"plantbal.commands.book.{module}")
         return cast(Handler, getattr(found, part) if part else found)
 
 
 COMMANDS: Sequence[Inner] = (
-    Inner("new", "beginning", "make a book of a plant's workbook"),
+    Inner("new", "years:NEW", "make a book of a plant's workbook"),
     Inner("add", "adding", "add a workbook: what is new, and what is changed, with its reason"),
-    Inner("show", "showing", "show what is booked of a stream or tank"),
+    Inner("show", "showing:SHOW", "show what is booked of a stream or tank"),
     Inner("amend", "editing:AMEND", "give a fact another value, with a reason"),
     Inner("strike", "editing:STRIKE", "take a fact out, with a reason"),
-    Inner("report", "reporting", "write the reports of periods"),
-    Inner("window", "window", "reconcile several periods at once, over a dip that is missing"),
-    Inner("close", "editing:CLOSE", "close a period with its report"),
-    Inner("difference", "difference:DIFFERENCE", "say what two reports have otherwise, and why"),
-    Inner("posted", "difference:POST", "record what is handed over of a period, once"),
-    Inner("account", "account", "show a period's account: stocks, receipts, shipments, losses"),
-    Inner("status", "overview", "say what is open, what is missing, and how full the year is"),
-    Inner("next", "following", "begin the next year"),
+    Inner("report", "reporting:REPORT", "write the reports of periods"),
+    Inner(
+        "window",
+        "reporting:WINDOW",
+        "reconcile several periods at once, over a dip that is missing",
+    ),
+    Inner("close", "closing:CLOSE", "close a period with its report"),
+    Inner("difference", "accounting:DIFFERENCE", "say what two reports have otherwise, and why"),
+    Inner("posted", "accounting:POST", "record what is handed over of a period, once"),
+    Inner(
+        "account",
+        "accounting:ACCOUNT",
+        "show a period's account: stocks, receipts, shipments, losses",
+    ),
+    Inner(
+        "status", "showing:STATUS", "say what is open, what is missing, and how full the year is"
+    ),
+    Inner("next", "years:NEXT", "begin the next year"),
     Inner("verify", "verifying:VERIFY", "test every file of the book against its journal"),
     Inner("head", "verifying:HEAD", "print the head of its chain, to be kept elsewhere"),
     Inner("accept", "verifying:ACCEPT", "take a file as it is, with a reason, and say so for good"),

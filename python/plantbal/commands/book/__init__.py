@@ -1,0 +1,1 @@
+"""The commands on a plant's book: their words, and what they print of what `Book` returns."""

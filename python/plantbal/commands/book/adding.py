@@ -1,0 +1,84 @@
+"""Adds a workbook to a book: what is new, what is changed, and nothing twice."""
+
+from __future__ import annotations
+
+import argparse
+import sys
+
+from plantbal.book.adding import Unreasoned
+from plantbal.book.library import Book
+from plantbal.book.results import Added
+from plantbal.book.said import FIRST, added, changed
+from plantbal.commands.options import add_reading, reading_of
+from plantbal.faults import Fault
+
+
+def add_arguments(parser: argparse.ArgumentParser) -> None:
+    """Add the words of the command."""
+    parser.add_argument("workbook", metavar="WORKBOOK")
+    parser.add_argument("--why", metavar="TEXT", help="the reason of what is changed or struck")
+    parser.add_argument(
+        "--strike", action="store_true", help="strike facts that aren't in the workbook any more"
+    )
+    parser.add_argument("--anyway", action="store_true", help="strike also most of what is booked")
+    parser.add_argument("--year", metavar="YEAR", help="the year of its plant (default: the last)")
+    parser.add_argument(
+        "--dry-run", action="store_true", help="say what would be booked, and book nothing"
+    )
+    add_reading(parser)
+
+
+def run(options: argparse.Namespace) -> int:
+    """Add a workbook, and say what that was."""
+    asks = not options.why and _may_ask()
+    try:
+        found = Book(options.book, who=options.who).add(
+            options.workbook,
+            why=Asked() if asks else options.why or "",
+            strike=options.strike,
+            anyway=options.anyway,
+            year=options.year,
+            reading=reading_of(options),
+            dry_run=options.dry_run,
+        )
+    except Unreasoned as fault:
+        print("\n".join(fault.changes[:FIRST]))
+        raise
+    print("\n".join(lines_of(found)))
+    if options.dry_run:
+        print("nothing is booked, as --dry-run says")
+    return 0
+
+
+def lines_of(found: Added) -> list[str]:
+    """Return what was added, changed and is missing, a line each."""
+    lines = [*(added(year) for year in found.years), *found.accounts]
+    lines += changed(found.changes, found.workbook, found.struck)
+    for year in found.years:
+        lines += [f"look at it: {each.text}: {each.remedy}" for each in year.doubts[:FIRST]]
+        lines += year.missing
+    return [*lines, *found.notes]
+
+
+def _may_ask() -> bool:
+    """Say whether somebody sits at a terminal."""
+    return sys.stdin.isatty()
+
+
+class Asked:
+    """Reasons that are typed: an empty answer is the reason before."""
+
+    def __init__(self) -> None:
+        self._before = ""
+
+    def __call__(self, said: str) -> str:
+        """Return the reason of a change."""
+        offer = f" [{self._before}]" if self._before else ""
+        typed = ""
+        while not typed:
+            try:
+                typed = input(f"{said}. Why?{offer} ").strip() or self._before
+            except EOFError:
+                raise Fault("a reason is wanted, and none came", remedy="say --why TEXT") from None
+        self._before = typed
+        return typed

@@ -1,0 +1,52 @@
+"""Closes a period with its report, and says why not."""
+
+from __future__ import annotations
+
+import argparse
+from types import SimpleNamespace
+
+from plantbal.book.closing import NotClosed
+from plantbal.book.library import Book
+from plantbal.book.reporting import balances_said, state_of, suspects_of
+from plantbal.book.results import Reported
+from plantbal.commands.options import add_run, settings_of
+
+
+def _add_close(parser: argparse.ArgumentParser) -> None:
+    parser.add_argument("period", metavar="PERIOD", help="the period")
+    parser.add_argument(
+        "--anyway", action="store_true", help="also if its report needs a look before it is booked"
+    )
+    add_run(parser)
+
+
+def _close(options: argparse.Namespace) -> int:
+    """Close a period with its report."""
+    book = Book(options.book, who=options.who)
+    try:
+        found = book.close(options.period, anyway=options.anyway, settings=settings_of(options))
+    except NotClosed as fault:
+        _say(fault.report)
+        raise
+    if found.report is None:
+        print(f"{found.period} is closed already")
+        return 0
+    _say(found.report)
+    print(f"{found.period} is closed, with the report {found.report.path}")
+    return 0
+
+
+def _say(report: Reported) -> None:
+    """Say what the report says as a whole, and what is missing."""
+    output = report.output
+    said = [state_of(output, report.period), *suspects_of(output), *balances_said(output)]
+    for line in [*said, *report.missing]:
+        print(line)
+
+
+CLOSE = SimpleNamespace(
+    __doc__="Closes a period with its report: what is added to it from then on comes late, and its "
+    "history says so. If the report needs a look before it is booked, only with --anyway.",
+    add_arguments=_add_close,
+    run=_close,
+)

@@ -1,0 +1,82 @@
+"""Writes the reports of periods and of windows, and says what to look at."""
+
+from __future__ import annotations
+
+import argparse
+from types import SimpleNamespace
+
+from plantbal.book.library import Book
+from plantbal.book.reporting import (
+    balances_said,
+    state_of,
+    state_of_block,
+    suspects_of,
+    suspects_of_block,
+)
+from plantbal.book.said import counted
+from plantbal.book.window import undipped
+from plantbal.commands.options import add_run, settings_of
+from plantbal.files import write_text
+
+
+def _add_report(parser: argparse.ArgumentParser) -> None:
+    parser.add_argument(
+        "periods", metavar="PERIOD", nargs="*", help="the periods (default: all open ones)"
+    )
+    parser.add_argument(
+        "--session", metavar="FILE", help="write the session that asks for the reports too"
+    )
+    add_run(parser)
+
+
+def _report(options: argparse.Namespace) -> int:
+    """Write the reports."""
+    book = Book(options.book, who=options.who)
+    status = 0
+    for found in book.reports(*options.periods, settings=settings_of(options)):
+        output, name = found.output, found.period
+        print(state_of(output, name))
+        for line in [*suspects_of(output), *balances_said(output), *found.missing]:
+            print(line)
+        history = f", with {counted(found.edits, 'edit')}" if found.edits else ""
+        print(f"{name}: {found.path}{history}" + ("" if found.is_new else ", as it was"))
+        status = status if output.ok else 1
+    if options.session:
+        write_text(options.session, book.session_asking(*options.periods))
+    return status
+
+
+def _add_window(parser: argparse.ArgumentParser) -> None:
+    parser.add_argument("first", metavar="FIRST", help="the first period")
+    parser.add_argument("last", metavar="LAST", help="the last period")
+    parser.add_argument(
+        "--session", metavar="FILE", help="write the session that asks for the window too"
+    )
+    add_run(parser)
+
+
+def _window(options: argparse.Namespace) -> int:
+    """Write the report of a window."""
+    book = Book(options.book, who=options.who)
+    found = book.window(options.first, options.last, settings=settings_of(options))
+    for block in found.output.blocks_in_order[-1:]:
+        for line in (state_of_block(block), *suspects_of_block(block), *undipped(block)):
+            print(line)
+    print(f"{found.first} to {found.last}: {found.path}" + ("" if found.is_new else ", as it was"))
+    if options.session:
+        write_text(options.session, found.session)
+    return 0 if found.output.ok else 1
+
+
+REPORT = SimpleNamespace(
+    __doc__="Writes the reports of periods, each with the history of its edits, and says what to "
+    "look at.",
+    add_arguments=_add_report,
+    run=_report,
+)
+WINDOW = SimpleNamespace(
+    __doc__="Reconciles several periods of a book at once, and says what tanks held at dips that "
+    "nobody took.",
+    add_arguments=_add_window,
+    run=_window,
+)

@@ -1,0 +1,87 @@
+"""Tests a whole book against its journal, gives the head of its chain, takes files as they are."""
+
+from __future__ import annotations
+
+import argparse
+from types import SimpleNamespace
+
+from plantbal.book.library import Book
+from plantbal.book.said import counted
+from plantbal.faults import Fault
+
+# ---- verify
+
+
+def _add_verify(parser: argparse.ArgumentParser) -> None:
+    parser.add_argument(
+        "bundles", metavar="BUNDLE", nargs="*", help="bundles that name a head of this book"
+    )
+    head = "a head that was kept elsewhere: this book has to have it"
+    parser.add_argument("--head", metavar="DIGEST", action="append", default=[], help=head)
+
+
+def _verify(options: argparse.Namespace) -> int:
+    """Test every file of the book, and say all that is wrong."""
+    book = Book(options.book)
+    found = book.verify(options.bundles, heads=options.head)
+    for line in [*found.waiting, *(f"wrong: {each}" for each in found.wrong), *found.notes]:
+        print(line)
+    if not found.ok:
+        things = counted(len(found.wrong), "thing")
+        raise Fault(f"{things} in {book.folder} isn't as its journal says")
+    files = counted(found.files, "file")
+    print(f"{files} as {counted(found.head.number, 'action')} left them")
+    print(f"head {found.head}")
+    return 0
+
+
+# ---- head
+
+
+def _add_head(parser: argparse.ArgumentParser) -> None:
+    pass
+
+
+def _head(options: argparse.Namespace) -> int:
+    """Print the head."""
+    print(Book(options.book).head)
+    return 0
+
+
+# ---- accept
+
+
+def _add_accept(parser: argparse.ArgumentParser) -> None:
+    parser.add_argument("file", metavar="FILE", help="the file, such as meters.csv")
+    parser.add_argument("--why", metavar="TEXT", required=True, help="the reason")
+
+
+def _accept(options: argparse.Namespace) -> int:
+    """Take a file as it is."""
+    found = Book(options.book, who=options.who).accept(options.file, why=options.why)
+    if found.said:
+        print(f"{found.file} is taken as it is: {found.said}")
+    else:
+        print(f"{found.file} is as the journal says")
+    return 0
+
+
+VERIFY = SimpleNamespace(
+    __doc__="Tests every file of the book against its journal, up to each place that the journal "
+    "names, and says all that is wrong. An older copy of the whole folder is told by a head that "
+    "was kept elsewhere, or by a bundle.",
+    add_arguments=_add_verify,
+    run=_verify,
+)
+HEAD = SimpleNamespace(
+    __doc__="Prints the head of the book's chain: the number of actions and the digest of the "
+    "last. Whoever keeps it can tell later whether the book was changed or put back.",
+    add_arguments=_add_head,
+    run=_head,
+)
+ACCEPT = SimpleNamespace(
+    __doc__="Takes a file that was changed by other means as it is now, or its loss, with a "
+    "reason. The journal shows that for good.",
+    add_arguments=_add_accept,
+    run=_accept,
+)

@@ -1,0 +1,86 @@
+"""Makes a book of a plant, and begins its next year."""
+
+from __future__ import annotations
+
+import argparse
+import datetime
+from collections.abc import Mapping
+from types import SimpleNamespace
+
+from plantbal.amounts import tonnes_of
+from plantbal.book.ledger import plain
+from plantbal.book.library import Book
+from plantbal.book.naming import day_of
+from plantbal.book.said import counted, listed
+from plantbal.commands.options import add_program, add_reading, reading_of
+
+_DAY = datetime.timedelta(1)
+
+
+def _classes(classes: Mapping[str, list[str]]) -> list[str]:
+    """Return which streams have each class, a line a class."""
+    return [f"{word}: {listed(names)}" for word, names in classes.items()]
+
+
+def _add_new(parser: argparse.ArgumentParser) -> None:
+    parser.add_argument("year", metavar="YEAR", help="the first year, such as 2024")
+    parser.add_argument("workbook", metavar="WORKBOOK", help="it has the sheets of the plant")
+    add_program(parser)
+    add_reading(parser)
+
+
+def _new(options: argparse.Namespace) -> int:
+    """Make the book."""
+    book = Book(options.book, who=options.who, program=options.program)
+    found = book.begin(options.year, options.workbook, reading=reading_of(options))
+    first = f"{found.year}.csv: {counted(found.rows, 'row')} of the plant"
+    print("\n".join([first, *_classes(found.classes), *found.notes]))
+    return 0
+
+
+def _add_next(parser: argparse.ArgumentParser) -> None:
+    parser.add_argument("year", metavar="YEAR", help="the next year, such as 2025")
+    parser.add_argument("--plant", metavar="WORKBOOK", help="another plant (default: plant.csv)")
+    parser.add_argument("--first", metavar="DAY", help="its first day (default: January 1st)")
+    add_program(parser)
+    add_reading(parser)
+
+
+def _next(options: argparse.Namespace) -> int:
+    """Begin the next year."""
+    found = Book(options.book, who=options.who, program=options.program).next(
+        options.year,
+        plant=options.plant,
+        first=day_of(options.first, options.locale),
+        reading=reading_of(options),
+    )
+    if not found.is_begun:
+        print(f"{found.year}.csv is there already")
+        return 0
+    assert found.first is not None and found.contents is not None
+    rows = counted(found.rows, "row")
+    lines = [f"{found.year}.csv: from {found.first} on; {rows} of the plant"]
+    lines += _classes(found.classes)
+    eve = found.first - _DAY
+    lines += [
+        f"{name}: {plain(tonnes_of(grams))} t at the end of {eve} and as the opening"
+        for name, grams in found.contents.items()
+    ]
+    lines += [f"{name}: no dip of {eve}, so it has no opening yet" for name in found.unopened]
+    print("\n".join([*lines, *found.notes]))
+    return 0
+
+
+NEW = SimpleNamespace(
+    __doc__="Makes a book of the plant that a workbook has, with its first year.\n\nThe workbook's "
+    "readings are added by `add`.",
+    add_arguments=_add_new,
+    run=_new,
+)
+NEXT = SimpleNamespace(
+    __doc__="Begins the next year with the plant, the dips of its eve, and whatever else touches "
+    "both years.\n\nIt is refused unless each tank holds the same at the end of one year and as the "
+    "other begins, to the gram.",
+    add_arguments=_add_next,
+    run=_next,
+)
