@@ -29,6 +29,7 @@ let check () =
        | () -> exit (if good then 0 else 1))
 
 let () =
+  Gc.set { (Gc.get ()) with minor_heap_size = 1_000_000; space_overhead = 200 };
   set_binary_mode_in stdin true;
   set_binary_mode_out stdout true;
   Sys.set_signal Sys.sigpipe Sys.Signal_ignore;
