@@ -2,7 +2,7 @@
 
 from __future__ import annotations
 
-from . import answers, calls, citations, forms, guide, numbers, rows, statement
+from . import answers, calls, citations, forms, guide, numbers, rows, second, statement
 from .sources import TOP, Sources
 
 
@@ -49,10 +49,19 @@ def heads(sources: Sources) -> list[str]:
     return found
 
 
+def second_names(sources: Sources) -> list[str]:
+    """Return the names that coq/names.txt pairs and that aren't there."""
+    shown: dict[str, set[str]] = {}
+    for spec, definitions in statement.page_of(sources).files:
+        shown.setdefault(statement.in_crate(spec), set()).update(it.name for it in definitions)
+    return second.missing(sources, shown)
+
+
 CHECKS = (
     stale,
     lambda sources: guide.schema(sources)[1],
     heads,
+    second_names,
     calls.complaints,
     forms.complaints,
     citations.missing,

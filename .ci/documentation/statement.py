@@ -8,7 +8,7 @@ from collections.abc import Iterator
 from dataclasses import dataclass
 from functools import cache
 
-from . import toolchain
+from . import second, toolchain
 from .guide import anchor_of
 from .reach import Part, Reach, Reached, part_of, words_in
 from .rust import Function, functions_in, item_of, of_libraries
@@ -291,7 +291,7 @@ def in_words(sources: Sources, crates: set[str]) -> list[str]:
     return ["", *paragraph(f"More in words: {', '.join(links)}.")] if links else []
 
 
-def heart(page: Page) -> list[str]:
+def heart(sources: Sources, page: Page) -> list[str]:
     """Return the definitions that stand in front, each with its file."""
     lines = []
     for place, name in HEART:
@@ -300,10 +300,12 @@ def heart(page: Page) -> list[str]:
             raise Unknown(f"the page has no definition {name} of {place}")
         spec = found[0][0]
         lines += ["", f"In `{short(spec.path)}`:", "", *code_block("antt", spec.names[name].text)]
+        if beside := second.beside(sources, place, {name}):
+            lines += ["", *paragraph(beside)]
     return lines
 
 
-def file_of(page: Page, reached: Reached) -> list[str]:
+def file_of(sources: Sources, page: Page, reached: Reached) -> list[str]:
     """Return what a chapter shows of a file: its head, and what of it isn't in front."""
     spec, definitions = reached
     head = re.sub(r"^-- (?:Statement\. |Inside\. )?", "", spec.head)
@@ -313,6 +315,8 @@ def file_of(page: Page, reached: Reached) -> list[str]:
         names = ", ".join(f"`{name}`" for name in in_front)
         lines += [f"In front, in [{HEART_TITLE}]({anchor_of(HEART_TITLE)}): {names}.", ""]
     lines += page.here(part_of(reached))
+    if beside := second.beside(sources, in_crate(spec), {it.name for it in definitions}):
+        lines += [*paragraph(beside), ""]
     return lines + code_block(
         "antt", "\n\n".join(it.text for it in definitions if it.name not in in_front)
     )
@@ -366,7 +370,7 @@ def body_of(sources: Sources, page: Page) -> list[str]:
         " record, the report of a period, and what is promised of each of its stages. The chapters"
         " below say what their words mean."
     )
-    lines += [*heart(page), "", *sources.text(SIGNS).rstrip().split("\n"), ""]
+    lines += [*heart(sources, page), "", *sources.text(SIGNS).rstrip().split("\n"), ""]
     lines += [f"## The contract of `{TOP_CALL}`", "", f"In `{short(page.run.path)}`:", ""]
     lines += [*page.here(page.run), *code_block("rust", page.run.text), "", "## What it takes", ""]
     lines += paragraph(
@@ -400,7 +404,7 @@ def body_of(sources: Sources, page: Page) -> list[str]:
         lines += ["", f"## {title}", "", *opening(sources, title)]
         lines += in_words(sources, {spec.crate for spec, _ in files})
         for reached in files:
-            lines += file_of(page, reached)
+            lines += file_of(sources, page, reached)
     lines += ["", "## Types of the code"]
     for path, text in page.reach.types:
         lines += ["", f"In `{short(path)}`:", "", *code_block("rust", text)]
