@@ -127,4 +127,4 @@ KILLS = 400
 PAIRS = 200
 
 book-tries: $(PROGRAM)
-	.ci/book_tries $(PROGRAM) --kills $(KILLS) --pairs $(PAIRS) --steps 0
+	.ci/book_tries $(PROGRAM) --kills $(KILLS) --pairs $(PAIRS) --steps all

@@ -235,6 +235,9 @@ def test_without_the_digits_of_lines(mill: Path, say: Desk, tmp_path: Path) -> N
     assert "2024.csv: line 13:" in say("book", "status", *words).err
     (mill / ".checks").write_bytes(b"\xff2024.csv zz\n\n 1\n2024.csv 12345678")
     assert "in its lines 10 to 19" in say("book", "status", *words).err
+    (mill / "2024.csv").write_text(before, encoding="utf-8")
+    (mill / ".checks").write_bytes("2024-ü.csv 12345678\nplant.csv 1234567ü\n".encode())
+    assert say("book", "strike", "F-1", "2024-04-01", "--why", "x", *words).status == 0
 
 
 def test_to_take_a_file_as_it_is(mill: Path, book: Type) -> None:

@@ -10,16 +10,18 @@ journal names.
 from __future__ import annotations
 
 import hashlib
+import re
 import zipfile
 import zlib
 from collections.abc import Callable, Iterable, Mapping, Sequence
 from dataclasses import dataclass
 from pathlib import Path
 
-from plantbal.book.forms import JOURNAL, REPORTS, is_year_file
+from plantbal.book.forms import JOURNAL, REPORTS, is_own, is_year_file
 from plantbal.book.journal import Act, Kept, Line
 from plantbal.faults import InputFault, Place
 
+_DIGITS = re.compile(r"(?:[0-9a-f]{8})+")  # of the lines of a file
 _SHOWN = 200  # characters of a row
 _MOST_BYTES = 1 << 26  # of a file in a bundle
 
@@ -80,7 +82,7 @@ def checks_of(data: bytes) -> str:
 def read_checks(text: str) -> dict[str, str]:
     """Return the digits of each file, as far as they are of that form."""
     parts = (line.partition(" ") for line in text.split("\n"))
-    return {name: digits for name, _, digits in parts if name and len(digits) % 8 == 0}
+    return {name: digits for name, _, digits in parts if is_own(name) and _DIGITS.fullmatch(digits)}
 
 
 def checks_text(checks: Mapping[str, str]) -> str:
