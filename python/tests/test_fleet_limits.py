@@ -4,11 +4,13 @@ from __future__ import annotations
 
 import csv
 import datetime
+import hashlib
 import io
 import os
 import pickle
 import stat
 import time
+from dataclasses import replace
 from pathlib import Path
 from typing import Any
 
@@ -17,7 +19,7 @@ from conftest import Desk, text_of
 from hostile import GOOD, NAMES, hanging, hostile_night
 
 from plantbal.fleet import limits, outline
-from plantbal.fleet.given import Given, SessionTooLarge
+from plantbal.fleet.given import Given, SessionTooLarge, _digest
 from plantbal.fleet.job import limits as limits_of_job
 from plantbal.fleet.night import Kept, Night, Run
 from plantbal.fleet.outline import Outline, outline_of
@@ -129,6 +131,45 @@ def test_a_session_that_is_too_large(tmp_path: Path) -> None:
         else:
             assert not refused, size
         assert time.monotonic() - begun < 1, size
+
+
+def test_a_session_that_grows(tmp_path: Path, monkeypatch: pytest.MonkeyPatch) -> None:
+    """Between two looks at it, or while it is read: it is read to its limit, and no further."""
+    path = tmp_path / "a.csv"
+    path.write_text(GOOD)
+    before = Given.read(path)
+    assert not before.changed(path)
+    os.truncate(path, 20 << 30)
+    begun = time.monotonic()
+    assert before.changed(path) and time.monotonic() - begun < 1
+    monkeypatch.setattr("plantbal.fleet.given.SESSION_BYTES", 10)
+    monkeypatch.setattr("plantbal.fleet.given._PART", 4)
+    growing = io.BytesIO(b"x" * 100)
+    with pytest.raises(SessionTooLarge):
+        _digest(growing, path, 5)
+    assert growing.tell() == 12
+    assert _digest(io.BytesIO(b"x" * 10), path, 5) == hashlib.sha256(b"x" * 10).hexdigest()
+
+
+def test_what_is_left_of_a_night(tmp_path: Path) -> None:
+    """A run that isn't of its form is none: the plant is run again."""
+    night, site, what, given = kept(tmp_path, GOOD)
+    asked, path = night.asked_of(site, given), night.folder_of(site) / "run.json"
+    for name in ("output.csv", "stderr.txt"):
+        (path.parent / name).write_text(GOOD)
+    run = replace(asked, status=0, output_sha256=hashlib.sha256(GOOD.encode()).hexdigest())
+    path.write_bytes(run.to_json())
+    assert night.kept(site, asked) is not None
+    for old, new in (
+        ('"status": 0', '"status": true'),
+        ('"begun": 0.0', '"begun": "x"'),
+        ('"seconds": 0.0', '"seconds": ' + "[" * 300_000),
+        ('"session": "', '"session": 1, "x": "'),
+        ('"night": "2026-11-29"', '"night": null'),
+    ):
+        assert old in run.to_json().decode()
+        path.write_text(run.to_json().decode().replace(old, new))
+        assert night.kept(site, asked) is None, new
 
 
 def kept(tmp_path: Path, output: str, session: str = GOOD) -> tuple[Night, Site, Kept, Given]:

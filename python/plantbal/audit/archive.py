@@ -30,6 +30,7 @@ from plantbal.build import build_of
 from plantbal.commands.options import add_run, add_timeout
 from plantbal.commands.progress import Progress
 from plantbal.faults import Fault, Place, ProgramFault, read_bytes
+from plantbal.limits import SESSION_BYTES
 from plantbal.model.forms import day_text
 from plantbal.model.ledger import Ledger
 from plantbal.newfile import write_new
@@ -218,7 +219,7 @@ def run(options: argparse.Namespace) -> int:
     if options.session == "-" and sys.stdin.isatty():
         print("reading standard input, up to Ctrl-D", file=sys.stderr)
     made, plant = time_of(options.time), plant_of(options)
-    source, session = read_bytes(options.session)
+    source, session = read_bytes(options.session, SESSION_BYTES)
     words = words_of(
         tests=not options.no_tests,
         eliminate=options.eliminate,

@@ -31,6 +31,7 @@ from plantbal.audit.verify import second_verdict
 from plantbal.commands.options import add_program, add_timeout
 from plantbal.commands.progress import Progress
 from plantbal.faults import Fault, InputFault, Place, ProgramFault, ToolMissing, read_bytes
+from plantbal.limits import SESSION_BYTES
 from plantbal.model.ledger import Ledger
 from plantbal.model.studies import studies_of
 from plantbal.program import call, find_program, words_of
@@ -311,7 +312,7 @@ def _made_again(
 
 def session_held(audit: Audit, given: Given, path: str) -> None:
     """Hold the session of a bundle against that of the books, which may have gone on since."""
-    source, data = read_bytes(path)
+    source, data = read_bytes(path, SESSION_BYTES)
     if data.startswith(given.data):
         rest = "" if data == given.data else ", with which it begins"
         audit.add("good", f"{given.session}: it is that of the books, {source}{rest}")
@@ -527,7 +528,7 @@ def given_of(audit: Audit, options: argparse.Namespace) -> Given:
             text=options.report,
             remedy="name its session too: plantbal-desk audit REPORT SESSION",
         )
-    session, data = read_bytes(options.session)
+    session, data = read_bytes(options.session, SESSION_BYTES)
     parsed = None
     if output.lstrip().startswith(b"{") or not options.words:
         try:

@@ -15,6 +15,7 @@ from plantbal.balance.table import Line, lines_of, recoveries_of, said_of
 from plantbal.commands.options import add_program
 from plantbal.faults import read_bytes
 from plantbal.files import write_text
+from plantbal.limits import SESSION_BYTES
 from plantbal.report.blocks import last_blocks
 from plantbal.report.output import Output
 from plantbal.runs import check, run as run_program
@@ -71,7 +72,7 @@ def add_arguments(parser: argparse.ArgumentParser) -> None:
 
 def run(options: argparse.Namespace) -> int:
     """Write the flows and grades, and return 1 if one of them isn't certified."""
-    source, data = read_bytes(options.session)
+    source, data = read_bytes(options.session, SESSION_BYTES)
     plant_of(source, data)  # says what is wrong with the session
     asked = asked_of(
         data,

@@ -11,10 +11,11 @@ from collections.abc import Callable, Generator, Iterator, Sequence
 from contextlib import ExitStack, nullcontext, suppress
 from typing import Any
 
-from plantbal.faults import Fault, ToolMissing
+from plantbal.faults import Fault, InputFault, ToolMissing, read_bytes
 from plantbal.fleet import job as calls
 from plantbal.fleet.engines import Asked, Begin, Ended, Job
 from plantbal.fleet.limits import JOB_MEMORY, OUTPUT_BYTES, SENT_BYTES
+from plantbal.limits import SESSION_BYTES
 
 _ANSWERS = 20  # seconds that a scheduler has to answer in
 
@@ -158,7 +159,7 @@ class _Cluster:
             self._tries[job.site] += 1
             try:
                 future = self._submit(job)
-            except OSError:
+            except (OSError, InputFault):
                 yield Ended(job.site, "nosession")
                 continue
             self._job_of[future.key] = job
@@ -172,7 +173,7 @@ class _Cluster:
         given: list[object] = [command, str(job.session), str(job.output), timeout, limited]
         if self._asked.send:
             call = calls.run_sent
-            given = [command, job.session.read_bytes(), job.output.name, timeout, limited]
+            given = [command, read_bytes(job.session, SESSION_BYTES)[1], job.output.name, timeout, limited]
         if self._asked.scheduler is None:
             call, given = _in_this_process, [call.__name__, *given]
         with warnings.catch_warnings():

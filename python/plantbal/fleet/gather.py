@@ -26,6 +26,7 @@ from plantbal.fleet.night import Kept, Night
 from plantbal.fleet.outline import Outline, outline_of
 from plantbal.fleet.rows import Plant, Row, failed
 from plantbal.fleet.sites import Site
+from plantbal.limits import SESSION_BYTES
 from plantbal.program import STATUSES
 from plantbal.records import read_records
 from plantbal.report.blocks import (
@@ -73,7 +74,7 @@ class Told:
     @cached_property
     def session(self) -> bytes:
         """The session."""
-        return read_bytes(self.site.path)[1] if self.site.path.exists() else b""
+        return read_bytes(self.site.path, SESSION_BYTES)[1] if self.site.path.exists() else b""
 
     def days(self, periods: Collection[str]) -> dict[str, str]:
         """Return the first and the last day of periods: mostly they stand in the first rows.

@@ -12,6 +12,7 @@ from collections.abc import Collection, Iterable, Iterator
 from dataclasses import dataclass
 from itertools import chain, islice
 from pathlib import Path
+from typing import BinaryIO
 
 from plantbal.faults import InputFault, Place
 from plantbal.limits import SESSION_BYTES
@@ -20,6 +21,8 @@ from plantbal.records import read_records
 # In nanoseconds. Some file systems keep times in steps of two seconds, and a second change within a
 # step may leave no trace.
 _STEP = 2_000_000_000
+# How much of a session is read at once.
+_PART = 1 << 20
 
 
 class SessionTooLarge(InputFault):
@@ -72,9 +75,7 @@ class Given:
                 raise OSError(errno.EINVAL, "it is a pipe or a device, and no file")
             with path.open("rb") as file:
                 found = os.fstat(file.fileno())
-                if found.st_size > SESSION_BYTES:
-                    raise SessionTooLarge(path)
-                digest = hashlib.file_digest(file, "sha256").hexdigest()
+                digest = _digest(file, path, found.st_size)
         except OSError as error:
             raise _unread(path, error) from error
         settled = max(found.st_mtime_ns, found.st_ctime_ns) < now - _STEP
@@ -90,9 +91,32 @@ class Given:
         """
         try:
             same = self.settled and _state(path.stat()) == self.state
+            if same:
+                return False
+            with path.open("rb") as file:
+                return _digest(file, path, os.fstat(file.fileno()).st_size) != self.sha256
+        except SessionTooLarge:
+            return True
         except OSError as error:
             raise _unread(path, error) from error
-        return not same and sha256_of(path) != self.sha256
+
+
+def _digest(file: BinaryIO, path: Path, size: int) -> str:
+    """Return the digest of a session, of which no more is read than it may have: it may grow.
+
+    Raises
+    ------
+    SessionTooLarge
+        If it has more.
+    """
+    found, count = hashlib.sha256(), 0
+    while size <= SESSION_BYTES and (part := file.read(_PART)):
+        found.update(part)
+        count += len(part)
+        size = max(size, count)
+    if size > SESSION_BYTES:
+        raise SessionTooLarge(path)
+    return found.hexdigest()
 
 
 def _state(found: os.stat_result) -> tuple[int, ...]:

@@ -27,12 +27,13 @@ from contextlib import contextmanager, suppress
 from dataclasses import dataclass, fields, replace
 from pathlib import Path
 
-from plantbal.faults import Fault, InputFault, Place
+from plantbal.faults import Fault, InputFault, Place, read_bytes
 from plantbal.fleet.engines import Came
 from plantbal.fleet.given import Given, sha256_of
 from plantbal.fleet.job import SAID, STATUS, ended
 from plantbal.fleet.sites import Site
 
+_RUN_BYTES = 1 << 20  # of what is said of a run
 # Why a folder can't get a name: another one has it, which isn't empty, or a file.
 _TAKEN = (errno.ENOTEMPTY, errno.EEXIST, errno.ENOTDIR)
 
@@ -76,6 +77,30 @@ class Run:
         items = ((each.name, getattr(self, each.name)) for each in fields(self))
         lines = ",\n".join(f' "{name}": {json.dumps(value)}' for name, value in items)
         return f"{{\n{lines}\n}}\n".encode("ascii")
+
+    @classmethod
+    def read(cls, data: bytes) -> Run:
+        """Return the run of its JSON.
+
+        Raises
+        ------
+        ValueError
+            If it isn't one.
+        """
+        try:
+            found = json.loads(data)
+            run = cls(**found)
+        except (RecursionError, TypeError) as error:
+            raise ValueError(error) from error
+        texts = (each.name for each in fields(cls) if each.type == "str")
+        if not (
+            all(isinstance(getattr(run, name), str) for name in texts)
+            and isinstance(run.words, list)
+            and type(run.status) in (int, type(None))
+            and all(type(each) in (int, float) for each in (run.begun, run.seconds))
+        ):
+            raise ValueError("it isn't of the form of a run")
+        return run
 
     @property
     def asked(self) -> tuple[str, str, list[str]]:
@@ -169,12 +194,12 @@ class Night:
         """Return what is kept of a plant, if it is whole and of what is asked."""
         folder = self.folder_of(site)
         try:
-            run = Run(**json.loads((folder / STATUS).read_bytes()))
+            run = Run.read(read_bytes(folder / STATUS, _RUN_BYTES)[1])
             if run.asked != asked.asked or run.status not in (0, 1):
                 return None
             size = (folder / self.output_name).stat().st_size
             found = Kept(run, size, _sums(folder, (self.output_name, SAID, STATUS)))
-        except (OSError, InputFault, ValueError, TypeError):
+        except (OSError, InputFault, ValueError):
             return None
         return found if found.sums[self.output_name] == run.output_sha256 else None
 
