@@ -451,6 +451,30 @@ def test_bundles_are_a_chain(mill: Path, book: Type, say: Desk, tmp_path: Path) 
     said = say("book", "verify", *bundles, "--book", tmp_path / "older")
     assert said.status == 1
     assert f"{bundles[2]}: this book doesn't have the head of action 8" in said.out
+    session.write_text(text_of(mill / "2024.csv") + "report,2024-04\n", encoding="utf-8")
+    bundles.append(tmp_path / "own.zip")
+    out = ("--out", bundles[-1], "--before", bundles[0])
+    assert say("archive", session, *out, "--book", mill, *time_).status in (0, 1)
+    book("amend", "F-1", "2024-04-01", "9 t", "--why", "x")
+    for number, words, kind, what in (
+        (0, (), "note", "it names the head of a book of action 6 "),
+        (1, (), "note", "it names the bundle before it "),
+        (
+            1,
+            ("--before", bundles[0]),
+            "good",
+            f"{bundles[0]} is the bundle before it that it names",
+        ),
+        (1, ("--before", bundles[2]), "wrong", f"and {bundles[2]} is "),
+        (0, ("--before", bundles[1]), "wrong", "it names no bundle before it"),
+        (0, ("--book", mill), "wrong", "its session doesn't begin with the rows that a year of "),
+        (3, ("--book", mill), "good", "begins with the rows of 2024.csv as they were by then"),
+        (3, ("--book", tmp_path / "older"), "wrong", "doesn't have the head of action 8"),
+    ):
+        said = say("audit", "--no-program", bundles[number], *words)
+        found = [line for line in said.out.splitlines() if line.startswith(f"{kind}: ")]
+        assert any(what in line for line in found), (number, words, said.out)
+        assert said.status == (1 if kind == "wrong" else 0), (number, words, said.out)
     put("plant.csv", "unit,MILL", "unit,MILK")(mill)
     said = say("archive", session, "--out", tmp_path / "3.zip", "--book", mill)
     assert (

@@ -4,6 +4,7 @@ from __future__ import annotations
 
 import io
 import json
+import re
 import struct
 import subprocess
 import threading
@@ -15,7 +16,6 @@ from pathlib import Path
 import pytest
 from conftest import Desk, Said, example, text_of
 
-from plantbal.audit import command as audit
 from plantbal.audit.archive import bundle_files
 from plantbal.audit.bundle import (
     DIGESTS,
@@ -30,6 +30,7 @@ from plantbal.audit.bundle import (
     unpacked,
 )
 from plantbal.audit.changed import digest
+from plantbal.audit.command import NOT_COMPARED
 from plantbal.faults import InputFault
 from plantbal.newfile import write_new
 
@@ -195,17 +196,36 @@ def say_of(say: Desk, bundle: Path, data: bytes, *words: str) -> Said:
 
 def test_what_is_not_compared_is_named(say: Desk, tmp_path: Path) -> None:
     """Without the program nothing is said to hold that wasn't compared."""
-    edits: Sequence[tuple[str, Callable[[bytes], bytes]]] = (
-        ("designs", lambda text: text.replace(b"yes,redundant,cut", b"no,unobservable,cut", 18)),
-        ("histories", bytes),
-        ("what was taken", bytes),
-        ("advice", bytes),
+    told = say_of(say, tmp_path / "b.zip", packed(files_of()), "--no-program")
+    (note,) = [line for line in told.out.splitlines() if "aren't compared" in line]
+    assert told.status == 0 and note.startswith("note: ") and NOT_COMPARED in note
+    for name in ("histories", "what was taken", "advice"):
+        assert name in note, name
+
+
+def test_designs_are_compared(say: Desk, tmp_path: Path) -> None:
+    """Each class is shown by its cut or its cycle in the plant that its row saw."""
+    edits: Sequence[tuple[str, str, str]] = (
+        (",yes,redundant,cut", ",no,unobservable,cut", "is unobservable, measured no, and by the"),
+        (",no,observable,cut", ",no,unobservable,cut", "doesn't show its class"),
+        ("^design,9", "design,19", "the design has 19 nodes and "),
+        (r"^class,(\w+),\w+", r"class,\1,env", "where the session has"),
+        (r"^(class,.*cut,.*[+-])\w+$", r"\1NONE", "can't be read (name)"),
+        (r"^(class,.*cut,.*) [+-]\w+$", r"\1", "doesn't show its class"),
+        (r"^class,.*\n", "", " rows, and the plant "),
+        (r"^design,9,\d+\n(class,.*\n)*", "", "that line 43 asks for isn't there"),
+        (r"^design,9", "design,9,20\ndesign,9", "the design has 9 nodes and 20 streams in 0 rows"),
     )
-    for name, edit in edits:
+    for old, new, what in edits:
+
+        def edit(text: bytes, old: str = old, new: str = new) -> bytes:
+            made, count = re.subn(old, new, text.decode(), 1, re.MULTILINE)
+            assert count == 1, old
+            return made.encode()
+
         told = say_of(say, tmp_path / "b.zip", packed(files_of(edit=edit)), "--no-program")
-        (note,) = [line for line in told.out.splitlines() if "aren't compared" in line]
-        assert name in note and told.status == 0, name
-        assert note.startswith("note: ") and audit.NOT_COMPARED in note
+        found = [line for line in told.out.splitlines() if line.startswith("wrong: ")]
+        assert told.status == 1 and any(what in line for line in found), (old, told.out)
 
 
 def test_two_archives_at_once(tmp_path: Path) -> None:

@@ -5,7 +5,7 @@ from __future__ import annotations
 import argparse
 from collections.abc import Collection, Iterator, Mapping
 from dataclasses import dataclass, field
-from itertools import zip_longest
+from itertools import chain, zip_longest
 from os.path import commonprefix
 
 from plantbal import checker
@@ -23,7 +23,9 @@ from plantbal.audit.bundle import (
     unpacked,
 )
 from plantbal.audit.changed import digest, where
+from plantbal.audit.designs import designs_differ
 from plantbal.audit.held import Pair, answers_of, pairs_of, refused_differ
+from plantbal.audit.linked import Linked
 from plantbal.audit.runwords import words_read, words_shown
 from plantbal.audit.summary import blocks_named, said_of
 from plantbal.audit.verdicts import explain_check
@@ -66,7 +68,7 @@ examples:
 _SHORT = 120
 NOT_COMPARED = (
     "the program wasn't run, so these aren't compared: gap and sweeps, which measurements are"
-    " tested and by what, designs, advice, what was taken, the heads of windows and balances,"
+    " tested and by what, advice, what was taken, the heads of windows and balances,"
     " histories"
 )
 
@@ -144,8 +146,8 @@ def _shown(line: str, at: int) -> str:
 # ---- a bundle
 
 
-def given_of_bundle(audit: Audit, path: str) -> Given:
-    """Audit a bundle's own files, and return what it is a bundle of."""
+def given_of_bundle(audit: Audit, path: str, options: argparse.Namespace) -> Given:
+    """Audit a bundle's own files and what it names, and return what it is a bundle of."""
     found = unpacked(path)
     files = found.files
     for what in found.wrong:
@@ -173,6 +175,8 @@ def given_of_bundle(audit: Audit, path: str) -> Given:
         what = f"the digests of its {len(NAMES) - 1} files hold"
         rest = "manifest and summary are those of the session and the output"
         audit.add("good", f"{path}: {what}, and {rest}")
+    for kind, said in Linked(path, manifest, files[SESSION]).held(options.book, options.before):
+        audit.add(kind, said)
     words = words_read(manifest.words)
     return _given(path, files, words, manifest.program.get("sha256", ""))
 
@@ -389,7 +393,7 @@ def check_twice(
 def hold(audit: Audit, given: Given, verdicts: list[str], checks: str) -> None:
     """Hold a report against its session, and say of each block what holds."""
     ledger = Ledger(given.session, given.data)
-    for each in refused_differ(given.output, ledger):
+    for each in chain(refused_differ(given.output, ledger), designs_differ(given.output, ledger)):
         audit.add("wrong", _at(given, each.line, each.text))
     answers = answers_of(given.output)
     if len(ledger.seen) != len(answers):
@@ -507,6 +511,10 @@ def add_arguments(parser: argparse.ArgumentParser) -> None:
     parser.add_argument("--words", metavar="WORDS", help="the words of the run, as one word")
     parser.add_argument("--no-program", action="store_true", help="don't run the program")
     parser.add_argument("--strict", action="store_true", help="status 1 on notes too")
+    book = "the book whose head the bundle names: it has to have it, and the session's rows by then"
+    parser.add_argument("--book", metavar="FOLDER", help=book)
+    before = "the bundle that this one names as the one before it: it has to be the same"
+    parser.add_argument("--before", metavar="BUNDLE", help=before)
     add_timeout(parser)
     add_program(parser)
 
@@ -518,11 +526,11 @@ def given_of(audit: Audit, options: argparse.Namespace) -> Given:
         if options.words:
             remedy = "leave --words out: a bundle has its own"
             raise Fault("--words is for a report and its session", remedy=remedy)
-        given = given_of_bundle(audit, options.report)
+        given = given_of_bundle(audit, options.report, options)
         if options.session is not None:
             session_held(audit, given, options.session)
         return given
-    if options.session is None:
+    if options.session is None or options.book or options.before:
         raise Fault(
             f"{options.report} is no bundle",
             text=options.report,
@@ -562,9 +570,7 @@ def run(options: argparse.Namespace) -> int:
         audit.add("note", f"{given.report}: {NOT_COMPARED}")
     else:
         run_again(audit, given, options.program, options.prog, options.timeout)
-    verdicts = check_twice(
-        audit, given, options.program, not options.no_program, options.timeout
-    )
+    verdicts = check_twice(audit, given, options.program, not options.no_program, options.timeout)
     checks = "the checker in plain Python says yes" if options.no_program else "both checks say yes"
     hold(audit, given, verdicts, checks)
     wrong, notes = audit.count("wrong"), audit.count("note")

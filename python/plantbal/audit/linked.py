@@ -6,6 +6,10 @@ made anew is told by the one after it, and an older copy of the book by any bund
 
 from __future__ import annotations
 
+import hashlib
+from collections.abc import Iterator
+from dataclasses import dataclass
+
 from plantbal.audit.bundle import MANIFEST, Manifest, unpacked
 from plantbal.audit.changed import digest
 from plantbal.faults import InputFault, Place, read_bytes
@@ -64,3 +68,88 @@ def named_bundle(path: str | None) -> dict[str, str]:
         "number": book.get("number", ""),
         "head": book.get("head", ""),
     }
+
+
+# ---- what is held against them
+
+
+@dataclass(frozen=True)
+class Linked:
+    """A bundle, with what it names beside itself.
+
+    Attributes
+    ----------
+    path : str
+        The bundle.
+    manifest : Manifest
+        Its manifest.
+    session : bytes
+        Its session.
+    """
+
+    path: str
+    manifest: Manifest
+    session: bytes
+
+    def held(self, book: str | None, before: str | None) -> Iterator[tuple[str, str]]:
+        """Give whether what it names is there: ``good``, ``note`` or ``wrong``, and a sentence.
+
+        Parameters
+        ----------
+        book : str or None
+            The folder of the book, if it is to be compared.
+        before : str or None
+            The bundle before this one, if it is to be compared.
+        """
+        for named, given, what, compare, word in (
+            (self.manifest.book, book, "head of a book", self._book, "--book FOLDER"),
+            (self.manifest.before, before, "bundle before it", self._before, "--before BUNDLE"),
+        ):
+            if given is not None and not named:
+                yield "wrong", f"{self.path}: it names no {what}, and {given} is given"
+            elif given is not None:
+                yield from compare(given)
+            elif named:
+                digest_ = named.get("sha256") or f"of action {named['number']} {named['head']}"
+                yield "note", f"{self.path}: it names the {what} {digest_}: {word} compares it"
+
+    def _book(self, folder: str) -> Iterator[tuple[str, str]]:
+        """Give whether a book has the head, and whether it had the session's rows by then."""
+        from plantbal.book.chain import state_of
+        from plantbal.book.forms import is_year_file
+        from plantbal.book.store import Book
+        from plantbal.book.verifying import missing_head
+
+        named, book = self.manifest.book, Book(folder)
+        with book.opened(reading=True):
+            wrong = missing_head(book, self.path, f"{named['number']} {named['head']}")
+            lines = book.journal()[: int(named["number"])] if not wrong else []
+        for each in wrong:
+            yield "wrong", each
+        years = [
+            name
+            for name, kept in state_of(lines).items()
+            if is_year_file(name) and self._begins(kept.size, kept.digest)
+        ]
+        if years:
+            what = f"{folder} has the head of action {named['number']} that it names"
+            rest = f"its session begins with the rows of {years[0]} as they were by then"
+            yield "good", f"{self.path}: {what}, and {rest}"
+        elif not wrong:
+            what = f"its session doesn't begin with the rows that a year of {folder} had by action"
+            yield "wrong", f"{self.path}: {what} {named['number']}"
+
+    def _begins(self, size: int | None, digest_: str) -> bool:
+        """Say whether the session begins with a file that was left with this digest."""
+        return size is not None and hashlib.sha256(self.session[:size]).hexdigest() == digest_
+
+    def _before(self, path: str) -> Iterator[tuple[str, str]]:
+        """Give whether a bundle is the one before, with the head that is named of it."""
+        there = named_bundle(path)
+        if there == self.manifest.before:
+            yield "good", f"{self.path}: {path} is the bundle before it that it names"
+            return
+        stated = self.manifest.before
+        what = f"it names the bundle {stated['sha256']} of action {stated['number'] or 'none'}"
+        rest = f"{there['sha256']} of action {there['number'] or 'none'}"
+        yield "wrong", f"{self.path}: {what} as the one before it, and {path} is {rest}"

@@ -16,7 +16,7 @@ from plantbal.book.said import waiting_said
 from plantbal.book.store import Act, Action, Head, Store
 from plantbal.faults import Fault, read_bytes
 
-_DIGEST = re.compile(r"(?:([0-9]+) )?([0-9a-f]{64})")
+_DIGEST = re.compile(r"(?:([0-9]{1,9}) )?([0-9a-f]{64})")
 
 
 def head_of(folder: str | Path) -> Head:

@@ -14,7 +14,7 @@ from functools import cached_property
 
 from plantbal.faults import Place
 from plantbal.memory import uncollected
-from plantbal.model.asking import Advise, Component, Report, Window
+from plantbal.model.asking import Advise, Component, Design, Report, Window
 from plantbal.model.booking import Assay
 from plantbal.model.causes import Refused
 from plantbal.model.effects import Effect
@@ -83,6 +83,25 @@ class View:
     def lacking(self) -> set[str]:
         """The meters and tanks without a value."""
         return self.missing.keys() | self.undipped.keys()
+
+
+@dataclass(frozen=True, slots=True)
+class Declared:
+    """The plant as a `design` row saw it.
+
+    Attributes
+    ----------
+    line : int
+        The line of the row.
+    nodes : list of str
+        The nodes, in their order.
+    streams : list of Stream
+        The streams and tanks' gains, in their order.
+    """
+
+    line: int
+    nodes: list[str]
+    streams: list[Stream]
 
 
 @dataclass(frozen=True, slots=True)
@@ -199,6 +218,8 @@ class Ledger:
         The refused rows: a list, and how many in all.
     seen : list of Seen
         The rows that ask for flows, in order.
+    designs : list of Declared
+        What each `design` row saw, in order.
     asked : set of str
         The kinds of rows that ask for output.
     uncosted : dict of int to list of str
@@ -212,9 +233,11 @@ class Ledger:
         self.rows = 0
         self.refused = Refusals(kept)
         self.seen: list[Seen] = []
+        self.designs: list[Declared] = []
         self.asked: set[str] = set()
         self.uncosted: dict[int, list[str]] = {}
         self._views: dict[str, View] = {}
+        self._declared: tuple[list[str], list[Stream]] | None = None
         self._critical: dict[tuple[str, int], int] | None = None
         with uncollected():
             for step in steps(self.state, data):
@@ -239,7 +262,7 @@ class Ledger:
     def _changed(self) -> None:
         """Forget what rows see by now: something is stored."""
         self._views.clear()
-        self._critical = None
+        self._critical = self._declared = None
 
     def _refuse(self, step: Step, answer: Refused) -> None:
         """Keep a refused row."""
@@ -261,6 +284,11 @@ class Ledger:
             seen = self._seen(at, self._view(self.periods[effect.period]))
             grades = self._grades(effect.component, effect.period)
             self.seen.append(replace(seen, component=effect.component, grades=grades))
+        elif isinstance(effect, Design):
+            if self._declared is None:
+                plant = self.state.plant
+                self._declared = [ENV, *plant.nodes], list(plant.streams.values())
+            self.designs.append(Declared(at.line, *self._declared))
         elif isinstance(effect, Advise) and effect.costs:
             plain = [name for name, each in self.streams.items() if each.kind == "plain"]
             named = set(effect.streams)
