@@ -481,6 +481,7 @@ def test_report_close_and_late(book: Type, tmp_path: Path) -> None:
     book("amend", "truck-04", "35543 t", "--why", "a digit short", "--error", "9 t")
     said = book("close", "2024-04")
     assert said.status == 0 and "2024-04 is closed, with the report" in said.out
+    assert said.out.splitlines()[-1] == book("verify").out.splitlines()[-1]
     assert "closed already" in book("close", "2024-04").out
     assert "1 period closed, 0 open" in book("status").out
     sheets = month(last=30)

@@ -59,4 +59,4 @@ def close(
         action.add(ledger)
         keep(book, action, ledger, name, written, closed=False)
         book.do(action)
-    return Closed(name, report)
+        return Closed(name, report, book.head)

@@ -164,10 +164,13 @@ class Closed:
         The period.
     report : Reported or None
         The report with which it was closed; None if it was closed already.
+    head : Head or None
+        The end of the book's chain after that, to be kept elsewhere; None if it was closed already.
     """
 
     period: str
     report: Reported | None
+    head: Head | None = None
 
 
 @dataclass(frozen=True)

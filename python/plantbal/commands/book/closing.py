@@ -33,6 +33,7 @@ def _close(options: argparse.Namespace) -> int:
         return 0
     _say(found.report)
     print(f"{found.period} is closed, with the report {found.report.path}")
+    print(f"head {found.head}")
     return 0
 
 
@@ -46,7 +47,8 @@ def _say(report: Reported) -> None:
 
 CLOSE = SimpleNamespace(
     __doc__="Closes a period with its report: what is added to it from then on comes late, and its "
-    "history says so. If the report needs a look before it is booked, only with --anyway.",
+    "history says so. If the report needs a look before it is booked, only with --anyway. The last "
+    "line is the head of the chain, to be kept elsewhere: book verify --head compares it.",
     add_arguments=_add_close,
     run=_close,
 )
