@@ -25,7 +25,7 @@ from test_bundle_container import month as stated
 from plantbal.audit.archive import bundle_files
 from plantbal.book.forms import report_file
 from plantbal.book.journal import HEAD_TEXT, Act, Kept, Line, following, read_journal
-from plantbal.book.store import Action, Book
+from plantbal.book.store import Action, Store
 from plantbal.audit.bundle import packed
 from plantbal.audit.changed import digest
 from plantbal.faults import Fault
@@ -186,7 +186,7 @@ class Books:
         for command in (("new", "2024", room / "plant"), ("add", self.april)):
             with redirect_stdout(io.StringIO()):
                 typed(*command, *words)
-        kept = Book(self.mill)
+        kept = Store(self.mill)
         with kept.opened():
             written = {report_file("2024-04"): _report()}
             kept.do(Action(Act.REPORT, "2024-04", written=written))

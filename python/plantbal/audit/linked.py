@@ -117,10 +117,10 @@ class Linked:
         """Give whether a book has the head, and whether it had the session's rows by then."""
         from plantbal.book.chain import state_of
         from plantbal.book.forms import is_year_file
-        from plantbal.book.store import Book
+        from plantbal.book.store import Store
         from plantbal.book.verifying import missing_head
 
-        named, book = self.manifest.book, Book(folder)
+        named, book = self.manifest.book, Store(folder)
         with book.opened(reading=True):
             wrong = missing_head(book, self.path, f"{named['number']} {named['head']}")
             lines = book.journal()[: int(named["number"])] if not wrong else []
