@@ -9,6 +9,7 @@ from __future__ import annotations
 
 from collections.abc import Iterable, Iterator
 from itertools import islice, zip_longest
+from types import SimpleNamespace as Row
 
 from plantbal import checker
 from plantbal.audit.held import Differs, columns_of
@@ -82,11 +83,11 @@ def _block(rows: list[dict[str, str]], declared: Declared) -> checker.Block:
     Bad
         If a cut or a cycle isn't of its form.
     """
-    nodes = {name: checker.Row(name=name, price=0) for name in declared.nodes}
+    nodes = {name: Row(name=name, price=0) for name in declared.nodes}
     named = {}
     for row in islice(rows, 1, None):
         measured = 0 if row["measured"] == "yes" else None
-        named[row["name"]] = checker.Row(
+        named[row["name"]] = Row(
             name=row["name"],
             start=row["from"],
             end=row["to"],
@@ -100,8 +101,8 @@ def _block(rows: list[dict[str, str]], declared: Declared) -> checker.Block:
     checker.ask(
         _are_known((name for row in named.values() for name, _ in row.parts), named), "name"
     )
-    return checker.Block(checker.Row(), nodes, named, checker.Row(g=0, h=0), [])
+    return checker.Block(Row(), nodes, named, Row(g=0, h=0), [])
 
 
-def _are_known(names: Iterable[str], known: dict[str, checker.Row]) -> bool:
+def _are_known(names: Iterable[str], known: dict[str, Row]) -> bool:
     return all(name in known for name in names)

@@ -92,9 +92,9 @@ class Run:
             run = cls(**found)
         except (RecursionError, TypeError) as error:
             raise ValueError(error) from error
-        texts = (each.name for each in fields(cls) if each.type == "str")
+        texts = (run.site, run.night, run.session, run.session_sha256, run.program)
         if not (
-            all(isinstance(getattr(run, name), str) for name in texts)
+            all(isinstance(each, str) for each in (*texts, run.program_sha256, run.output_sha256))
             and isinstance(run.words, list)
             and type(run.status) in (int, type(None))
             and all(type(each) in (int, float) for each in (run.begun, run.seconds))
