@@ -45,6 +45,8 @@ _plantbal_desk() {
         archive:--sweeps) :; return ;;
         archive:--eliminate) :; return ;;
         audit:--words) :; return ;;
+        audit:--book) _plantbal_files -d; return ;;
+        audit:--before) :; return ;;
         audit:--timeout) :; return ;;
         audit:--program) _plantbal_files -f; return ;;
         report:--out) _plantbal_files -f; return ;;
@@ -173,7 +175,7 @@ _plantbal_desk() {
             _plantbal_files -f
             return
         fi
-        _plantbal_words '-h --help --words --no-program --strict --timeout --program' ;;
+        _plantbal_words '-h --help --words --no-program --strict --book --before --timeout --program' ;;
     report)
         if [[ $here != -* ]]; then
             _plantbal_files -f

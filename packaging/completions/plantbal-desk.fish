@@ -66,6 +66,8 @@ complete -c plantbal-desk -n '__fish_seen_subcommand_from audit' -s h -l help -d
 complete -c plantbal-desk -n '__fish_seen_subcommand_from audit' -l words -x -d 'the words of the run, as one word'
 complete -c plantbal-desk -n '__fish_seen_subcommand_from audit' -l no-program -d 'don\'t run the program'
 complete -c plantbal-desk -n '__fish_seen_subcommand_from audit' -l strict -d 'status 1 on notes too'
+complete -c plantbal-desk -n '__fish_seen_subcommand_from audit' -l book -x -a '(__fish_complete_directories)' -d 'the book whose head the bundle names: it has to have it, and the session\'s rows by then'
+complete -c plantbal-desk -n '__fish_seen_subcommand_from audit' -l before -x -d 'the bundle that this one names as the one before it: it has to be the same'
 complete -c plantbal-desk -n '__fish_seen_subcommand_from audit' -l timeout -x -d 'stop the program after that many seconds (default: it isn\'t stopped)'
 complete -c plantbal-desk -n '__fish_seen_subcommand_from audit' -l program -r -F -d 'the program (default: that of PLANTBAL, of the path, or of this checkout)'
 complete -c plantbal-desk -n '__fish_seen_subcommand_from audit' -F

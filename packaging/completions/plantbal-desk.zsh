@@ -75,6 +75,8 @@ _plantbal_desk() {
             '--words=[the words of the run, as one word]:WORDS:'
             '--no-program[don'\''t run the program]'
             '--strict[status 1 on notes too]'
+            '--book=[the book whose head the bundle names\: it has to have it, and the session'\''s rows by then]:FOLDER:_files -/'
+            '--before=[the bundle that this one names as the one before it\: it has to be the same]:BUNDLE:'
             '--timeout=[stop the program after that many seconds (default\: it isn'\''t stopped)]:SECONDS:'
             '--program=[the program (default\: that of PLANTBAL, of the path, or of this checkout)]:PATH:_files'
             '1:word:(audit)'
