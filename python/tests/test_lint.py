@@ -78,6 +78,11 @@ def days(stream: str, grams: list[int], variance: int = 100000000000000) -> str:
     return "\n".join([*rows, "report,p", ""])
 
 
+def dip(tank: str, day: str, mm: int) -> str:
+    """The row of a dip with an error of 1 t."""
+    return f"dip,{tank}_{day},{tank},{day},{mm},1000000,1000000000000\n"
+
+
 def test_nothing_looks_wrong() -> None:
     assert codes(GOOD) == []
     assert codes(BASE) == []
@@ -337,6 +342,59 @@ CASES = [
         "unused-assay",
         LOOPED + "assay,cu,FEED,d1,9000,4\nassay,cu,ONE,d1,9,4\ncomponent,cu,d1\n",
         "nothing determines the flow of ONE in d1, so the balance of cu leaves its assay out",
+    ),
+    (
+        "negative",
+        days("FEED", [*range(10**9, 10**9 + 9), -(10**9)]),
+        "FEED is below 0 on 2024-01-10, 1 reading of 10, at least -1,000.000 t: look at its sign",
+    ),
+    (
+        "zero",
+        days("FEED", [10**9] * 8 + [0, 0]),
+        "FEED reads 0 on 2024-01-09, 2024-01-10, though the unit that it alone serves goes on",
+    ),
+    (
+        "frozen",
+        days("FEED", [1_001_000_000 + day * 10**6 for day in range(10)] + [999_000_000] * 5),
+        "FEED has the same figure, 999.000 t, on 5 days, 2024-01-11 to 2024-01-15: if it stuck",
+    ),
+    (
+        "copy",
+        days("FEED", [10**9 + day for day in range(6)])
+        + "".join(f"amend,o{day + 1},{10**9 + day},1,x\n" for day in range(6))
+        + "report,p\n",
+        "FEED, OUT have the same figures on each of 6 days: look whether one column was copied",
+    ),
+    (
+        "tank-range",
+        changed(",4417,", ",4,")
+        .replace("report,d1", "".join(dip("SILO", f"2024-02-{day}", 2000) for day in (25, 26, 27)))
+        + "report,d1\n",
+        "SILO has 4 mm on 2024-03-02, and 2,000 to 2,000 mm in its 4 other dips: "
+        "if it is in metres, write 4000 mm",
+    ),
+    (
+        "tank-jump",
+        "unit,U\ntank,T,1\nstrap,T,0,0\nstrap,T,10000,10000000000\nstream,IN,U,T,plain,0\n"
+        + "stream,FEED,env,U,plain,0\nperiod,p,2024-01-01,2024-01-09\n"
+        + "".join(dip("T", f"2024-01-0{day}", 5000 + 100 * day) for day in range(1, 9))
+        + dip("T", "2023-12-31", 5000)
+        + dip("T", "2024-01-09", 3000)
+        + "report,p\n",
+        "the dip of T on 2024-01-09 asks for a change of -2,800.000 t up to 2024-01-08; "
+        "booked flows and its other days give 100.000 t",
+    ),
+    (
+        "negative-flow",
+        "unit,U\nstream,IN,env,U,metered,1\nstream,OUT,env,U,plain,0\n"
+        "period,p,2024-01-01,2024-01-01\nreading,a,IN,2024-01-01,5000000000,100\nreport,p\n",
+        "OUT from env to U is booked as -5,000.000 t ± 10 g: it would run backward: "
+        "exchange the ends of OUT if it runs from U to env",
+    ),
+    (
+        "estimated",
+        changed("reading,f1,", "reading,FEED_2024-03-01.est,"),
+        "FEED is estimated on 2024-03-01, 1 day: 1,200.000 t ± 10.000 t: put in the true figures",
     ),
     (
         "no-cost",

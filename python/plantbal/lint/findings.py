@@ -8,6 +8,7 @@ from dataclasses import dataclass
 
 from plantbal.amounts import tonnes_text
 from plantbal.faults import Place
+from plantbal.gates import Gate, about
 from plantbal.model.facts import Fact
 from plantbal.model.forms import day_text
 from plantbal.model.ledger import Ledger
@@ -60,6 +61,19 @@ RULES: dict[str, Rule] = {
         Rule("grade", "warning", "a grade is 50 times that of the same stream in other periods"),
         Rule("no-cost", "warning", "a plain stream has no cost in an advise row that names costs"),
         Rule("nearly-full", "warning", "a session is at 80 % of a limit or above"),
+        *(
+            Rule(gate.value, "warning", about(gate))
+            for gate in (
+                Gate.NEGATIVE_FLOW,
+                Gate.TANK_JUMP,
+                Gate.TANK_RANGE,
+                Gate.ZERO,
+                Gate.FROZEN,
+                Gate.NEGATIVE,
+                Gate.COPY,
+            )
+        ),
+        Rule(Gate.ESTIMATED.value, "note", about(Gate.ESTIMATED)),
         Rule("untested", "note", "a report is asked for, and there is no critical value"),
         Rule("no-elimination", "note", "critical values that an elimination needs are missing"),
         Rule("no-transfer", "note", "a batch stream has no transfer in a period: it counts as 0"),
@@ -87,6 +101,8 @@ class Finding:
         The unit, tank or stream, if it is of one.
     period : str
         The period, if it is of one.
+    names : tuple of str
+        All names that it speaks of, if there are more than one.
     """
 
     code: str
@@ -95,6 +111,7 @@ class Finding:
     place: Place
     name: str = ""
     period: str = ""
+    names: tuple[str, ...] = ()
 
     @property
     def severity(self) -> str:

@@ -7,6 +7,7 @@ from collections.abc import Callable, Iterator, Sequence
 from plantbal.faults import Refusal
 from plantbal.lint.components import assays, grades, unused_assays
 from plantbal.lint.findings import Finding
+from plantbal.lint.gates import gates
 from plantbal.lint.lacking import (
     after_report,
     in_no_period,
@@ -38,6 +39,7 @@ _FINDERS: tuple[Callable[[Ledger], Iterator[Finding]], ...] = (
     densities,
     worse_classes,
     critical_values,
+    gates,
     assays,
     unused_assays,
     grades,

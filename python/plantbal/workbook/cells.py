@@ -392,10 +392,33 @@ class Reader:
             raise self.fault(cell, f"{cell.text} kg/m3 is no density", remedy, "density")
         return Fraction(number) * DENSITIES[unit or "kg/m3"]
 
-    def level(self, cell: Cell, head: str = "level") -> int:
-        """Return a level in whole millimetres."""
-        number, unit = self.split(cell, LENGTHS, head)
-        return self.whole(cell, Fraction(number) * LENGTHS[unit or "mm"])
+    def level(
+        self, cell: Cell, head: str = "level", unit: Cell | None = None, top: int | None = None
+    ) -> int:
+        """Return a level in whole millimetres.
+
+        Parameters
+        ----------
+        cell : Cell
+            The level, perhaps with its unit.
+        head : str
+            The head of its column.
+        unit : Cell, optional
+            Its unit.
+        top : int, optional
+            The greatest level of the tank's table: with it a number with decimals that may be in
+            metres or centimetres isn't taken for millimetres.
+        """
+        number, own = self.split(cell, LENGTHS, head)
+        own = own or self.unit(unit, LENGTHS, "")
+        if top is not None and not own and number % 1:
+            others = [each for each in ("m", "cm") if 0 < number * int(LENGTHS[each]) <= top]
+            if others:
+                said = " or ".join(f"{cell.text} {each}" for each in others)
+                what = f"the level {cell.text} has decimals and no unit: {said}?"
+                remedy = f"write {cell.text} {others[0]}, or {round(number)} mm if it is that; or "
+                raise self.fault(cell, what, f"{remedy}the unit into a column unit", head)
+        return self.whole(cell, Fraction(number) * LENGTHS[own or "mm"])
 
     def grade(self, cell: Cell, unit: Cell | None = None, head: str = "grade") -> Fraction:
         """Return a grade in parts per million; it needs a unit after it or in a cell of its own."""

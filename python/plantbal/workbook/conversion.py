@@ -28,7 +28,7 @@ WORKBOOK is an xlsx file, or a folder of CSV files, each of which is the sheet o
   tanks      tank, error, base, density, since, until
   straps     tank, level, volume, unit (m3 without it)
   readings   the days down and a column for each tag; or days across; or long: day, tag, value, unit
-  dips       tank, day, level, density, error
+  dips       tank, day, level, unit, density, error
   tickets    id, stream, first, last, amount, unit, density, error
   estimates  tag, day, amount, unit, density, error: a figure with a wide error for a missing day
   moistures  stream, day, moisture, error: what part of wet tonnes (wmt) is water; or with a

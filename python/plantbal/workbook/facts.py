@@ -158,7 +158,8 @@ class Converter(Readings):
             near = difflib.get_close_matches(name, self.tanks, n=1)
             remedy = f"did you mean {near[0]}?" if near else "write it into the sheet tanks"
             raise self.reader.fault(row["tank"], f"there is no tank {name!r}", remedy, "tank")
-        mm = self.reader.level(row["level"])
+        top = tank.points[-1][0] if tank.points else None
+        mm = self.reader.level(row["level"], unit=row["unit"], top=top)
         density = self.reader.density(row["density"]) or tank.density
         if density is None:
             remedy = "write one, such as 862 (kg/m3), here or in the sheet tanks"

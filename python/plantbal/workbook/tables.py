@@ -28,7 +28,7 @@ SHEETS: dict[str, tuple[tuple[str, ...], tuple[str, ...]]] = {
     "tanks": (("tank",), ("error", "base", "density", "since", "until")),
     "straps": (("tank", "level", "volume"), ("unit",)),
     "readings": ((), ()),
-    "dips": (("tank", "day", "level"), ("density", "error")),
+    "dips": (("tank", "day", "level"), ("unit", "density", "error")),
     "tickets": (("id", "stream", "first", "amount"), ("last", "unit", "density", "error")),
     "estimates": (("day", "amount", "error"), ("tag", "stream", "unit", "density")),
     "moistures": (
