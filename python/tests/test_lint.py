@@ -351,7 +351,7 @@ CASES = [
     (
         "zero",
         days("FEED", [10**9] * 8 + [0, 0]),
-        "FEED reads 0 on 2024-01-09, 2024-01-10, though the unit that it alone serves goes on",
+        "FEED reads 0 on 2024-01-09, 2024-01-10, though the unit that it serves goes on",
     ),
     (
         "frozen",

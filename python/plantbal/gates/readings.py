@@ -12,6 +12,7 @@ from collections import defaultdict
 from collections.abc import Iterator, Sequence
 from itertools import groupby
 from math import gcd
+from statistics import median_low
 
 from plantbal.gates.gate import Gate, Stop
 from plantbal.gates.look import Look
@@ -56,7 +57,7 @@ def _stop(look: Look, gate: Gate, name: str, facts: Sequence[Fact], **values: in
 
 
 def _zeros(look: Look, stream: Stream, facts: list[Fact]) -> Iterator[Stop]:
-    """Give the zeros of a meter on days on which the unit that it alone feeds or drains goes on."""
+    """Give the zeros of a meter on days on which the unit that it serves goes on all the same."""
     zeros = [fact for fact in facts if not fact.grams]
     if not zeros:
         return
@@ -76,15 +77,21 @@ def _zeros(look: Look, stream: Stream, facts: list[Fact]) -> Iterator[Stop]:
 
 
 def _goes_on(look: Look, stream: Stream, day: int) -> bool:
-    """Say whether a unit that a stream alone feeds, or alone drains, goes on on a day."""
+    """Say whether a unit goes on, on a day, that a stream feeds or drains by most of its flow."""
+    usual = [fact.grams for fact in look.facts.readings[stream.arc.name] if fact.grams > 0]
     for node, is_to in ((stream.arc.from_, False), (stream.arc.to, True)):
         if node == ENV or look.state.plant.nodes.get(node) != "unit":
             continue
-        same = [each for each in look.at[node] if (each.arc.to == node) == is_to]
+        beside = [each for each in look.at[node] if (each.arc.to == node) == is_to]
         others = [each for each in look.at[node] if (each.arc.to == node) != is_to]
+        beside = [each for each in beside if each is not stream]
+        same = [look.state.facts.on(each.arc.name, day) for each in beside]
+        known = sum(fact.grams for fact in same if fact is not None)
+        is_most = 2 * known < median_low(usual) if usual else not beside
         readings = [look.state.facts.on(each.arc.name, day) for each in others]
-        if len(same) == 1 and any(fact is not None and fact.grams > 0 for fact in readings):
-            return True
+        if is_most and None not in same:
+            if any(fact is not None and fact.grams > 0 for fact in readings):
+                return True
     return False
 
 

@@ -105,7 +105,7 @@ def _tank_range(stop: Stop) -> str:
 
 def _zero(stop: Stop) -> str:
     days = "each day" if len(stop.days) == stop.values["readings"] else days_said(stop.days)
-    return f"{stop.names[0]} reads 0 on {days}, though the unit that it alone serves goes on"
+    return f"{stop.names[0]} reads 0 on {days}, though the unit that it serves goes on"
 
 
 def _frozen(stop: Stop) -> str:
@@ -215,7 +215,7 @@ _ABOUT: dict[Gate, str] = {
     Gate.NEGATIVE_FLOW: "a flow is below 0 by more than two standard deviations",
     Gate.TANK_JUMP: "a dip at an end of a period is where no booked flow leads",
     Gate.TANK_RANGE: "a level is ten times outside the range of the tank's other dips",
-    Gate.ZERO: "a meter reads 0 while the unit that it alone serves goes on",
+    Gate.ZERO: "a meter reads 0 while the unit that it serves goes on",
     Gate.FROZEN: "a meter has the same figure for days, or all have those of the day before",
     Gate.NEGATIVE: "a meter is below 0 on a few days",
     Gate.COPY: "two meters have the same figures on all days",
