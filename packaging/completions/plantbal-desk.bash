@@ -30,7 +30,7 @@ _plantbal_desk() {
         run:--gap) :; return ;;
         run:--sweeps) :; return ;;
         run:--eliminate) :; return ;;
-        lint:--ignore) _plantbal_words 'refused nothing-asked missing-reading missing-dip no-period after-report one-sided never-served near-names magnitude small-deviation large-deviation density worse-class no-critical no-balance after-balance unchecked-grade unused-assay grade no-cost nearly-full untested no-elimination no-transfer unused-dip not-reported'; return ;;
+        lint:--ignore) _plantbal_words 'refused nothing-asked missing-reading missing-dip no-period after-report one-sided never-served near-names magnitude small-deviation large-deviation density worse-class no-critical no-balance after-balance unchecked-grade unused-assay grade no-cost nearly-full negative-flow tank-jump tank-range zero frozen negative copy estimated untested no-elimination no-transfer unused-dip not-reported'; return ;;
         explain:--program) _plantbal_files -f; return ;;
         check:--program) _plantbal_files -f; return ;;
         archive:--period) :; return ;;
