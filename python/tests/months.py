@@ -185,7 +185,7 @@ class Refinery:
 def concentrator(month: str, rng: random.Random) -> Sheets:
     """A copper concentrator's month: ore from a heap, concentrate to a store, tailings."""
     first, last = month_days(month)
-    ore, grade = rng.uniform(380_000, 420_000), rng.uniform(0.026, 0.03)
+    ore, grade = rng.uniform(190_000, 210_000), rng.uniform(0.026, 0.03)
     amounts = {
         "MINED": ore * rng.uniform(0.95, 1.05),
         "FEED": ore,
@@ -193,7 +193,7 @@ def concentrator(month: str, rng: random.Random) -> Sheets:
         "TAILS": ore * (1 - grade),
         "TRUCKS": ore * grade * rng.uniform(0.9, 1.0),
     }
-    errors = {"MINED": 0.01, "FEED": 0.005, "CONC": 0.005, "TAILS": 0.02, "TRUCKS": 0.001}
+    errors = {"MINED": 0.01, "FEED": 0.005, "CONC": 0.005, "TAILS": 0.012, "TRUCKS": 0.001}
     tickets: Rows = [["id", "stream", "first", "last", "amount", "error"]]
     for name, true in amounts.items():
         error = errors[name] * true

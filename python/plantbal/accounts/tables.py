@@ -58,12 +58,14 @@ class Shown:
     ----------
     line : str
         What it is.
-    amount : Amount or None
+    amount : Amount
         The figure.
     is_total : bool
         Whether the lines above it add up to it.
     is_beside : bool
         Whether it is beside the sum.
+    is_stock : bool
+        Whether it is what was there, and nothing that moved.
     percent : str
         What it is in percent, if that is said.
     """
@@ -73,12 +75,13 @@ class Shown:
     is_total: bool = False
     is_beside: bool = False
     percent: str = ""
+    is_stock: bool = False
 
 
 def shown(table: Table) -> Iterator[Shown]:
     """Give the lines of an account: those that add up, their total, and what is beside."""
     for line in table.moving:
-        yield Shown(line.value, table.lines[line])
+        yield Shown(line.value, table.lines[line], is_stock=line is Line.OPENING)
     if Line.CLOSING in table.lines:
         yield Shown(Line.CLOSING.value, table.lines[Line.CLOSING], is_total=True)
     if table.level is Level.OWNER and Line.PROCESSED in table.lines:

@@ -44,16 +44,36 @@ def write_workbook(path: str | Path, account: MonthAccount, tables: Sequence[Tab
         raise ToolMissing("openpyxl", "python3-openpyxl") from error
     book = Workbook()
     book.remove(book.active)
-    sheet, entries = book.create_sheet("account"), book.create_sheet("entries")
+    put_sheets(book, account, tables)
+    with replacing(path) as made:
+        book.save(made)
+
+
+def put_sheets(
+    book: Any, account: MonthAccount, tables: Sequence[Table], number: int | None = None
+) -> None:
+    """Put the sheets of accounts into a workbook.
+
+    Parameters
+    ----------
+    book : Workbook
+        The workbook.
+    account : MonthAccount
+        The accounts of a month.
+    tables : sequence of Table
+        Those that are wanted.
+    number : int, optional
+        What the sheets' names end with, if there are several months.
+    """
+    end = "" if number is None else f"_{number}"
+    sheet, entries = book.create_sheet(f"account{end}"), book.create_sheet(f"entries{end}")
     _head(sheet, _ACCOUNT, (28, 20, 18, 12, 18, 8, 24, 12))
     _head(entries, _ENTRIES, (6, 28, 20, 20, 20, 20, 18, 18))
     count = 1 + sum(len(table.entries) for table in tables)
     for table in tables:
         _put_table(sheet, entries, table, count)
     if any(table.level is Level.PLANT for table in tables):
-        _put_stock(book.create_sheet("stock"), account)
-    with replacing(path) as made:
-        book.save(made)
+        _put_stock(book.create_sheet(f"stock{end}"), account)
 
 
 def _head(sheet: Any, heads: Sequence[str], widths: Sequence[int]) -> None:
@@ -90,9 +110,10 @@ def _formula(sheet: Any, row: int, column: int, formula: str) -> None:
     cell.number_format = _TONNES
 
 
-def _sum_of(row: int, count: int, column: str) -> str:
-    """Return the sum of the entries that name a row."""
-    return f"SUMIFS(entries!${column}$2:${column}${count},entries!$A$2:$A${count},{row})"
+def _sum_of(name: str, row: int, count: int, column: str) -> str:
+    """Return the sum of the entries, of a sheet, that name a row."""
+    cells = f"{name}!${{}}$2:${{}}${count}"
+    return f"SUMIFS({cells.format(column, column)},{cells.format('A', 'A')},{row})"
 
 
 def _decimal(grams: float | None) -> Decimal | None:
@@ -113,10 +134,10 @@ def _put_table(sheet: Any, entries: Any, table: Table, count: int) -> None:
             if column == 5 and (not table.unit or is_total):
                 continue
             total = f"SUM({letter}{first}:{letter}{row - 1})" if row > first else "0"
-            inner = total if is_total else _sum_of(row, count, source)
+            inner = total if is_total else _sum_of(entries.title, row, count, source)
             _formula(sheet, row, column, f"=ROUND({inner},6)")
         if is_total:
-            _formula(sheet, row, 8, f"=ROUND(C{row}-{_sum_of(row, count, 'G')},6)")
+            _formula(sheet, row, 8, f"=ROUND(C{row}-{_sum_of(entries.title, row, count, 'G')},6)")
         _put_entries(entries, table, line, row)
     left = table.unaccounted
     if left is not None:

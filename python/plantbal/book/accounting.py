@@ -15,6 +15,7 @@ from plantbal.accounts.account import MonthAccount, Rolled
 from plantbal.accounts.month import Month
 from plantbal.accounts.reading import accounts_text, parse_accounts
 from plantbal.accounts.sheet import Accounts
+from plantbal.accounts.trend import Unusual, unusual
 from plantbal.book.forms import ACCOUNTS, report_file, year_file
 from plantbal.book.journal import Line
 from plantbal.book.overview import report_state
@@ -25,6 +26,9 @@ from plantbal.book.years import Years, periods_of
 from plantbal.faults import Fault, InputFault, Place
 from plantbal.model.ledger import Ledger
 from plantbal.report.blocks import Block, blocks_of, last_blocks, parse_rows
+
+_MONTHS = 13  # beside which a month is looked at, so that the same month of a year ago is one
+
 
 # ---- the sheet
 
@@ -181,8 +185,30 @@ def rolled_of(book: Store) -> Rolled:
     return Rolled(months, accounts_of(book))
 
 
-def account(book: Store, period: str) -> tuple[MonthAccount, ReportState, list[str]]:
-    """Return the account of a period, how old its report is, and what waits in the book.
+@dataclass(frozen=True)
+class PeriodAccount:
+    """The account of a period, as a book shows it.
+
+    Attributes
+    ----------
+    account : MonthAccount
+        The account.
+    report : ReportState
+        How old its report is.
+    waiting : tuple of str
+        What a command that was stopped has left to do, in sentences.
+    unusual : tuple of Unusual
+        What is unusual beside the months before.
+    """
+
+    account: MonthAccount
+    report: ReportState
+    waiting: tuple[str, ...] = ()
+    unusual: tuple[Unusual, ...] = ()
+
+
+def account(book: Store, period: str) -> PeriodAccount:
+    """Return the account of a period.
 
     Raises
     ------
@@ -195,4 +221,14 @@ def account(book: Store, period: str) -> tuple[MonthAccount, ReportState, list[s
         if state is ReportState.MISSING:
             remedy = f"plantbal-desk book report {period}"
             raise Fault(f"{period} has no report yet", remedy=remedy)
-        return rolled_of(book).account(period), state, waiting_said(book)
+        rolled = rolled_of(book)
+        found = rolled.account(period)
+        odd = tuple(unusual_of(rolled, found))
+        return PeriodAccount(found, state, tuple(waiting_said(book)), odd)
+
+
+def unusual_of(rolled: Rolled, account: MonthAccount) -> list[Unusual]:
+    """Return what is unusual in a month beside those before it."""
+    at = rolled.at(account.month.name)
+    before = [rolled.account(each.name) for each in rolled.months[max(0, at - _MONTHS) : at]]
+    return list(unusual(account, before))

@@ -14,7 +14,7 @@ from plantbal.book.forms import year_file
 from plantbal.book.meters import Meter, meters_of, meters_text, read_meters
 from plantbal.book.reading import ANOTHER_VALUE, converted, raise_all
 from plantbal.book.results import Added, YearAdded
-from plantbal.book.said import counted, doubts, lacking
+from plantbal.book.said import closed_in, counted, doubts, lacking
 from plantbal.book.store import METERS, PLANT, Act, Action, Store
 from plantbal.book.years import Years
 from plantbal.faults import Fault, InputFault, Refusal
@@ -94,7 +94,9 @@ def add(
         is_booked = not dry_run and bool(action.appended or action.written)
         if is_booked:
             book.do(action)
-    return Added(name, parts, tuple(told), changes, strike, tuple(work.notes), is_booked)
+    closed = tuple(closed_in(changes.edited(strike)))
+    notes = tuple(work.notes)
+    return Added(name, parts, tuple(told), changes, strike, notes, is_booked, closed)
 
 
 def _year_added(

@@ -74,6 +74,11 @@ class Changes:
     stale: list[Change] = field(default_factory=list)
     same: int = 0
 
+    def edited(self, strike: bool) -> list[tuple[Ledger, Fact]]:
+        """Return the booked facts that are changed or struck, with their years."""
+        pairs = [(change.ledger, change.old) for change in [*self.changed, *self.left]]
+        return [*pairs, *(self.gone if strike else ())]
+
     def put(self, reason: Callable[[str, str], str], strike: bool) -> None:
         """Put the rows to the ledgers.
 

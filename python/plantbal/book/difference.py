@@ -79,6 +79,8 @@ class Difference:
         The facts that are otherwise.
     id : str
         The id of the postings, if they are against what was posted.
+    is_first : bool
+        Whether nothing was posted or reported before, so that all of it is new.
     report : ReportState
         How old the period's report is.
     """
@@ -88,6 +90,7 @@ class Difference:
     changes: list[Change]
     causes: list[Cause]
     id: str = ""
+    is_first: bool = False
     report: ReportState = ReportState.CURRENT
 
 
@@ -128,14 +131,14 @@ def difference_of(book: Store, period: str, words: Sequence[str]) -> Difference:
     before, after = sides
     changes = changes_of(before.posted.state, after.posted.state)
     causes: list[Cause] = []
+    is_first = before.word == POSTED and before.version is None
     if after.version is not None and after.month is not None:
-        first_time = before.word == POSTED and before.version is None
-        if not first_time:
+        if not is_first:
             causes = causes_of(book, before.version, after.version)
         changes = with_causes(changes, causes, before.month, after.month)
     number = posted_numbers(book, period) + 1
     identity = id_of(period, number, changes) if (one, other) == (POSTED, NOW) else ""
-    return Difference(period, (one, other), changes, causes, identity)
+    return Difference(period, (one, other), changes, causes, identity, is_first)
 
 
 def _default(book: Store, period: str) -> str:

@@ -12,6 +12,7 @@ from plantbal.book.ledger import Fact, Ledger
 from plantbal.book.meters import Meter, read_meters, taken
 from plantbal.book.naming import Names, cell_of
 from plantbal.book.results import Edited
+from plantbal.book.said import closed_in, touched_by
 from plantbal.book.store import METERS, Act, Action, Store
 from plantbal.book.years import Years
 from plantbal.faults import Fault, Refusal
@@ -123,7 +124,7 @@ def amend(
             _put(ledger, new.amendment(there.id, why))
             action.add(ledger)
         book.do(action)
-        return Edited(fact, new, True, tuple(_older(book, places)))
+        return Edited(fact, new, True, tuple(_older(book, places)), tuple(closed_in(places)))
 
 
 def strike(book: Store, name: str, day: datetime.date | None, *, why: str, who: str = "") -> Edited:
@@ -139,7 +140,7 @@ def strike(book: Store, name: str, day: datetime.date | None, *, why: str, who: 
             _put(ledger, ("strike", there.id, why))
             action.add(ledger)
         book.do(action)
-        return Edited(fact, None, True, tuple(_older(book, named.places)))
+        return Edited(fact, None, True, tuple(_older(book, named.places)), tuple(closed_in(named.places)))
 
 
 def _put(ledger: Ledger, row: tuple[str, ...]) -> None:
@@ -153,9 +154,6 @@ def _put(ledger: Ledger, row: tuple[str, ...]) -> None:
 def _older(book: Store, places: list[tuple[Ledger, Fact]]) -> Iterator[str]:
     """Give the periods with a report that doesn't have the last values of a fact."""
     for ledger, fact in places:
-        eve = 1 if fact.kind == "dip" else 0
-        first, last = fact.first.toordinal(), fact.last.toordinal()
-        for name, period in ledger.periods.items():
-            touched = first <= period.last and last >= period.first - eve
-            if touched and book.path(report_file(name)).is_file():
+        for name in touched_by(ledger, fact):
+            if book.path(report_file(name)).is_file():
                 yield name

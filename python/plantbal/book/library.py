@@ -11,7 +11,6 @@ import datetime
 from collections.abc import Iterator, Sequence
 from pathlib import Path
 
-from plantbal.accounts.account import MonthAccount
 from plantbal.book import (
     accounting,
     adding,
@@ -334,8 +333,8 @@ class Book:
 
     # ---- accounts
 
-    def account(self, period: str) -> tuple[MonthAccount, ReportState, list[str]]:
-        """Return the account of a period, how old its report is, and what waits in the book.
+    def account(self, period: str) -> accounting.PeriodAccount:
+        """Return the account of a period, how old its report is, and what is unusual in it.
 
         Raises
         ------

@@ -91,6 +91,8 @@ class Added:
         What was rounded or passed over in it.
     is_booked : bool
         Whether something was booked: not if there was nothing new, or only to see what would be.
+    closed : tuple of str
+        The closed periods whose facts it changes or strikes.
     """
 
     workbook: str
@@ -100,6 +102,7 @@ class Added:
     struck: bool
     notes: tuple[str, ...]
     is_booked: bool
+    closed: tuple[str, ...] = ()
 
 
 @dataclass(frozen=True)
@@ -116,12 +119,15 @@ class Edited:
         Whether that was booked now: not if it was so already.
     older_reports : tuple of str
         The periods whose reports don't have that.
+    closed : tuple of str
+        Those of its periods that are closed.
     """
 
     old: Fact
     new: Fact | None
     is_booked: bool
     older_reports: tuple[str, ...] = ()
+    closed: tuple[str, ...] = ()
 
 
 @dataclass(frozen=True)

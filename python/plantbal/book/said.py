@@ -105,6 +105,26 @@ def changed(changes: Changes, name: str, struck: bool) -> list[str]:
     return lines
 
 
+def touched_by(ledger: Ledger, fact: Fact) -> dict[str, Period]:
+    """Return the periods of a year that a fact touches; a dip closes one and opens the next."""
+    eve = 1 if fact.kind == "dip" else 0
+    first, last = fact.first.toordinal(), fact.last.toordinal()
+    periods = ledger.periods.items()
+    return {n: each for n, each in periods if first <= each.last and last >= each.first - eve}
+
+
+def closed_in(facts: Iterable[tuple[Ledger, Fact]]) -> list[str]:
+    """Return the closed periods that facts touch."""
+    touched = [touched_by(ledger, fact) for ledger, fact in facts]
+    return list(dict.fromkeys(n for some in touched for n, each in some.items() if each.closed))
+
+
+def reopened_said(period: str) -> str:
+    """Return what is to be said if a fact of a closed period is changed."""
+    then = f"plantbal-desk book report {period}, and then plantbal-desk book difference {period}"
+    return f"{period} is closed, and this changes it: {then}"
+
+
 def doubts(before: str, added_rows: str) -> list[Finding]:
     """Return what rows bring that looks wrong: another unit, an error of another size.
 

@@ -21,6 +21,7 @@ if TYPE_CHECKING:
     from jinja2 import Environment
 
     from plantbal.accounts.trend import Unusual
+    from plantbal.book.difference import Difference
 
 # Lines that a table of accounts has a column for, if some account has them.
 _COLUMNS: tuple[Line, ...] = tuple(each for each in Line)
@@ -44,7 +45,9 @@ def columns_of(tables: Sequence[Table]) -> list[Line]:
     return [line for line in _COLUMNS if any(line in table.lines for table in tables)]
 
 
-def part_of(account: MonthAccount, unusual: Sequence[Unusual] = ()) -> Any:
+def part_of(
+    account: MonthAccount, unusual: Sequence[Unusual] = (), changed: Difference | None = None
+) -> Any:
     """Return the account as a part of the statement: the plant, its groups, its stocks, owners.
 
     Parameters
@@ -53,11 +56,13 @@ def part_of(account: MonthAccount, unusual: Sequence[Unusual] = ()) -> Any:
         The accounts of the month.
     unusual : sequence of Unusual
         What is unusual beside the months before.
+    changed : Difference, optional
+        What it has otherwise than what was posted, or than the report before it.
     """
     from markupsafe import Markup
 
     made: Any = _environment().get_template("account.html.j2").module
-    return Markup(made.part(account, columns_of(account.groups), list(unusual), NOBODY))
+    return Markup(made.part(account, columns_of(account.groups), list(unusual), NOBODY, changed))
 
 
 def page_of(
@@ -65,6 +70,7 @@ def page_of(
     title: str = "",
     owner: Table | None = None,
     unusual: Sequence[Unusual] = (),
+    changed: Difference | None = None,
 ) -> str:
     """Return the page of a month's account, or of one owner's.
 
@@ -78,6 +84,8 @@ def page_of(
         The account of the owner, if it is one owner's page.
     unusual : sequence of Unusual
         What is unusual beside the months before.
+    changed : Difference, optional
+        What it has otherwise than what was posted, or than the report before it.
     """
     name = (owner.name or NOBODY) if owner is not None else ""
     heading = title or " ".join(filter(None, ("Account", account.month.name, name)))
@@ -91,6 +99,7 @@ def page_of(
             columns=columns_of(account.groups),
             product_columns=columns_of(account.products),
             unusual=list(unusual),
+            changed=changed,
             nobody=NOBODY,
             whole={(entry.line, entry.name): entry.grams for entry in account.plant.entries},
         )

@@ -18,6 +18,7 @@ from plantbal.files import write_text
 from plantbal.forms import read_session, session_to_run
 from plantbal.model.ledger import Ledger
 from plantbal.page.account import account_of
+from plantbal.page.books import booked
 from plantbal.page.head import Origin
 from plantbal.page.render import render
 from plantbal.page.statement import Prepared, Refused, Worth
@@ -41,6 +42,9 @@ Each period has a verdict in words, its tanks and streams with measured value, a
 is booked, and a drawing. Choose a row or an arrow: its cut or cycle is marked. With more than 60
 streams only what lies within two steps of the chosen stream is drawn. If Graphviz takes longer
 than --seconds, the page comes without drawings and says so.
+
+With --book each period has its account: stock that rolls forward from month to month, receipts,
+shipments, losses and owners' shares, with what has changed since it was posted.
 
 --xlsx writes the tables as a workbook, --pdf the page on A4, with chromium. If either is given,
 the page itself is written only if --out names a file.
@@ -246,7 +250,7 @@ def add_arguments(parser: argparse.ArgumentParser) -> None:
     rounds = "with --run: take out at most N suspects"
     parser.add_argument("--eliminate", metavar="N", type=int, default=0, help=rounds)
     parser.add_argument("--program", metavar="PATH", help="the program, with --run")
-    book = "the book that the session is from: the page names the head of its chain"
+    book = "the book that the session is from: the page has its account, and the head of its chain"
     parser.add_argument("--book", metavar="FOLDER", help=book)
     add_timeout(parser, condition="with --run: ")
     parser.add_argument("--out", metavar="FILE", help="the page")
@@ -293,9 +297,16 @@ def run(options: argparse.Namespace) -> int:
     if not plant and source.session is not None and source.session[0] != "standard input":
         plant = Path(source.session[0]).stem
     book = " ".join(named_book(options.book).values())
+    added = booked(options.book, source.rows)
     origin = Origin(plant, source.session[0] if source.session else "", program, book)
     if options.out or options.pdf or not options.xlsx:
-        text = render(prepared, title=options.title, origin=origin, seconds=options.seconds)
+        text = render(
+            prepared,
+            title=options.title,
+            origin=origin,
+            seconds=options.seconds,
+            parts=added.parts,
+        )
         if options.out or not options.pdf:
             write_text(options.out or "-", text)
         if options.pdf:
@@ -305,10 +316,11 @@ def run(options: argparse.Namespace) -> int:
     if options.xlsx:
         from plantbal.page.sheets import write_workbook
 
-        write_workbook(options.xlsx, prepared.account, prepared.told, origin)
+        accounts = list(added.accounts.values())
+        write_workbook(options.xlsx, prepared.account, prepared.told, origin, accounts)
     why = output.why if output is not None else []
     if output is None and prepared.account.is_empty:
         why = [f"{source.name}: there is no report"]
-    for line in why:
+    for line in [*added.said, *why]:
         print(f"{options.prog}: {line}", file=sys.stderr)
     return 1 if why else 0

@@ -5,6 +5,7 @@ from __future__ import annotations
 import re
 from collections.abc import Iterable, Mapping, Sequence
 from math import sqrt
+from types import MappingProxyType
 from typing import TYPE_CHECKING, Any
 
 from plantbal.amounts import tonnes_text
@@ -252,6 +253,7 @@ def render(
     title: str = "",
     origin: Origin = Origin(),
     seconds: float = 10,
+    parts: Mapping[str, Any] = MappingProxyType({}),
 ) -> str:
     """Return the page of an account.
 
@@ -265,6 +267,8 @@ def render(
         Where it comes from.
     seconds : float
         How long the layout of its drawings may take; 0 is none.
+    parts : mapping of str to Markup
+        What stands below the verdicts of periods, such as their accounts.
     """
     account = prepared.account
     rounds = [each.report.last.lines for each in account.statements if each.report.last]
@@ -299,6 +303,7 @@ def render(
             is_empty=account.is_empty,
             ledger=account.ledger,
             kinds=KINDS,
+            parts=parts,
             most=MOST,
             few=FEW,
             has_worth=any(line.worth for lines in rounds for line in lines),

@@ -7,6 +7,7 @@ from decimal import Decimal
 from pathlib import Path
 from typing import TYPE_CHECKING, Any
 
+from plantbal.accounts.workbook import put_sheets
 from plantbal.amounts import tonnes_of
 from plantbal.faults import ToolMissing
 from plantbal.files import replacing
@@ -15,6 +16,7 @@ from plantbal.page.head import Origin, head_of
 from plantbal.page.statement import Account, Line, Round, Statement
 
 if TYPE_CHECKING:
+    from plantbal.accounts.account import MonthAccount
     from plantbal.explain import Told
 
 Cell = str | int | float | Decimal | None
@@ -152,7 +154,11 @@ def lint(account: Account) -> tuple[Row, list[Row]]:
 
 
 def write_workbook(
-    path: str | Path, account: Account, told: Sequence[Told], origin: Origin
+    path: str | Path,
+    account: Account,
+    told: Sequence[Told],
+    origin: Origin,
+    accounts: Sequence[MonthAccount] = (),
 ) -> None:
     """Write the workbook, whole or not at all.
 
@@ -166,6 +172,8 @@ def write_workbook(
         The refused rows in sentences.
     origin : Origin
         Where it comes from.
+    accounts : sequence of MonthAccount
+        The accounts of periods, if the book is known.
     """
     try:
         from openpyxl import Workbook
@@ -187,6 +195,8 @@ def write_workbook(
     for name, (heads, rows) in tables.items():
         if rows:
             _fill(book.create_sheet(name), heads, rows)
+    for number, each in enumerate(accounts, 1):
+        put_sheets(book, each, each.tables, number if len(accounts) > 1 else None)
     with replacing(path) as made:
         book.save(made)
 

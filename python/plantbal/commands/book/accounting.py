@@ -8,6 +8,9 @@ from types import SimpleNamespace
 from plantbal.accounts.account import Level, MonthAccount, Table
 from plantbal.accounts.posting import posting_rows, postings_of
 from plantbal.accounts.tables import HEADS, NOBODY, rows_of, stock_text, text_of
+from plantbal.accounts.trend import Unusual
+from plantbal.amounts import tonnes_text
+from plantbal.book.accounting import PeriodAccount
 from plantbal.book.causes import change_row
 from plantbal.book.difference import Difference
 from plantbal.book.library import Book
@@ -44,9 +47,11 @@ def _add_account(parser: argparse.ArgumentParser) -> None:
 
 def _account(options: argparse.Namespace) -> int:
     """Show the accounts."""
-    account, state, waits = Book(options.book).account(options.period)
+    book = Book(options.book)
+    found = book.account(options.period)
+    account = found.account
     tables = chosen(account, options.by, options.owner)
-    for line in waits:
+    for line in found.waiting:
         print(line)
     if options.csv:
         print(csv_text([HEADS, *(row for table in tables for row in rows_of(table))]), end="")
@@ -54,16 +59,30 @@ def _account(options: argparse.Namespace) -> int:
         print(text_of(account, tables), end="")
         if options.tanks:
             print(stock_text(account.tanks), end="")
-    write(options, account, tables)
-    behind = behind_said(state, options.period)
-    said = [*account.said, *([behind] if behind else [])]
+    since = book.difference(options.period) if options.page else None
+    write(options, found, tables, since)
+    behind = behind_said(found.report, options.period)
+    said = [*account.said, *map(unusual_said, found.unusual), *([behind] if behind else [])]
     if not options.csv:
         print("".join(f"{account.month.name}: {line}\n" for line in said), end="")
     return 0
 
 
-def write(options: argparse.Namespace, account: MonthAccount, tables: list[Table]) -> None:
+def unusual_said(odd: Unusual) -> str:
+    """Return what is unusual, in a line."""
+    usual = " to ".join(map(tonnes_text, (odd.low, odd.high)))
+    ago = f"; a year ago {tonnes_text(odd.year_ago)} t" if odd.year_ago is not None else ""
+    return f"unusual: {odd.account}, {odd.line}: {tonnes_text(odd.now)} t, usually {usual} t{ago}"
+
+
+def write(
+    options: argparse.Namespace,
+    found: PeriodAccount,
+    tables: list[Table],
+    since: Difference | None,
+) -> None:
     """Write the workbook and the page, if they are wanted."""
+    account = found.account
     if options.xlsx:
         from plantbal.accounts.workbook import write_workbook
 
@@ -72,7 +91,8 @@ def write(options: argparse.Namespace, account: MonthAccount, tables: list[Table
         from plantbal.page.accounts import page_of
 
         owner = tables[0] if options.owner else None
-        write_text(options.page, page_of(account, options.title, owner))
+        changed = since if since is not None and not since.is_first else None
+        write_text(options.page, page_of(account, options.title, owner, found.unusual, changed))
 
 
 def chosen(account: MonthAccount, by: str | None, owner: str | None) -> list[Table]:

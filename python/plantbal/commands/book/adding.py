@@ -8,7 +8,7 @@ import sys
 from plantbal.book.adding import Unreasoned
 from plantbal.book.library import Book
 from plantbal.book.results import Added
-from plantbal.book.said import FIRST, added, changed
+from plantbal.book.said import FIRST, added, changed, reopened_said
 from plantbal.commands.options import add_reading, reading_of
 from plantbal.faults import Fault
 
@@ -54,6 +54,7 @@ def lines_of(found: Added) -> list[str]:
     """Return what was added, changed and is missing, a line each."""
     lines = [*(added(year) for year in found.years), *found.accounts]
     lines += changed(found.changes, found.workbook, found.struck)
+    lines += map(reopened_said, found.closed)
     for year in found.years:
         lines += [f"look at it: {each.text}: {each.remedy}" for each in year.doubts[:FIRST]]
         lines += year.missing

@@ -8,6 +8,7 @@ from types import SimpleNamespace
 from plantbal.book.library import Book
 from plantbal.book.naming import day_of
 from plantbal.book.results import Edited
+from plantbal.book.said import reopened_said
 
 
 def _add_fact(parser: argparse.ArgumentParser) -> None:
@@ -47,9 +48,12 @@ def _amend(options: argparse.Namespace) -> int:
 
 
 def _say_older(found: Edited) -> None:
-    """Say which reports that are there have to be made anew."""
+    """Say which periods are closed that this changes, and which reports have to be made anew."""
+    for name in found.closed:
+        print(reopened_said(name))
     for name in found.older_reports:
-        print(f"{name}: its report is older: plantbal-desk book report {name}")
+        if name not in found.closed:
+            print(f"{name}: its report is older: plantbal-desk book report {name}")
 
 
 def _add_strike(parser: argparse.ArgumentParser) -> None:
