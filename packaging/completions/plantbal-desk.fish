@@ -191,7 +191,7 @@ complete -c plantbal-desk -n '__fish_seen_subcommand_from page' -l session -r -F
 complete -c plantbal-desk -n '__fish_seen_subcommand_from page' -l run -d 'run the file, a session'
 complete -c plantbal-desk -n '__fish_seen_subcommand_from page' -l eliminate -x -d 'with --run: take out at most N suspects'
 complete -c plantbal-desk -n '__fish_seen_subcommand_from page' -l program -r -F -d 'the program, with --run'
-complete -c plantbal-desk -n '__fish_seen_subcommand_from page' -l book -x -a '(__fish_complete_directories)' -d 'the book that the session is from: the page names the head of its chain'
+complete -c plantbal-desk -n '__fish_seen_subcommand_from page' -l book -x -a '(__fish_complete_directories)' -d 'the book that the session is from: the page has its account, and the head of its chain'
 complete -c plantbal-desk -n '__fish_seen_subcommand_from page' -l timeout -x -d 'with --run: stop the program after that many seconds (default: it isn\'t stopped)'
 complete -c plantbal-desk -n '__fish_seen_subcommand_from page' -l out -r -F -d 'the page'
 complete -c plantbal-desk -n '__fish_seen_subcommand_from page' -l xlsx -r -F -d 'a workbook'

@@ -271,7 +271,7 @@ _plantbal_desk() {
             '--run[run the file, a session]'
             '--eliminate=[with --run\: take out at most N suspects]:N:'
             '--program=[the program, with --run]:PATH:_files'
-            '--book=[the book that the session is from\: the page names the head of its chain]:FOLDER:_files -/'
+            '--book=[the book that the session is from\: the page has its account, and the head of its chain]:FOLDER:_files -/'
             '--timeout=[with --run\: stop the program after that many seconds (default\: it isn'\''t stopped)]:SECONDS:'
             '--out=[the page]:FILE:_files'
             '--xlsx=[a workbook]:FILE:_files'
