@@ -413,7 +413,8 @@ def test_code(code: str, session: str, text: str) -> None:
 
 
 def test_each_code_has_a_case() -> None:
-    assert {case[0] for case in CASES} | {"nearly-full"} == set(RULES)
+    others = {"nearly-full", "no-account", "no-owner"}
+    assert {case[0] for case in CASES} | others == set(RULES)
 
 
 QUIET = [
@@ -433,6 +434,18 @@ QUIET = [
 @pytest.mark.parametrize("what, session", QUIET, ids=[case[0] for case in QUIET])
 def test_quiet(what: str, session: str) -> None:
     assert codes(session, notes=False) == [], what
+
+
+def test_accounts(tmp_path: Path) -> None:
+    file = tmp_path / "accounts.csv"
+    heads = "name,kind,product,group,owner,unit,density\n"
+    file.write_text(f"{heads}FEED,,ore,ore,Alpha,t,\nSILO,,ore,ore,,t,\n")
+    found = lint_session(GOOD.encode(), accounts=file)
+    said = {each.name: each.code for each in found if each.code in ("no-account", "no-owner")}
+    names = [line.split(",")[1] for line in GOOD.splitlines() if line.startswith(("stream", "tank"))]
+    wanted = {name: "no-account" for name in names} | {"SILO": "no-owner"}
+    assert said == {name: code for name, code in wanted.items() if name != "FEED"}
+    assert codes(GOOD, notes=False) == []
 
 
 def test_nearly_full(monkeypatch: pytest.MonkeyPatch) -> None:

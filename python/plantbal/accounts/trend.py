@@ -63,7 +63,8 @@ class Figure:
 def figures_of(account: MonthAccount) -> dict[tuple[str, str], Figure]:
     """Return the figures of a month's accounts by account and line."""
     found = {}
-    for table in [account.plant, *account.groups]:
+    groups = account.groups if len(account.groups) > 1 else []
+    for table in [account.plant, *groups]:
         for line, amount in table.lines.items():
             if line not in (Line.OPENING, Line.CLOSING):
                 found[title_of(table), line.value] = Figure(amount.grams, amount.deviation)

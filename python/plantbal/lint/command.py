@@ -34,6 +34,8 @@ def add_arguments(parser: argparse.ArgumentParser) -> None:
     """Add the words of the command."""
     parser.add_argument("session", metavar="SESSION", nargs="?", default="-")
     parser.add_argument("--json", action="store_true", help="a list of objects in place of lines")
+    book = "the accounts of a book, accounts.csv: what is in none is a finding too"
+    parser.add_argument("--accounts", metavar="FILE", help=book)
     parser.add_argument("--strict", action="store_true", help="status 1 on warnings too")
     parser.add_argument(
         "--ignore",
@@ -49,7 +51,9 @@ def run(options: argparse.Namespace) -> int:
     """Write the findings, and return the status."""
     if options.session == "-" and sys.stdin.isatty():
         print("reading standard input, up to Ctrl-D", file=sys.stderr)
-    findings = lint_session(options.session, ignore=options.ignore)
+    findings = lint_session(
+        options.session, ignore=options.ignore, accounts=options.accounts
+    )
     if options.json:
         print(json.dumps([each.as_dict() for each in findings], indent=2))
     else:

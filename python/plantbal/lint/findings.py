@@ -60,6 +60,7 @@ RULES: dict[str, Rule] = {
         Rule("unused-assay", "warning", "an assay is of a stream whose flow nothing determines"),
         Rule("grade", "warning", "a grade is 50 times that of the same stream in other periods"),
         Rule("no-cost", "warning", "a plain stream has no cost in an advise row that names costs"),
+        Rule("no-account", "warning", "with --accounts: a stream or tank is in no account"),
         Rule("nearly-full", "warning", "a session is at 80 % of a limit or above"),
         *(
             Rule(gate.value, "warning", about(gate))
@@ -74,6 +75,7 @@ RULES: dict[str, Rule] = {
             )
         ),
         Rule(Gate.ESTIMATED.value, "note", about(Gate.ESTIMATED)),
+        Rule("no-owner", "note", "with --accounts: what others have owners for has none"),
         Rule("untested", "note", "a report is asked for, and there is no critical value"),
         Rule("no-elimination", "note", "critical values that an elimination needs are missing"),
         Rule("no-transfer", "note", "a batch stream has no transfer in a period: it counts as 0"),

@@ -18,7 +18,10 @@ from plantbal.session import Session
 
 
 def lint_session(
-    session: Session | str | Path | bytes, *, ignore: Iterable[str] = ()
+    session: Session | str | Path | bytes,
+    *,
+    ignore: Iterable[str] = (),
+    accounts: str | Path | None = None,
 ) -> list[Finding]:
     """Return what of a session is accepted and looks wrong, the worst first.
 
@@ -28,12 +31,17 @@ def lint_session(
         The session, its bytes, or a file; ``-`` is standard input.
     ignore : iterable of str
         Codes to leave out.
+    accounts : str or Path, optional
+        The accounts of a book: what is in none is a finding too.
     """
     source, data, left_out = session_bytes(session)
-    if isinstance(session, Session) and left_out:
-        found = list(find(_ledger(source, data), session.refused))
-    else:
-        found = list(find(_ledger(source, data)))
+    ledger = _ledger(source, data)
+    kept_out = session.refused if isinstance(session, Session) and left_out else ()
+    found = list(find(ledger, kept_out))
+    if accounts is not None:
+        from plantbal.lint.accounts import lacking
+
+        found += lacking(ledger, accounts)
     unwanted = set(ignore)
     kept = [each for each in found if each.code not in unwanted]
     return sorted(kept, key=lambda each: (SEVERITIES.index(each.severity), each.place.line or 0))
