@@ -30,7 +30,8 @@ _plantbal_desk() {
         run:--gap) :; return ;;
         run:--sweeps) :; return ;;
         run:--eliminate) :; return ;;
-        lint:--ignore) _plantbal_words 'refused nothing-asked missing-reading missing-dip no-period after-report one-sided never-served near-names magnitude small-deviation large-deviation density worse-class no-critical no-balance after-balance unchecked-grade unused-assay grade no-cost nearly-full negative-flow tank-jump tank-range zero frozen negative copy estimated untested no-elimination no-transfer unused-dip not-reported'; return ;;
+        lint:--accounts) _plantbal_files -f; return ;;
+        lint:--ignore) _plantbal_words 'refused nothing-asked missing-reading missing-dip no-period after-report one-sided never-served near-names magnitude small-deviation large-deviation density worse-class no-critical no-balance after-balance unchecked-grade unused-assay grade no-cost no-account nearly-full negative-flow tank-jump tank-range zero frozen negative copy estimated no-owner untested no-elimination no-transfer unused-dip not-reported'; return ;;
         explain:--program) _plantbal_files -f; return ;;
         check:--program) _plantbal_files -f; return ;;
         archive:--period) :; return ;;
@@ -151,7 +152,7 @@ _plantbal_desk() {
             _plantbal_files -f
             return
         fi
-        _plantbal_words '-h --help --json --strict --ignore' ;;
+        _plantbal_words '-h --help --json --accounts --strict --ignore' ;;
     explain)
         if [[ $here != -* ]]; then
             _plantbal_files -f

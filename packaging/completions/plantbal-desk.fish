@@ -38,8 +38,9 @@ complete -c plantbal-desk -n '__fish_seen_subcommand_from run' -l eliminate -x -
 complete -c plantbal-desk -n '__fish_seen_subcommand_from run' -F
 complete -c plantbal-desk -n '__fish_seen_subcommand_from lint' -s h -l help -d 'show this help message and exit'
 complete -c plantbal-desk -n '__fish_seen_subcommand_from lint' -l json -d 'a list of objects in place of lines'
+complete -c plantbal-desk -n '__fish_seen_subcommand_from lint' -l accounts -r -F -d 'the accounts of a book, accounts.csv: what is in none is a finding too'
 complete -c plantbal-desk -n '__fish_seen_subcommand_from lint' -l strict -d 'status 1 on warnings too'
-complete -c plantbal-desk -n '__fish_seen_subcommand_from lint' -l ignore -x -a 'refused nothing-asked missing-reading missing-dip no-period after-report one-sided never-served near-names magnitude small-deviation large-deviation density worse-class no-critical no-balance after-balance unchecked-grade unused-assay grade no-cost nearly-full negative-flow tank-jump tank-range zero frozen negative copy estimated untested no-elimination no-transfer unused-dip not-reported' -d 'leave findings of this code out; may be given more than once'
+complete -c plantbal-desk -n '__fish_seen_subcommand_from lint' -l ignore -x -a 'refused nothing-asked missing-reading missing-dip no-period after-report one-sided never-served near-names magnitude small-deviation large-deviation density worse-class no-critical no-balance after-balance unchecked-grade unused-assay grade no-cost no-account nearly-full negative-flow tank-jump tank-range zero frozen negative copy estimated no-owner untested no-elimination no-transfer unused-dip not-reported' -d 'leave findings of this code out; may be given more than once'
 complete -c plantbal-desk -n '__fish_seen_subcommand_from lint' -F
 complete -c plantbal-desk -n '__fish_seen_subcommand_from explain' -s h -l help -d 'show this help message and exit'
 complete -c plantbal-desk -n '__fish_seen_subcommand_from explain' -l program -r -F -d 'the program, which checks a report'

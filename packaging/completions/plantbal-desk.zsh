@@ -27,8 +27,9 @@ _plantbal_desk() {
             '-h[show this help message and exit]'
             '--help[show this help message and exit]'
             '--json[a list of objects in place of lines]'
+            '--accounts=[the accounts of a book, accounts.csv\: what is in none is a finding too]:FILE:_files'
             '--strict[status 1 on warnings too]'
-            '--ignore=[leave findings of this code out; may be given more than once]:CODE:(refused nothing-asked missing-reading missing-dip no-period after-report one-sided never-served near-names magnitude small-deviation large-deviation density worse-class no-critical no-balance after-balance unchecked-grade unused-assay grade no-cost nearly-full negative-flow tank-jump tank-range zero frozen negative copy estimated untested no-elimination no-transfer unused-dip not-reported)'
+            '--ignore=[leave findings of this code out; may be given more than once]:CODE:(refused nothing-asked missing-reading missing-dip no-period after-report one-sided never-served near-names magnitude small-deviation large-deviation density worse-class no-critical no-balance after-balance unchecked-grade unused-assay grade no-cost no-account nearly-full negative-flow tank-jump tank-range zero frozen negative copy estimated no-owner untested no-elimination no-transfer unused-dip not-reported)'
             '1:word:(lint)'
             '*:SESSION:_files'
         ) ;;
