@@ -3,6 +3,8 @@
    Nothing is written before the whole input is read, and each exception that the system raises ends
    in a status. *)
 
+external end_without_memory : unit -> unit = "verify_end_without_memory"
+
 let most_bytes = 67_108_864
 
 (* The statuses of plantbal; the name of one from 2 on is written to standard error. *)
@@ -29,6 +31,7 @@ let check () =
        | () -> exit (if good then 0 else 1))
 
 let () =
+  end_without_memory ();
   Gc.set { (Gc.get ()) with minor_heap_size = 1_000_000; space_overhead = 200 };
   set_binary_mode_in stdin true;
   set_binary_mode_out stdout true;

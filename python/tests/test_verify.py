@@ -93,6 +93,14 @@ def test_other_statuses() -> None:
     assert (done.returncode, done.stderr) == (4, b"WriteFault\n")
 
 
+def test_no_memory() -> None:
+    parts = changed(b"-A +B", b"-A +B" + b" +B" * 2_000_000)
+    for kilobytes in (100_000, 200_000):
+        words = ["prlimit", f"--as={kilobytes * 1024}", str(VERIFY)]
+        done = subprocess.run(words, input=parts, capture_output=True, check=False)
+        assert (done.returncode, done.stdout, done.stderr) == (6, b"", b"NoMemory\n"), kilobytes
+
+
 def test_where_it_is(monkeypatch: pytest.MonkeyPatch) -> None:
     monkeypatch.setenv("PLANTBAL_VERIFY", "")
     assert find_verify() is None
