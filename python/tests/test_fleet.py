@@ -123,7 +123,7 @@ def test_what_is_kept(program: Path, tmp_path: Path, say: Desk) -> None:
     out = tmp_path / "out"
     words = ["fleet", "--program", program, "--out", out, sessions]
     first = say(*words[:-1], "--date", "2026-11-28", sessions)
-    found = say(*words[:-1], "--date", NIGHT, sessions, "--", "run", "--tests")
+    found = say(*words[:-1], "--date", NIGHT, "--level", "0.01", sessions, "--", "run", "--tests")
     assert (first.status, found.status) == (0, 0)
     assert (out / "latest").readlink() == Path("nights", NIGHT)
     assert (out / "a b" / "latest").readlink() == Path(NIGHT)
@@ -208,7 +208,11 @@ FAULTS: dict[str, tuple[bytes, str, str]] = {
     "semicolons": (TEXT.replace(",", ";").encode(), "none", "semicolons"),
     "tabs": (TEXT.replace(",", "\t").encode(), "none", "tabs"),
     "empty": (b"", "none", "it has no row"),
-    "asks nothing": (TEXT.replace("report,may1\n", "").encode(), "none", "there is no report; add a row"),
+    "asks nothing": (
+        TEXT.replace("report,may1\n", "").encode(),
+        "none",
+        "there is no report; add a row",
+    ),
     "workbook": (b"PK\3\4" + bytes(range(256)), "none", "workbook"),
     "refused": (TEXT.replace("FUEL_GAS", "FUEL GAS").encode(), "converged", "'FUEL GAS'"),
     "zeros": (
@@ -258,7 +262,9 @@ def test_forty_with_each_fault(
     for name, (_, state, said) in FAULTS.items():
         row = rows[name]
         assert row["state"] == state and said in row["look"] + row["first_refusal"], row
-        assert any(line.startswith(f"plantbal-desk fleet: {name}") for line in found.err.splitlines())
+        assert any(
+            line.startswith(f"plantbal-desk fleet: {name}") for line in found.err.splitlines()
+        )
     assert {name for name, row in rows.items() if row["look"]} == set(FAULTS)
     assert f"40 plants, of which {len(FAULTS)} need a person" in found.err.splitlines()[-1]
     with closing(sqlite3.connect(out / "fleet.sqlite")) as base:
@@ -325,7 +331,11 @@ OUTPUTS = {
     "other": ("echo no such luck >&2; exit 17", "ended", "status 17; no such luck"),
     "killed": ("kill -9 $$", "ended", "signal 9 stopped it; often that means that memory ran out"),
     "crashed": ("kill -SEGV $$", "ended", "status 139; signal 11 stopped it"),
-    "status 1": ('cat "$CANNED"; exit 1', "converged", "status 1, and no row of its output says why"),
+    "status 1": (
+        'cat "$CANNED"; exit 1',
+        "converged",
+        "status 1, and no row of its output says why",
+    ),
     "nothing": ("exit 0", "unreadable", "none of the reports that its session asks for"),
     "late": ("exec sleep 60", "timeout", "stopped by the time limit"),
 }
@@ -703,7 +713,7 @@ def test_the_night_cannot_be_kept(
 
 
 def test_a_session_that_has_gone(tmp_path: Path, program: Path, say: Desk) -> None:
-    """A plant that was run the night before and has no session now is told once."""
+    """A plant that was run before and has no session now is told each night, until it is forgotten."""
     data = SITE.format(100_000_000).encode()
     folder = folder_of(tmp_path / "sessions", {"a.csv": data, "b.csv": data})
     words = ["fleet", "--program", program, "--out", tmp_path / "out", folder]
@@ -712,9 +722,15 @@ def test_a_session_that_has_gone(tmp_path: Path, program: Path, say: Desk) -> No
     for _ in range(2):  # a night that is run again says it again
         found = say(*words, "--date", "2026-11-28")
         assert (found.status, row_of(found.out, "b")["state"]) == (1, "nosession")
-        assert "fleet: b: its session has gone; it was run on 2026-11-27\n" in found.err
+        assert "fleet: b: its session has gone; it was run on 2026-11-27; --forget" in found.err
     found = say(*words, "--date", "2026-11-29")
-    assert (found.status, [row["site"] for row in rows_of(found.out)]) == (0, ["a"])
+    assert (found.status, row_of(found.out, "b")["state"]) == (1, "nosession")
+    assert "fleet: b: its session has gone; it was run on 2026-11-27; --forget b ends" in found.err
+    found = say(*words, "--date", "2026-11-30", "--forget", "a")
+    assert found.status == 1 and "the session of a has not gone: those that have: b" in found.err
+    for night, more in (("2026-11-30", ["--forget", "b"]), ("2026-12-01", [])):
+        found = say(*words, "--date", night, *more)
+        assert (found.status, [row["site"] for row in rows_of(found.out)]) == (0, ["a"])
 
 
 def test_what_is_no_file(tmp_path: Path, program: Path, say: Desk) -> None:
@@ -796,7 +812,9 @@ def test_wrong(
     options = [word for pair in words.items() for word in pair if word is not None]
     found = say("fleet", *options, folder)
     assert (found.status, said in found.err) == (status, True), found.err
-    assert bool(found.out) == ("fleet.sqlite" in said)  # what came of the plants is said all the same
+    assert bool(found.out) == (
+        "fleet.sqlite" in said
+    )  # what came of the plants is said all the same
     assert "Traceback" not in found.err
 
 

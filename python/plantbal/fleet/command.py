@@ -10,7 +10,7 @@ import gc
 import signal
 import sys
 import threading
-from collections.abc import Callable, Iterator
+from collections.abc import Callable, Iterator, Sequence
 from concurrent.futures import ThreadPoolExecutor
 from contextlib import closing, contextmanager
 from dataclasses import dataclass, field, replace
@@ -19,6 +19,7 @@ from pathlib import Path
 from plantbal.commands.options import seconds_of
 from plantbal.faults import Fault, InputFault
 from plantbal.files import write_text
+from plantbal.fleet.alarms import age_of, level_of
 from plantbal.fleet.engines import WHY, Asked, Ended, Engine, Job
 from plantbal.fleet.given import Given, SessionTooLarge, sha256_of
 from plantbal.fleet.night import Kept, Night, Run, alone
@@ -36,6 +37,7 @@ Each FOLDER/SITE.csv is a session. These files are kept for a night, which has t
   OUT/latest                  a link to the last night that is whole
   OUT/fleet.sqlite            the tables `nights` and `plants` of all nights
   OUT/index.html              the last night, for a browser
+  OUT/night.json, night.prom  the last night, for programs and for Prometheus' textfile collector
 
 An output is put in its place only when it is complete. A fleet that was stopped continues if you
 give the same words again: plants that have their output aren't run again, unless the session, the
@@ -43,7 +45,7 @@ program or the words have changed.
 
 The table goes to standard output too, with a row for each period's last report:
 
-  site,period,days,state,dof,statistic,critical,verdict,suspects,refused,first_refusal,status,
+  site,period,days,state,dof,statistic,critical,p,verdict,suspects,refused,first_refusal,status,
   seconds,warnings,look
 
 Windows and balances of components have rows of their own, their `period` such as may to june and
@@ -51,11 +53,13 @@ cu in may; a window's `suspects` are codes of its streams, which `look` names. `
 converged, unconverged, over (a total beyond the limits), none (no report), unreadable (the output
 isn't plantbal's), refused (it doesn't agree with itself), yes or no (of a check). For a plant without an output it is the name of the
 program's status of 2 to 6, ended (another status), timeout, lost (by a machine of the cluster),
-nosession or nooutput (files that can't be read or written). `verdict` is that of the global test,
-which needs --tests or --eliminate N among WORDS; `suspects` are given only if it rejects and no
+nosession or nooutput (files that can't be read or written). `p` is the probability of a statistic
+as great as that if there is no gross error. `verdict` is that of the global test, which needs
+--tests or --eliminate N among WORDS; `suspects` are given only if it rejects and no
 row is refused, or if a stream was taken out. `look` says why somebody has to look: a row is
-refused, there is no report, it hasn't converged, the global test rejects or can't be made, or a
-stream carries more of a component than there is of it. Standard error says so too. The status is 1
+refused, there is no report, it hasn't converged, the global test rejects or can't be made, a
+stream carries more of a component than there is of it, the session is stale, or it has gone. A
+plant whose session has gone is told each night until --forget SITE. Standard error says so too. The status is 1
 if somebody has to look at any plant, and 0 otherwise.
 
 Words after a single -- are given to plantbal; the default is `run`:
@@ -70,6 +74,8 @@ the same names; with --send it need not see them: then the bytes of sessions and
 the network. With --lint each session is also read for what is accepted but looks wrong, which
 takes longer than most reports do.
 """
+
+
 def add_arguments(parser: argparse.ArgumentParser) -> None:
     """Add the words of the command."""
     parser.usage = f"{parser.prog} [OPTIONS] --out OUT FOLDER [-- WORDS]"
@@ -90,6 +96,14 @@ def add_arguments(parser: argparse.ArgumentParser) -> None:
     program = "the program (default: that of PLANTBAL, of the path, or of this checkout)"
     add("--program", metavar="PATH", help=program)
     add("--lint", action="store_true", help="say what lint warns of, too")
+    stale = "tell plants whose session is the same, or whose last fact is older, than 26h or 3d"
+    add("--stale", metavar="AGE", type=age_of, help=stale)
+    level = "test reports without a critical value at this level, such as 0.01"
+    add("--level", metavar="P", type=level_of, help=level)
+    forget = "tell no longer that this plant has no session"
+    add("--forget", metavar="SITE", action="append", default=[], help=forget)
+    nights = "take away the files of nights before the newest N; the database keeps their tables"
+    add("--keep", metavar="N", type=_count, help=nights)
     parser.set_defaults(words=[])
 
 
@@ -332,7 +346,9 @@ def run(options: argparse.Namespace) -> int:
         say(left)
     name = options.date or today().isoformat()
     digest = "" if elsewhere else sha256_of(program)
-    fleet = Fleet(Night(out, name, program, digest, options.words or ["run"]), chosen.sites)
+    wants_days = options.stale is not None
+    night = Night(out, name, program, digest, options.words or ["run"], wants_days)
+    fleet = Fleet(night, chosen.sites)
     for site, said in chosen.wrong.items():
         fleet.plants[site.name] = failed(site, "nosession", said)
     engine = _engine(elsewhere or options.send or options.engine == "dask")
@@ -355,13 +371,12 @@ def run(options: argparse.Namespace) -> int:
             say(f"stopped after {count}: the same words with --date {name} run the others")
             return 130
         from plantbal.fleet.index import index
-        from plantbal.fleet.keep import Times, gone, keep, table
+        from plantbal.fleet.keep import Times, keep, table, thin_out
+        from plantbal.fleet.signals import Signal, write_signals
 
-        for site_name, before in gone(fleet.night, fleet.plants).items():
-            site = Site(site_name, folder / f"{site_name}.csv")
-            said = f"its session has gone; it was run on {before}"
-            fleet.plants[site_name] = failed(site, "nosession", said)
+        _take_gone(fleet, folder, options.forget)
         plants = fleet.in_order()
+        alarm(fleet, plants, options.level, options.stale)
         if options.lint:
             lint_plants(fleet.taker, plants, chosen.sites)
         for plant in plants:
@@ -370,14 +385,56 @@ def run(options: argparse.Namespace) -> int:
         try:
             keep(fleet.night, plants, fleet.runs, fleet.sums, times)
             index(fleet.night, plants, times)
+            if options.keep is not None:
+                thin_out(fleet.night, options.keep)
         except (Fault, OSError) as error:  # the disk is full, mostly: what is known is said
             unkept.append(error)
+        is_late = _say_future(say, fleet.night)
+        status = int(is_late or bool(unkept) or any(plant.needs for plant in plants))
+        runs = {site.name: run for site, run in fleet.runs.items()}
+        signals = [Signal(plant, runs.get(plant.site)) for plant in plants]
+        try:
+            write_signals(fleet.night, signals, times, status)
+        except (Fault, OSError) as error:
+            unkept.append(error)
     write_text("-", table(plants))
-    is_late = _say_future(say, fleet.night)
-    status = _say_all(say, plants, None if unkept else out / "index.html")
+    _say_all(say, plants, None if unkept else out / "index.html")
     for fault in unkept:
         raise fault
-    return 1 if is_late else status
+    return status
+
+
+def _take_gone(fleet: Fleet, folder: Path, forgotten: Sequence[str]) -> None:
+    """Take in the plants whose sessions have gone, but not those that are to be forgotten.
+
+    Raises
+    ------
+    Fault
+        If one that is to be forgotten has not gone.
+    """
+    from plantbal.fleet.keep import gone
+
+    found = gone(fleet.night, fleet.plants)
+    unknown = [name for name in forgotten if name not in found]
+    if unknown:
+        names = ", ".join(sorted(found)) or "none"
+        raise Fault(f"the session of {unknown[0]} has not gone", remedy=f"those that have: {names}")
+    for name, before in found.items():
+        if name not in forgotten:
+            site = Site(name, folder / f"{name}.csv")
+            said = f"its session has gone; it was run on {before}; --forget {name} ends this"
+            fleet.plants[name] = failed(site, "nosession", said)
+
+
+def alarm(fleet: Fleet, plants: list[Plant], level: float | None, stale: float | None) -> None:
+    """Add to plants what ought to alarm although each of them ran."""
+    from plantbal.fleet.alarms import add_probabilities, alarm_stale, alarm_untested
+
+    add_probabilities(plants)
+    alarm_untested(plants, level)
+    if stale is not None:
+        runs = {site.name: run for site, run in fleet.runs.items()}
+        alarm_stale(plants, runs, stale, datetime.datetime.now().astimezone())
 
 
 def _program(named: str | None, elsewhere: bool) -> Path:
@@ -389,8 +446,8 @@ def _program(named: str | None, elsewhere: bool) -> Path:
     return Path(named)
 
 
-def _say_all(say: Callable[[str], None], plants: list[Plant], page: Path | None) -> int:
-    """Say which plants need a person and why, and where the page is; return the status."""
+def _say_all(say: Callable[[str], None], plants: list[Plant], page: Path | None) -> None:
+    """Say which plants need a person and why, and where the page is."""
     wanting = [plant for plant in plants if plant.needs]
     for plant in wanting:
         for said in plant.says():
@@ -399,4 +456,3 @@ def _say_all(say: Callable[[str], None], plants: list[Plant], page: Path | None)
         if warnings := plant.rows[0].warnings:
             say(f"{plant.site}: {warnings}")
     say(f"{summary(plants)}: {page}" if page else summary(plants))
-    return 1 if wanting else 0

@@ -11,6 +11,7 @@ from pathlib import Path
 
 from plantbal.audit.believed import judge
 from plantbal.faults import InputFault, decoded, read_bytes
+from plantbal.fleet.alarms import last_day
 from plantbal.fleet.engines import WHY
 from plantbal.fleet.given import Given, days_of, has_critical
 from plantbal.fleet.job import SAID
@@ -128,7 +129,10 @@ def gather(night: Night, site: Site, kept: Kept, given: Given) -> Plant:
         outline = outline_of(path)
     except InputFault as fault:
         return failed(site, "unreadable", str(fault), run)
-    plant = _of_outline(Told(site, outline))
+    told = Told(site, outline)
+    plant = _of_outline(told)
+    if night.wants_days:
+        plant.last_day = last_day(told.session)
     if kept.size <= JUDGED_BYTES:
         if all(row.state != "unreadable" for row in plant.rows):  # that is said by itself
             try:
@@ -208,6 +212,8 @@ def _of_outline(told: Told) -> Plant:
     for what in outline.cut():
         plant.rows.append(Row(site.name, state="unreadable"))
         plant.why.append(f"{what} is cut off")
+    if any(row.verdict == "nocritical" for row in plant.rows):
+        plant.has_critical = told.has_critical
     _of_check(plant, outline)
     if told.refused or not plant.rows:
         _of_refused(plant, told)
@@ -236,11 +242,6 @@ def _of_block(told: Told, block: Block) -> tuple[Row, list[str]]:
         suspects += [name for name in block.suspects() if name not in suspects]
     if verdict in _VERDICTS:
         said.append(_VERDICTS[verdict])
-    elif verdict == "nocritical" and told.has_critical:
-        said.append(
-            "the global test can't be made: there are critical values, and none for "
-            f"{solved['dof']} degrees of freedom; a meter is missing, or is one too many"
-        )
     row = Row(
         site.name,
         block.subject,

@@ -4,6 +4,7 @@ from __future__ import annotations
 
 import datetime
 import os
+import shutil
 import sqlite3
 import subprocess
 from collections.abc import Collection, Iterable, Iterator, Mapping, Sequence
@@ -23,10 +24,13 @@ _NUMBERS = {
     "dof": "INTEGER",
     "statistic": "REAL",
     "critical": "REAL",
+    "p": "REAL",
     "refused": "INTEGER",
     "status": "INTEGER",
     "seconds": "REAL",
 }
+# Columns that the databases of older versions haven't.
+_LATER = {"p"}
 # What to do about a database that is good and can't be written.
 _REMEDIES = {
     sqlite3.SQLITE_FULL: "make room",
@@ -149,8 +153,10 @@ def database(path: Path) -> Iterator[sqlite3.Connection]:
     try:
         with closing(sqlite3.connect(path, timeout=30)) as base, base:
             base.executescript(_TABLES)
-            columns = [row[1] for row in base.execute("PRAGMA table_info(plants)")]
-            if columns != ["night", *HEADS]:
+            columns = {row[1] for row in base.execute("PRAGMA table_info(plants)")}
+            for name in _LATER - columns:
+                base.execute(f"ALTER TABLE plants ADD COLUMN {name} {_NUMBERS.get(name, 'TEXT')}")
+            if columns | _LATER != {"night", *HEADS}:
                 raise sqlite3.DatabaseError("its table has other columns")
             yield base
     except sqlite3.Error as error:
@@ -164,21 +170,49 @@ def database(path: Path) -> Iterator[sqlite3.Connection]:
 
 
 def gone(night: Night, sites: Collection[str]) -> dict[str, str]:
-    """Return the plants of the night before that aren't among these sites, each with that night.
+    """Return the plants of the night before that aren't among these sites, until they are forgotten.
 
-    Those that had no session then either aren't among them: each is told once.
+    Each has the last night on which it had a session.
     """
     path = night.out / "fleet.sqlite"
     if not path.exists():
         return {}
     with suppress(sqlite3.Error), closing(sqlite3.connect(path)) as base:
         rows = base.execute(
-            "SELECT DISTINCT site, night FROM plants WHERE state <> 'nosession' AND night ="
-            " (SELECT MAX(night) FROM nights WHERE night < ?)",
+            "SELECT site, MAX(night) FROM plants WHERE state <> 'nosession' AND night < ?1 AND site IN"
+            " (SELECT site FROM plants WHERE night = (SELECT MAX(night) FROM nights WHERE night < ?1))"
+            " GROUP BY site",
             (night.name,),
         )
         return {site: before for site, before in rows if site not in sites}
     return {}  # it is none: whoever writes to it says so
+
+
+def thin_out(night: Night, count: int) -> None:
+    """Take away the files of the nights before the newest ones.
+
+    What a plant's link leads to stays, however old it is: it is its last output.
+
+    Parameters
+    ----------
+    night : Night
+        The last night.
+    count : int
+        How many nights stay.
+    """
+    nights = sorted(path.name for path in (night.out / "nights").iterdir() if path.is_dir())
+    old = set(nights[:-count])
+    if not old:
+        return
+    for home in night.out.iterdir():
+        if home.is_dir() and not home.is_symlink() and home.name != "nights":
+            newest = home / "latest"
+            stays = os.readlink(newest) if newest.is_symlink() else ""
+            for path in home.iterdir():
+                if path.name in old and path.name != stays and not path.is_symlink():
+                    shutil.rmtree(path)
+    for name in sorted(old):
+        shutil.rmtree(night.out / "nights" / name)
 
 
 def in_future(night: Night, today: datetime.date) -> list[str]:
@@ -193,7 +227,7 @@ def _insert(base: sqlite3.Connection, night: Night, plants: Sequence[Plant], tim
     base.execute("DELETE FROM plants WHERE night = ?", (night.name,))
     places = ", ".join("?" * (1 + len(HEADS)))
     base.executemany(
-        f"INSERT OR REPLACE INTO plants VALUES ({places})",
+        f"INSERT OR REPLACE INTO plants (night, {', '.join(HEADS)}) VALUES ({places})",
         (
             [night.name, *(_of(name, text) for name, text in zip(HEADS, row.values()))]
             for plant in plants

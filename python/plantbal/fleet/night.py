@@ -58,6 +58,8 @@ class Run:
         When it began, in seconds since 1970.
     seconds : float
         How long it took.
+    session_begun : float
+        When a session with these bytes was first run, in seconds since 1970; 0 if it isn't known.
     """
 
     site: str
@@ -71,6 +73,7 @@ class Run:
     status: int | None = None
     begun: float = 0.0
     seconds: float = 0.0
+    session_begun: float = 0.0
 
     def to_json(self) -> bytes:
         """Return it as JSON, an item a line."""
@@ -143,6 +146,8 @@ class Night:
         Its digest; empty if it is on other machines.
     words : list of str
         Its words.
+    wants_days : bool
+        Whether the last day of each session's facts is looked for.
     """
 
     out: Path
@@ -150,6 +155,7 @@ class Night:
     program: Path
     program_sha256: str
     words: list[str]
+    wants_days: bool = False
 
     @property
     def folder(self) -> Path:
@@ -184,7 +190,16 @@ class Night:
             program=str(self.program),
             program_sha256=self.program_sha256,
             words=self.words,
+            session_begun=self._first_run(site, given.sha256),
         )
+
+    def _first_run(self, site: Site, sha256: str) -> float:
+        """Return when a session with this digest was first run; 0 if that is now."""
+        try:
+            before = Run(**json.loads((self.out / site.name / "latest" / STATUS).read_bytes()))
+        except (OSError, ValueError, TypeError):
+            return 0.0
+        return (before.session_begun or before.begun) if before.session_sha256 == sha256 else 0.0
 
     def has_run(self, site: Site) -> bool:
         """Say whether a plant has been run this night."""
@@ -257,6 +272,7 @@ class Night:
             status=came.status,
             begun=came.begun,
             seconds=came.seconds,
+            session_begun=asked.session_begun or came.begun,
             output_sha256=sums.get(output_name, ""),
         )
         said = run.to_json()

@@ -26,6 +26,8 @@ class Row:
     dof, statistic, critical, verdict : str
         The global test: degrees of freedom, the least value that the statistic may have, the
         critical value and the verdict.
+    p : str
+        The probability of a statistic as great as that if there is no gross error.
     suspects : str
         The streams that were taken and, if the global test rejects, those whose own test does.
     refused : str
@@ -50,6 +52,7 @@ class Row:
     dof: str = ""
     statistic: str = ""
     critical: str = ""
+    p: str = ""
     verdict: str = ""
     suspects: str = ""
     refused: str = ""
@@ -83,6 +86,10 @@ class Plant:
         Sentences on its periods.
     is_believed : bool
         Whether its output agrees with itself; otherwise it isn't kept under its name.
+    has_critical : bool
+        Whether its session has a critical value of the global test, if a report lacks its own.
+    last_day : str
+        The last day of its facts, if it was looked for.
     """
 
     site: str
@@ -90,6 +97,8 @@ class Plant:
     why: list[str] = field(default_factory=list)
     why_of: dict[str, list[str]] = field(default_factory=dict)
     is_believed: bool = True
+    has_critical: bool = False
+    last_day: str = ""
 
     @property
     def needs(self) -> bool:
