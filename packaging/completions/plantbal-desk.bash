@@ -135,6 +135,10 @@ _plantbal_desk() {
         fleet:--retries) :; return ;;
         fleet:--scheduler) :; return ;;
         fleet:--program) _plantbal_files -f; return ;;
+        fleet:--stale) :; return ;;
+        fleet:--level) :; return ;;
+        fleet:--forget) :; return ;;
+        fleet:--keep) :; return ;;
         critical:--nodal) :; return ;;
         critical:--measure) :; return ;;
         from-scipy:--period) :; return ;;
@@ -278,7 +282,7 @@ _plantbal_desk() {
             _plantbal_files -d
             return
         fi
-        _plantbal_words '-h --help --out --date --again --recursive --engine --jobs --timeout --retries --scheduler --send --program --lint' ;;
+        _plantbal_words '-h --help --out --date --again --recursive --engine --jobs --timeout --retries --scheduler --send --program --lint --stale --level --forget --keep' ;;
     critical)
         _plantbal_words '-h --help --nodal --measure' ;;
     from-scipy)

@@ -297,6 +297,10 @@ _plantbal_desk() {
             '--send[send bytes to the cluster, not paths]'
             '--program=[the program (default\: that of PLANTBAL, of the path, or of this checkout)]:PATH:_files'
             '--lint[say what lint warns of, too]'
+            '--stale=[tell plants whose session is the same, or whose last fact is older, than 26h or 3d]:AGE:'
+            '--level=[test reports without a critical value at this level, such as 0.01]:P:'
+            '--forget=[tell no longer that this plant has no session]:SITE:'
+            '--keep=[take away the files of nights before the newest N; the database keeps their tables]:N:'
             '1:word:(fleet)'
             '*:FOLDER:_files -/'
         ) ;;
