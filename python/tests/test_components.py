@@ -8,7 +8,9 @@ import re
 import shutil
 from decimal import Decimal
 from pathlib import Path
+from typing import Any
 
+import numpy
 import pandas
 import pytest
 from conftest import Desk, Said, assert_refused, example, session_of, text_of
@@ -17,9 +19,9 @@ from pages import read
 from plantbal import Session, run, solve
 from plantbal.faults import Fault, Refusal
 from plantbal.page.command import page
-from plantbal.report.blocks import parse_rows
+from plantbal.report.blocks import Block, parse_rows
 from plantbal.report.output import read_report
-from plantbal.study.recovery import Balance, balances_of, products_of, together
+from plantbal.study.recovery import Balance, balances_of, mass_of, products_of, together
 from plantbal.workbook.cells import Reader
 from plantbal.workbook.sheets import Cell, Sheet
 
@@ -113,6 +115,57 @@ def test_recovery() -> None:
     assert every[2].share_sd < concentrate.share_sd
 
 
+def test_recovery_has_both_errors() -> None:
+    session = session_of(
+        "unit,U\nstream,FEED,env,U,metered,1\nstream,TAIL,U,env,metered,1\n"
+        "stream,CONC,U,env,metered,1\nperiod,d,2024-05-01,2024-05-01"
+    )
+    for name, tonnes, ppm in (("FEED", 1000, 9000), ("TAIL", 960, 1100), ("CONC", 31, 260_000)):
+        sd = tonnes * 10_000
+        session.reading(name, name, "2024-05-01", grams=tonnes * 10**6, variance=sd**2)
+        session.assay("cu", name, "d", ppm=ppm, variance=(ppm // 50) ** 2)
+    session.report("d")
+    session.component("cu", "d")
+    output = run(session)
+    (block,) = balances_of(output)
+    mass = mass_of(output, block)
+    assert mass is not None and mass.subject == "d"
+    rng = numpy.random.default_rng(1)
+
+    def fit(values: Any, variance: Any, node: Any) -> Any:
+        """Least squares with one balance, of many samples at once: its multiplier, by hand."""
+        off = values @ node / (variance @ node**2)
+        return values - off[:, None] * node * variance
+
+    def columns(of: Block, column: str) -> Any:
+        return numpy.array([float(row[column] or "nan") for row in of.streams])
+
+    node = numpy.array([(row["to"] != "env") - (row["from"] != "env") * 1.0 for row in mass.streams])
+    count = 40_000
+    meters, variance = columns(mass, "value"), columns(mass, "variance")
+    flows = fit(rng.normal(meters, variance**0.5, (count, 3)), variance[None, :], node)
+    true = fit(meters[None, :], variance[None, :], node)[0]
+    assert true == pytest.approx(columns(mass, "flow"), abs=3 * 10**5)
+    grades = columns(block, "value") / true
+    errors = columns(block, "variance") ** 0.5 / true
+    sampled = rng.normal(grades, errors, (count, 3))
+    carried = fit(sampled * flows, (errors * flows) ** 2, node)
+    found = {each.stream: each for each in Balance(block, mass=mass).shares()}
+    names = [row["name"] for row in block.streams]
+    for at, name in enumerate(names):
+        for mine, samples in (
+            (found[name].sd, carried[:, at]),
+            (found[name].grade_sd, carried[:, at] / flows[:, at]),
+            (found[name].share_sd, carried[:, at] / carried[:, names.index("FEED")]),
+        ):
+            assert mine == pytest.approx(float(samples.std()), rel=0.02, abs=1e-12), name
+    alone = {each.stream: each for each in Balance(block).shares()}
+    assert alone["FEED"].sd < 0.95 * found["FEED"].sd  # meters count
+    fed = next(row for row in block.streams if row["name"] == "FEED")
+    flow = next(row for row in mass.streams if row["name"] == "FEED")
+    assert found["FEED"].grade == int(fed["flow"]) / int(flow["flow"])
+
+
 def test_share_that_is_not_known() -> None:
     session = session_of(
         "unit,U\nstream,A,env,U,metered,1\nstream,B,env,U,metered,1\n"
@@ -189,7 +242,11 @@ def test_recovery_over_a_change_of_the_plant() -> None:
 
 def test_recovery_command(say: Desk, tmp_path: Path) -> None:
     text = say("recovery", OUT).out
-    assert "cu         jun03   CONCENTRATE  out   96.341  0.471   88.43%  0.31%" in text
+    line = next(each for each in text.splitlines() if "jun03   CONCENTRATE" in each)
+    assert line.split() == "cu jun03 CONCENTRATE out 96.341 0.665 28.0910% 0.1379% -0.06".split() + [
+        "88.43%",
+        "0.33%",
+    ]
     assert text.splitlines()[-1].startswith("cu         all     CONCENTRATE  out  570.025")
     rows = json.loads(say("recovery", OUT, "--form", "json").out)
     assert rows[0]["grams"] == 108950180 and rows[-1]["period"] == "all"

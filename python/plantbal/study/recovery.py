@@ -36,8 +36,11 @@ together. A stream that nothing determines has no figure.
 With --feed the shares are of what that stream carries, such as the feed of a mill that has a
 stockpile before it. A stream that --product names is in the table too, wherever it flows.
 
-The standard deviations come only from the grades: the flows of a balance count as exact. Standard
-error says which streams carry more of a component than there is of them.
+Beside stands the grade, what the stream carries in parts of its flow, and by how much that is off
+the assay, in standard deviations of the assay. All standard deviations are from the errors of
+assays and meters. If OUTPUT has no report of the period, they are of the assays alone, and standard
+error says so. It also says which streams carry more of a component than there is of them, and if
+what a tank gained has another grade than what flows there.
 
   text   tonnes and percent, as a table to be read
   csv    grams, and shares as fractions, with all digits
@@ -85,6 +88,11 @@ class Share:
         Which part that is of what came in, and the standard deviation of it; NaN if it isn't known.
     raw : float
         The same part by the assays as they are, before they are reconciled; NaN without them.
+    grade, grade_sd : float
+        What it carries as a part of its flow, and the standard deviation of that; NaN if one of
+        both isn't known.
+    assay, assay_sd : float
+        The grade as it was assayed, and its standard deviation; NaN without an assay.
     """
 
     component: str
@@ -96,15 +104,30 @@ class Share:
     share: float
     share_sd: float
     raw: float = _NAN
+    grade: float = _NAN
+    grade_sd: float = _NAN
+    assay: float = _NAN
+    assay_sd: float = _NAN
+
+    @property
+    def adjustment(self) -> float:
+        """By how much the assay was adjusted, in its standard deviations; NaN without one."""
+        return (self.grade - self.assay) / self.assay_sd if self.assay_sd else _NAN
 
 
 class Balance:
-    """A balance of a component, and how what is known of it answers to each assay.
+    """A balance of a component, and how what is known of it answers to each assay and meter.
+
+    What a stream carries is its grade times its flow as it is reported, so it answers to assays as
+    the balance says, and to meters as the report's flows do, times the grades. The second holds to
+    first order: weights that change with the flows count for nothing beside it.
 
     Parameters
     ----------
     block : Block
         A round of it.
+    mass : Block, optional
+        The round of the report whose flows it takes; without it these count as exact.
     feeds : sequence of str
         The streams that count as what came in; without one, those that enter the plant.
     products : sequence of str
@@ -120,9 +143,14 @@ class Balance:
     """
 
     def __init__(
-        self, block: Block, feeds: Sequence[str] = (), products: Sequence[str] = ()
+        self,
+        block: Block,
+        feeds: Sequence[str] = (),
+        products: Sequence[str] = (),
+        *,
+        mass: Block | None = None,
     ) -> None:
-        self.block = block
+        self.block, self.mass = block, mass
         self.rows = {row["name"]: row for row in block.streams}
         ways = {name: _way(row["from"], row["to"], name) for name, row in self.rows.items()}
         ways = {name: "" if feeds and way == "in" else way for name, way in ways.items()}
@@ -130,9 +158,48 @@ class Balance:
         ways |= {name: "in" for name in feeds if name in ways}
         self.ways = {name: way for name, way in ways.items() if way}
         self._columns, self._answers, self._variance = answers_of(block)
+        self._flows: dict[str, int] = {}
+        if mass is not None:
+            self._take(mass)
         self._feeds = [name for name, way in self.ways.items() if way == "in"]
         self.fed = self._sum("flow", all(name in self._columns for name in self._feeds))
         self.fed_raw = self._sum("value", all(self.rows[name]["value"] for name in self._feeds))
+
+    def _take(self, mass: Block) -> None:
+        """Take the flows and their errors: each meter is one more measurement."""
+        import numpy
+
+        columns, answers, variance = answers_of(mass)
+        self._flows = {row["name"]: int(row["flow"]) for row in mass.streams}
+        self._flows = {name: flow for name, flow in self._flows.items() if name in columns}
+        assayed = [row for row in self.block.streams if row["value"]]
+        slopes = numpy.zeros((len(variance), len(assayed)))
+        for column, row in enumerate(assayed):
+            flow = self._flows.get(row["name"])
+            if flow:
+                slopes[:, column] = answers[:, columns[row["name"]]] * (int(row["value"]) / flow)
+        own = numpy.zeros((len(self._variance), answers.shape[1]))
+        self._flow_answers = numpy.vstack([own, answers])
+        self._flow_columns = columns
+        self._answers = numpy.vstack([self._answers, slopes @ self._answers])
+        self._variance = numpy.concatenate([self._variance, variance])
+
+    def grade(self, name: str) -> tuple[float, float]:
+        """Return the grade of a stream and its standard deviation; NaN if one isn't known."""
+        flow = self._flows.get(name)
+        if not flow or name not in self._columns:
+            return _NAN, _NAN
+        grade = int(self.rows[name]["flow"]) / flow
+        error = self._answers[:, self._columns[name]]
+        error = (error - grade * self._flow_answers[:, self._flow_columns[name]]) / flow
+        return grade, float((error**2 @ self._variance) ** 0.5)
+
+    def assay(self, name: str) -> tuple[float, float]:
+        """Return the grade of a stream as it was assayed, and its standard deviation."""
+        row, flow = self.rows[name], self._flows.get(name)
+        if not row["value"] or not flow:
+            return _NAN, _NAN
+        return int(row["value"]) / flow, abs(int(row["variance"]) ** 0.5 / flow)
 
     @property
     def unknown(self) -> list[str]:
@@ -167,13 +234,15 @@ class Balance:
         for name, way in self.ways.items():
             head = self.block.component, self.block.period, name, way
             grams, value = self.grams(name), self.rows[name]["value"]
+            grades = *self.grade(name), *self.assay(name)
             raw = int(value) / self.fed_raw if value else _NAN
             if grams is None:
-                found.append(Share(*head, None, _NAN, _NAN, _NAN, raw))
+                found.append(Share(*head, None, _NAN, _NAN, _NAN, raw, *grades))
                 continue
             share = grams / self.fed
             share_sd = self.deviation(name, share) / abs(self.fed) if share == share else _NAN
-            found.append(Share(*head, grams, self.deviation(name), share, share_sd, raw))
+            sd = self.deviation(name)
+            found.append(Share(*head, grams, sd, share, share_sd, raw, *grades))
         return sorted(found, key=lambda each: each.way != "in")
 
 
@@ -207,6 +276,47 @@ def together(balances: Sequence[Balance]) -> list[Share]:
         share_sd = sum(error**2 for error in errors) ** 0.5 / abs(fed) if errors else _NAN
         found.append(Share(*head, grams, sd, share, share_sd))
     return found
+
+
+def mass_of(output: Output, balance: Block) -> Block | None:
+    """Return the round of the report whose flows a balance takes; None if it isn't there.
+
+    It is the last one of the period before the balance.
+    """
+    found = None
+    for block in output.blocks_in_order:
+        if block.number >= balance.number:
+            break
+        if block.is_report and block.period == balance.period and block.ended:
+            found = block
+    return found
+
+
+def strange_gains(balance: Balance) -> Iterator[str]:
+    """Give the tanks whose gain has another grade than what flows to and from them.
+
+    The difference of what a tank holds at the ends is small beside what it holds, and so its grade
+    has a wide error; only what is off by more than twice that is said.
+    """
+    for name, way in balance.ways.items():
+        grade, sd = balance.grade(name)
+        if way != "gain" or grade != grade:
+            continue
+        around = [
+            balance.grade(row["name"])
+            for row in balance.rows.values()
+            if name in (row["from"], row["to"]) and row["name"] != name
+        ]
+        known = [each for each in around if each[0] == each[0]]
+        if not known:
+            continue
+        low = min(value - 2 * own for value, own in known) - 2 * sd
+        high = max(value + 2 * own for value, own in known) + 2 * sd
+        if not low <= grade <= high:
+            there = " and ".join(f"{value:.2%}" for value, _ in known)
+            what = f"{balance.block.subject}: what {name} gained has {grade:.2%} ±{sd:.2%} of "
+            what += f"{balance.block.component}, and what flows there has {there}"
+            yield f"{what}: look at its dips, and at the assays around it"
 
 
 def balances_of(output: Output, component: str = "") -> list[Block]:
@@ -251,6 +361,9 @@ def _lines(shares: Iterable[Share]) -> list[dict[str, str]]:
                 "way": each.way if each.way in ("in", "within") else "out",
                 "t": "" if each.grams is None else tonnes_text(each.grams),
                 "± t": "" if each.sd != each.sd else f"{each.sd / 1e6:,.3f}",
+                "grade": "" if each.grade != each.grade else f"{each.grade:.4%}",
+                "± of it": "" if each.grade != each.grade else f"{each.grade_sd:.4%}",
+                "in sd": "" if each.adjustment != each.adjustment else f"{each.adjustment:+.2f}",
                 "share": "" if each.share != each.share else f"{each.share:.2%}",
                 "±": f"{each.share_sd:.2%}" if known else "",
             }
@@ -260,7 +373,10 @@ def _lines(shares: Iterable[Share]) -> list[dict[str, str]]:
 
 def _data(shares: Iterable[Share]) -> list[dict[str, Any]]:
     """Return rows as data; what there is none of is None."""
-    names = ("component", "period", "stream", "way", "grams", "sd", "share", "share_sd", "raw")
+    names = (
+        *("component", "period", "stream", "way", "grams", "sd", "share", "share_sd", "raw"),
+        *("grade", "grade_sd", "assay", "assay_sd"),
+    )
     rows = []
     for each in shares:
         row = {name: getattr(each, name) for name in names}
@@ -458,6 +574,14 @@ def _not_known(balances: Sequence[Balance]) -> Iterator[str]:
             yield f"{what} known there: assay it, or say --feed STREAM, such as a mill's feed"
 
 
+def _exact(balances: Sequence[Balance]) -> Iterator[str]:
+    """Give the periods whose flows count as exact, since their report isn't there."""
+    without = list(dict.fromkeys(each.block.period for each in balances if each.mass is None))
+    if without:
+        what = f"there is no report of {', '.join(without)} before its balance"
+        yield f"{what}, so ± is of the assays alone, and there are no grades: ask for the report"
+
+
 def _chart(options: argparse.Namespace, output: Output, shares: Sequence[Share]) -> None:
     """Write the chart that is asked for."""
     from plantbal.report.trend import trend_of
@@ -483,7 +607,9 @@ def run(options: argparse.Namespace) -> int:
     blocks = [each for each in balances_of(output, options.component) if each.ended]
     _check_names(blocks, [*options.feed, *(options.product if options.feed else ())])
     within = options.product if options.feed else ()
-    balances = [Balance(each, options.feed, within) for each in blocks]
+    balances = [
+        Balance(each, options.feed, within, mass=mass_of(output, each)) for each in blocks
+    ]
     shares = [share for balance in balances for share in balance.shares()]
     if options.product:
         products_of(shares, options.product)
@@ -505,6 +631,7 @@ def run(options: argparse.Namespace) -> int:
             left = {"component", "period", "stream", "way"}
             text = text_of(pandas.DataFrame(_lines(rows)), left)
     sys.stdout.write(text)
-    for line in [*_not_known(balances), *output.impossible]:
+    strange = [line for balance in balances for line in strange_gains(balance)]
+    for line in [*_not_known(balances), *_exact(balances), *output.impossible, *strange]:
         print(f"{options.prog}: {line}", file=sys.stderr)
     return 0
