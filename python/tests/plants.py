@@ -12,6 +12,7 @@ from __future__ import annotations
 import math
 import random
 import sys
+import warnings
 from collections.abc import Iterator
 from dataclasses import dataclass
 from pathlib import Path
@@ -112,6 +113,36 @@ def plants(rng: random.Random, most: int, components: int) -> Iterator[Plant]:
             yield Plant(ends, flows, grades)
 
 
+def joined(rng: random.Random, streams: int, components: int) -> Plant:
+    """Return a plant of at least that many streams: lines that one feed splits to, and one tailing."""
+    ends, flows, grades = [], {}, {}
+    total, inside = 0.0, [0.0] * components
+    for number, line in enumerate(plants(rng, 12, components)):
+        if len(line.grades) != components * len(line.flows):
+            continue
+        for name, start, end in line.ends:
+            own = f"L{number}{name}"
+            first = "SPLIT" if start == "env" else f"L{number}{start}"
+            last = "TAILS" if end == "env" else f"L{number}{end}"
+            ends.append((own, first, last))
+            flows[own] = line.flows[name]
+            for at in range(components):
+                grades[own, f"c{at}"] = line.grades[name, f"c{at}"]
+            if start == "env":
+                total += line.flows[name]
+                inside = [
+                    sum_ + line.flows[name] * line.grades[name, f"c{at}"]
+                    for at, sum_ in enumerate(inside)
+                ]
+        if len(ends) >= streams - 2:
+            break
+    ends += [("S0", "env", "SPLIT"), ("OUT", "TAILS", "env")]
+    for name in ("S0", "OUT"):
+        flows[name] = total
+        grades |= {(name, f"c{at}"): part / total for at, part in enumerate(inside)}
+    return Plant(ends, flows, grades)
+
+
 class Conditions:
     """All conditions of the minimum, at 50 digits: at a place, with the multipliers there.
 
@@ -176,6 +207,8 @@ class Conditions:
         dense, scale = numpy.zeros((size, size), numpy.longdouble), numpy.ones(size)
         for (row, column), value in entries.items():
             dense[row, column] = float(value)
+        if not numpy.isfinite(dense.astype(float)).all():
+            raise ArithmeticError("the second solver goes to infinity")
         for _ in range(4):
             step = 1 / numpy.sqrt(numpy.maximum(abs(dense).max(axis=1).astype(float), 1e-300))
             dense, scale = dense * step[:, None] * step, scale * step
@@ -263,8 +296,9 @@ class Compared:
     ----------
     number, deviation : float
         The greatest difference of numbers, in parts of the scale, and of deviations, as a part.
-    same, other, left : int
-        How many plants have the same minimum, another one, and equations that follow from others.
+    same, near, other, left : int
+        How many plants have the same minimum from the truth; from near it, since Newton's method
+        alone goes elsewhere from the truth; not at all; and equations that follow from others.
     streams : int
         The most streams of a plant.
     """
@@ -272,27 +306,32 @@ class Compared:
     number: float = 0.0
     deviation: float = 0.0
     same: int = 0
+    near: int = 0
     other: int = 0
     left: int = 0
     streams: int = 0
 
     def take(self, found: Solution, begin: list[float]) -> None:
         """Compare a plant."""
-        try:
-            numbers, deviations = reference(found, begin)
-        except ZeroDivisionError:
-            self.left += 1
-            return
-        except ArithmeticError:
-            self.other += 1
-            return
         known = Known(found)
         sure = [int(j) for j in numpy.flatnonzero(known.is_determined)]
-        off = max(abs(float(numbers[j]) - float(found.vector[j])) for j in sure)
-        if off > 1e-4:
+        nudged = [float(value) * (1 + 1e-3 * (-1) ** at) for at, value in enumerate(found.vector)]
+        for is_near, start in enumerate((begin, nudged)):
+            try:
+                numbers, deviations = reference(found, start)
+            except ZeroDivisionError:
+                self.left += 1
+                return
+            except (ArithmeticError, AssertionError):
+                continue
+            off = max(abs(float(numbers[j]) - float(found.vector[j])) for j in sure)
+            if off <= 1e-4:
+                break
+        else:
             self.other += 1
             return
-        self.same += 1
+        self.near += is_near
+        self.same += 1 - is_near
         self.number = max(self.number, off)
         self.streams = max(self.streams, len(found.system.problem.flows))
         for j in sure:
@@ -325,7 +364,7 @@ def compared(
     rng = random.Random(seed)
     result = Compared()
     for plant in plants(rng, most, components):
-        if result.same + result.other >= count:
+        if result.same + result.near + result.other >= count:
             break
         if len(plant.flows) > streams:
             continue
@@ -378,5 +417,6 @@ if __name__ == "__main__":
     if sys.argv[1:2] == ["coverage"]:
         print("flows and grades within 1 and 2 deviations:", coverage(int(sys.argv[2]), 1))
     else:
+        warnings.simplefilter("ignore")  # a matrix without an inverse is told apart
         count, seed = int(sys.argv[1]), int((sys.argv + ["1"])[2])
         print(compared(count, seed, most=22, components=4))

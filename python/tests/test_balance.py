@@ -56,8 +56,9 @@ def test_assays_make_flows_observable() -> None:
 
 
 def test_a_second_solver_finds_the_same() -> None:
-    number, deviation, count = plants.worst(4, 3, most=3)
-    assert (number < 1e-8, deviation < 1e-6, count) == (True, True, 4), (number, deviation)
+    found = plants.compared(4, 3, most=3)
+    assert (found.same, found.other) == (4, 0), found
+    assert found.number < 1e-8 and found.deviation < 1e-6, found
 
 
 def test_the_truth_lies_within_the_deviations() -> None:

@@ -67,19 +67,20 @@ class Known:
 
     @cached_property
     def _parts(self) -> tuple[Any, Any, Any, Any]:
-        """The columns measured and not, and the matrices of both; each column in its own scale."""
+        """The columns measured and not, and the matrices of both, of which the first is sparse."""
         import numpy
+        from scipy.sparse import csc_array
 
         solution = self.solution
-        jacobian = _matrix(self.system, solution.vector, list(solution.active)).toarray()
+        jacobian = csc_array(_matrix(self.system, solution.vector, list(solution.active)))
         known = self.system.is_measured
         measured, free = numpy.flatnonzero(known), numpy.flatnonzero(~known)
-        return measured, free, jacobian[:, measured], jacobian[:, free]
+        return measured, free, jacobian[:, measured], jacobian[:, free].toarray()
 
     @cached_property
     def _split(self) -> tuple[Any, Any, Any]:
-        """How unmeasured numbers follow from measured ones, the vectors l with l U = 0, and which
-        unmeasured numbers are determined.
+        """How unmeasured numbers follow from measured ones, the combinations of equations in which
+        only measured numbers are left, and which unmeasured numbers are determined.
 
         U P = Q R with the rows of R by falling size: the first ``rank`` columns are those that the
         equations give, and what they owe to the others is R11^-1 R12.
@@ -90,16 +91,18 @@ class Known:
         _, free, measured, unmeasured = self._parts
         rows, columns = unmeasured.shape
         if not columns:
-            return numpy.zeros((0, measured.shape[1])), numpy.eye(rows), numpy.zeros(0, bool)
+            none = numpy.zeros((0, measured.shape[1]))
+            return none, measured.toarray(), numpy.zeros(0, bool)
         basis, triangle, order = qr(unmeasured, pivoting=True)
         rank = _rank(triangle)
         first = triangle[:rank, :rank]
         owed = solve_triangular(first, triangle[:rank, rank:])
         sure = numpy.zeros(columns, bool)
         sure[order[:rank]] = numpy.abs(owed).max(axis=1, initial=0.0) < _LOOSE
+        turned = (measured.T @ basis).T  # basis' M, with M sparse
         follows = numpy.zeros((columns, measured.shape[1]))
-        follows[order[:rank]] = -solve_triangular(first, basis[:, :rank].T @ measured)
-        return follows, basis[:, rank:].T, sure
+        follows[order[:rank]] = -solve_triangular(first, turned[:rank])
+        return follows, turned[rank:], sure
 
     @cached_property
     def is_determined(self) -> Any:
@@ -108,10 +111,27 @@ class Known:
         found[self._parts[1]] = self._split[2]
         return found
 
-    @cached_property
+    @property
     def _checks(self) -> Any:
         """The combinations of equations in which only measured numbers are left."""
-        return self._split[1] @ self._parts[2]
+        return self._split[1]
+
+    @cached_property
+    def _sizes(self) -> tuple[Any, Any]:
+        """Of each measured number its greatest part in a check, and in an equation."""
+        import numpy
+
+        count = len(self._parts[0])
+        checks = numpy.abs(self._checks).max(axis=0, initial=0.0)
+        equations = abs(self._parts[2]).max(axis=0).toarray().ravel() if count else numpy.zeros(0)
+        return checks, equations
+
+    @cached_property
+    def _roots(self) -> Any:
+        """The standard deviations of the measured numbers."""
+        import numpy
+
+        return numpy.sqrt(self.system.variance[self._parts[0]])
 
     @cached_property
     def _satisfied(self) -> Any:
@@ -119,8 +139,10 @@ class Known:
         import numpy
         from scipy.linalg import qr
 
-        roots = numpy.sqrt(self.system.variance[self._parts[0]])
-        basis, triangle, _ = qr((self._checks * roots).T, mode="economic", pivoting=True)
+        if not len(self._checks):
+            return numpy.zeros((len(self._roots), 0))
+        weighted = (self._checks * self._roots).T
+        basis, triangle, _ = qr(weighted, mode="economic", pivoting=True)
         return basis[:, : _rank(triangle)]
 
     def class_of(self, stream: str, component: str = "") -> Class:
@@ -134,27 +156,9 @@ class Known:
             )
             return Class.OBSERVABLE if carried else Class.UNOBSERVABLE
         place = int(numpy.searchsorted(self._parts[0], column))
-        size = float(numpy.abs(self._checks[:, place]).max(initial=0.0))
-        scale = max(1e-12, float(numpy.abs(self._parts[2][:, place]).max(initial=0.0)))
+        size, scale = (float(sizes[place]) for sizes in self._sizes)
+        scale = max(1e-12, scale)
         return Class.REDUNDANT if size > 1e-8 * scale else Class.NONREDUNDANT
-
-    @cached_property
-    def covariance(self) -> Any:
-        """The covariance of all numbers; rows and columns of what isn't determined mean nothing."""
-        import numpy
-
-        measured, free, _, _ = self._parts
-        roots = numpy.sqrt(self.system.variance[measured])
-        basis = self._satisfied
-        own = roots[:, None] * (numpy.eye(len(measured)) - basis @ basis.T) * roots
-        cross = self._split[0] @ own
-        size = self.system.size
-        found = numpy.zeros((size, size))
-        found[numpy.ix_(measured, measured)] = own
-        found[numpy.ix_(free, measured)] = cross
-        found[numpy.ix_(measured, free)] = cross.T
-        found[numpy.ix_(free, free)] = cross @ self._split[0].T
-        return found
 
     @property
     def degrees_of_freedom(self) -> int:
@@ -165,11 +169,18 @@ class Known:
         """Return the standard deviation of a figure that depends on numbers by these derivatives."""
         import numpy
 
-        columns = list(gradient)
-        factors = numpy.array([gradient[column] for column in columns])
-        part = self.covariance[numpy.ix_(columns, columns)]
-        square = float(factors @ part @ factors)
-        return math.sqrt(max(0.0, square))
+        whole = numpy.zeros(self.system.size)
+        for column, slope in gradient.items():
+            whole[column] = slope
+        measured, free, _, _ = self._parts
+        own = whole[measured]
+        columns = numpy.flatnonzero(whole[free])
+        if len(columns):
+            own = own + whole[free][columns] @ self._split[0][columns]
+        # in standard deviations, without what the checks take away
+        error = own * self._roots
+        error = error - self._satisfied @ (self._satisfied.T @ error)
+        return math.sqrt(float(error @ error))
 
     def flow_deviation(self, stream: str) -> float:
         """Return the standard deviation of a flow, in tonnes."""
@@ -200,11 +211,25 @@ class Known:
             return {}
         return {own: 1 / size, flow: -float(vector[own]) / size**2}
 
+    @cached_property
+    def _ways(self) -> list[tuple[int, Any]]:
+        """The unmeasured numbers' parts in the balances of mass, and in all equations.
+
+        Each is how many equations they are, and the parts with both signs.
+        """
+        from scipy.sparse import csc_array, hstack
+
+        turned = csc_array(self._parts[3].T)
+        nodes = len(self.system.problem.balanced_nodes)
+        some = [turned[:, :nodes], turned] if self.system.problem.components else [turned]
+        return [(each.shape[1], hstack([each, -each], format="csc")) for each in some]
+
     def evidence(self, stream: str, component: str = "") -> list[tuple[str, str]]:
         """Return the balances that determine an unmeasured number: few of them, if that can be.
 
         Each is a component, or nothing for mass, and a node. They are found as the combination of
-        equations with the least sum of absolute factors in which no other unmeasured number stays.
+        equations with the least sum of absolute factors in which no other unmeasured number stays:
+        of the balances of mass alone, if these suffice.
         """
         import numpy
         from scipy.optimize import linprog
@@ -214,13 +239,12 @@ class Known:
         place = int(numpy.searchsorted(free, column))
         if place >= len(free) or free[place] != column or not self.is_determined[column]:
             return []
-        rows = unmeasured.shape[0]
         wanted = numpy.zeros(unmeasured.shape[1])
         wanted[place] = 1.0
-        both = numpy.hstack([unmeasured.T, -unmeasured.T])
-        found = linprog(numpy.ones(2 * rows), A_eq=both, b_eq=wanted, method="highs")
-        if found.x is None:
-            return []
-        factors = found.x[:rows] - found.x[rows:]
-        names = self.system.names
-        return [names[at] for at in numpy.flatnonzero(numpy.abs(factors) > 1e-7) if at < len(names)]
+        for rows, both in self._ways:
+            found = linprog(numpy.ones(2 * rows), A_eq=both, b_eq=wanted, method="highs")
+            if found.x is not None:
+                factors = found.x[:rows] - found.x[rows:]
+                used = numpy.flatnonzero(numpy.abs(factors) > 1e-7)
+                return [self.system.names[at] for at in used if at < len(self.system.names)]
+        return []
