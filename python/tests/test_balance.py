@@ -6,7 +6,7 @@ import math
 
 import plants
 import pytest
-from plantbal.balance import Class, Flow, Known, Measured, Problem, solve
+from plantbal.balance import Class, Flow, Known, Measured, Problem, solids_of, solve, water_of
 from plantbal.faults import Fault
 
 
@@ -45,6 +45,68 @@ def test_two_products_are_those_of_the_formula() -> None:
         assert known.flow_deviation("CONC") == pytest.approx(sd, rel=1e-9), (f, c, t)
 
 
+SURE = 1e-10  # the variance of a figure that a book takes as exact
+
+
+def exact(value: float) -> Measured:
+    return Measured(value, SURE * max(value, 1e-3) ** 2)
+
+
+def test_two_units_of_a_book() -> None:
+    # Felder and Rousseau, Elementary Principles of Chemical Processes, Example 4.4-1: the flows of
+    # four streams and their part of A are given; the book's answers are 60.0, 90.0 and 60.0 kg/h,
+    # with 0.233 and 0.0833 of A in the first and the last
+    flows = [
+        Flow("FEED", "env", "ONE", exact(100.0)),
+        Flow("TOP", "ONE", "env", exact(40.0)),
+        Flow("S1", "ONE", "MIX"),
+        Flow("SIDE", "env", "MIX", exact(30.0)),
+        Flow("S2", "MIX", "TWO"),
+        Flow("OUT", "TWO", "env", exact(30.0)),
+        Flow("S3", "TWO", "env"),
+    ]
+    given = {"FEED": 0.500, "TOP": 0.900, "SIDE": 0.300, "OUT": 0.600}
+    found = solve(Problem(flows, ["a"], {(name, "a"): exact(x) for name, x in given.items()}))
+    for name, tonnes in (("S1", 60.0), ("S2", 90.0), ("S3", 60.0)):
+        assert round(found.flow(name), 1) == tonnes, name
+    assert round(found.grade("S1", "a"), 3) == 0.233
+    assert round(found.grade("S3", "a"), 4) == 0.0833
+
+
+def test_a_dilution_of_a_book() -> None:
+    # Felder and Rousseau: 20.0 % NaOH diluted with water to 8.0 %; the book's answers are 2.50 kg of
+    # product and 1.50 kg of water for each kg of feed
+    flows = [
+        Flow("FEED", "env", "MIX", exact(1.0)),
+        Flow("WATER", "env", "MIX"),
+        Flow("PRODUCT", "MIX", "env"),
+    ]
+    grades = {("FEED", "naoh"): exact(0.200), ("PRODUCT", "naoh"): exact(0.080)}
+    grades["WATER", "naoh"] = exact(0.0)
+    found = solve(Problem(flows, ["naoh"], grades))
+    assert round(found.flow("PRODUCT"), 2) == 2.50
+    assert round(found.flow("WATER"), 2) == 1.50
+
+
+def test_a_cyclone_of_a_book() -> None:
+    # Wills, Mineral Processing Technology: a cyclone is fed with 20 t/h of dry solids at 30 % solids,
+    # and has 50 % in the underflow and 15 % in the overflow; the book's answer is 14.3 t/h of solids
+    # in the underflow
+    flows = [
+        Flow("FEED", "env", "CYCLONE", exact(20.0)),
+        Flow("UNDER", "CYCLONE", "env"),
+        Flow("OVER", "CYCLONE", "env"),
+    ]
+    solids = {"FEED": 0.30, "UNDER": 0.50, "OVER": 0.15}
+    grades = {(name, "water"): water_of(exact(part)) for name, part in solids.items()}
+    found = solve(Problem(flows, ["water"], grades, ratios=frozenset({"water"})))
+    assert round(found.flow("UNDER"), 1) == 14.3
+    # the same by the densities of the pulps: quartz of 2.65 t/m3, m = 1 / (s / 2.65 + 1 - s)
+    for part in solids.values():
+        density = 1 / (part / 2.65 + 1 - part)
+        assert solids_of(exact(density), 2.65).value == pytest.approx(part, rel=1e-12)
+
+
 def test_assays_make_flows_observable() -> None:
     known = Known(solve(separator(1000, 0.008, 0.25, 0.0015)))
     assert known.class_of("FEED") is Class.NONREDUNDANT
@@ -62,9 +124,20 @@ def test_a_second_solver_finds_the_same() -> None:
 
 
 def test_the_truth_lies_within_the_deviations() -> None:
-    one, two = plants.coverage(60, 4)
-    assert all(0.55 < part < 0.8 for part in one), one
-    assert all(0.88 < part < 1 for part in two), two
+    for kind, (one, two, count) in plants.coverage(100, 4).items():
+        error = 3 / (100 * min(count, 4)) ** 0.5  # figures of a month hang on each other
+        assert abs(one - 0.683) < 0.466 * error, (kind, one)
+        assert abs(two - 0.954) < 0.208 * error, (kind, two)
+
+
+def test_a_concentrator_needs_no_more_meters() -> None:
+    known = Known(solve(plants.concentrator(None)))
+    for name, _, _, tonnes, copper, _, _ in plants.CONCENTRATOR:
+        assert known.class_of(name) is not Class.UNOBSERVABLE, name
+        assert known.solution.flow(name) == pytest.approx(tonnes, rel=1e-9), name
+        assert known.solution.grade(name, "cu") == pytest.approx(copper / tonnes, rel=1e-9), name
+    meters = [flow.name for flow in known.system.problem.flows if flow.measured]
+    assert (len(meters), len(known.system.problem.grades)) == (7, 11)
 
 
 def test_a_flow_is_not_below_nothing() -> None:
@@ -107,6 +180,9 @@ def test_bad_input_is_said() -> None:
             "sum to 120.00 %",
         ),
         (lambda: solve(Problem([Flow("A", "env", "U"), two])), "no flow was measured"),
+        (lambda: water_of(Measured(12.0, 1.0)), "1200 % can't be the solids of a pulp"),
+        (lambda: water_of(Measured(0.0, 1.0)), "0 % can't be the solids of a pulp"),
+        (lambda: solids_of(Measured(1130, 1), 2.65), "1130 t/m3 isn't between water and solids"),
     ):
         with pytest.raises(Fault) as raised:
             make()

@@ -6,7 +6,18 @@ the flows to the program, `table` and `command` show them.
 """
 
 from plantbal.balance.known import Class, Known
-from plantbal.balance.problem import Flow, Measured, Problem
+from plantbal.balance.problem import Flow, Measured, Problem, solids_of, water_of
 from plantbal.balance.solve import NotFound, Solution, solve
 
-__all__ = ["Class", "Flow", "Known", "Measured", "NotFound", "Problem", "Solution", "solve"]
+__all__ = [
+    "Class",
+    "Flow",
+    "Known",
+    "Measured",
+    "NotFound",
+    "Problem",
+    "Solution",
+    "solids_of",
+    "solve",
+    "water_of",
+]

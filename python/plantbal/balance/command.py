@@ -5,7 +5,8 @@ from __future__ import annotations
 import argparse
 import json
 import sys
-from collections.abc import Iterable
+from collections.abc import Iterable, Sequence
+from pathlib import Path
 
 from plantbal.balance.certify import pulls_of, session_of
 from plantbal.balance.known import Class, Known
@@ -13,10 +14,11 @@ from plantbal.balance.reading import GRAMS, Asked, asked_of
 from plantbal.balance.solve import solve
 from plantbal.balance.table import Line, lines_of, recoveries_of, said_of
 from plantbal.commands.options import add_program
-from plantbal.faults import read_bytes
-from plantbal.files import write_text
+from plantbal.faults import Fault, read_bytes
+from plantbal.files import replacing, write_text
 from plantbal.limits import SESSION_BYTES
 from plantbal.report.blocks import last_blocks
+from plantbal.report.chart import ENDINGS
 from plantbal.report.output import Output
 from plantbal.runs import check, run as run_program
 from plantbal.study.advice import plant_of
@@ -39,6 +41,9 @@ program was given and what it wrote.
   text   a table to be read
   csv    tonnes and fractions with all digits
   json   the same as a list of objects; a missing figure is null
+
+--chart draws the grades, each as it was assayed and as it is reconciled, with two standard
+deviations to each side.
 
 examples:
   plantbal-desk balance month.csv 2024-07
@@ -63,6 +68,14 @@ def add_arguments(parser: argparse.ArgumentParser) -> None:
         help="a stream whose components sum to 100 %%",
     )
     parser.add_argument(
+        "--feed",
+        metavar="STREAM",
+        action="append",
+        default=[],
+        help="recoveries are parts of what this stream carries",
+    )
+    parser.add_argument("--chart", metavar="FILE", help="a .svg, .png or .pdf file")
+    parser.add_argument(
         "--form", choices=["text", "csv", "json"], default="text", help="how it is written"
     )
     parser.add_argument("--given", metavar="FILE", help="keep the session that is certified")
@@ -82,24 +95,42 @@ def run(options: argparse.Namespace) -> int:
         source=source,
         program=options.program,
     )
+    names = [flow.name for flow in asked.problem.flows]
+    for name in [*options.feed, *options.closed]:
+        if name not in names:
+            remedy = f"say one of {', '.join(names)}"
+            raise Fault(f"there is no stream {name}", text=name, remedy=remedy)
     found = solve(asked.problem)
     known = Known(found)
     lines = list(lines_of(known))
     given = session_of(asked.problem, pulls_of(found, known), options.period)
     output = run_program(given.encode("ascii"), tests=False, program=options.program)
-    write_text("-", "".join(f"{row}\n" for row in _FORMS[options.form](known, lines)))
+    written = _FORMS[options.form](known, lines, options.feed)
+    write_text("-", "".join(f"{row}\n" for row in written))
     for name, text in ((options.given, given), (options.out, output.to_csv())):
         if name:
             write_text(name, text)
-    said = list(notes_of(asked, known, lines, output, options.program))
-    for note in said:
+    if options.chart:
+        _chart(options.chart, known)
+    why_not = not_certified(lines, output, options.program)
+    for note in [*notes_of(asked, known, lines), *([f"not certified: {why_not}"] if why_not else [])]:
         print(f"{options.prog}: {note}", file=sys.stderr)
-    return int(any(note.startswith("not certified") for note in said))
+    return int(bool(why_not))
 
 
-def notes_of(
-    asked: Asked, known: Known, lines: Iterable[Line], output: Output, program: str | None
-) -> Iterable[str]:
+def _chart(path: str, known: Known) -> None:
+    """Draw the grades."""
+    from plantbal.balance.chart import write_chart
+    from plantbal.balance.grades import of_known
+
+    form = Path(path).suffix[1:].lower()
+    if form not in ENDINGS:
+        raise Fault(f"{path} ends with {form!r}", text=path, remedy="say .svg, .png or .pdf")
+    with replacing(path) as made:
+        write_chart(of_known(known), made, form)
+
+
+def notes_of(asked: Asked, known: Known, lines: Iterable[Line]) -> Iterable[str]:
     """Yield what is to be said of a balance beside its figures."""
     for said in asked.left_out:
         yield f"left out: {said}"
@@ -110,10 +141,13 @@ def notes_of(
     ]
     if loose:
         yield f"nothing determines the flow of {', '.join(loose)}: add a meter or an assay there"
+
+
+def not_certified(lines: Iterable[Line], output: Output, program: str | None) -> str:
+    """Return why the flows aren't certified; nothing if they are."""
     blocks = list(last_blocks(output.blocks_in_order).values())
     if not blocks or list(check(output, program=program)["verdict"]) != ["yes"]:
-        yield "not certified: the program's check of its report doesn't say yes"
-        return
+        return "the program's check of its report doesn't say yes"
     worst, stream = 0.0, ""
     flows = {
         row["name"].removesuffix("_gain"): int(row["flow"]) / GRAMS for row in blocks[-1].streams
@@ -123,10 +157,11 @@ def notes_of(
             off = abs(flows[line.stream] - line.value) / line.sd
             worst, stream = max((worst, stream), (off, line.stream))
     if worst > MOST_DIFFERENCE:
-        yield f"not certified: the flow of {stream} differs by {worst:.2f} of its ±"
+        return f"the flow of {stream} differs by {worst:.2f} of its ±"
+    return ""
 
 
-def _text(known: Known, lines: list[Line]) -> Iterable[str]:
+def _text(known: Known, lines: list[Line], feeds: Sequence[str]) -> Iterable[str]:
     """Yield the table to be read."""
     wide = max(len(line.stream) for line in lines)
     yield f"{'':{wide}}  {'':8}{'measured':>16}{'reconciled':>16}{'±':>12}{'in sd':>8}  class"
@@ -147,11 +182,11 @@ def _text(known: Known, lines: list[Line]) -> Iterable[str]:
             f"  {line.kind.value}{why}"
         )
     yield f"weighted squares: {known.solution.squares:.3f} at {known.degrees_of_freedom} degrees of freedom"
-    for part in recoveries_of(known):
+    for part in recoveries_of(known, feeds):
         yield f"recovery of {part.component} in {part.stream}: {part.part:.2%} ±{part.sd:.2%}"
 
 
-def _csv(known: Known, lines: list[Line]) -> Iterable[str]:
+def _csv(known: Known, lines: list[Line], feeds: Sequence[str]) -> Iterable[str]:
     """Yield the table in CSV."""
     heads = "stream component kind measured measured_sd value sd adjustment".split()
     yield ",".join([*heads, "evidence"])
@@ -160,7 +195,7 @@ def _csv(known: Known, lines: list[Line]) -> Iterable[str]:
         yield ",".join([*cells, " ".join(f"{c or 'mass'}@{node}" for c, node in line.evidence)])
 
 
-def _json(known: Known, lines: list[Line]) -> Iterable[str]:
+def _json(known: Known, lines: list[Line], feeds: Sequence[str]) -> Iterable[str]:
     """Yield the table in JSON."""
     yield json.dumps([line.as_dict() for line in lines], indent=1)
 

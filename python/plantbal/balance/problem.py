@@ -66,6 +66,9 @@ class Problem:
         The grade of a component in a stream, as a fraction, by the names of stream and component.
     closed : frozenset of str
         The streams whose components sum to the whole stream.
+    ratios : frozenset of str
+        The components that aren't part of the stream but come beside it, such as the water of a
+        pulp whose flow is that of its solids: their grades may be above 100 %.
 
     Raises
     ------
@@ -77,6 +80,7 @@ class Problem:
     components: Sequence[str] = ()
     grades: Mapping[tuple[str, str], Measured] = field(default_factory=dict)
     closed: frozenset[str] = frozenset()
+    ratios: frozenset[str] = frozenset()
 
     def __post_init__(self) -> None:
         names: set[str] = set()
@@ -144,6 +148,41 @@ class Problem:
         return [node for node in self.nodes if node not in left_out]
 
 
+def water_of(solids: Measured) -> Measured:
+    """Return the water beside a tonne of solids, by the part of a pulp that is solids.
+
+    Raises
+    ------
+    Fault
+        If the part is 0, or above 100 %.
+    """
+    part = solids.value
+    if not 0 < part <= 1:
+        raise Fault(
+            f"{part * 100:g} % can't be the solids of a pulp",
+            remedy="the part of a pulp that is solids is above 0 and at most 100 %: look at its unit",
+        )
+    return Measured((1 - part) / part, solids.variance / part**4)
+
+
+def solids_of(density: Measured, of_solids: float, of_water: float = 1.0) -> Measured:
+    """Return the part of a pulp that is solids, by mass, by its density and that of dry solids.
+
+    Raises
+    ------
+    Fault
+        If the density isn't between that of water and that of the solids.
+    """
+    if not of_water < density.value <= of_solids:
+        raise Fault(
+            f"a pulp of {density.value:g} t/m3 isn't between water and solids of {of_solids:g} t/m3",
+            remedy="look at its unit: t/m3, the same for all three",
+        )
+    part = of_solids * (density.value - of_water) / (density.value * (of_solids - of_water))
+    slope = of_solids * of_water / (density.value**2 * (of_solids - of_water))
+    return Measured(part, density.variance * slope**2)
+
+
 def _check_grades(problem: Problem, names: set[str]) -> None:
     """Refuse grades that can't be."""
     for (stream, component), grade in problem.grades.items():
@@ -154,7 +193,7 @@ def _check_grades(problem: Problem, names: set[str]) -> None:
                 f"an assay of {stream} names {component}, which isn't balanced",
                 remedy="name the component among those to be balanced, or leave the assay out",
             )
-        if not 0 <= grade.value <= 1:
+        if grade.value < 0 or (grade.value > 1 and component not in problem.ratios):
             raise Fault(
                 f"{component} in {stream} is {grade.value * 100:g} %",
                 remedy="a grade is between 0 and 100 %: look at its unit",
@@ -173,8 +212,13 @@ def _check_grades(problem: Problem, names: set[str]) -> None:
                 remedy="a balance needs the grades of two streams at least: add assays",
             )
     for flow in problem.flows:
-        total = sum(g.value for (name, _), g in problem.grades.items() if name == flow.name)
-        slack = 3 * sum(g.variance for (n, _), g in problem.grades.items() if n == flow.name) ** 0.5
+        own = [
+            grade
+            for (name, component), grade in problem.grades.items()
+            if name == flow.name and component not in problem.ratios
+        ]
+        total = sum(grade.value for grade in own)
+        slack = 3 * sum(grade.variance for grade in own) ** 0.5
         if total > 1 + slack:
             raise Fault(
                 f"the assays of {flow.name} sum to {total * 100:.2f} %",

@@ -46,6 +46,7 @@ def asked_of(
     *,
     source: str = "session",
     program: str | None = None,
+    mass_alone: bool = False,
 ) -> Asked:
     """Return a period of a session as a problem.
 
@@ -63,18 +64,11 @@ def asked_of(
         What the session is called in a fault.
     program : str, optional
         The program.
+    mass_alone : bool
+        Whether a period without assays is one of flows alone.
     """
     mass = _mass_of(data, period, source, program)
-    flows = [
-        Flow(
-            row["name"],
-            row["from"],
-            row["to"],
-            _measured(row["value"], row["variance"]) if row["value"] else None,
-            either_way=row["name"] in (row["from"], row["to"]),
-        )
-        for row in mass.streams
-    ]
+    flows = flows_of(mass)
     names = {flow.name for flow in flows}
     grades: dict[tuple[str, str], Measured] = {}
     left_out = []
@@ -84,7 +78,7 @@ def asked_of(
         if stream not in names:
             left_out.append(f"{component} in {stream}: it isn't in service in {period}")
             continue
-        grades[stream, component] = Measured(ppm / MILLION, max(variance, 1) / MILLION**2)
+        grades[stream, component] = grade_of(ppm, variance)
     named = list(dict.fromkeys(component for _, component in grades))
     for component in components:
         if component not in named:
@@ -93,7 +87,7 @@ def asked_of(
                 place=Place(file=source),
                 remedy="correct the component's name, or add its assays",
             )
-    if not named:
+    if not named and not mass_alone:
         raise InputFault(
             f"no assays in {period}",
             place=Place(file=source),
@@ -101,6 +95,25 @@ def asked_of(
         )
     problem = Problem(tuple(flows), tuple(named), grades, frozenset(closed))
     return Asked(period, problem, mass, tuple(left_out))
+
+
+def flows_of(mass: Block) -> list[Flow]:
+    """Return the streams of a round of a report, with what was measured of them."""
+    return [
+        Flow(
+            row["name"],
+            row["from"],
+            row["to"],
+            _measured(row["value"], row["variance"]) if row["value"] else None,
+            either_way=row["name"] in (row["from"], row["to"]),
+        )
+        for row in mass.streams
+    ]
+
+
+def grade_of(ppm: int, variance: int) -> Measured:
+    """Return an assay as a fraction."""
+    return Measured(ppm / MILLION, max(variance, 1) / MILLION**2)
 
 
 def _measured(value: str, variance: str) -> Measured:

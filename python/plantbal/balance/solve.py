@@ -25,18 +25,24 @@ from plantbal.balance.system import System
 from plantbal.faults import Fault
 
 # The most steps, and the most changes of the bounds that hold.
-MOST_STEPS = 200
+MOST_STEPS = 500
 MOST_BOUNDS = 60
 # A residual below this part of the scale is none, and neither is a pull below this part of what it is
 # the sum of.
-_LEAST_RESIDUAL = 1e-11
+_LEAST_RESIDUAL = 1e-10
 _LEAST_PULL = 1e-9
-# A bound that is passed by less than this isn't.
+# A bound that is passed by less than this isn't, and one that pulls the wrong way by less than this
+# part of the firmest measurement holds.
 _LEAST_EXCESS = 1e-10
+_LEAST_LOOSE = 1e-8
+# After so many steps without a better place, one that is nearly a minimum is what rounding allows:
+# its residuals and pulls are at most this many times what is asked. Then so many last steps.
+_STUCK, _NEARLY, _POLISH = 8, 30.0, 6
 # What holds a number that nothing determines, as a part of the weight of a measured one.
 _HOLD = 1e-9
 # What lets an equation that follows from others be factorised.
 _SLACK = 1e-13
+_REFINED = 3
 _SHORTEST = 2.0**-30
 
 
@@ -151,20 +157,26 @@ def solve(problem: Problem) -> Solution:
     bounds = bounds_of(system)
     vector = _begin(system)
     active: list[Bound] = []
+    seen: set[frozenset[Bound]] = set()
     steps = 0
+    firm = float(_weights(system).max()) ** 0.5  # what a pull is compared with
     for _ in range(MOST_BOUNDS):
         vector, multipliers, pulls, taken = _minimum(system, vector, active)
         steps += taken
-        loose = [one for one, pull in zip(active, pulls) if pull < -_LEAST_EXCESS]
+        loose = {one: pull for one, pull in zip(active, pulls) if pull < -_LEAST_LOOSE * firm}
         passed = [one for one in bounds if one not in active and one.excess(vector) > _LEAST_EXCESS]
         if not loose and not passed:
             squares = float(_squares(system, vector))
             return Solution(system, vector, multipliers, tuple(active), pulls, squares, steps)
-        if passed:
+        is_round = frozenset(active) in seen
+        seen.add(frozenset(active))
+        if is_round:  # the first one in order: no round is taken twice (Bland's rule)
+            first = min([*passed, *loose], key=bounds.index)
+            active = [one for one in active if one is not first] + [first] * (first in passed)
+        elif passed:
             active.append(max(passed, key=lambda one: one.excess(vector)))
         else:
-            worst = min(zip(pulls, range(len(active))))[1]
-            del active[worst]
+            active.remove(min(loose.items(), key=lambda pair: float(pair[1]))[0])
     raise NotFound(
         "a flow or a grade that can't be below nothing", max(b.excess(vector) for b in bounds)
     )
@@ -185,7 +197,8 @@ def bounds_of(system: System) -> list[Bound]:
             rest = ((own, -1.0),) if assayed else ((own, -1.0), (column, 1.0))
             what = f"{component} in {flow.name}"
             found.append(Bound(((own, 1.0),), 0.0, f"{what} can't be below 0 %"))
-            found.append(Bound(rest, -1.0 if assayed else 0.0, f"{what} can't be above 100 %"))
+            if component not in problem.ratios:
+                found.append(Bound(rest, -1.0 if assayed else 0.0, f"{what} can't be above 100 %"))
     return found
 
 
@@ -239,6 +252,7 @@ def _minimum(system: System, vector: Any, active: list[Bound]) -> tuple[Any, Any
     multipliers = numpy.zeros(len(system.names) + len(active))
     penalty = 1.0
     error = float("inf")
+    best, since = (error, vector, multipliers), 0
     for steps in range(1, MOST_STEPS + 1):
         step, wanted, newton = _step(system, vector, multipliers, active, weights)
         nearer = _error(system, vector + step, wanted, active, weights)
@@ -251,11 +265,18 @@ def _minimum(system: System, vector: Any, active: list[Bound]) -> tuple[Any, Any
         vector = vector + length * step
         multipliers = multipliers + length * (wanted - multipliers)
         error = _error(system, vector, multipliers, active, weights)
-        if error <= 1:
+        if error < best[0]:
+            best = error, vector, multipliers
+        since = 0 if error < best[0] * (1 + 1e-12) else since + 1
+        if error <= 1 or (since > _STUCK and best[0] <= _NEARLY):
+            error, vector, multipliers = best
             count = len(system.names)
-            last, wanted, _ = _step(system, vector, multipliers, active, weights)
-            if _error(system, vector + last, wanted, active, weights) < error:
-                vector, multipliers = vector + last, wanted
+            for _ in range(_POLISH):
+                last, wanted, _ = _step(system, vector, multipliers, active, weights)
+                nearer = _error(system, vector + last, wanted, active, weights)
+                if not nearer < error / 2:
+                    break
+                vector, multipliers, error = vector + last, wanted, nearer
             return vector, multipliers[:count], -multipliers[count:], steps
     final = numpy.abs(_residual(system, vector, active))
     worst = int(final.argmax())
@@ -330,15 +351,16 @@ def _step(
     jacobian = _matrix(system, vector, active) @ diags(unit)
     rows = 1 / numpy.maximum(abs(jacobian).max(axis=1).toarray().ravel(), 1e-300)
     jacobian = diags(rows) @ jacobian
-    matrix = csc_matrix(
-        bmat([[second, jacobian.T], [jacobian, identity(jacobian.shape[0]) * -_SLACK]])
-    )
+    slack = identity(jacobian.shape[0]) * -_SLACK
+    matrix = csc_matrix(bmat([[second, jacobian.T], [jacobian, slack]]))
+    plain = csc_matrix(bmat([[second, jacobian.T], [jacobian, None]]))
     gradient = unit * weights * numpy.where(known, vector - system.measured, 0.0)
     right = numpy.concatenate([-gradient, -rows * _residual(system, vector, active)])
     try:
         factors = splu(matrix)
         found = factors.solve(right)
-        found = found + factors.solve(right - matrix @ found)
+        for _ in range(_REFINED):  # towards the solution without slack
+            found = found + factors.solve(right - plain @ found)
     except RuntimeError:
         found = numpy.zeros(len(right))
     if not numpy.all(numpy.isfinite(found)):

@@ -2,7 +2,7 @@
 
 from __future__ import annotations
 
-from collections.abc import Iterator
+from collections.abc import Iterator, Sequence
 from dataclasses import asdict, dataclass
 
 from plantbal.balance.known import Class, Known
@@ -95,10 +95,19 @@ class Recovery:
     sd: float
 
 
-def recoveries_of(known: Known) -> Iterator[Recovery]:
-    """Yield the parts of each component that the leaving streams carry."""
+def recoveries_of(known: Known, feeds: Sequence[str] = ()) -> Iterator[Recovery]:
+    """Yield the parts of each component that the leaving streams carry.
+
+    Parameters
+    ----------
+    known : Known
+        What is known.
+    feeds : sequence of str
+        The streams of whose components they are parts; without one, those that enter the plant.
+    """
     problem, found = known.system.problem, known.solution
-    ins = [flow.name for flow in problem.flows if flow.start == ENV and not flow.either_way]
+    entering = [flow.name for flow in problem.flows if flow.start == ENV and not flow.either_way]
+    ins = list(feeds) or entering
     outs = [flow.name for flow in problem.flows if flow.end == ENV and not flow.either_way]
     for component in problem.components:
         if any(known.class_of(name, component) is Class.UNOBSERVABLE for name in ins):

@@ -19,6 +19,7 @@ from plantbal.forms import read_session, session_to_run
 from plantbal.model.ledger import Ledger
 from plantbal.page.account import account_of
 from plantbal.page.books import booked
+from plantbal.page.grades import grades_on
 from plantbal.page.head import Origin
 from plantbal.page.render import render
 from plantbal.page.statement import Prepared, Refused, Worth
@@ -155,7 +156,7 @@ def prepare(source: Source) -> Prepared:
     account = account_of(
         source.rows, ledger=ledger, refused=refused, findings=findings, worth=worth
     )
-    return Prepared(account, told, why, more)
+    return Prepared(account, told, why, more, grades_on(account, ledger))
 
 
 def _check_output(ledger: Ledger, rows: Sequence[Values], output: str) -> None:
@@ -317,7 +318,9 @@ def run(options: argparse.Namespace) -> int:
         from plantbal.page.sheets import write_workbook
 
         accounts = list(added.accounts.values())
-        write_workbook(options.xlsx, prepared.account, prepared.told, origin, accounts)
+        write_workbook(
+            options.xlsx, prepared.account, prepared.told, origin, accounts, prepared.grades
+        )
     why = output.why if output is not None else []
     if output is None and prepared.account.is_empty:
         why = [f"{source.name}: there is no report"]

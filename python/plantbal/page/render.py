@@ -14,12 +14,14 @@ from plantbal.model.facts import Fact
 from plantbal.model.forms import day_text
 from plantbal.model.ledger import Ledger
 from plantbal.page.drawing import KINDS, Draftsman
+from plantbal.page.grades import real
 from plantbal.page.head import Origin, days_text, head_of
 from plantbal.page.spark import spark
 from plantbal.page.statement import Account, Line, Prepared, Round, Statement
 from plantbal.page.verdict import plus_minus, thousandths
 
 if TYPE_CHECKING:
+    from plantbal.balance.grades import Grade
     from jinja2 import Environment
 
     from plantbal.explain import Told
@@ -199,6 +201,12 @@ def critical(statement: Statement) -> str:
     return thousandths(last.block.whole["critical"]) if last and last.block.whole else ""
 
 
+def _grade_unit(grades: Sequence[Grade]) -> tuple[str, float]:
+    from plantbal.balance.grades import unit_of
+
+    return unit_of(grades)
+
+
 def by_name(found: Round | None) -> dict[str, Line]:
     """Return the streams of a round by their names."""
     return {line.name: line for line in found.lines} if found else {}
@@ -243,6 +251,8 @@ def environment() -> Environment:
         critical=critical,
         by_name=by_name,
         spark=spark,
+        real=real,
+        grade_unit=_grade_unit,
     )
     return made
 
@@ -302,6 +312,7 @@ def render(
             to_look_at=account.to_look_at,
             is_empty=account.is_empty,
             ledger=account.ledger,
+            grades=prepared.grades,
             kinds=KINDS,
             parts=parts,
             most=MOST,

@@ -2,7 +2,7 @@
 
 from __future__ import annotations
 
-from collections.abc import Iterable, Sequence
+from collections.abc import Iterable, Mapping, Sequence
 from decimal import Decimal
 from pathlib import Path
 from typing import TYPE_CHECKING, Any
@@ -12,18 +12,23 @@ from plantbal.amounts import tonnes_of
 from plantbal.faults import ToolMissing
 from plantbal.files import replacing
 from plantbal.inert import store
+from plantbal.page.grades import table_of
 from plantbal.page.head import Origin, head_of
 from plantbal.page.statement import Account, Line, Round, Statement
 
 if TYPE_CHECKING:
     from plantbal.accounts.account import MonthAccount
+    from plantbal.balance.grades import Grades
     from plantbal.explain import Told
 
 Cell = str | int | float | Decimal | None
 Row = Sequence[Cell]
 TONNES, PLAIN = "#,##0.000", "0.00"
 # How numbers are shown, by the heads of their columns.
+PART = "0.0000 %"
 FORMATS = {"in %": PLAIN, "in sd": PLAIN, "gain over the meter": "0 %"}
+FORMATS |= {name: PART for name in ("assay", "± of the assay", "reconciled", "± of it")}
+FORMATS |= {"recovery": "0.00 %", "± of the recovery": "0.00 %"}
 
 
 def _tonnes(grams: int | None) -> Decimal | None:
@@ -159,6 +164,7 @@ def write_workbook(
     told: Sequence[Told],
     origin: Origin,
     accounts: Sequence[MonthAccount] = (),
+    grades: Mapping[str, Grades] | None = None,
 ) -> None:
     """Write the workbook, whole or not at all.
 
@@ -174,17 +180,20 @@ def write_workbook(
         Where it comes from.
     accounts : sequence of MonthAccount
         The accounts of periods, if the book is known.
+    grades : mapping of str to Grades, optional
+        The grades of periods with assays.
     """
     try:
         from openpyxl import Workbook
     except ImportError as error:
         raise ToolMissing("openpyxl", "python3-openpyxl") from error
     head: list[Row] = [(term, text) for term, text, _ in head_of(account, origin)]
-    tables: dict[str, tuple[Row, list[Row]]] = {
+    tables: dict[str, tuple[Row, Sequence[Row]]] = {
         "head": (("what", "which"), head),
         "periods": periods(account),
         "streams": streams(account),
         "tanks": tanks(account),
+        "grades": table_of(grades or {}),
         "bounds": bounds(account),
         "edits": edits(account),
         "refused": refused(account, told),
@@ -201,7 +210,7 @@ def write_workbook(
         book.save(made)
 
 
-def _fill(sheet: Any, heads: Row, rows: list[Row]) -> None:
+def _fill(sheet: Any, heads: Row, rows: Sequence[Row]) -> None:
     """Write a table to a sheet: texts as texts, whatever they begin with."""
     from openpyxl.styles import Alignment, Font
     from openpyxl.utils import get_column_letter

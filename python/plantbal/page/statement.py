@@ -2,7 +2,7 @@
 
 from __future__ import annotations
 
-from collections.abc import Sequence
+from collections.abc import Mapping, Sequence
 from dataclasses import dataclass, field
 from decimal import Decimal
 from math import sqrt
@@ -14,6 +14,7 @@ from plantbal.page.verdict import Verdict, names_of
 from plantbal.report.blocks import Block
 
 if TYPE_CHECKING:
+    from plantbal.balance.grades import Grades
     from plantbal.explain import Told
     from plantbal.lint import Finding
 
@@ -305,13 +306,14 @@ class Account:
 class Prepared:
     """An account, its refused rows in sentences, and why there is no ± if there is none.
 
-    `more` is how many further rows are refused.
+    `more` is how many further rows are refused, and `grades` has those of each period with assays.
     """
 
     account: Account
     told: Sequence[Told] = field(default_factory=list)
     why_no_worth: str = ""
     more: int = 0
+    grades: Mapping[str, Grades] = field(default_factory=dict)
 
 
 def _rank(line: Line) -> tuple[int, float]:

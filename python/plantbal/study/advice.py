@@ -9,6 +9,7 @@ from dataclasses import dataclass
 from pathlib import Path
 
 from plantbal.audit.asks import some
+from plantbal.balance import planning
 from plantbal.commands.options import add_program
 from plantbal.explain import explain_bytes, is_report
 from plantbal.faults import Fault, InputFault, Place
@@ -32,8 +33,18 @@ observable costs less. Each stream to meter has a line with its cost, and with t
 its cycle: they stay without a meter, and none of them costs less. With --form csv the columns are
 stream, cost and cycle; with --draw the plant is drawn, with the streams to meter in violet.
 
+With --period the flows and grades of a period of the session are looked at, with the errors of
+meters and assays, and all comes with ± of both; this part isn't proved. --add and --lose say what
+the ± of every flow and grade would be with a meter or an assay more or fewer, without a reading.
+COSTS has the columns stream, component (empty for a meter), cost and error then, and the cheapest
+of these offers are chosen: for a ± (--want), to keep every flow known if any one meter or assay
+fails (--redundant), or for the least ± that a budget buys (--budget). --draw draws ± before and
+after. The proved advice stands below, as that for meters alone and for observability alone.
+
 examples:
   plantbal-desk advise plant.csv costs.csv --draw meters.svg
+  plantbal-desk advise month.csv --period 2024-07 --add DX-310=0.8% --lose WIC-201
+  plantbal-desk advise month.csv offers.csv --period 2024-07 --want TAILINGS=100t
 """
 _PLANT = ("version", "boundary", "unit", "tank", "strap", "stream")
 
@@ -202,13 +213,27 @@ def add_arguments(parser: argparse.ArgumentParser) -> None:
     parser.add_argument("--draw", metavar="FILE", help="a drawing of the plant, as SVG")
     form = "how numbers are written, such as de"
     parser.add_argument("--locale", metavar="NAME", default="", help=form)
+    planning.add_arguments(parser)
     add_program(parser)
+
+
+def _plan(options: argparse.Namespace, source: str, data: bytes, plant: Session) -> int:
+    """Write what meters and assays are worth in a period, and the proved advice beside it."""
+    status = planning.run(options, source, data)
+    if options.form == "text":
+        proved = advise(plant, program=options.program)
+        names = ", ".join(meter["stream"] for meter in proved.meters) or "none"
+        said = "proved, without assays: meters that make every stream observable, fewest: "
+        write_text("-", f"{said}{names}\n")
+    return status
 
 
 def run(options: argparse.Namespace) -> int:
     """Write which streams to meter."""
     source, data = read_session(options.session)
     plant = plant_of(source, data)
+    if options.period:
+        return _plan(options, source, data, plant)
     costs = read_costs(options.costs, plant, options.locale) if options.costs else {}
     plain = [name for name, kind in plant.streams.items() if kind == "plain"]
     uncosted = [name for name in plain if name not in costs]
