@@ -92,9 +92,18 @@ _plantbal_desk() {
         advise:--form) _plantbal_words 'text csv'; return ;;
         advise:--draw) _plantbal_files -f; return ;;
         advise:--locale) :; return ;;
+        advise:--period) :; return ;;
+        advise:--add) :; return ;;
+        advise:--lose) :; return ;;
+        advise:--want) :; return ;;
+        advise:--budget) :; return ;;
+        advise:--of) :; return ;;
+        advise:--within) :; return ;;
         advise:--program) _plantbal_files -f; return ;;
         balance:--component) :; return ;;
         balance:--closed) :; return ;;
+        balance:--feed) :; return ;;
+        balance:--chart) _plantbal_files -f; return ;;
         balance:--form) _plantbal_words 'text csv json'; return ;;
         balance:--given) _plantbal_files -f; return ;;
         balance:--out) _plantbal_files -f; return ;;
@@ -246,13 +255,13 @@ _plantbal_desk() {
             _plantbal_files -f
             return
         fi
-        _plantbal_words '-h --help --form --draw --locale --program' ;;
+        _plantbal_words '-h --help --form --draw --locale --period --add --lose --want --redundant --budget --of --within --program' ;;
     balance)
         if [[ $here != -* ]]; then
             _plantbal_files -f
             return
         fi
-        _plantbal_words '-h --help --component --closed --form --given --out --program' ;;
+        _plantbal_words '-h --help --component --closed --feed --chart --form --given --out --program' ;;
     recovery)
         if [[ $here != -* ]]; then
             _plantbal_files -f
