@@ -3,6 +3,7 @@
 from __future__ import annotations
 
 import datetime
+import re
 from collections.abc import Sequence
 from decimal import ROUND_CEILING, Context, Decimal, Inexact, InvalidOperation
 from itertools import repeat
@@ -14,6 +15,8 @@ Tonnes = Decimal | int | str
 Day = datetime.date | str
 
 GRAMS_A_TONNE = 1_000_000
+# Tonnes without a sign, a zero in front or more than six decimals, a line each.
+_PLAIN = re.compile(r"(?:[1-9][0-9]{0,9}(?:\.[0-9]{1,6})?(?:\n|\Z))*+")
 # More digits than any product here has, so that nothing is rounded without a word.
 _EXACT = Context(prec=200, traps=[Inexact, InvalidOperation])
 
@@ -90,6 +93,18 @@ def many_grams(tonnes: Sequence[Decimal]) -> list[int] | None:
     except (Inexact, InvalidOperation, OverflowError, ValueError):
         return None
     return whole if whole == grams else None
+
+
+def grams_of_texts(tonnes: Sequence[str]) -> list[str] | None:
+    """Return tonnes in plain digits as texts of whole grams; None if one is written otherwise.
+
+    The point is only moved, so nothing is reckoned: 12.5 has the digits of 12500000.
+    """
+    lines = "\n".join(tonnes)
+    if lines.count("\n") != len(tonnes) - 1 or not _PLAIN.fullmatch(lines):
+        return None
+    parts = [text.partition(".") for text in tonnes]
+    return [whole + part.ljust(6, "0") for whole, _, part in parts]
 
 
 def whole_of(number: int | str, what: str) -> str:

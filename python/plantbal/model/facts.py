@@ -11,6 +11,8 @@ from itertools import repeat
 from typing import NamedTuple
 
 KINDS = ("reading", "transfer", "dip")
+# The number of a day is below 2 to the power of this: that of 9999-12-31 is 3,652,059.
+_DAY_BITS = 22
 
 
 class At(NamedTuple):
@@ -116,6 +118,14 @@ class ReadingRun(NamedTuple):
         return map(Fact, kinds, self.ids, self.streams, on, on, *values, *lines)
 
 
+class _Places(dict[str, int]):
+    """A number for each stream and tank, so far from the others that days go between them."""
+
+    def __missing__(self, name: str) -> int:
+        number = self[name] = len(self) << _DAY_BITS
+        return number
+
+
 class Facts:
     """The facts of a session, also those that were struck.
 
@@ -128,7 +138,8 @@ class Facts:
     def __init__(self) -> None:
         self._facts: list[Fact] = []
         self._numbers: dict[str, int] = {}
-        self._on: dict[tuple[str, int], int] = {}
+        self._on: dict[int, int] = {}
+        self._of = _Places()
         self._transfers: dict[str, list[int]] = {}
         self._runs: list[ReadingRun] = []
         self.struck = 0
@@ -157,17 +168,18 @@ class Facts:
 
     def has(self, of: str, day: int) -> bool:
         """Say whether a stream has a reading of a day, or a tank a dip."""
-        return (of, day) in self._on
+        return self._slot(of, day) in self._on
 
     def on(self, of: str, day: int) -> Fact | None:
         """Return the reading or the dip of a day, or None."""
-        number = self._on.get((of, day))
+        number = self._on.get(self._slot(of, day))
         return None if number is None else self._made()[number]
 
     def on_days(self, of: str, days: Iterable[int]) -> list[Fact]:
         """Return the readings of a stream on some days."""
         facts, on = self._made(), self._on
-        numbers = (on.get((of, day)) for day in days)
+        first = self._of[of]
+        numbers = (on.get(first + day) for day in days)
         return [facts[number] for number in numbers if number is not None]
 
     def transfers(self, of: str) -> list[Fact]:
@@ -186,24 +198,31 @@ class Facts:
         if fact.kind == "transfer":
             self._transfers.setdefault(fact.of, []).append(number)
         else:
-            self._on[fact.of, fact.first] = number
+            self._on[self._slot(fact.of, fact.first)] = number
 
     def book_run(self, run: ReadingRun) -> bool:
         """Book a run of readings, if no id and no day of it is taken; say whether it is booked."""
         count = len(run.ids)
         places = range(len(self), len(self) + count)
-        numbers = dict(zip(run.ids, places))
-        on = dict(zip(zip(run.streams, run.days), places))
-        is_free = (
-            len(numbers) == len(on) == count  # none is there twice
-            and self._numbers.keys().isdisjoint(numbers)
-            and self._on.keys().isdisjoint(on)
-        )
-        if is_free:
-            self._numbers.update(numbers)
-            self._on.update(on)
+        first = self._of
+        on = [first[of] + day for of, day in zip(run.streams, run.days)]
+        if not (self._numbers.keys().isdisjoint(run.ids) and self._on.keys().isdisjoint(on)):
+            return False
+        ids, days = len(self._numbers) + count, len(self._on) + count
+        self._numbers.update(zip(run.ids, places))
+        self._on.update(zip(on, places))
+        if (len(self._numbers), len(self._on)) == (ids, days):
             self._runs.append(run)
-        return is_free
+            return True
+        for identity in run.ids:  # one is there twice, and all of them are new
+            self._numbers.pop(identity, None)
+        for slot in on:
+            self._on.pop(slot, None)
+        return False
+
+    def _slot(self, of: str, day: int) -> int:
+        """Return the number that a stream or tank and a day have together."""
+        return self._of[of] + day
 
     def change(self, fact: Fact) -> None:
         """Put a fact in place of the one of its id, of the same kind, place and days."""
@@ -212,7 +231,7 @@ class Facts:
         if fact.struck:
             self.struck += 1
             if fact.kind != "transfer":
-                del self._on[fact.of, fact.first]
+                del self._on[self._slot(fact.of, fact.first)]
 
     def _made(self) -> list[Fact]:
         """Return all facts, those of runs too."""

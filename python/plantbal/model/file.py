@@ -13,10 +13,11 @@ import sys
 from collections.abc import Iterator, Sequence
 from dataclasses import dataclass, replace
 from itertools import islice
+from typing import overload
 
 from plantbal.model.effects import Effect
 from plantbal.model.facts import At, ReadingRun
-from plantbal.model.forms import NAME, day_number
+from plantbal.model.forms import DATE, NAME, day_number
 from plantbal.model.state import Accepted, Answer, State
 from plantbal.schema import Column, schema
 
@@ -25,7 +26,44 @@ _LONGEST = 10_000
 # The rows that are in memory at once: a file of two letters a line has millions.
 _BATCH = 1 << 15
 _NAMES = re.compile(rf"(?:{NAME.pattern}(?:\n|\Z))*+")
-_WHOLES = re.compile(r"(?:(?:0|-?[1-9][0-9]{0,59})(?:\n|\Z))*+")
+_WHOLE = r"(?:0|-?[1-9][0-9]{0,59})"
+_WHOLES = re.compile(rf"(?:{_WHOLE}(?:\n|\Z))*+")
+_READINGS = re.compile(
+    rf"(?:reading,{NAME.pattern},{NAME.pattern},{DATE.pattern},{_WHOLE},{_WHOLE}\n)"
+    rf"{{1,{_LONGEST}}}"  # not possessive: Python 3.11 ends such a match within a line
+)
+
+
+class Columns(Sequence[Sequence[str]]):
+    """Rows that are kept as their columns, and made when they are asked for.
+
+    Parameters
+    ----------
+    columns : sequence of sequence of str
+        The columns, all of one length.
+    """
+
+    def __init__(self, columns: Sequence[Sequence[str]]) -> None:
+        self._columns = columns
+
+    def __len__(self) -> int:
+        return len(self._columns[0])
+
+    def __iter__(self) -> Iterator[tuple[str, ...]]:
+        return zip(*self._columns)
+
+    @overload
+    def __getitem__(self, place: int) -> tuple[str, ...]:
+        ...
+
+    @overload
+    def __getitem__(self, place: slice) -> Columns:
+        ...
+
+    def __getitem__(self, place: int | slice) -> tuple[str, ...] | Columns:
+        if isinstance(place, slice):
+            return Columns([column[place] for column in self._columns])
+        return tuple(column[place] for column in self._columns)
 
 
 @dataclass(frozen=True, slots=True)
@@ -86,16 +124,57 @@ def steps(state: State, data: bytes) -> Iterator[Step | Rows]:
     data : bytes
         The file.
     """
-    for part in rows_of(data):
-        if len(part.rows) > 1:
+    text = data.removeprefix(b"\xef\xbb\xbf").decode("latin-1")
+    parts = rows_of(data) if '"' in text or "\r" in text else _plain_rows(text)
+    for part in parts:
+        run = part.run
+        if run is None and len(part.rows) > 1:
             _, ids, streams, days, grams, variances = zip(*part.rows)
             run = readings_of(ids, streams, days, grams, variances, part.lines)
-            if run is not None and state.after_run(run):
-                yield replace(part, run=run)
-                continue
+        if run is not None and state.after_run(run):
+            yield replace(part, run=run)
+            continue
         for number, (row, line) in enumerate(zip(part.rows, part.lines)):
             fields, at = tuple(row), At(part.record + number, line)
             yield Step(fields, at, state.after(fields, at))
+
+
+def _plain_rows(text: str) -> Iterator[Rows]:
+    """Give the rows of a text without quotes whose lines end with LF, as `rows_of` does.
+
+    Readings of valid forms are told by one pattern, and their columns are every sixth field.
+    """
+    at, line, record = 0, 0, 1
+    while at < len(text):
+        found = _READINGS.match(text, at)
+        if found is not None:
+            fields = text[at : found.end() - 1].replace("\n", ",").split(",")
+            kinds, ids, streams, days, grams, variances = (fields[at::6] for at in range(6))
+            count, at = len(ids), found.end()
+            lines = range(line + 1, line + count + 1)
+            run = _run_of(ids, streams, days, grams, variances, lines) if count > 1 else None
+            rows = Columns([kinds, ids, streams, days, grams, variances])
+            yield from _split(rows, record, lines, run)
+            line, record = line + count, record + count
+            continue
+        end = text.find("\nreading,", at) + 1 or len(text)
+        part = list(csv.reader(io.StringIO(text[at:end], newline="")))
+        for number, row in enumerate(part, start=line + 1):
+            if row:
+                yield Rows([row], record, (number,))
+                record += 1
+        at, line = end, line + len(part)
+
+
+def _split(
+    rows: Sequence[Sequence[str]], record: int, lines: Sequence[int], run: ReadingRun | None
+) -> Iterator[Rows]:
+    """Give readings as a run, or one by one if they are none."""
+    if run is not None:
+        yield Rows(rows, record, lines, run)
+        return
+    for number, row in enumerate(rows):
+        yield Rows([row], record + number, lines[number : number + 1])
 
 
 def rows_of(data: bytes) -> Iterator[Rows]:
@@ -170,22 +249,31 @@ def readings_of(
     lines : sequence of int
         The lines of the rows.
     """
+    formed = _all_match(_NAMES, ids) and _all_match(_WHOLES, [*grams, *variances])
+    return _run_of(ids, streams, days, grams, variances, lines) if formed else None
+
+
+def _run_of(
+    ids: Sequence[str],
+    streams: Sequence[str],
+    days: Sequence[str],
+    grams: Sequence[str],
+    variances: Sequence[str],
+    lines: Sequence[int],
+) -> ReadingRun | None:
+    """Return readings whose ids are names and whose amounts are whole numbers, or None."""
     numbers = {day: day_number(day) for day in set(days)}
-    if None in numbers.values() or not _all_match(_NAMES, ids):
-        return None
     row = schema().row("reading")
     amounts = _within(grams, row.column("grams"))
     errors = _within(variances, row.column("variance"))
-    if amounts is None or errors is None:
+    if None in numbers.values() or amounts is None or errors is None:
         return None
-    on = [numbers[day] or 0 for day in days]
+    on = [number or 0 for number in map(numbers.__getitem__, days)]
     return ReadingRun(ids, streams, on, amounts, errors, lines)
 
 
 def _within(texts: Sequence[str], column: Column) -> list[int] | None:
-    """Return the whole numbers of texts, or None if one is none of a column's range."""
-    if not _all_match(_WHOLES, texts):
-        return None
+    """Return the whole numbers that texts write, or None if one is out of a column's range."""
     numbers = list(map(int, texts))
     low, high = column.low, column.high
     if numbers and low is not None and high is not None:

@@ -11,6 +11,7 @@ from plantbal.amounts import (
     day_text,
     decimal_of,
     grams_of,
+    grams_of_texts,
     many_grams,
     variance_of,
     whole_of,
@@ -106,13 +107,12 @@ class Table:
         if pandas.api.types.is_integer_dtype(series.dtype) and exact_integers:
             return list(map(str, values))
         kinds = set(map(type, values))
-        if kinds <= {str} or kinds <= {datetime.date}:
-            known: dict[Any, str] = {}
-            for number, value in enumerate(values):
-                if value not in known:
-                    known[value] = self._text(convert, number, head, value)
-            return list(map(known.__getitem__, values))
+        if kinds <= {str} and convert is str:
+            return values
         try:
+            if kinds <= {str} or kinds <= {datetime.date}:
+                known = {value: convert(value) for value in dict.fromkeys(values)}
+                return list(map(known.__getitem__, values))
             return [convert(value) for value in values]
         except Fault:
             return [self._text(convert, number, head, v) for number, v in enumerate(values)]
@@ -170,7 +170,12 @@ class Table:
         if head == "grams":
             return self.wholes(head)
         values = self.frame[head].tolist()
-        if set(map(type, values)) == {Decimal}:
+        kinds = set(map(type, values))
+        if kinds == {str}:
+            found = grams_of_texts(values)
+            if found is not None:
+                return found
+        elif kinds == {Decimal}:
             grams = many_grams(values)
             if grams is not None:
                 return list(map(str, grams))

@@ -5,7 +5,7 @@ from __future__ import annotations
 import csv
 import io
 from collections.abc import Callable, Iterable, Iterator, Sequence
-from itertools import repeat
+from itertools import chain
 from pathlib import Path
 from typing import TYPE_CHECKING, Self
 
@@ -16,7 +16,7 @@ from plantbal.memory import uncollected
 from plantbal.model.causes import Refused
 from plantbal.model.effects import Effect
 from plantbal.model.facts import At
-from plantbal.model.file import Rows, Step, readings_of, steps
+from plantbal.model.file import Columns, Rows, Step, readings_of, steps
 from plantbal.model.periods import Period
 from plantbal.model.plant import Service
 from plantbal.model.refusals import Refusals
@@ -28,7 +28,35 @@ if TYPE_CHECKING:
     import pandas
 
 # The ids, streams, days, grams and variances of readings.
-Columns = tuple[list[str], list[str], list[str], list[str], list[str]]
+ReadingColumns = tuple[list[str], list[str], list[str], list[str], list[str]]
+
+
+class _Kept:
+    """The accepted rows: long runs of readings as columns, the others one by one."""
+
+    def __init__(self) -> None:
+        self._parts: list[Sequence[Sequence[str]]] = []
+        self._last: list[tuple[str, ...]] = []
+        self._count = 0
+
+    def __len__(self) -> int:
+        return self._count
+
+    def __iter__(self) -> Iterator[tuple[str, ...]]:
+        return map(tuple, chain.from_iterable(self._parts))
+
+    def append(self, row: tuple[str, ...]) -> None:
+        """Add a row."""
+        if not self._parts or self._parts[-1] is not self._last:
+            self._last = []
+            self._parts.append(self._last)
+        self._last.append(row)
+        self._count += 1
+
+    def add(self, rows: Sequence[Sequence[str]]) -> None:
+        """Add many rows."""
+        self._parts.append(rows)
+        self._count += len(rows)
 
 
 class SessionRows:
@@ -57,7 +85,7 @@ class SessionRows:
         self.strict = strict
         self.refused = Refusals(kept)
         self.state = State()
-        self._rows: list[tuple[str, ...]] = []
+        self._rows = _Kept()
         if version not in (1, 2):
             raise Fault(f"there is no version {version} of sessions", remedy="say 1 or 2")
         if version == 2:
@@ -200,7 +228,7 @@ class SessionRows:
         """
         for step in steps(self.state, data):
             if isinstance(step, Rows):
-                self._rows.extend(map(tuple, step.rows))
+                self._rows.add(step.rows)
                 yield step
             elif isinstance(step.answer, Refused):
                 place = Place(file=source, line=step.at.line, record=step.at.record)
@@ -266,7 +294,7 @@ class SessionRows:
             raise refusal
         self.refused.take(refusal)
 
-    def take_readings(self, columns: Columns, place: Callable[[int], Place]) -> None:
+    def take_readings(self, columns: ReadingColumns, place: Callable[[int], Place]) -> None:
         """Take many readings, as columns of texts as the program reads them.
 
         Parameters
@@ -278,7 +306,7 @@ class SessionRows:
         """
         run = readings_of(*columns, bytes(len(columns[0])))
         if run is not None and self.state.after_run(run):
-            self._rows.extend(zip(repeat("reading"), *columns))
+            self._rows.add(Columns([["reading"] * len(columns[0]), *columns]))
             return
         for number, fields in enumerate(zip(*columns)):
             self.row("reading", *fields, place=place(number))
