@@ -166,6 +166,28 @@ def test_recovery_has_both_errors() -> None:
     assert found["FEED"].grade == int(fed["flow"]) / int(flow["flow"])
 
 
+def test_a_gain_with_a_strange_grade_is_named(say: Desk, tmp_path: Path) -> None:
+    # 1,000 t of 26 % come in and 900 t of 26 % go out, and the dips say that 100 t more are there;
+    # with 900 t of 20 % going out the gain would have (260 - 180) / 100 = 80 %
+    for ppm, strange in ((260_000, False), (200_000, True)):
+        session = session_of(
+            "tank,T,1\nstrap,T,0,0\nstrap,T,10000,10000000000\nstream,IN,env,T,metered,1\n"
+            "stream,OUT,T,env,metered,1\nperiod,d,2024-05-01,2024-05-01"
+        )
+        for name, tonnes, grade in (("IN", 1000, 260_000), ("OUT", 900, ppm)):
+            session.reading(name, name, "2024-05-01", grams=tonnes * 10**6, variance=10**12)
+            session.assay("cu", name, "d", ppm=grade, variance=1000**2)
+        for day, mm in (("2024-04-30", 1000), ("2024-05-01", 1100)):
+            session.dip(f"t{day}", "T", day, mm=mm, density=10**6, variance=10**12)
+        session.report("d")
+        session.component("cu", "d")
+        out = tmp_path / "out.csv"
+        run(session).to_csv(out)
+        found = say("recovery", out)
+        assert ("cu in d: what T gained has 80." in found.err) is strange, found.err
+        assert "gain of T" in found.out
+
+
 def test_share_that_is_not_known() -> None:
     session = session_of(
         "unit,U\nstream,A,env,U,metered,1\nstream,B,env,U,metered,1\n"
@@ -285,7 +307,7 @@ def test_page(say: Desk) -> None:
     page = say("page", OUT, "--session", COPPER, "--seconds", "0").out
     assert page.count("cu in jun03") > 1 and "96.341" in page
     assert "The grades fit together: the statistic is between 0.090 and 0.091" in page
-    assert "Of the cu that came in, 88.43 % ± 0.31 % went into CONCENTRATE and 11.57 % ± 0.31 %" in page
+    assert "Of the cu that came in, 88.43 % ± 0.33 % went into CONCENTRATE and 11.57 % ± 0.33 %" in page
     assert "An assay on any stream of the cycle settles" in page
 
 

@@ -118,6 +118,7 @@ def round_of(
     worth: Mapping[str, Worth],
     lost: Lost,
     stop: str = "",
+    mass: Block | None = None,
 ) -> Round:
     """Return a round.
 
@@ -133,6 +134,8 @@ def round_of(
         How many rows were refused before it.
     stop : str
         Why the elimination ended after it.
+    mass : Block, optional
+        The report whose flows it takes, if it is the balance of a component.
     """
     statistics = {row["stream"]: row["low"] for row in block.measure}
     # A test of one meter counts under a global test that rejects, and if no row of the plant is
@@ -151,7 +154,7 @@ def round_of(
     ]
     said = verdict_of(block, lost, suspects, lines, stop)
     if block.component and worth:
-        said = replace(said, reasons=[*said.reasons, *whither(block)])
+        said = replace(said, reasons=[*said.reasons, *whither(block, mass)])
     return Round(block, lines, tanks_of(lines, contents), said)
 
 
@@ -259,6 +262,7 @@ def account_of(
     for (number, name), value in (worth or {}).items():
         by_block.setdefault(number, {})[name] = value
     by_period: dict[str, list[Report]] = {}
+    masses: dict[str, Block] = {}
     for number, some in enumerate(_gather(rows)):
         asked = ledger.seen[number] if ledger is not None else None
         subject = asked.subject if asked is not None else some.subject
@@ -267,7 +271,10 @@ def account_of(
         for block in some.blocks:
             stop = some.stop if block is some.blocks[-1] else ""
             good = by_block.get(block.number, {})
-            rounds.append(round_of(block, contents, good, some.lost, stop))
+            if block.is_report and block.ended:
+                masses[block.period] = block
+            mass = masses.get(block.period)
+            rounds.append(round_of(block, contents, good, some.lost, stop, mass))
         report = Report(subject, rounds, some.over, asked)
         by_period.setdefault(subject, []).append(report)
     edits, states = _edits_of(rows), _states_of(rows)

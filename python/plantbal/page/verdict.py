@@ -161,17 +161,19 @@ def verdict_of(
     return Verdict(level, headline, reasons)
 
 
-def whither(block: Block) -> list[str]:
+def whither(block: Block, mass: Block | None = None) -> list[str]:
     """Return where a component went, or that what came in isn't known, as a sentence.
 
     Parameters
     ----------
     block : Block
         A round of its balance.
+    mass : Block, optional
+        The round of the report whose flows it takes, with the errors of the meters.
     """
     from plantbal.study.recovery import Balance
 
-    balance = Balance(block)
+    balance = Balance(block, mass=mass)
     if balance.unknown:
         return [f"No recovery: nothing determines what came in by {names_of(balance.unknown)}."]
     leaving = [each for each in balance.shares() if each.way != "in"]
