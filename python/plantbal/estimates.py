@@ -5,15 +5,13 @@ is a reading and `FI-302_2024-05-17.est` an estimate, as long as nobody has amen
 
 The program adds up the variances of a stream's readings, as of independent ones. But the days of
 one guess have one error in common: six days of 1,900 t ± 100 t are 11,400 t ± 600 t, not ± 245 t.
-The variance of their sum is the square of 600 t, and it is spread over the six rows so that these
-add up to it, to the squared gram.
+So each of the six rows has six times the variance of 100 t: their sum is the square of 600 t, to
+the squared gram.
 """
 
 from __future__ import annotations
 
-import math
 import re
-from fractions import Fraction
 
 from plantbal.model.facts import Fact
 from plantbal.schema import schema
@@ -42,22 +40,3 @@ def is_estimate(fact: Fact) -> bool:
     """Say whether a fact is an estimate: it is marked, and its values are those it came with."""
     is_marked = fact.kind == "reading" and _MARKED.fullmatch(fact.id) is not None
     return is_marked and fact.line == fact.booked
-
-
-def shared_variances(deviation: Fraction, days: int) -> list[int]:
-    """Return the variances of the days of one guess, whose sum is that of their common error.
-
-    Parameters
-    ----------
-    deviation : Fraction
-        The standard deviation of each day, in grams.
-    days : int
-        How many days there are.
-    """
-    return spread(math.ceil((days * deviation) ** 2), days)
-
-
-def spread(variance: int, days: int) -> list[int]:
-    """Return a variance spread over days as evenly as whole squared grams can be."""
-    each, more = divmod(variance, days)
-    return [each + (day < more) for day in range(days)]

@@ -13,6 +13,10 @@ import pytest
 from conftest import Desk, Said, text_of
 
 from plantbal import desk
+from plantbal.gates import Gate
+
+# A reason for each gate, for closes of which the gates aren't the subject.
+ANYWAY = [word for gate in Gate for word in ("--anyway", f"{gate}=as it is")]
 
 Rows = list[list[Any]]
 Sheets = dict[str, Rows]

@@ -17,7 +17,7 @@ from contextlib import redirect_stdout
 from dataclasses import dataclass, replace
 from pathlib import Path
 
-from books import PLANT, folder, month, typed
+from books import ANYWAY, PLANT, folder, month, typed
 from conftest import TOP
 from mutated import rebound
 from test_bundle_container import month as stated
@@ -253,7 +253,7 @@ def _of_books(room: Path) -> list[Target]:
         (("add", str(books.april), *why), False),
         (("next", "2024-2"), False),
         (("report", "2024-04"), True),
-        (("close", "2024-04", "--anyway"), True),
+        (("close", "2024-04", *ANYWAY), True),
     )
     return [
         *(

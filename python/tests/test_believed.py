@@ -6,7 +6,7 @@ import hashlib
 from pathlib import Path
 
 import pytest
-from books import Type, files_of, fixture_book
+from books import ANYWAY, Type, files_of, fixture_book
 from conftest import Desk, example, text_of
 
 from plantbal import run
@@ -78,7 +78,7 @@ def test_nothing_is_kept(forged: Path, say: Desk, tmp_path: Path) -> None:
 def test_nothing_is_booked(book: Type, tmp_path: Path, forged: Path) -> None:
     """Neither a report nor a close."""
     before = files_of(tmp_path / "mill")
-    for words in (("report",), ("report", "2024-04"), ("close", "2024-04", "--anyway")):
+    for words in (("report",), ("report", "2024-04"), ("close", "2024-04", *ANYWAY)):
         said = book(*words)
         assert said.status == 1 and "nothing of it is kept: " in said.err, (words, said)
         assert files_of(tmp_path / "mill") == before, words

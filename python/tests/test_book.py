@@ -7,7 +7,7 @@ from fractions import Fraction
 from pathlib import Path
 
 import pytest
-from books import PLANT, Sheets, Type, files_of, fixture_book, folder, journal_of, month, rows_of
+from books import ANYWAY, PLANT, Sheets, Type, files_of, fixture_book, folder, journal_of, month, rows_of
 from conftest import Desk, text_of
 
 from plantbal.book.meters import decimal, error_text, read_meters
@@ -294,7 +294,7 @@ def test_a_new_meter(book: Type, tmp_path: Path) -> None:
     assert "1 row of the plant" in book("add", folder(tmp_path / "plant", new)).out
     assert text_of(tmp_path / "mill" / "plant.csv").splitlines()[-1].startswith("stream,WASTE")
     assert text_of(tmp_path / "mill" / "meters.csv").splitlines()[-1] == "WASTE,W-1,,,1 t"
-    book("close", "2024-04", "--anyway")
+    book("close", "2024-04", *ANYWAY)
     more = PLANT | {"streams": [*new["streams"], ["W-2", "LOSS", "MILL", "env", "", "1 t"]]}
     said = book("add", folder(tmp_path / "plant", more))
     assert said.status == 1 and "what is new of the plant comes before the first close" in said.err
@@ -311,7 +311,7 @@ def test_parts_of_the_plant(book: Type, tmp_path: Path, names: str) -> None:
 
 def test_more_critical_values(book: Type, tmp_path: Path) -> None:
     """They need no other sheet, and may come after a close."""
-    book("close", "2024-04", "--anyway")
+    book("close", "2024-04", *ANYWAY)
     values = [*PLANT["critical"], ["measure", "", "5.7"]]
     assert "new: 1 row of the plant" in book("add", folder(tmp_path / "m", {"critical": values})).out
     assert rows_of(tmp_path)[-1] == "critical,measure,5700"
@@ -341,7 +341,7 @@ def test_a_sheet_with_only_what_is_new(book: Type, tmp_path: Path) -> None:
 
 def test_critical_values_come_alone(book: Type, tmp_path: Path) -> None:
     """After a close too; one that is there already stays."""
-    book("close", "2024-04", "--anyway")
+    book("close", "2024-04", *ANYWAY)
     path = tmp_path / "critical.csv"
     path.write_text("test,dof,value\nglobal,1,3.84\nglobal,3,7.815\n", encoding="utf-8")
     said = book("add", path, "--locale", "en")

@@ -9,7 +9,7 @@ from collections.abc import Iterable
 from dataclasses import dataclass, replace
 from pathlib import Path
 
-from books import Sheets, folder, typed
+from books import ANYWAY, Sheets, folder, typed
 from hypothesis import HealthCheck, given, settings
 from hypothesis import strategies as st
 
@@ -141,7 +141,7 @@ def test_a_book_reports_the_last_workbook(
             book = folder(room / "months", version.sheets())
             assert typed("add", book, "--strike", "--why", "edited", *mill) == 0
             if month:
-                assert typed("close", f"2024-{month:02}", "--anyway", *mill) == 0
+                assert typed("close", f"2024-{month:02}", *ANYWAY, *mill) == 0
             if at == begun and at + 1 < len(versions):
                 typed("next", "2024-2", *mill)
         whole = convert(folder(room / "whole", PLANT | versions[-1].sheets()))

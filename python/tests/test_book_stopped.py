@@ -11,7 +11,7 @@ from pathlib import Path
 from typing import Any
 
 import pytest
-from books import PLANT, files_of, folder, journal_of, month, typed
+from books import ANYWAY, PLANT, files_of, folder, journal_of, month, typed
 from conftest import TOP, Desk
 
 from plantbal.book.lock import locked
@@ -66,7 +66,7 @@ def fixture_moments(tmp_path: Path) -> dict[str, list[str]]:
         "add again": ["add", str(tmp_path / "corrected"), "--strike", *why],
         "strike": ["strike", "P-1", "2024-04-03", *why],
         "report": ["report", "--no-tests"],
-        "close": ["close", "2024-04", "--anyway"],
+        "close": ["close", "2024-04", *ANYWAY],
         "next": ["next", "2024-2"],
         "in both": ["amend", "SILO", "2024-04-30", "9400", *why],
     }

@@ -7,6 +7,7 @@ from pathlib import Path
 
 import pytest
 from books import (
+    ANYWAY,
     PLANT,
     Sheets,
     Type,
@@ -92,7 +93,7 @@ def test_contents_that_would_change(
 
 
 def test_a_new_meter_with_the_next_year(book: Type, tmp_path: Path) -> None:
-    book("close", "2024-04", "--anyway")
+    book("close", "2024-04", *ANYWAY)
     new = PLANT | {"streams": [*PLANT["streams"], ["W-1", "WASTE", "MILL", "env", "", "1 t"]]}
     said = book("next", "2024-2", "--plant", folder(tmp_path / "plant2", new))
     assert (said.status, said.err) == (0, "")

@@ -13,6 +13,7 @@ from typing import Any
 import numpy
 import pandas
 import pytest
+from books import ANYWAY
 from conftest import Desk, Said, assert_refused, example, session_of, text_of
 from pages import read
 
@@ -488,7 +489,7 @@ def test_book(say: Desk, tmp_path: Path, program: Path) -> None:
         assert said.count(owed.replace("FEED, ", "")) == 1
     said = say("book", "close", "apr2", "--book", books)
     assert "apr2 isn't closed: assays are missing, and can't come after it: put that" in said.err
-    assert say("book", "close", "apr2", "--anyway", "--book", books).status == 0
+    assert say("book", "close", "apr2", *ANYWAY, "--book", books).status == 0
 
 
 FLOWS = ["96340887,96340885,96340890", "342960413,342960232,342960593"]  # of copper, of all
@@ -594,7 +595,7 @@ def test_a_mistyped_grade_in_a_book(say: Desk, tmp_path: Path, program: Path) ->
     shutil.rmtree(books)
     shutil.copytree(tmp_path / "before", books)
     assert add("0.9").status == 0
-    assert say("book", "close", "apr1", "--anyway", "--book", books).status == 0
+    assert say("book", "close", "apr1", *ANYWAY, "--book", books).status == 0
     said = add("0.8")
     assert (said.status, "apr1 is closed, so its assays stay as they are" in said.err) == (1, True)
 
@@ -622,5 +623,5 @@ def test_a_close_that_cannot_be(say: Desk, tmp_path: Path, program: Path) -> Non
     found = say("book", "close", "apr1", *books)
     assert found.status == 1 and said in found.out
     assert "apr1 isn't closed: a stream carries more of a component than there is" in found.err
-    found = say("book", "close", "apr1", "--anyway", *books)
+    found = say("book", "close", "apr1", *ANYWAY, *books)
     assert found.status == 0 and said in found.out and "apr1 is closed" in found.out

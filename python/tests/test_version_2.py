@@ -11,7 +11,7 @@ from pathlib import Path
 
 import pandas
 import pytest
-from books import PLANT, Sheets, Type, fixture_book, folder, month, rows_of
+from books import ANYWAY, PLANT, Sheets, Type, fixture_book, folder, month, rows_of
 from conftest import Desk, example, text_of
 from hypothesis import given
 from hypothesis import strategies as st
@@ -388,7 +388,7 @@ def fixture_dated(say: Desk, tmp_path: Path) -> Type:
     for words in (
         ("new", "2024", folder(tmp_path / "plant", DATED)),
         ("add", folder(tmp_path / "april", month(1, 30))),
-        ("close", "2024-04", "--anyway"),
+        ("close", "2024-04", *ANYWAY),
     ):
         said = typed(*words)
         assert said.status == 0, said  # type: ignore[attr-defined]

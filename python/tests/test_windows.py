@@ -7,7 +7,7 @@ import shutil
 from pathlib import Path
 
 import pytest
-from books import folder
+from books import ANYWAY, folder
 from conftest import Desk, Said, assert_refused, example, session_of, text_of
 
 from plantbal import Session, run, solve
@@ -247,7 +247,7 @@ def test_book(say: Desk, tmp_path: Path, program: Path) -> None:
     assert text_of(asked).endswith("window,may2,may3\n")
     assert text_of(asked)[: -len("window,may2,may3\n")] == text_of(book / "2024.csv")
     assert "as it was" in typed("window", "may2", "may3").out
-    assert typed("close", "may2", "--anyway").status == 0
+    assert typed("close", "may2", *ANYWAY).status == 0
     assert typed("window", "may2", "may3").status == 0
     for first, last, wanted in (
         ("may3", "may2", "period may2 begins before period may3: exchange the periods"),

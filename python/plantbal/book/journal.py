@@ -57,6 +57,8 @@ class Act(StrEnum):
     REPORT = "report"
     WINDOW = "window"
     CLOSE = "close"
+    QUIET = "quiet"
+    HEED = "heed"
     POSTED = "posted"
     NEXT = "next"
     ACCEPT = "accept"

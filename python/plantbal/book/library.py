@@ -8,7 +8,7 @@ a `Fault`.
 from __future__ import annotations
 
 import datetime
-from collections.abc import Iterator, Sequence
+from collections.abc import Iterator, Mapping, Sequence
 from pathlib import Path
 
 from plantbal.book import (
@@ -17,12 +17,14 @@ from plantbal.book import (
     closing,
     editing,
     overview,
+    quieting,
     reporting,
     showing,
     verifying,
     window,
 )
 from plantbal.book.adding import Why
+from plantbal.book.answers import Quiet
 from plantbal.book.beginning import begin
 from plantbal.book.difference import Difference, difference, post
 from plantbal.book.following import follow
@@ -42,6 +44,7 @@ from plantbal.book.results import (
     Windowed,
 )
 from plantbal.book.store import Head, Store
+from plantbal.gates import Gate
 from plantbal.program import RunSettings
 from plantbal.workbook.options import ReadingOptions
 
@@ -308,7 +311,11 @@ class Book:
         return window.window(self._store(), first, last, self._settings(settings), self.who)
 
     def close(
-        self, period: str, *, anyway: bool = False, settings: RunSettings | None = None
+        self,
+        period: str,
+        *,
+        anyway: Mapping[Gate, str] | None = None,
+        settings: RunSettings | None = None,
     ) -> Closed:
         """Close a period with its report.
 
@@ -316,20 +323,56 @@ class Book:
         ----------
         period : str
             The period.
-        anyway : bool
-            Whether it is closed even if its report needs a look before it is booked.
+        anyway : mapping of Gate to str, optional
+            Why it is closed although something has to be looked at first: a reason for each gate.
         settings : RunSettings, optional
             How it is run.
 
         Raises
         ------
         NotClosed
-            If its report needs a look; the fault has the report.
+            If there is no reason for a gate; the fault has the report.
         Fault
             If there is no such period.
         """
         how = self._settings(settings)
-        return closing.close(self._store(), period, anyway=anyway, settings=how, who=self.who)
+        given = anyway or {}
+        return closing.close(self._store(), period, anyway=given, settings=how, who=self.who)
+
+    # ---- quiet
+
+    def quiet(self, code: str, *names: str, why: str) -> None:
+        """Quiet a rule of lint for good, for some names, with a reason.
+
+        Parameters
+        ----------
+        code : str
+            The rule.
+        names : str
+            The streams, tanks or units that it speaks of.
+        why : str
+            The reason.
+
+        Raises
+        ------
+        Fault
+            If there is no such rule, it can't be quieted, or there is no reason.
+        """
+        quieting.quiet(self._store(), code, names, why=why, who=self.who)
+
+    def heed(self, code: str, *names: str, why: str) -> None:
+        """Have a rule that was quieted speak again; the parameters are those of `quiet`.
+
+        Raises
+        ------
+        Fault
+            If it isn't quieted for these names.
+        """
+        quieting.heed(self._store(), code, names, why=why, who=self.who)
+
+    def quieted(self) -> list[Quiet]:
+        """Return which rules are quieted, for which names and why."""
+        return quieting.listed(self._store())
 
     # ---- accounts
 

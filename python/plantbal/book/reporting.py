@@ -6,6 +6,7 @@ from collections.abc import Iterator, Sequence
 from decimal import Decimal
 
 from plantbal.audit.believed import judge, program_digest
+from plantbal.book.answers import Quiet, quieted
 from plantbal.book.forms import earlier_file, old_earlier_file, report_file, year_file
 from plantbal.book.ledger import Ledger, plain
 from plantbal.book.meters import read_meters
@@ -14,6 +15,8 @@ from plantbal.book.said import lacks
 from plantbal.book.store import METERS, Act, Action, Store
 from plantbal.book.years import Years
 from plantbal.faults import Fault
+from plantbal.gates import Stop, stops_of
+from plantbal.model import ledger as model
 from plantbal.program import RunSettings, call
 from plantbal.report.blocks import Block, last_blocks
 from plantbal.report.output import Output, parse_report
@@ -56,6 +59,25 @@ def written_of(settings: RunSettings, asked: str, what: str) -> tuple[str, Outpu
     judge(output, f"the report of {what}", settings.program)
     written = output.decode("ascii")
     return written, parse_report(written, f"the report of {what}", status)
+
+
+def stops_in(text: str, period: str, output: Output, quiets: Sequence[Quiet]) -> list[Stop]:
+    """Return what has to be looked at before a period is closed, but for what is quieted.
+
+    Parameters
+    ----------
+    text : str
+        The session.
+    period : str
+        The period.
+    output : Output
+        Its report.
+    quiets : sequence of Quiet
+        Which rules the book has quieted.
+    """
+    ledger = model.Ledger("the book", f"{text}report,{period}\n".encode("ascii"))
+    found = stops_of(ledger, output.blocks_in_order, period)
+    return [stop for stop in found if not any(q.takes(stop.gate, stop.of) for q in quiets)]
 
 
 def rows_asking(period: str, components: Sequence[str] = ()) -> str:
@@ -183,7 +205,9 @@ def reports(
             if new:
                 book.do(action)
             missing = lacks(ledger, ledger.periods[name], meters)
-            yield Reported(name, output, book.path(report_file(name)), new, tuple(missing))
+            stops = stops_in(book.text(f"{ledger.name}.csv"), name, output, quieted(book.journal()))
+            path = book.path(report_file(name))
+            yield Reported(name, output, path, new, tuple(missing), tuple(stops))
 
 
 def session_asking(book: Store, names: Sequence[str]) -> str:

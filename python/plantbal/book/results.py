@@ -4,13 +4,14 @@ from __future__ import annotations
 
 import datetime
 from collections.abc import Mapping
-from dataclasses import dataclass
+from dataclasses import dataclass, field
 from enum import Enum
 from pathlib import Path
 
 from plantbal.book.changes import Changes
 from plantbal.book.ledger import Fact
 from plantbal.book.store import Head
+from plantbal.gates import Gate, Stop
 from plantbal.lint import Finding
 from plantbal.report.output import Output
 
@@ -146,6 +147,8 @@ class Reported:
         Whether it is another than was there.
     missing : tuple of str
         The readings and dips that are missing, in sentences.
+    stops : tuple of Stop
+        What has to be looked at before it is closed, but for what is quieted.
     """
 
     period: str
@@ -153,6 +156,7 @@ class Reported:
     path: Path
     is_new: bool
     missing: tuple[str, ...]
+    stops: tuple[Stop, ...] = ()
 
     @property
     def edits(self) -> int:
@@ -172,11 +176,14 @@ class Closed:
         The report with which it was closed; None if it was closed already.
     head : Head or None
         The end of the book's chain after that, to be kept elsewhere; None if it was closed already.
+    reasons : mapping of Gate to str
+        The reason for each gate, if something was to be looked at.
     """
 
     period: str
     report: Reported | None
     head: Head | None = None
+    reasons: Mapping[Gate, str] = field(default_factory=dict)
 
 
 @dataclass(frozen=True)

@@ -16,7 +16,9 @@ from plantbal.commands.options import add_program, add_run, add_sweeps, add_time
 from plantbal.commands.progress import Progress
 from plantbal.faults import Fault, InputFault, ProgramFault, decoded, read_bytes
 from plantbal.files import unwritten, write_text
+from plantbal.gates import by_session, line_of, unsaid
 from plantbal.forms import session_to_run
+from plantbal.model.ledger import Ledger
 from plantbal.program import STATUSES
 from plantbal.records import read_records
 from plantbal.report.blocks import (
@@ -116,6 +118,8 @@ def _run(options: argparse.Namespace) -> int:
     say_rows(options, source, data, output)
     for line in periods_of(data, output):
         print(f"{options.prog}: {line}", file=sys.stderr)
+    for stop in unsaid(by_session(Ledger(source, data, kept=0), flows=False), missing=True):
+        print(f"{options.prog}: {line_of(stop)}", file=sys.stderr)
     if options.out != "-":
         print(f"{options.prog}: the output is in {options.out}", file=sys.stderr)
     return status

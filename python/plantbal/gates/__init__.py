@@ -2,8 +2,21 @@
 
 from __future__ import annotations
 
-from plantbal.gates.find import by_report, by_session
-from plantbal.gates.gate import Gate, Stop
-from plantbal.gates.words import about, remedy_of, said_of
+from plantbal.gates.find import by_report, by_session, stops_of
+from plantbal.gates.flows import negative_flows
+from plantbal.gates.gate import Gate, Stop, unsaid
+from plantbal.gates.words import about, line_of, remedy_of, said_of
 
-__all__ = ["Gate", "Stop", "about", "by_report", "by_session", "remedy_of", "said_of"]
+__all__ = [
+    "Gate",
+    "Stop",
+    "about",
+    "by_report",
+    "by_session",
+    "line_of",
+    "negative_flows",
+    "remedy_of",
+    "said_of",
+    "stops_of",
+    "unsaid",
+]

@@ -38,6 +38,16 @@ def by_session(ledger: Ledger, *, flows: bool = True) -> Iterator[Stop]:
             yield from negative_by_facts(ledger.state, seen)
 
 
+def stops_of(ledger: Ledger, blocks: Sequence[Block], period: str) -> list[Stop]:
+    """Return what stops the close of a period, by its session and its report, gate by gate."""
+    found = [*by_session(ledger, flows=False), *by_report(blocks)]
+    if not any(block.is_report and block.period == period for block in blocks):
+        found.append(Stop(Gate.NO_REPORT, period))
+    order = list(Gate)
+    mine = [stop for stop in found if stop.period == period]
+    return sorted(mine, key=lambda stop: order.index(stop.gate))
+
+
 def by_report(blocks: Sequence[Block]) -> Iterator[Stop]:
     """Give what stops the close of the periods of an output, by its reports and balances."""
     last = last_blocks(blocks)

@@ -6,7 +6,7 @@ decides looks at these alone; the sentences are made by `plantbal.gates.words`.
 
 from __future__ import annotations
 
-from collections.abc import Mapping
+from collections.abc import Iterable, Mapping
 from dataclasses import dataclass, field
 from enum import StrEnum
 
@@ -38,6 +38,12 @@ class Gate(StrEnum):
     def is_of_names(self) -> bool:
         """Whether it speaks of streams or tanks that it may rightly be quieted for, for good."""
         return self in _OF_NAMES
+
+
+    @property
+    def is_of_facts(self) -> bool:
+        """Whether a report says nothing of it: the facts alone show it."""
+        return self in _OF_NAMES - {Gate.NEGATIVE_FLOW} or self is Gate.ESTIMATED
 
 
 _OF_NAMES = frozenset(
@@ -82,3 +88,15 @@ class Stop:
     values: Values = field(default_factory=dict)
     subject: str = ""
     line: int = 0
+
+    @property
+    def of(self) -> tuple[str, ...]:
+        """The streams or tanks that it is of: not the ends of one."""
+        return self.names[:1] if self.gate is Gate.NEGATIVE_FLOW else self.names
+
+
+def unsaid(stops: Iterable[Stop], *, missing: bool = False) -> list[Stop]:
+    """Return what a report doesn't say, and, if wanted, which days are missing."""
+    return [
+        stop for stop in stops if stop.gate.is_of_facts or (missing and stop.gate is Gate.MISSING)
+    ]

@@ -25,6 +25,11 @@ def remedy_of(stop: Stop) -> str:
     return _REMEDIES[stop.gate](stop)
 
 
+def line_of(stop: Stop) -> str:
+    """Return a line on it: the period, what is there, what to do, and the gate."""
+    return f"{stop.period}: {said_of(stop)}: {remedy_of(stop)} [{stop.gate}]"
+
+
 def about(gate: Gate) -> str:
     """Return what a gate looks for, in a few words."""
     return _ABOUT[gate]
@@ -141,7 +146,7 @@ _SAID: dict[Gate, Callable[[Stop], str]] = {
     Gate.UNDECIDED: lambda stop: f"the global test of {stop.subject} is undecided",
     Gate.UNTESTED: _untested,
     Gate.MISSING: _missing,
-    Gate.UNASSAYED: lambda stop: f"no assay of {stop.subject} in {named(stop.names)}",
+    Gate.UNASSAYED: lambda stop: stop.subject,
     Gate.IMPOSSIBLE: lambda stop: stop.subject,
     Gate.NEGATIVE_FLOW: _negative_flow,
     Gate.TANK_JUMP: _tank_jump,

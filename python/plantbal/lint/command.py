@@ -45,6 +45,8 @@ def add_arguments(parser: argparse.ArgumentParser) -> None:
         choices=list(RULES),
         help="leave findings of this code out; may be given more than once",
     )
+    book = "the book that the session is from: what it has quieted is counted, and not listed"
+    parser.add_argument("--book", metavar="FOLDER", help=book)
 
 
 def run(options: argparse.Namespace) -> int:
@@ -54,11 +56,20 @@ def run(options: argparse.Namespace) -> int:
     findings = lint_session(
         options.session, ignore=options.ignore, accounts=options.accounts
     )
+    quiet = 0
+    if options.book is not None:
+        from plantbal.book.answers import without_quiet
+        from plantbal.book.library import Book
+
+        findings, some = without_quiet(findings, Book(options.book).quieted())
+        quiet = len(some)
     if options.json:
         print(json.dumps([each.as_dict() for each in findings], indent=2))
     else:
         for each in findings:
             print(each)
     print(f"{options.prog}: {summary(findings) or 'nothing looks wrong'}", file=sys.stderr)
+    if quiet:
+        print(f"{options.prog}: {quiet} quieted by the book, see book quiet", file=sys.stderr)
     worst = {each.severity for each in findings}
     return 1 if "error" in worst or (options.strict and "warning" in worst) else 0

@@ -25,5 +25,5 @@ def gates(ledger: Ledger) -> Iterator[Finding]:
                 place,
                 name,
                 stop.period,
-                stop.names,
+                stop.of,
             )

@@ -151,7 +151,8 @@ def near_names(ledger: Ledger) -> Iterator[Finding]:
             first, second = sorted((one, other), key=lambda name: lines[name])
             text = f"the {what} {first} and {second} have nearly the same name"
             remedy = "correct one of them if they are the same; if not, choose names less alike"
-            yield Finding("near-names", text, remedy, place_in(ledger, lines[second]), second)
+            place = place_in(ledger, lines[second])
+            yield Finding("near-names", text, remedy, place, second, names=(first, second))
 
 
 def nearly_full(ledger: Ledger) -> Iterator[Finding]:

@@ -5,7 +5,7 @@ from __future__ import annotations
 import argparse
 import sys
 from collections.abc import Sequence
-from dataclasses import dataclass
+from dataclasses import dataclass, replace
 from itertools import islice
 from pathlib import Path
 from typing import TYPE_CHECKING
@@ -19,6 +19,7 @@ from plantbal.forms import read_session, session_to_run
 from plantbal.model.ledger import Ledger
 from plantbal.page.account import account_of
 from plantbal.page.books import booked
+from plantbal.page.gates import Told as BookTold, gates_of, told_of, with_gates, without_gates
 from plantbal.page.grades import grades_on
 from plantbal.page.head import Origin
 from plantbal.page.render import render
@@ -72,12 +73,15 @@ class Source:
         What the session is called, and its bytes.
     is_run : bool
         Whether the output is the session's for certain, since it was run here.
+    told : BookTold
+        What the book tells that the session is from.
     """
 
     rows: Sequence[Values]
     name: str = "output"
     session: tuple[str, bytes] | None = None
     is_run: bool = False
+    told: BookTold = BookTold()
 
 
 def worth_of(rows: Sequence[Values]) -> tuple[dict[tuple[int, str], Worth], str]:
@@ -135,6 +139,7 @@ def prepare(source: Source) -> Prepared:
     if source.session is None:
         account = account_of(source.rows, refused=refused, worth=worth)
         return Prepared(account, why_no_worth=why)
+    from plantbal.book.answers import without_quiet
     from plantbal.explain import explain_bytes, same_refusals
     from plantbal.lint import SEVERITIES, find
 
@@ -153,9 +158,11 @@ def prepare(source: Source) -> Prepared:
         (each for each in find(ledger) if each.code != "refused"),
         key=lambda each: (SEVERITIES.index(each.severity), each.place.line or 0),
     )
-    account = account_of(
-        source.rows, ledger=ledger, refused=refused, findings=findings, worth=worth
-    )
+    heard, quiet = without_quiet(without_gates(findings), source.told.quiets)
+    account = account_of(source.rows, ledger=ledger, refused=refused, findings=heard, worth=worth)
+    gates = gates_of(ledger, blocks_of(source.rows), source.told)
+    statements = [with_gates(each, gates) for each in account.statements]
+    account = replace(account, statements=statements, gates=gates, quieted=len(quiet))
     return Prepared(account, told, why, more, grades_on(account, ledger))
 
 
@@ -251,7 +258,8 @@ def add_arguments(parser: argparse.ArgumentParser) -> None:
     rounds = "with --run: take out at most N suspects"
     parser.add_argument("--eliminate", metavar="N", type=int, default=0, help=rounds)
     parser.add_argument("--program", metavar="PATH", help="the program, with --run")
-    book = "the book that the session is from: the page has its account, and the head of its chain"
+    book = "the book that the session is from: the page has its account, the head of its chain, "
+    book += "and the reasons with which its periods were closed"
     parser.add_argument("--book", metavar="FOLDER", help=book)
     add_timeout(parser, condition="with --run: ")
     parser.add_argument("--out", metavar="FILE", help="the page")
@@ -293,7 +301,7 @@ def _source(options: argparse.Namespace) -> tuple[Source, Output | None, Path | 
 def run(options: argparse.Namespace) -> int:
     """Write the page, the workbook and the PDF."""
     source, output, program = _source(options)
-    prepared = prepare(source)
+    prepared = prepare(replace(source, told=told_of(options.book)))
     plant = options.plant
     if not plant and source.session is not None and source.session[0] != "standard input":
         plant = Path(source.session[0]).stem

@@ -290,6 +290,7 @@ def render(
     designs = account.designs[-1:] if account.is_advised or not rounds else []
     made = environment()
     crossings = account.ledger.state.plant.crossings() if account.ledger is not None else {}
+    made.filters["gates"] = lambda each: account.gates.get(each.period) if each.is_of_period else None
     made.filters["way"] = lambda line: way_of(line, crossings)
     return (
         made.get_template("page.html.j2")
@@ -309,6 +310,7 @@ def render(
             is_advised=account.is_advised,
             meters=account.meters,
             findings=account.findings,
+            quieted=account.quieted,
             to_look_at=account.to_look_at,
             is_empty=account.is_empty,
             ledger=account.ledger,

@@ -17,6 +17,7 @@ if TYPE_CHECKING:
     from plantbal.balance.grades import Grades
     from plantbal.explain import Told
     from plantbal.lint import Finding
+    from plantbal.page.gates import PeriodGates
 
 
 @dataclass(frozen=True, slots=True)
@@ -261,6 +262,10 @@ class Account:
         What lint warns of.
     ledger : Ledger or None
         The session.
+    gates : mapping of str to PeriodGates
+        What stops the close of each period, or stopped it.
+    quieted : int
+        How many findings of lint are quieted by the book.
     """
 
     statements: list[Statement]
@@ -270,6 +275,8 @@ class Account:
     refused_rows: int = 0
     findings: Sequence[Finding] = ()
     ledger: Ledger | None = None
+    gates: Mapping[str, PeriodGates] = field(default_factory=dict)
+    quieted: int = 0
 
     @property
     def periods(self) -> list[Statement]:

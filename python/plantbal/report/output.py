@@ -203,13 +203,17 @@ class Output:
 
     @cached_property
     def impossible(self) -> list[str]:
-        """Which streams carry more of a component than there is of them, a sentence each.
+        """Which flows can't be, a sentence each.
 
-        The output may be ok all the same: a balance of a component is one of its assays alone.
+        A stream carries more of a component than there is of it, or is booked below 0 by more than
+        two standard deviations. The output may be ok all the same: the balances close.
         """
+        from plantbal.gates import line_of, negative_flows
         from plantbal.report.carried import impossible
 
-        return [str(each) for each in impossible(self.blocks_in_order)]
+        blocks = self.blocks_in_order
+        carried = [str(each) for each in impossible(blocks)]
+        return [*map(line_of, negative_flows(blocks)), *carried]
 
     def require(self) -> Output:
         """Return the output itself if it is ok.

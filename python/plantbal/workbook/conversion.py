@@ -30,7 +30,7 @@ WORKBOOK is an xlsx file, or a folder of CSV files, each of which is the sheet o
   readings   the days down and a column for each tag; or days across; or long: day, tag, value, unit
   dips       tank, day, level, unit, density, error
   tickets    id, stream, first, last, amount, unit, density, error
-  estimates  tag, day, amount, unit, density, error: a figure with a wide error for a missing day
+  estimates  tag, day, last, amount, unit, density, error: a guess for missing days
   moistures  stream, day, moisture, error: what part of wet tonnes (wmt) is water; or with a
              ticket's id; or first and last; of a shift with its wet tonnes in amount
   assays     component, stream, period, grade, error, unit

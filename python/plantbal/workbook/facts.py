@@ -16,6 +16,7 @@ from plantbal.faults import InputFault, Place
 from plantbal.schema import Column, schema
 from plantbal.session import Service, dip_days, in_service, is_served, period_days
 from plantbal.workbook.account import Fate
+from plantbal.workbook.base import Span
 from plantbal.workbook.cells import AMOUNTS, GRADES, Error, Reader, rounded_down
 from plantbal.workbook.drying import Figure
 from plantbal.workbook.moisture import Moisture
@@ -35,6 +36,9 @@ class Ticket:
     last: datetime.date
     grams: int
     error: Error
+
+# One guess is for at most as many days more than its first.
+MOST_GUESSED = 366
 
 
 class Converter(Readings):
@@ -58,18 +62,41 @@ class Converter(Readings):
         self.accounts = Accounts()
 
     def read_estimates(self) -> None:
-        """Read estimates, which stand for missing readings."""
+        """Read estimates, which stand for missing readings; each row is one guess."""
         for row in self.rows("estimates", facts=True):
             cell = row["stream"] if self.reader.is_missing(row["tag"]) else row["tag"]
             day = self._day(row["day"])
+            last = day if self.reader.is_missing(row["last"]) else self._day(row["last"])
             stream = self.named(cell, "tag")
             if stream is None:
                 continue
             with self.kept():
                 density, grams, is_wet = self._amount(row, stream)
                 error = self.reader.error(row["error"], density)
-                if day is not None:
-                    self._book(stream, day, grams, error, row["amount"], is_wet)
+                if day is None or last is None:
+                    continue
+                for some in self._guessed(row, day, last):
+                    for each in some:
+                        self._book(stream, each, grams, error, row["amount"], is_wet, len(some))
+
+    def _guessed(
+        self, row: Row, first: datetime.date, last: datetime.date
+    ) -> list[list[datetime.date]]:
+        """Return the days of a guess, those of each period by themselves.
+
+        Raises
+        ------
+        InputFault
+            If the last day is before the first, or very far from it.
+        """
+        if not first <= last <= first + datetime.timedelta(MOST_GUESSED):
+            what = f"this guess goes from {first} to {last}"
+            remedy = f"write a last day up to {MOST_GUESSED} days after the first"
+            raise self.reader.fault(row["last"], what, remedy, "last")
+        found: dict[tuple[Span, ...], list[datetime.date]] = {}
+        for day in days_of(first, last):
+            found.setdefault(tuple(self.spans_at(day)), []).append(day)
+        return list(found.values())
 
     def read_tickets(self) -> None:
         """Read the tickets of batches."""

@@ -6,6 +6,7 @@ import calendar
 import datetime
 import re
 
+from plantbal.estimates import estimate_id
 from plantbal.faults import Fault, InputFault
 from plantbal.session import period_days
 from plantbal.workbook.account import Fate, is_unit
@@ -80,8 +81,13 @@ class Readings(Drying):
         error: Error,
         cell: Cell,
         is_wet: bool = False,
+        guessed: int = 0,
     ) -> None:
-        """Give a reading or an estimate to the session; a wet one as it is dry."""
+        """Give a reading to the session, or a day of a guess for so many; a wet one as it is dry.
+
+        The days of a guess have one error in common, so the standard deviation of their sum is the
+        sum of theirs. Each has that many times its variance: these add up to the square.
+        """
         days = self.days.setdefault(stream.name, {})
         if day in days:
             other = str(days[day].place()).rstrip(":")
@@ -91,8 +97,10 @@ class Readings(Drying):
         figure = Figure(grams, error.variance(grams))
         if is_wet:
             figure = self.dried_on(stream, day, grams, error, cell)
-        fields = [f"{stream.label}_{day}", stream.name, str(day), str(figure.grams)]
-        variance = self.bearable(figure.variance + self._born(stream, day), figure.grams, cell)
+        name = estimate_id(stream.label, str(day)) if guessed else f"{stream.label}_{day}"
+        fields = [name, stream.name, str(day), str(figure.grams)]
+        own = figure.variance * max(1, guessed)
+        variance = self.bearable(own + self._born(stream, day), figure.grams, cell)
         self.put(["reading", *fields, str(variance)], {"grams": cell})
 
     def _born(self, stream: Stream, day: datetime.date) -> int:

@@ -30,7 +30,7 @@ SHEETS: dict[str, tuple[tuple[str, ...], tuple[str, ...]]] = {
     "readings": ((), ()),
     "dips": (("tank", "day", "level"), ("unit", "density", "error")),
     "tickets": (("id", "stream", "first", "amount"), ("last", "unit", "density", "error")),
-    "estimates": (("day", "amount", "error"), ("tag", "stream", "unit", "density")),
+    "estimates": (("day", "amount", "error"), ("tag", "stream", "last", "unit", "density")),
     "moistures": (
         ("moisture", "error"),
         ("stream", "tag", "id", "day", "first", "last", "amount", "unit"),

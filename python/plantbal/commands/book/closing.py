@@ -5,17 +5,23 @@ from __future__ import annotations
 import argparse
 from types import SimpleNamespace
 
-from plantbal.book.closing import NotClosed
+from plantbal.book.answers import reasons_of
+from plantbal.book.closing import NotClosed, unneeded
 from plantbal.book.library import Book
 from plantbal.book.reporting import balances_said, state_of, suspects_of
 from plantbal.book.results import Reported
 from plantbal.commands.options import add_run, settings_of
+from plantbal.gates import line_of, unsaid
 
 
 def _add_close(parser: argparse.ArgumentParser) -> None:
     parser.add_argument("period", metavar="PERIOD", help="the period")
     parser.add_argument(
-        "--anyway", action="store_true", help="also if its report needs a look before it is booked"
+        "--anyway",
+        metavar="GATE=REASON",
+        action="append",
+        default=[],
+        help="also if a gate stops it, with the reason; once for each such gate",
     )
     add_run(parser)
 
@@ -24,7 +30,8 @@ def _close(options: argparse.Namespace) -> int:
     """Close a period with its report."""
     book = Book(options.book, who=options.who)
     try:
-        found = book.close(options.period, anyway=options.anyway, settings=settings_of(options))
+        given = reasons_of(options.anyway)
+        found = book.close(options.period, anyway=given, settings=settings_of(options))
     except NotClosed as fault:
         _say(fault.report)
         raise
@@ -32,6 +39,10 @@ def _close(options: argparse.Namespace) -> int:
         print(f"{found.period} is closed already")
         return 0
     _say(found.report)
+    for gate, reason in found.reasons.items():
+        print(f"{found.period}: {gate}: {reason}")
+    for line in unneeded(given, found):
+        print(line)
     print(f"{found.period} is closed, with the report {found.report.path}")
     print(f"head {found.head}")
     return 0
@@ -41,13 +52,14 @@ def _say(report: Reported) -> None:
     """Say what the report says as a whole, and what is missing."""
     output = report.output
     said = [state_of(output, report.period), *suspects_of(output), *balances_said(output)]
-    for line in [*said, *report.missing]:
+    for line in [*said, *report.missing, *map(line_of, unsaid(report.stops))]:
         print(line)
 
 
 CLOSE = SimpleNamespace(
     __doc__="Closes a period with its report: what is added to it from then on comes late, and its "
-    "history says so. If the report needs a look before it is booked, only with --anyway. The last "
+    "history says so. What has to be looked at before it is booked stops it, unless --anyway gives a "
+    "reason for each such gate; the journal keeps it, and the statement prints it. The last "
     "line is the head of the chain, to be kept elsewhere: book verify --head compares it.",
     add_arguments=_add_close,
     run=_close,

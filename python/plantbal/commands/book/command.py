@@ -78,6 +78,7 @@ COMMANDS: Sequence[Inner] = (
         "reconcile several periods at once, over a dip that is missing",
     ),
     Inner("close", "closing:CLOSE", "close a period with its report"),
+    Inner("quiet", "quieting:QUIET", "quiet a rule of lint for good, with a reason"),
     Inner("difference", "accounting:DIFFERENCE", "say what two reports have otherwise, and why"),
     Inner("posted", "accounting:POST", "record what is handed over of a period, once"),
     Inner(

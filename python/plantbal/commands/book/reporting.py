@@ -17,6 +17,7 @@ from plantbal.book.said import counted
 from plantbal.book.window import undipped
 from plantbal.commands.options import add_run, settings_of
 from plantbal.files import write_text
+from plantbal.gates import line_of, unsaid
 
 
 def _add_report(parser: argparse.ArgumentParser) -> None:
@@ -36,7 +37,8 @@ def _report(options: argparse.Namespace) -> int:
     for found in book.reports(*options.periods, settings=settings_of(options)):
         output, name = found.output, found.period
         print(state_of(output, name))
-        for line in [*suspects_of(output), *balances_said(output), *found.missing]:
+        said = [*suspects_of(output), *balances_said(output), *found.missing]
+        for line in [*said, *map(line_of, unsaid(found.stops))]:
             print(line)
         history = f", with {counted(found.edits, 'edit')}" if found.edits else ""
         print(f"{name}: {found.path}{history}" + ("" if found.is_new else ", as it was"))

@@ -1,0 +1,163 @@
+"""Reasons that a book keeps: for a close although something was to be looked at, and for quiet.
+
+A close that needed reasons has the gates in its line of the journal, in the cell `what`, and a
+reason for each in the cell `why`, in the same order. A rule that is quieted for some names has a
+line of its own, and so has the end of that. So both are in the chain of digests, with who and when.
+"""
+
+from __future__ import annotations
+
+from collections.abc import Iterable, Mapping, Sequence
+from dataclasses import dataclass, field
+
+from plantbal.book.journal import Act, Line
+from plantbal.faults import Fault
+from plantbal.gates import Gate, about
+from plantbal.lint.findings import RULES, Finding
+
+# The word before the gates of a close, and what stands between their reasons.
+ANYWAY = "anyway"
+BETWEEN = " | "
+
+
+@dataclass(frozen=True)
+class Answered:
+    """How a period was closed although something was to be looked at.
+
+    Attributes
+    ----------
+    reasons : mapping of Gate to str
+        A reason for each gate.
+    who, when : str
+        Who closed it, and when.
+    """
+
+    reasons: Mapping[Gate, str] = field(default_factory=dict)
+    who: str = ""
+    when: str = ""
+
+
+def reasons_of(texts: Iterable[str]) -> dict[Gate, str]:
+    """Return the reasons that a command was given, such as ``missing=FI-302 is in the shop``.
+
+    Raises
+    ------
+    Fault
+        If a text isn't a gate and a reason.
+    """
+    found = {}
+    for text in texts:
+        word, _, reason = (part.strip() for part in text.partition("="))
+        if word not in list(Gate):
+            words = ", ".join(gate.value for gate in Gate)
+            remedy = f"write GATE=REASON; the gates are {words}"
+            raise Fault(f"{word!r} isn't a gate", text=text, remedy=remedy)
+        found[Gate(word)] = checked(reason)
+    return found
+
+
+def checked(reason: str) -> str:
+    """Return a reason.
+
+    Raises
+    ------
+    Fault
+        If there is none, or it has the mark that stands between reasons.
+    """
+    if not reason.strip():
+        raise Fault("there is no reason", remedy="say why, in a few words")
+    if BETWEEN.strip() in reason:
+        raise Fault(f"{reason!r} has a {BETWEEN.strip()}", remedy="write it without that")
+    return reason.strip()
+
+
+def what_of(reasons: Mapping[Gate, str]) -> tuple[str, str]:
+    """Return the cells `what` and `why` of a close with these reasons."""
+    if not reasons:
+        return "", ""
+    return " ".join((ANYWAY, *reasons)), BETWEEN.join(reasons.values())
+
+
+def answered(journal: Iterable[Line], period: str) -> Answered:
+    """Return how a period was closed."""
+    found = Answered()
+    for line in journal:
+        words = line.what.split()
+        if line.act is Act.CLOSE and line.of == period and words[:1] == [ANYWAY]:
+            gates = [Gate(word) for word in words[1:] if word in list(Gate)]
+            reasons = dict(zip(gates, line.why.split(BETWEEN)))
+            found = Answered(reasons, line.who or line.user, line.when)
+    return found
+
+
+# ---- quiet
+
+
+@dataclass(frozen=True)
+class Quiet:
+    """A rule that is quieted for good, for some names.
+
+    Attributes
+    ----------
+    code : str
+        The rule, as lint has it.
+    names : tuple of str
+        The streams, tanks or units that it speaks of.
+    why, who, when : str
+        The reason, who gave it, and when.
+    """
+
+    code: str
+    names: tuple[str, ...]
+    why: str
+    who: str
+    when: str
+
+    def takes(self, code: str, names: Sequence[str]) -> bool:
+        """Say whether it quiets a finding: one of this rule that speaks of no other name."""
+        return code == self.code and bool(names) and set(names) <= set(self.names)
+
+
+def quieted(journal: Iterable[Line]) -> list[Quiet]:
+    """Return which rules are quieted, in the order in which that was done."""
+    found: dict[tuple[str, frozenset[str]], Quiet] = {}
+    for line in journal:
+        names = tuple(line.what.split())
+        key = line.of, frozenset(names)
+        if line.act is Act.QUIET:
+            found[key] = Quiet(line.of, names, line.why, line.who or line.user, line.when)
+        elif line.act is Act.HEED:
+            found.pop(key, None)
+    return list(found.values())
+
+
+def checked_rule(code: str, names: Sequence[str]) -> None:
+    """Raise unless a rule can be quieted for some names.
+
+    Raises
+    ------
+    Fault
+        If there is no such rule, it is an error, or it speaks of a month and not of names.
+    """
+    if code not in RULES or RULES[code].severity == "error":
+        words = ", ".join(code for code, rule in RULES.items() if rule.severity != "error")
+        raise Fault(f"{code!r} is no rule that can be quieted", text=code, remedy=f"say {words}")
+    if code in list(Gate) and not Gate(code).is_of_names:
+        remedy = f"say it at each close: --anyway '{code}=REASON'"
+        raise Fault(f"{code}: {about(Gate(code))} is of a single month", text=code, remedy=remedy)
+    if not names:
+        remedy = "name the streams, tanks or units for which it is quieted"
+        raise Fault(f"{code} is quieted for names alone", text=code, remedy=remedy)
+
+
+def without_quiet(
+    findings: Iterable[Finding], quiets: Sequence[Quiet]
+) -> tuple[list[Finding], list[Finding]]:
+    """Return the findings that aren't quieted, and those that are."""
+    kept: list[Finding] = []
+    quiet: list[Finding] = []
+    for each in findings:
+        names = each.names or ((each.name,) if each.name else ())
+        some = quiet if any(one.takes(each.code, names) for one in quiets) else kept
+        some.append(each)
+    return kept, quiet

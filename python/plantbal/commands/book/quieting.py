@@ -1,0 +1,43 @@
+"""Quiets a rule of lint for good, and lists what is quieted."""
+
+from __future__ import annotations
+
+import argparse
+from types import SimpleNamespace
+
+from plantbal.book.library import Book
+from plantbal.faults import Fault
+
+
+def _add_quiet(parser: argparse.ArgumentParser) -> None:
+    parser.add_argument("rule", metavar="RULE", nargs="?", help="a rule of plantbal-desk lint")
+    names = "the streams, tanks or units that it speaks of"
+    parser.add_argument("names", metavar="NAME", nargs="*", help=names)
+    parser.add_argument("--why", metavar="TEXT", default="", help="the reason")
+    parser.add_argument("--off", action="store_true", help="let it speak again")
+
+
+def _quiet(options: argparse.Namespace) -> int:
+    """Quiet a rule, let it speak again, or list what is quieted."""
+    book = Book(options.book, who=options.who)
+    rule, names = options.rule, options.names
+    if rule is None:
+        for each in book.quieted():
+            print(f"{each.code} {' '.join(each.names)}: {each.why} ({each.who}, {each.when})")
+        return 0
+    if not options.why:
+        raise Fault("a reason is wanted, and none came", remedy="say --why TEXT")
+    if options.off:
+        book.heed(rule, *names, why=options.why)
+    else:
+        book.quiet(rule, *names, why=options.why)
+    print(f"{rule} {'speaks again' if options.off else 'is quieted'} for {' '.join(names)}")
+    return 0
+
+
+QUIET = SimpleNamespace(
+    __doc__="Quiets a rule of lint for good, for the names that it speaks of, with a reason that "
+    "the journal keeps. Without a rule it lists what is quieted. What is quieted stops no close.",
+    add_arguments=_add_quiet,
+    run=_quiet,
+)

@@ -1,0 +1,148 @@
+"""What stops the close of each period, or stopped it, as the statement shows it.
+
+With the book there are the reasons with which a period was closed all the same, and what is
+quieted. What a report or the list of missing days says already is in the verdict too.
+"""
+
+from __future__ import annotations
+
+from collections.abc import Iterable, Mapping, Sequence
+from dataclasses import dataclass, field, replace
+from typing import TYPE_CHECKING
+
+from plantbal.gates import Gate, Stop, remedy_of, said_of, stops_of
+from plantbal.model.ledger import Ledger
+from plantbal.report.blocks import Block
+
+if TYPE_CHECKING:
+    from plantbal.book.answers import Answered, Quiet
+    from plantbal.lint import Finding
+    from plantbal.page.statement import Statement
+
+# What the verdict doesn't say of itself.
+_SAYS_MORE = [gate for gate in Gate if gate.is_of_names]
+# How many sentences a verdict has of it.
+_MOST = 3
+
+
+@dataclass(frozen=True)
+class Told:
+    """What a book tells of its periods: how each was closed, and which rules are quieted."""
+
+    closes: Mapping[str, Answered] = field(default_factory=dict)
+    quiets: Sequence[Quiet] = ()
+
+
+@dataclass(frozen=True, slots=True)
+class Shown:
+    """A reason to look, as it is shown: its gate, what is there, what to do, why all the same."""
+
+    gate: str
+    text: str
+    remedy: str
+    reason: str = ""
+
+
+@dataclass(frozen=True)
+class PeriodGates:
+    """What stops a period's close, or stopped it.
+
+    Attributes
+    ----------
+    shown : list of Shown
+        The reasons to look.
+    stops : list of Stop
+        The same as data.
+    quiet : list of str
+        What is quieted, in sentences.
+    who, when : str
+        Who closed it all the same, and when; empty if nobody did, or no book was named.
+    """
+
+    shown: list[Shown]
+    stops: list[Stop]
+    quiet: list[str]
+    who: str = ""
+    when: str = ""
+
+    @property
+    def is_closed(self) -> bool:
+        """Whether it was closed all the same."""
+        return bool(self.when)
+
+
+def told_of(folder: str | None) -> Told:
+    """Return what the book in a folder tells; nothing without a folder.
+
+    Raises
+    ------
+    Fault
+        If there is no book, or one of its files was changed.
+    """
+    if folder is None:
+        return Told()
+    from plantbal.book.answers import answered, quieted
+    from plantbal.book.store import Act, Store
+
+    store = Store(folder)
+    with store.opened(reading=True):
+        journal = store.journal()
+    closed = [line.of for line in journal if line.act is Act.CLOSE]
+    return Told({period: answered(journal, period) for period in closed}, quieted(journal))
+
+
+def gates_of(
+    ledger: Ledger, blocks: Sequence[Block], told: Told = Told()
+) -> dict[str, PeriodGates]:
+    """Return the gates of each period that a report is asked of.
+
+    Parameters
+    ----------
+    ledger : Ledger
+        The session.
+    blocks : sequence of Block
+        The blocks of its output.
+    told : Told
+        What the book tells.
+    """
+    return {
+        period: _of_period(stops_of(ledger, blocks, period), period, told)
+        for period in ledger.reported
+    }
+
+
+def _of_period(stops: Iterable[Stop], period: str, told: Told) -> PeriodGates:
+    """Return the gates of a period."""
+    close = told.closes.get(period)
+    reasons = close.reasons if close is not None else {}
+    kept, quiet = [], []
+    for stop in stops:
+        by = next((each for each in told.quiets if each.takes(stop.gate, stop.of)), None)
+        if by is None:
+            kept.append(stop)
+        else:
+            quiet.append(f"{said_of(stop)}: {by.why} ({by.who}, {by.when[:10]})")
+    shown = [
+        Shown(stop.gate, said_of(stop), remedy_of(stop), reasons.get(stop.gate, ""))
+        for stop in kept
+    ]
+    who, when = (close.who, close.when) if close is not None and reasons else ("", "")
+    return PeriodGates(shown, kept, quiet, who, when)
+
+
+def with_gates(statement: Statement, gates: Mapping[str, PeriodGates]) -> Statement:
+    """Return a statement whose verdict says, too, what can't be or was hardly measured."""
+    found = gates.get(statement.period)
+    stops = [] if found is None else [stop for stop in found.stops if stop.gate in _SAYS_MORE]
+    if not stops or not statement.is_of_period:
+        return statement
+    sentences = [f"{said_of(stop)}." for stop in stops[:_MOST]]
+    sentences += [f"{len(stops) - _MOST} more are below."] if len(stops) > _MOST else []
+    names = next((stop.of[0] for stop in stops if stop.of), "the readings")
+    return replace(statement, verdict=statement.verdict.but(f"look at {names}", sentences))
+
+
+def without_gates(findings: Iterable[Finding]) -> list[Finding]:
+    """Return the findings of lint that aren't shown as gates."""
+    words = {gate.value for gate in (*_SAYS_MORE, Gate.ESTIMATED)}
+    return [each for each in findings if each.code not in words]

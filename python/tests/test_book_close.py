@@ -1,0 +1,88 @@
+"""A close: what stops it, the reasons with which it is done all the same, and what is quieted."""
+
+from __future__ import annotations
+
+from pathlib import Path
+
+from books import Type, fixture_book, folder, journal_of, month
+from conftest import Desk, text_of
+
+__all__ = ["fixture_book"]
+
+REASONS = ("--anyway", "missing=both meters are read from the 4th on")
+
+
+def test_a_close_that_is_stopped_changes_nothing(book: Type, tmp_path: Path) -> None:
+    before = text_of(tmp_path / "mill" / "journal.csv"), text_of(tmp_path / "mill" / "2024.csv")
+    said = book("close", "2024-04")
+    assert said.status == 1
+    assert "2024-04 isn't closed: no reading of FEED, PRODUCT on 2024-04-04 to 2024-04-30" in said.err
+    assert "--anyway 'missing=REASON'" in said.err
+    after = text_of(tmp_path / "mill" / "journal.csv"), text_of(tmp_path / "mill" / "2024.csv")
+    assert after == before
+
+
+def test_each_gate_wants_its_own_reason(book: Type, tmp_path: Path) -> None:
+    said = book("close", "2024-04", "--anyway", "estimated=none is")
+    assert (said.status, "2024-04 isn't closed" in said.err) == (1, True)
+    for words, why in (
+        (("--anyway", "yes"), "'yes' isn't a gate: write GATE=REASON"),
+        (("--anyway", "missing="), "there is no reason"),
+        (("--anyway", "missing=a | b"), "'a | b' has a |"),
+    ):
+        said = book("close", "2024-04", *words)
+        assert (said.status, why in said.err) == (1, True), said
+    said = book("close", "2024-04", *REASONS, "--anyway", "estimated=none is")
+    assert said.status == 0
+    assert "2024-04: missing: both meters are read from the 4th on" in said.out
+    assert "2024-04: the reason for estimated isn't kept" in said.out
+    line = journal_of(tmp_path / "mill")[-1]
+    assert line[1:5] == ["close", "2024-04", "anyway missing", REASONS[1].partition("=")[2]]
+
+
+def test_the_statement_prints_the_reasons(book: Type, say: Desk, tmp_path: Path) -> None:
+    assert book("close", "2024-04", *REASONS).status == 0
+    session, report = tmp_path / "s.csv", tmp_path / "mill" / "reports" / "2024-04.csv"
+    assert book("report", "2024-04", "--session", session).status == 0
+    shown = say("page", report, "--session", session, "--book", tmp_path / "mill").out
+    assert "Closed all the same" in shown and "both meters are read from the 4th on" in shown
+    assert "By anna on 20" in shown
+    assert "Before the close" in say("page", report, "--session", session).out
+
+
+def wrong_sign(book: Type, tmp_path: Path) -> None:
+    """April with a figure below 0 on one of its days."""
+    sheets = month(last=30)
+    for day, row in enumerate(sheets["readings"][1:]):
+        row[1:] = [str(1200 + day % 7), str(1199 + day % 5)]
+    sheets["readings"][5][1] = "-1200"
+    assert book("add", folder(tmp_path / "more", sheets), "--why", "the whole month").status == 0
+
+
+def test_what_is_quieted_stops_nothing_and_is_listed(
+    book: Type, say: Desk, tmp_path: Path
+) -> None:
+    wrong_sign(book, tmp_path)
+    found = book("report", "2024-04")
+    assert "FEED is below 0 on 2024-04-05" in found.out and "[negative]" in found.out
+    for words, why in (
+        (("estimated", "FEED"), "is of a single month"),
+        (("refused", "FEED"), "is no rule that can be quieted"),
+        (("negative",), "negative is quieted for names alone"),
+    ):
+        said = book("quiet", *words, "--why", "x")
+        assert (said.status, why in said.err) == (1, True), said
+    assert book("quiet", "negative", "FEED", "--why", "it is drained back").status == 0
+    assert "[negative]" not in book("report", "2024-04").out
+    assert book("quiet").out.startswith("negative FEED: it is drained back (anna, 20")
+    session = tmp_path / "s.csv"
+    assert book("report", "2024-04", "--session", session).status in (0, 1)
+    said = say("lint", session, "--book", tmp_path / "mill")
+    assert "[negative]" not in said.out and "1 quieted by the book" in said.err
+    assert "[negative]" in say("lint", session).out
+    shown = say("page", tmp_path / "mill/reports/2024-04.csv", "--session", session)
+    assert "FEED is below 0 on" in shown.out
+    assert book("quiet", "--off", "negative", "FEED", "--why", "no longer").status == 0
+    assert "[negative]" in book("report", "2024-04").out
+    assert "isn't quieted for FEED" in book("quiet", "--off", "negative", "FEED", "--why", "x").err
+    assert book("verify").status == 0
