@@ -77,22 +77,36 @@ def _zeros(look: Look, stream: Stream, facts: list[Fact]) -> Iterator[Stop]:
 
 
 def _goes_on(look: Look, stream: Stream, day: int) -> bool:
-    """Say whether a unit goes on, on a day, that a stream feeds or drains by most of its flow."""
-    usual = [fact.grams for fact in look.facts.readings[stream.arc.name] if fact.grams > 0]
+    """Say whether a unit goes on, on a day, that a stream feeds or drains by most of its flow.
+
+    It goes on if the streams of its other side have half of what they have on the days of the
+    stream's own readings.
+    """
+    there = [fact for fact in look.facts.readings[stream.arc.name] if fact.grams > 0]
+    if not there:
+        return False
+    usual = median_low(fact.grams for fact in there)
     for node, is_to in ((stream.arc.from_, False), (stream.arc.to, True)):
         if node == ENV or look.state.plant.nodes.get(node) != "unit":
             continue
         beside = [each for each in look.at[node] if (each.arc.to == node) == is_to]
         others = [each for each in look.at[node] if (each.arc.to == node) != is_to]
-        beside = [each for each in beside if each is not stream]
-        same = [look.state.facts.on(each.arc.name, day) for each in beside]
-        known = sum(fact.grams for fact in same if fact is not None)
-        is_most = 2 * known < median_low(usual) if usual else not beside
-        readings = [look.state.facts.on(each.arc.name, day) for each in others]
-        if is_most and None not in same:
-            if any(fact is not None and fact.grams > 0 for fact in readings):
+        same = _total(look, [each for each in beside if each is not stream], day)
+        is_most = same is not None and 2 * same < usual
+        other = _total(look, [each for each in others if each.kind == "metered"], day)
+        if is_most and other:
+            metered = [each for each in others if each.kind == "metered"]
+            totals = [_total(look, metered, fact.first) or 0 for fact in there]
+            if 2 * other > median_low(totals) > 0:
                 return True
     return False
+
+
+def _total(look: Look, streams: Sequence[Stream], day: int) -> int | None:
+    """Return what some streams read on a day together; None if one has no reading."""
+    facts = [look.state.facts.on(each.arc.name, day) for each in streams]
+    there = [fact.grams for fact in facts if fact is not None]
+    return sum(there) if len(there) == len(facts) else None
 
 
 # ---- negative
