@@ -559,11 +559,24 @@ def test_an_estimate_fills_a_day(tmp_path: Path) -> None:
     ]
     found = convert(folder_of(tmp_path, sheet_with(rows) | {"estimates": estimates}))
     assert (found.said(), found.notes) == ([], [])
-    wanted = ("reading", "F-1_2024-04-02", "FEED", "2024-04-02", "11700000000", str(400 * 10**12))
+    wanted = ("reading", "F-1_2024-04-02.est", "FEED", "2024-04-02", "11700000000", str(400 * 10**12))
     assert wanted in list(found.session)
     estimates[1][1] = "2024-04-01"
     found = convert(folder_of(tmp_path, sheet_with(rows) | {"estimates": estimates}))
     assert "line 2, column 3: F-1 (FEED) has a figure of 2024-04-01 already (" in found.said()[0]
+
+
+def test_days_of_one_guess_share_its_error(tmp_path: Path) -> None:
+    """Two days of 20 t each are 40 t together: the variances add up to the square of that."""
+    rows = wide(days("%Y-%m-%d"), [FEED[0], "", ""], PRODUCT)
+    estimates = [
+        ["tag", "day", "last", "amount", "unit", "error"],
+        ["F-1", "2024-04-02", "2024-04-03", "11700000", "kg", "20 t"],
+    ]
+    found = convert(folder_of(tmp_path, sheet_with(rows) | {"estimates": estimates}))
+    guessed = [row for row in found.session if row[0] == "reading" and row[1].endswith(".est")]
+    assert (found.said(), len(guessed)) == ([], 2)
+    assert sum(int(row[5]) for row in guessed) == (40 * 10**6) ** 2
 
 
 def test_float_noise_is_rounded_and_said(tmp_path: Path) -> None:

@@ -3,8 +3,12 @@
 from __future__ import annotations
 
 import random
+from decimal import Decimal
 
 import pytest
+from plantbal.faults import InputFault
+from plantbal.workbook.cells import Reader
+from plantbal.workbook.sheets import Cell, Sheet
 from refinery_months import MISTAKES, Mistake, months_of, stops_of
 
 from plantbal.gates import Gate, about, said_of
@@ -31,3 +35,22 @@ def test_mistake_is_stopped(mistake: Mistake) -> None:
 def test_each_gate_has_its_words_and_those_of_names_are_rules() -> None:
     assert all(about(gate) for gate in Gate)
     assert {gate.value for gate in Gate if gate.is_of_names} <= set(RULES)
+
+
+@pytest.mark.parametrize(
+    "level, said",
+    [
+        ("5.368", "5.368 m or 5.368 cm?"),
+        ("812.5", "812.5 cm?"),
+        ("5368.4", 5368),
+        ("5368", 5368),
+    ],
+)
+def test_a_level_with_decimals_wants_its_unit(level: str, said: str | int) -> None:
+    cell = Cell(Sheet("dips.csv", "dips", []), 2, 2, Decimal(level))
+    if isinstance(said, int):
+        assert Reader().level(cell, top=14_000) == said
+        return
+    with pytest.raises(InputFault) as fault:
+        Reader().level(cell, top=14_000)
+    assert said in str(fault.value)

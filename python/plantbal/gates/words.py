@@ -191,7 +191,7 @@ _REMEDIES: dict[Gate, Callable[[Stop], str]] = {
         if stop.values
         else "leave --no-tests out"
     ),
-    Gate.MISSING: lambda stop: "book what is missing, or an estimate: plantbal-desk book estimate",
+    Gate.MISSING: lambda stop: "book what is missing, or an estimate with the error that it has",
     Gate.UNASSAYED: lambda stop: "enter it now: assays can't come after the close",
     Gate.IMPOSSIBLE: lambda stop: "look at the assays and meters around it",
     Gate.NEGATIVE_FLOW: _turn,
