@@ -32,6 +32,7 @@ _plantbal_desk() {
         run:--eliminate) :; return ;;
         lint:--accounts) _plantbal_files -f; return ;;
         lint:--ignore) _plantbal_words 'refused nothing-asked missing-reading missing-dip no-period after-report one-sided never-served near-names magnitude small-deviation large-deviation density worse-class no-critical no-balance after-balance unchecked-grade unused-assay grade no-cost no-account nearly-full negative-flow tank-jump tank-range zero frozen negative copy estimated no-owner untested no-elimination no-transfer unused-dip not-reported'; return ;;
+        lint:--book) _plantbal_files -d; return ;;
         explain:--program) _plantbal_files -f; return ;;
         check:--program) _plantbal_files -f; return ;;
         archive:--period) :; return ;;
@@ -165,7 +166,7 @@ _plantbal_desk() {
             _plantbal_files -f
             return
         fi
-        _plantbal_words '-h --help --json --accounts --strict --ignore' ;;
+        _plantbal_words '-h --help --json --accounts --strict --ignore --book' ;;
     explain)
         if [[ $here != -* ]]; then
             _plantbal_files -f
@@ -210,14 +211,14 @@ _plantbal_desk() {
         _plantbal_words '-h --help --out --locale --missing --skip --limits --design' ;;
     book)
         if [[ $here != -* ]]; then
-            if [[ ! " ${COMP_WORDS[*]:at + 1:COMP_CWORD - at - 1} " =~ ' '(new|add|show|amend|strike|report|window|close|difference|posted|account|status|next|verify|head|accept)' ' ]]; then
-                _plantbal_words 'new add show amend strike report window close difference posted account status next verify head accept'
+            if [[ ! " ${COMP_WORDS[*]:at + 1:COMP_CWORD - at - 1} " =~ ' '(new|add|show|amend|strike|report|window|close|quiet|difference|posted|account|status|next|verify|head|accept)' ' ]]; then
+                _plantbal_words 'new add show amend strike report window close quiet difference posted account status next verify head accept'
                 return
             fi
             _plantbal_files -f
             return
         fi
-        _plantbal_words '-h --help --program --locale --missing --skip --limits --book --who --why --strike --anyway --year --dry-run --density --error --session --gap --sweeps --no-tests --eliminate --csv --xlsx --postings --by --owner --tanks --page --title --all --plant --first --head' ;;
+        _plantbal_words '-h --help --program --locale --missing --skip --limits --book --who --why --strike --anyway --year --dry-run --density --error --session --gap --sweeps --no-tests --eliminate --off --csv --xlsx --postings --by --owner --tanks --page --title --all --plant --first --head' ;;
     template)
         if [[ $here != -* ]]; then
             if [[ ! " ${COMP_WORDS[*]:at + 1:COMP_CWORD - at - 1} " =~ ' '(refinery|concentrator|utility)' ' ]]; then

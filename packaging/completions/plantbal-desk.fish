@@ -41,6 +41,7 @@ complete -c plantbal-desk -n '__fish_seen_subcommand_from lint' -l json -d 'a li
 complete -c plantbal-desk -n '__fish_seen_subcommand_from lint' -l accounts -r -F -d 'the accounts of a book, accounts.csv: what is in none is a finding too'
 complete -c plantbal-desk -n '__fish_seen_subcommand_from lint' -l strict -d 'status 1 on warnings too'
 complete -c plantbal-desk -n '__fish_seen_subcommand_from lint' -l ignore -x -a 'refused nothing-asked missing-reading missing-dip no-period after-report one-sided never-served near-names magnitude small-deviation large-deviation density worse-class no-critical no-balance after-balance unchecked-grade unused-assay grade no-cost no-account nearly-full negative-flow tank-jump tank-range zero frozen negative copy estimated no-owner untested no-elimination no-transfer unused-dip not-reported' -d 'leave findings of this code out; may be given more than once'
+complete -c plantbal-desk -n '__fish_seen_subcommand_from lint' -l book -x -a '(__fish_complete_directories)' -d 'the book that the session is from: what it has quieted is counted, and not listed'
 complete -c plantbal-desk -n '__fish_seen_subcommand_from lint' -F
 complete -c plantbal-desk -n '__fish_seen_subcommand_from explain' -s h -l help -d 'show this help message and exit'
 complete -c plantbal-desk -n '__fish_seen_subcommand_from explain' -l program -r -F -d 'the program, which checks a report'
@@ -110,6 +111,7 @@ complete -c plantbal-desk -n '__fish_seen_subcommand_from book' -l gap -x -d 'th
 complete -c plantbal-desk -n '__fish_seen_subcommand_from book' -l sweeps -x -d 'at most N sweeps (default: 5,000)'
 complete -c plantbal-desk -n '__fish_seen_subcommand_from book' -l no-tests -d 'make no tests'
 complete -c plantbal-desk -n '__fish_seen_subcommand_from book' -l eliminate -x -d 'take out at most N suspects, one in each round'
+complete -c plantbal-desk -n '__fish_seen_subcommand_from book' -l off -d 'let it speak again'
 complete -c plantbal-desk -n '__fish_seen_subcommand_from book' -l csv -d 'as CSV, with all digits'
 complete -c plantbal-desk -n '__fish_seen_subcommand_from book' -l xlsx -r -F -d 'a workbook with a formula for each total'
 complete -c plantbal-desk -n '__fish_seen_subcommand_from book' -l postings -r -F -d 'write the postings too'
@@ -122,7 +124,7 @@ complete -c plantbal-desk -n '__fish_seen_subcommand_from book' -l all -d 'close
 complete -c plantbal-desk -n '__fish_seen_subcommand_from book' -l plant -r -F -d 'another plant (default: plant.csv)'
 complete -c plantbal-desk -n '__fish_seen_subcommand_from book' -l first -x -d 'its first day (default: January 1st)'
 complete -c plantbal-desk -n '__fish_seen_subcommand_from book' -l head -x -d 'a head that was kept elsewhere: this book has to have it'
-complete -c plantbal-desk -n '__fish_seen_subcommand_from book' -a 'new add show amend strike report window close difference posted account status next verify head accept'
+complete -c plantbal-desk -n '__fish_seen_subcommand_from book' -a 'new add show amend strike report window close quiet difference posted account status next verify head accept'
 complete -c plantbal-desk -n '__fish_seen_subcommand_from book' -F
 complete -c plantbal-desk -n '__fish_seen_subcommand_from template' -s h -l help -d 'show this help message and exit'
 complete -c plantbal-desk -n '__fish_seen_subcommand_from template' -a 'refinery concentrator utility'
@@ -202,7 +204,7 @@ complete -c plantbal-desk -n '__fish_seen_subcommand_from page' -l session -r -F
 complete -c plantbal-desk -n '__fish_seen_subcommand_from page' -l run -d 'run the file, a session'
 complete -c plantbal-desk -n '__fish_seen_subcommand_from page' -l eliminate -x -d 'with --run: take out at most N suspects'
 complete -c plantbal-desk -n '__fish_seen_subcommand_from page' -l program -r -F -d 'the program, with --run'
-complete -c plantbal-desk -n '__fish_seen_subcommand_from page' -l book -x -a '(__fish_complete_directories)' -d 'the book that the session is from: the page has its account, and the head of its chain'
+complete -c plantbal-desk -n '__fish_seen_subcommand_from page' -l book -x -a '(__fish_complete_directories)' -d 'the book that the session is from: the page has its account, the head of its chain, and the reasons with which its periods were closed'
 complete -c plantbal-desk -n '__fish_seen_subcommand_from page' -l timeout -x -d 'with --run: stop the program after that many seconds (default: it isn\'t stopped)'
 complete -c plantbal-desk -n '__fish_seen_subcommand_from page' -l out -r -F -d 'the page'
 complete -c plantbal-desk -n '__fish_seen_subcommand_from page' -l xlsx -r -F -d 'a workbook'

@@ -30,6 +30,7 @@ _plantbal_desk() {
             '--accounts=[the accounts of a book, accounts.csv\: what is in none is a finding too]:FILE:_files'
             '--strict[status 1 on warnings too]'
             '--ignore=[leave findings of this code out; may be given more than once]:CODE:(refused nothing-asked missing-reading missing-dip no-period after-report one-sided never-served near-names magnitude small-deviation large-deviation density worse-class no-critical no-balance after-balance unchecked-grade unused-assay grade no-cost no-account nearly-full negative-flow tank-jump tank-range zero frozen negative copy estimated no-owner untested no-elimination no-transfer unused-dip not-reported)'
+            '--book=[the book that the session is from\: what it has quieted is counted, and not listed]:FOLDER:_files -/'
             '1:word:(lint)'
             '*:SESSION:_files'
         ) ;;
@@ -139,6 +140,7 @@ _plantbal_desk() {
             '--sweeps=[at most N sweeps (default\: 5,000)]:N:'
             '--no-tests[make no tests]'
             '--eliminate=[take out at most N suspects, one in each round]:N:'
+            '--off[let it speak again]'
             '--csv[as CSV, with all digits]'
             '--xlsx=[a workbook with a formula for each total]:FILE:_files'
             '--postings=[write the postings too]:FILE:_files'
@@ -152,7 +154,7 @@ _plantbal_desk() {
             '--first=[its first day (default\: January 1st)]:DAY:'
             '--head=[a head that was kept elsewhere\: this book has to have it]:DIGEST:'
             '1:word:(book)'
-            '2:COMMAND:(new add show amend strike report window close difference posted account status next verify head accept)'
+            '2:COMMAND:(new add show amend strike report window close quiet difference posted account status next verify head accept)'
             '*:FILE:_files'
         ) ;;
     template)
@@ -282,7 +284,7 @@ _plantbal_desk() {
             '--run[run the file, a session]'
             '--eliminate=[with --run\: take out at most N suspects]:N:'
             '--program=[the program, with --run]:PATH:_files'
-            '--book=[the book that the session is from\: the page has its account, and the head of its chain]:FOLDER:_files -/'
+            '--book=[the book that the session is from\: the page has its account, the head of its chain, and the reasons with which its periods were closed]:FOLDER:_files -/'
             '--timeout=[with --run\: stop the program after that many seconds (default\: it isn'\''t stopped)]:SECONDS:'
             '--out=[the page]:FILE:_files'
             '--xlsx=[a workbook]:FILE:_files'
