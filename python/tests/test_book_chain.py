@@ -272,6 +272,28 @@ def test_to_take_a_file_as_it_is(mill: Path, book: Type) -> None:
     assert book("status").status == 0
 
 
+def test_rows_that_no_command_writes(mill: Path, book: Type, say: Desk, tmp_path: Path) -> None:
+    """A file that was taken as it is, or a stranger's whose chain fits, is said at its row."""
+    saved = tmp_path / "saved"
+    mill.rename(saved)
+    for old, new, what in (
+        ("2024-04-30\n", "1200000000\n", "this period row isn't one that a command writes"),
+        ("2024-04-30\n", "2024-04-31\n", "this period row isn't one that a command writes"),
+        (",2024-04-01,2024-04-30\n", "\n", "this period row isn't one that a command writes"),
+        ("period,2024-04,", "close,2024-04,", "this close row isn't one that a command writes"),
+    ):
+        shutil.rmtree(mill, ignore_errors=True)
+        shutil.copytree(saved, mill)
+        put("2024.csv", old, new)(mill)
+        assert book("accept", "2024.csv", "--why", "x").status == 0
+        for words in (("status",), ("show", "F-1"), ("add", tmp_path / "april")):
+            said = book(*words)
+            assert said.status == 1 and f"2024.csv: line 10: {what}" in said.err, (new, said.err)
+    for year in ("0000", "0001", "9999", "1899"):
+        said = say("book", "new", year, tmp_path / "plant", "--book", tmp_path / "other")
+        assert said.status == 1 and "is no year: say four digits, 1900 to 2199" in said.err, year
+
+
 def test_an_older_copy(mill: Path, book: Type, tmp_path: Path) -> None:
     """It is told by a head that was kept elsewhere, and by nothing else."""
     head = book("head").out.strip()

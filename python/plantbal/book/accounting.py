@@ -92,7 +92,7 @@ def versions_of(book: Store) -> dict[str, Version]:
     """Return the report of each period that has one, in the order of the periods' last days."""
     found = {}
     for year in book.years:
-        periods = periods_of(book.text(year_file(year)))
+        periods = periods_of(str(book.path(year_file(year))), book.text(year_file(year)))
         for period in sorted(periods, key=lambda name: periods[name][1]):
             text = book.text(report_file(period))
             if text:

@@ -18,7 +18,9 @@ from plantbal.book.meters import meters_of, meters_text
 from plantbal.book.reading import check_faults, sheets_of
 from plantbal.book.results import Begun
 from plantbal.book.store import METERS, PLANT, Act, Action, Store
+from plantbal.book.years import calendar_year
 from plantbal.faults import Fault, InputFault, Place
+from plantbal.model.forms import FIRST_DAY, LAST_DAY
 from plantbal.program import call
 from plantbal.report.blocks import parse_rows
 from plantbal.workbook.conversion import Conversion
@@ -87,10 +89,9 @@ def check_year(name: str) -> None:
     Fault
         If it is none.
     """
-    if not is_year(name):
-        raise Fault(
-            f"{name!r} is no year", text=name, remedy="say four digits, or more: 2024, 2024-2"
-        )
+    if not is_year(name) or (len(name) == 4 and calendar_year(name) is None):
+        remedy = f"say four digits, {FIRST_DAY.year} to {LAST_DAY.year}, or more: 2024, 2024-2"
+        raise Fault(f"{name!r} is no year", text=name, remedy=remedy)
 
 
 def plant_of(

@@ -68,7 +68,8 @@ def first_day(name: str, wanted: datetime.date | None, text: str, old: Ledger) -
     Fault
         If it is another one than is wanted.
     """
-    eve = max((last for _, last in periods_of(text).values()), default=None)
+    periods = periods_of(f"{old.name}.csv", text)
+    eve = max((last for _, last in periods.values()), default=None)
     if eve is None:
         raise Fault(f"{old.name} has no period yet", remedy="add its workbooks first")
     year = calendar_year(name)

@@ -9,7 +9,8 @@ from dataclasses import dataclass
 
 from plantbal.book.ledger import Fact, Ledger
 from plantbal.book.store import Act, Store
-from plantbal.faults import Fault
+from plantbal.faults import Fault, InputFault, Place
+from plantbal.model.forms import FIRST_DAY, LAST_DAY, day_number, day_of_number
 
 _DAY = datetime.timedelta(1)
 # Before the first period of a year may stand days of the year before it, such as the 26th of
@@ -40,20 +41,43 @@ class Span:
 
 def calendar_year(name: str) -> int | None:
     """Return the calendar year that a name is, or None if it is another name."""
-    return int(name) if len(name) == 4 else None
+    is_one = len(name) == 4 and FIRST_DAY.year <= int(name) <= LAST_DAY.year
+    return int(name) if is_one else None
 
 
-def periods_of(text: str) -> dict[str, tuple[bool, datetime.date]]:
+def periods_of(file: str, text: str) -> dict[str, tuple[bool, datetime.date]]:
     """Return the periods that a session declares: whether each is closed, and its last day.
 
     Only rows of these two kinds are read, so that a book of many years is looked through quickly.
+
+    Parameters
+    ----------
+    file : str
+        The file, for what is said of it.
+    text : str
+        Its text.
+
+    Raises
+    ------
+    InputFault
+        If such a row is none: no command writes it.
     """
     found: dict[str, tuple[bool, datetime.date]] = {}
-    for line in text.split("\n"):
+    for number, line in enumerate(text.split("\n"), start=1):
         if line.startswith(("period,", "close,")):
             kind, name, *days = line.rstrip("\r,").split(",")
-            last = datetime.date.fromisoformat(days[1]) if kind == "period" else found[name][1]
-            found[name] = kind == "close", last
+            last = day_number(days[1]) if kind == "period" and len(days) > 1 else None
+            if kind == "close" and name in found:
+                found[name] = True, found[name][1]
+            elif last is not None:
+                found[name] = False, day_of_number(last)
+            else:
+                raise InputFault(
+                    f"this {kind} row isn't one that a command writes",
+                    place=Place(file=file, line=number),
+                    text=line,
+                    remedy="put the file back as it was, from a backup",
+                )
     return found
 
 
@@ -67,7 +91,8 @@ def spans_of(book: Store) -> list[Span]:
     found: list[Span] = []
     for at, name in enumerate(names):
         year = calendar_year(name)
-        periods = periods_of(book.text(f"{name}.csv"))
+        file = f"{name}.csv"
+        periods = periods_of(str(book.path(file)), book.text(file))
         if found:
             first = found[-1].last + _DAY
         else:
