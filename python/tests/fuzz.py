@@ -40,7 +40,7 @@ from plantbal import desk  # noqa: E402
 from plantbal.faults import ToolMissing  # noqa: E402
 from plantbal.program import find_program  # noqa: E402
 
-HANG = 60  # seconds of a processor; of the clock ten times as many: the machine may be busy
+HANG = 60  # seconds of a processor; of the clock twenty times as many: the machine may be busy
 STATUSES = {"run": {0, 1, 2, 3, 4, 5, 6}, "archive": {0, 1, 2, 3, 4, 5, 6}}
 NORMAL = {0, 1, 2}
 # A fleet says of a plant, and goes on, what else would be a traceback.
@@ -64,7 +64,7 @@ def tried(target: Target, path: Path) -> Failure | None:
     """Call a subcommand with a file, and return what is wrong with how it ended."""
     words = [str(path) if word == "{}" else word for word in target.words]
     signal.setitimer(signal.ITIMER_PROF, HANG)
-    signal.alarm(10 * HANG)
+    signal.alarm(20 * HANG)
     try:
         with _quiet() as said:
             status = target.call() if target.call else desk.call(_parser(words[0]), words[1:])

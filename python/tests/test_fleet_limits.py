@@ -100,6 +100,16 @@ def test_folders(tmp_path: Path, shut: None) -> None:
     ]
 
 
+def test_very_many_links(tmp_path: Path) -> None:
+    """What isn't run is said of some folders, and the others are counted."""
+    for number in range(30):
+        (tmp_path / f"f{number:02}").mkdir()
+        (tmp_path / f"f{number:02}" / "loop").symlink_to("..")
+    (tmp_path / "a.csv").write_text(GOOD)
+    left = sites(tmp_path, recursive=True).left
+    assert len(left) == 21 and left[-1] == f"{tmp_path}: 10 more such folders"
+
+
 def test_very_many_folders(tmp_path: Path, monkeypatch: pytest.MonkeyPatch) -> None:
     """Neither their number nor their depth is without a limit."""
     inner = tmp_path / "sessions"

@@ -31,5 +31,7 @@ REFUSED_KNOWN, REFUSED_EXPLAINED = 100_000, 1000
 ROWS_AFTER = 200
 # The folders that are looked through, and how deep they may lie within each other.
 FOLDERS, DEPTH = 10_000, 64
+# The folders of which it is said what in them isn't run; others are counted.
+NOTES = 20
 # Of the program's words on standard error, and of the sentences on a check.
 SAID_BYTES, SENTENCES = 4096, 100

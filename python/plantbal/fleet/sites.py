@@ -10,7 +10,7 @@ from dataclasses import dataclass, field
 from pathlib import Path
 
 from plantbal.faults import InputFault, Place
-from plantbal.fleet.limits import DEPTH, FOLDERS
+from plantbal.fleet.limits import DEPTH, FOLDERS, NOTES
 
 # What the folder of the nights has beside the sites.
 RESERVED = ("nights", "latest", "index.html", "fleet.sqlite")
@@ -188,7 +188,9 @@ def sites(folder: Path, *, recursive: bool = False, out: Path | None = None) -> 
             wrong[Site(_shown(name), some[0])] = str(fault)
         else:
             found.append(Site(name, some[0]))
-    return Chosen(found, wrong, walk.left)
+    more = len(walk.left) - NOTES
+    said = [f"{folder}: {more} more such folders"] if more > 0 else []
+    return Chosen(found, wrong, [*walk.left[:NOTES], *said])
 
 
 def _shown(name: str) -> str:
