@@ -18,6 +18,7 @@ import pytest
 from conftest import Desk, text_of
 from hostile import GOOD, NAMES, hanging, hostile_night
 
+from plantbal.faults import InputFault
 from plantbal.fleet import limits, outline
 from plantbal.fleet.given import Given, SessionTooLarge, _digest
 from plantbal.fleet.job import limits as limits_of_job
@@ -256,6 +257,22 @@ def test_outputs_are_streams(tmp_path: Path, monkeypatch: pytest.MonkeyPatch) ->
     path.write_text(path.read_text() + "measure,A,9\n")
     with pytest.raises(Exception, match=r"line 611: a measure row has 6 columns, this one has 3"):
         outline_of(path)
+
+
+def test_outputs_that_no_program_writes(tmp_path: Path) -> None:
+    """A field that isn't of its column is a sentence, whichever row has it."""
+    path = tmp_path / "output.csv"
+    for row, said in (
+        ("refused,x,1,kind", "at of a refused row is 'x': it has to be a whole number"),
+        ("unreadable,None,1,kind", "at of a unreadable row is 'None'"),
+        ("no,may,0,x,class,,0,0", "code of a no row is 'x'"),
+        ("design,9,None", "streams of a design row is 'None'"),
+        ("report,may,None,2,1,10,5000", "round of a report row is 'None'"),
+    ):
+        path.write_text(BLOCK.format("may", 0, "accept") + row + "\n")
+        with pytest.raises(InputFault) as fault:
+            outline_of(path)
+        assert said in str(fault.value), row
 
 
 def test_limits_of_the_program(tmp_path: Path, say: Desk) -> None:

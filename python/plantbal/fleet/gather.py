@@ -294,14 +294,16 @@ def _of_check(plant: Plant, outline: Outline) -> None:
     plant.rows += [Row(plant.site, period, state=state) for period, state in states]
     for row in outline.failed:
         if row["row"] == "no":
-            test = schema().tests[int(row["code"])]
+            test = schema().tests.get(int(row["code"]))
             where = f" at {row['name']}" if row["name"] else ""
-            said = f"the check says no: {row['word']}{where}: {test.about}"
+            about = f": {test.about}" if test else ""  # no check that is known says another code
+            said = f"the check says no: {row['word']}{where}{about}"
             plant.why_of.setdefault(row["period"], []).append(said)
         elif row["row"] == "unreadable":
-            about_it = schema().unreadable[int(row["code"])].about
+            fault = schema().unreadable.get(int(row["code"]))
+            about = f": it {fault.about}" if fault else ""
             plant.rows.append(Row(plant.site, state="unreadable"))
-            plant.why.append(f"the check can't read row {row['at']}: it {about_it}")
+            plant.why.append(f"the check can't read row {row['at']}{about}")
 
 
 def _of_refused(plant: Plant, told: Told) -> None:

@@ -15,6 +15,7 @@ from pathlib import Path
 
 from plantbal.faults import InputFault, Place, decoded
 from plantbal.fleet.limits import REFUSED_KNOWN, SENTENCES
+from plantbal.report.judged import judge_fields
 from plantbal.report.blocks import Subject, Values, parse_rows
 
 _PIECE = 1 << 20
@@ -148,7 +149,10 @@ def outline_of(path: Path) -> Outline:
             rows = parse_rows(source, decoded(source, data), _TOLD)
         except InputFault as fault:
             raise _moved(fault, line) from fault
+        place = Place(file=source)
         for row in rows:
+            if row["row"] != "refused" or found.refused_count < REFUSED_KNOWN:
+                judge_fields(row, place)
             found.take(row)
     return found
 
