@@ -189,8 +189,8 @@ def sites(folder: Path, *, recursive: bool = False, out: Path | None = None) -> 
         else:
             found.append(Site(name, some[0]))
     more = len(walk.left) - NOTES
-    said = [f"{folder}: {more} more such folders"] if more > 0 else []
-    return Chosen(found, wrong, [*walk.left[:NOTES], *said])
+    rest = [f"{folder}: {more} more such folders"] if more > 0 else []
+    return Chosen(found, wrong, [*walk.left[:NOTES], *rest])
 
 
 def _shown(name: str) -> str:
