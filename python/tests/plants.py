@@ -2,6 +2,7 @@
 
     python3 python/tests/plants.py COUNT [SEED]      compares the package with the second solver
     python3 python/tests/plants.py coverage COUNT    how often the truth lies within 1 and 2 deviations
+    python3 python/tests/plants.py speed             processor seconds of 300 streams and 5 components
 
 The second solver is Newton's method on all conditions of the minimum, dense, in mpmath; the
 standard deviations are those of the inverse of its matrix without second derivatives.
@@ -12,6 +13,7 @@ from __future__ import annotations
 import math
 import random
 import sys
+import time
 import warnings
 from collections.abc import Iterator
 from dataclasses import dataclass
@@ -22,7 +24,7 @@ import numpy
 
 sys.path.insert(0, str(Path(__file__).resolve().parents[1]))
 from plantbal.balance import Flow, Known, Measured, Problem, Solution, solve  # noqa: E402
-from plantbal.balance.table import recoveries_of  # noqa: E402
+from plantbal.balance.table import lines_of, recoveries_of  # noqa: E402
 from plantbal.faults import Fault  # noqa: E402
 
 ERROR = 0.02
@@ -446,8 +448,19 @@ def coverage(count: int, seed: int) -> dict[str, tuple[float, float, int]]:
     }
 
 
+def speed(seed: int = 1) -> tuple[int, float]:
+    """Return how many streams a plant of 5 components has, and its processor seconds."""
+    rng = random.Random(seed)
+    problem = joined(rng, 300, 5).problem(rng, 0.6, 0.6)
+    begin = time.process_time()
+    list(lines_of(Known(solve(problem))))
+    return len(problem.flows), time.process_time() - begin
+
+
 if __name__ == "__main__":
-    if sys.argv[1:2] == ["coverage"]:
+    if sys.argv[1:2] == ["speed"]:
+        print("streams, processor seconds:", speed())
+    elif sys.argv[1:2] == ["coverage"]:
         print("within 1 and 2 deviations, figures a month:", coverage(int(sys.argv[2]), 1))
     else:
         warnings.simplefilter("ignore")  # a matrix without an inverse is told apart

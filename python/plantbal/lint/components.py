@@ -64,7 +64,8 @@ def unused_assays(ledger: Ledger) -> Iterator[Finding]:
             if classes[name] == "unobservable":
                 text = f"nothing determines the flow of {name} in {period}, so the balance of "
                 text += f"{component} leaves its assay out"
-                remedy = "book what is missing, or measure a stream of its cycle"
+                remedy = "assays may determine it: plantbal-desk balance reconciles both at once; "
+                remedy += "or book what is missing, or measure a stream of its cycle"
                 line = ledger.state.assays[component, name, period].line
                 yield Finding("unused-assay", text, remedy, place_in(ledger, line), name, period)
 
