@@ -10,14 +10,14 @@ from pathlib import Path
 from plantbal.book.accounting import accounts_of, put_accounts
 from plantbal.book.changes import Changes, compare, gone, strayed
 from plantbal.book.ledger import FACT_KINDS, PLANT_KINDS, Fact, Ledger, rows_text
-from plantbal.book.forms import year_file
 from plantbal.book.meters import Meter, meters_of, meters_text, read_meters
 from plantbal.book.reading import ANOTHER_VALUE, converted, raise_all
 from plantbal.book.results import Added, YearAdded
-from plantbal.book.said import closed_in, counted, doubts, lacking
+from plantbal.book.said import closed_in, counted, doubts, lacking, odd
 from plantbal.book.store import METERS, PLANT, Act, Action, Store
 from plantbal.book.years import Years
 from plantbal.faults import Fault, InputFault, Refusal
+from plantbal.lint import Finding
 from plantbal.model.causes import Cause, Reason
 from plantbal.records import text_of
 from plantbal.session import Period
@@ -60,7 +60,8 @@ def add(
     """Add a workbook; the parameters are those of `plantbal.Book.add`."""
     name = Path(workbook).name
     with book.opened(reading=dry_run):
-        years = Years(book)
+        before: dict[str, list[Finding]] = {}
+        years = Years(book, lambda ledger: before.update({ledger.name: odd(ledger)}))
         into = years.named(year)
         meters = read_meters(book.path(METERS))
         wide = any(meter.base for meter in meters.values())
@@ -90,7 +91,7 @@ def add(
             action.written[METERS] = meters_text(found.values())
 
         told = put_accounts(accounts, work.accounts, book, action)
-        parts = tuple(_year_added(book, ledger, facts, found) for ledger in years.used)
+        parts = tuple(_year_added(before, ledger, facts, found) for ledger in years.used)
         is_booked = not dry_run and bool(action.appended or action.written)
         if is_booked:
             book.do(action)
@@ -100,11 +101,13 @@ def add(
 
 
 def _year_added(
-    book: Store, ledger: Ledger, facts: list[Fact], meters: dict[str, Meter]
+    before: Mapping[str, list[Finding]],
+    ledger: Ledger,
+    facts: list[Fact],
+    meters: dict[str, Meter],
 ) -> YearAdded:
     """Return what was put to a year, what of it looks wrong, and what is missing beside it."""
-    text = book.text(year_file(ledger.name))
-    found = doubts(text, ledger.added_text())
+    found = doubts(before[ledger.name], ledger)
     missing = lacking(ledger, facts, meters)
     return YearAdded(ledger.name, tuple(ledger.added), tuple(found), tuple(missing))
 

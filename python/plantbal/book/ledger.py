@@ -228,7 +228,8 @@ class Ledger:
         Refusal
             If the program would refuse it.
         """
-        effect = self.session.take_row(fields)
+        number = self.count + 1  # a row is a line
+        effect = self.session.take_row(fields, at=facts.At(number, number))
         assert effect is not None, "the session is strict"
         self.count += 1
         self.added.append(without_empty_end(fields))

@@ -7,12 +7,15 @@ from collections import Counter
 from collections.abc import Collection, Iterable
 
 from plantbal.book.changes import Changes
-from plantbal.book.forms import JOURNAL
+from plantbal.book.forms import JOURNAL, year_file
 from plantbal.book.ledger import PLANT_KINDS, Fact, Ledger
 from plantbal.book.meters import Meter
 from plantbal.book.results import ReportState, YearAdded
 from plantbal.book.store import Store
-from plantbal.lint import RULES, Finding, lint_session
+from plantbal.lint import SEVERITIES, Finding
+from plantbal.lint.plant import near_names
+from plantbal.lint.values import densities, deviations, magnitudes
+from plantbal.model import ledger as model
 from plantbal.session import Period, day_of_number, in_service, is_served, period_days
 from plantbal.workbook.facts import days_of, spans, tank_days
 
@@ -24,7 +27,7 @@ _NEW = {
     "dip": "dip",
     "assay": "assay",
 }
-_ODD = {"magnitude", "small-deviation", "large-deviation", "density", "near-names"}
+_ODD = (near_names, magnitudes, deviations, densities)
 _EDITED = {"amend": "amended", "strike": "struck", "close": "closed"}
 
 
@@ -125,23 +128,22 @@ def reopened_said(period: str) -> str:
     return f"{period} is closed, and this changes it: {then}"
 
 
-def doubts(before: str, added_rows: str) -> list[Finding]:
-    """Return what rows bring that looks wrong: another unit, an error of another size.
+def odd(ledger: Ledger) -> list[Finding]:
+    """Return what of a year looks wrong by its names and values: another unit, another size.
 
-    Parameters
-    ----------
-    before, added_rows : str
-        The session before them, and the rows.
+    Its rows aren't judged again: the rules look at the session that the ledger has.
     """
-    if not added_rows:
+    session = model.Ledger.of_state(year_file(ledger.name), ledger.session.state)
+    found = [each for rule in _ODD for each in rule(session)]
+    return sorted(found, key=lambda each: (SEVERITIES.index(each.severity), each.place.line or 0))
+
+
+def doubts(before: Iterable[Finding], ledger: Ledger) -> list[Finding]:
+    """Return what looks wrong in a year that has had rows added, and didn't before."""
+    if not ledger.added:
         return []
-    old, new = (_odd(text.encode("ascii")) for text in (before, before + added_rows))
-    known = {(each.text, each.remedy) for each in old}
-    return [each for each in new if (each.text, each.remedy) not in known]
-
-
-def _odd(session: bytes) -> list[Finding]:
-    return lint_session(session, ignore=RULES.keys() - _ODD)
+    known = {(each.text, each.remedy) for each in before}
+    return [each for each in odd(ledger) if (each.text, each.remedy) not in known]
 
 
 def lacking(ledger: Ledger, facts: Iterable[Fact], meters: dict[str, Meter]) -> list[str]:

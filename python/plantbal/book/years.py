@@ -4,7 +4,7 @@ from __future__ import annotations
 
 import datetime
 from collections import defaultdict
-from collections.abc import Iterable
+from collections.abc import Callable, Iterable
 from dataclasses import dataclass
 
 from plantbal.book.ledger import Fact, Ledger
@@ -113,6 +113,8 @@ class Years:
     ----------
     book : Store
         The book, which has been opened.
+    on_read : callable
+        Gets the ledger of a year when it is read, before anything is put to it.
 
     Attributes
     ----------
@@ -122,8 +124,11 @@ class Years:
         Of each year the rows that the commands `amend` and `strike` have written.
     """
 
-    def __init__(self, book: Store) -> None:
+    def __init__(
+        self, book: Store, on_read: Callable[[Ledger], None] = lambda ledger: None
+    ) -> None:
         self.book = book
+        self._on_read = on_read
         self.spans = spans_of(book)
         self.typed: defaultdict[str, set[int]] = defaultdict(set)
         self._ledgers: dict[str, Ledger] = {}
@@ -140,6 +145,7 @@ class Years:
             self._ledgers[name] = Ledger.read(
                 name, str(self.book.path(file)), self.book.text(file), span.first, span.last
             )
+            self._on_read(self._ledgers[name])
         return self._ledgers[name]
 
     @property

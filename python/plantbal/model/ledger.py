@@ -243,6 +243,13 @@ class Ledger:
             for step in steps(self.state, data):
                 self._take(step)
 
+    @classmethod
+    def of_state(cls, source: str, state: State) -> Ledger:
+        """Return a session that was judged already; what its rows saw isn't known."""
+        made = cls(source, b"")
+        made.state = state
+        return made
+
     # ---- rows
 
     def _take(self, step: Step | Rows) -> None:

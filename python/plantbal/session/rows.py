@@ -260,9 +260,12 @@ class SessionRows:
         """
         return self.take_row(fields, place) is not None
 
-    def take_row(self, fields: tuple[str, ...], place: Place | None = None) -> Effect | None:
+    def take_row(
+        self, fields: tuple[str, ...], place: Place | None = None, at: At | None = None
+    ) -> Effect | None:
         """Take a row as `row` does, and return what it does or asks for; None if it is refused."""
-        at = At() if place is None else At(place.record or 0, place.line or 0)
+        if at is None:
+            at = At() if place is None else At(place.record or 0, place.line or 0)
         answer = self.state.after(fields, at)
         if isinstance(answer, Refused):
             self._refuse(fields, answer, place)
