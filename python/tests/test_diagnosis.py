@@ -4,17 +4,23 @@ from __future__ import annotations
 
 import random
 from collections.abc import Callable
+from pathlib import Path
 
 import numpy
 import pytest
-from conftest import example, spent
-from diagnosed import LIMITS, Guilty, Theory, months, told
+from conftest import Desk, example, spent
+from diagnosed import LIMITS, Guilty, Theory, mistakes, months, told
 from plants import ends_of
-from refinery import DAYS, Month, copy_of, month_of, scaled
+from refinery import DAYS, TANKS, Month, copy_of, month_of, scaled
 
+from plantbal import run
 from plantbal.diagnosis.balances import Balances
+from plantbal.diagnosis.days import Days
 from plantbal.diagnosis.gross import holes_of, sets_of_equals
+from plantbal.diagnosis.kept import session_of_days
 from plantbal.diagnosis.unseen import hidden_of, unchecked_of
+from plantbal.model.ledger import Ledger
+from plantbal.model.studies import studies_of
 from plantbal.report.blocks import blocks_of, read_rows
 from plantbal.model.topology import Arc
 
@@ -175,7 +181,7 @@ def test_nothing_wrong() -> None:
 
 def test_simulated_months() -> None:
     """The shares of theory are the program's; a tank isn't named first more often than it is wrong."""
-    found = months(12, 3)
+    found = months(8, 3)
     rejected = sum(each.rejected for each in found.values())
     power = sum(each.power for each in found.values())
     assert abs(rejected - power) < 4, (rejected, power)
@@ -192,6 +198,44 @@ def test_time() -> None:
     ticket(1, False)(month)
     data = month.session()
     assert spent(lambda: told(data)) < 5
+
+
+@pytest.mark.parametrize("seed", [1])
+def test_mistakes(seed: int) -> None:
+    """Of the first eight mistakes each that is rejected is told with set, size and day."""
+    found = [each for each in mistakes(seed, 8) if each.rejected]
+    assert len(found) == 7 and all(each.is_told for each in found), found
+
+
+def test_session_of_days(program: Path) -> None:
+    """The session of the days has their values, and the program finds the same statistics."""
+    ledger = Ledger("a month", month_of(1).session())
+    seen = ledger.seen[-1]
+    days = Days(ledger.state, seen.view)
+    spans = days.spans(TANKS)
+    assert len(spans) == DAYS
+    text = session_of_days(ledger, seen, spans[:2])
+    kept = Ledger("its days", text.encode())
+    assert not kept.refused and len(kept.seen) == 2
+    output = run(text.encode(), tests=False, program=program)
+    for span, study, block in zip(spans, studies_of(kept), output.blocks_in_order):
+        nodes, measured = days.measured(span)
+        values = {name: each.value for name, each in measured.items()}
+        assert {name: each.value for name, each in study.streams.items()} == values
+        statistic = Balances.of_measured(nodes, measured.values()).statistic
+        assert block.solved is not None
+        assert int(block.solved["low"]) <= 1000 * statistic + 1, (span, statistic)
+        assert 1000 * statistic - 1 <= int(block.solved["high"]), (span, statistic)
+
+
+def test_tables(say: Desk) -> None:
+    """The published heat exchanger: F2 is 3.925 too high, as 1 of 6 equal meters in 4 balances."""
+    path = example("heat_exchanger_suspect.out.csv")
+    head, line = say("tables", "holes", path).out.splitlines()
+    assert line == "day2,1,F2,3.925000,1.224745,3.20,,"
+    assert "EXCHANGER,4.250000,3.01" in say("tables", "balances", path).out
+    assert say("tables", "unseen", path).out.splitlines()[1:] == []
+    assert "are of the table holes" in say("tables", "flows", path, "--keep", "x").err
 
 
 # ---- what can't be seen

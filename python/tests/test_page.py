@@ -364,7 +364,7 @@ VERDICTS = {
         "9000,9001",
         f"global,3841,reject\n{MEASURE}",
         "look",
-        "Look at A",
+        "Look at A or C",
     ),
     "no suspect": (
         *("", "converged", "9000,9001", "global,3841,reject\n"),
@@ -400,7 +400,7 @@ def test_verdict(case: tuple[str, ...]) -> None:
     said = account.statements[0].verdict
     assert (said.level, said.headline) == (level, headline)
     marks = {line.name for line in account.statements[0].report.rounds[-1].lines if line.mark}
-    assert marks == ({"A", "C"} if headline == "Look at A" else set())
+    assert marks == ({"A", "C"} if headline == "Look at A or C" else set())
 
 
 def test_cut_off() -> None:

@@ -98,7 +98,8 @@ def test_rounds_of_a_window() -> None:
     # a person reads the declared name
     assert "after RUNDOWN in may2 was taken out" in blocks[1].verdict
     made = page(rows, seconds=0)
-    assert "Accepted without RUNDOWN in may2" in made and "of RUNDOWN in may2 was taken" in made
+    # with the pump of that day it is a set of equals
+    assert "Accepted without one of " in made and "That it was RUNDOWN in may2 is no finding" in made
     assert "before RUNDOWN in may2 was taken out" in made and ">s1.2" not in made
 
 

@@ -14,6 +14,9 @@ from plantbal.book.results import Reported
 from plantbal.book.said import lacks
 from plantbal.book.store import METERS, Act, Action, Store
 from plantbal.book.years import Years
+from plantbal.diagnosis.diagnose import diagnosis_of
+from plantbal.diagnosis.rounds import one_of_said, suspects_by_set, taken_by_set
+from plantbal.diagnosis.words import lines_said
 from plantbal.faults import Fault
 from plantbal.gates import Stop, stops_of
 from plantbal.model import ledger as model
@@ -125,11 +128,37 @@ def suspects_of_block(block: Block) -> list[str]:
         what = f"{block.subject}: suspects aren't tested for: there is no critical value measure"
         return [f"{what}; plantbal-desk critical 0.05 --measure {count} gives one"]
     low = {row["stream"]: Decimal(row["low"]) / 1000 for row in block.measure}
-    names = [f"{block.shown(name)} {plain(low[name])}" for name in block.suspects()]
+    names = []
+    for equals in suspects_by_set(block):
+        tested = next(name for name in equals if name in low)
+        names.append(f"{one_of_said(equals, block)} {plain(low[tested])}")
     if not names:
         return []
     more = f" and {len(names) - _MOST:,} more" if len(names) > _MOST else ""
     return [f"{block.subject}: suspects: {', '.join(names[:_MOST])}{more}"]
+
+
+def holes_said(output: Output, session: bytes = b"") -> list[str]:
+    """Return what is missing in a report that is rejected, where, and since when: a line each.
+
+    Parameters
+    ----------
+    output : Output
+        The report.
+    session : bytes
+        The session that asks for it: with it tickets, dips and days are looked at.
+    """
+    blocks = [block for block in output.blocks_in_order if block.is_report]
+    first = [block for block in blocks if block.round == 0][-1:]
+    if not first or first[0].whole is None or first[0].whole["verdict"] != "reject":
+        return []
+    read = model.Ledger("the session", session) if session else None
+    seen = read.reported.get(first[0].period) if read else None
+    said = list(lines_said(diagnosis_of(first[0], read, seen)))
+    for names in taken_by_set(blocks, blocks[-1]):
+        if len(names) > 1:
+            said.append(f"taken out is one of {one_of_said(names, blocks[-1])}")
+    return [f"{first[0].subject}: {line}" for line in said]
 
 
 def keep(book: Store, action: Action, ledger: Ledger, period: str, text: str, closed: bool) -> bool:
@@ -205,9 +234,12 @@ def reports(
             if new:
                 book.do(action)
             missing = lacks(ledger, ledger.periods[name], meters)
-            stops = stops_in(book.text(f"{ledger.name}.csv"), name, output, quieted(book.journal()))
+            text = book.text(f"{ledger.name}.csv")
+            stops = stops_in(text, name, output, quieted(book.journal()))
+            whole = text + rows_asking(name, components)
+            holes = holes_said(output, whole.encode("ascii"))
             path = book.path(report_file(name))
-            yield Reported(name, output, path, new, tuple(missing), tuple(stops))
+            yield Reported(name, output, path, new, tuple(missing), tuple(stops), tuple(holes))
 
 
 def session_asking(book: Store, names: Sequence[str]) -> str:

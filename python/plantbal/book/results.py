@@ -149,6 +149,8 @@ class Reported:
         The readings and dips that are missing, in sentences.
     stops : tuple of Stop
         What has to be looked at before it is closed, but for what is quieted.
+    holes : tuple of str
+        If it is rejected how much is missing, where, and since when, in sentences.
     """
 
     period: str
@@ -157,6 +159,7 @@ class Reported:
     is_new: bool
     missing: tuple[str, ...]
     stops: tuple[Stop, ...] = ()
+    holes: tuple[str, ...] = ()
 
     @property
     def edits(self) -> int:

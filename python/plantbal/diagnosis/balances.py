@@ -131,7 +131,8 @@ class Balances:
             for row in streams
             if row["value"]
         }
-        return cls([row["name"] for row in block.nodes], arcs, values)
+        ends = (end for arc in arcs for end in (arc.from_, arc.to))  # of a report that was edited
+        return cls(dict.fromkeys([*(row["name"] for row in block.nodes), *ends]), arcs, values)
 
     @classmethod
     def of_measured(cls, nodes: Sequence[str], found: Iterable[Measured]) -> Balances:

@@ -302,8 +302,8 @@ def from_a_day_on(values: Any) -> Iterator[Course]:
     for place in range(count):
         shape = values.copy()
         shape[:place] = 0.0
-        if shape.any():
-            yield Course(place, count - 1, shape, count)
+        if (shape != 0).sum() > 1:  # that it was so from the first day on is one course of its own
+            yield Course(place, count - 1, shape, count if place else 1)
 
 
 def for_some_days(count: int) -> Iterator[Course]:
@@ -317,15 +317,35 @@ def for_some_days(count: int) -> Iterator[Course]:
             yield Course(first, last, shape, count * count // 2)
 
 
-def on_days(spans: list[Span], runs: list[tuple[int, int]]) -> Iterator[Course]:
-    """Give the courses of an error that is the same on some days that are known."""
+def free_on(series: Series, runs: list[tuple[int, int]], sign: int = 1) -> list[Fit]:
+    """Return how well errors of any sizes fit on the days of each run, and on no other ones.
+
+    Parameters
+    ----------
+    series : Series
+        The series.
+    runs : list of tuple of int
+        The first and the last day of each run. The day before may be wrong too.
+    sign : int
+        -1 if the measurement leads from the second side of the hole to the first.
+    """
     import numpy
 
+    found = []
     for first, last in runs:
-        inside = [first <= span.first and span.last <= last for span in spans]
-        places = [place for place, is_inside in enumerate(inside) if is_inside]
-        if places:
-            yield Course(places[0], places[-1], numpy.array(inside, dtype=float), len(runs))
+        inside = [at for at, span in enumerate(series.spans) if first <= span.first <= last]
+        for places in ([*{max(0, inside[0] - 1), *inside}], inside) if inside else ():
+            inverse = numpy.linalg.pinv(series.weight[numpy.ix_(places, places)])
+            drawn = (series.weight @ (sign * series.sizes))[places]
+            sizes = inverse @ drawn
+            total = float(sizes.sum())
+            shape = numpy.zeros(len(series.spans))
+            shape[places] = sizes
+            # each day has a size of its own, which costs as much as the choice of one of four
+            course = Course(min(places), max(places), shape, 4 ** len(places))
+            sure = sqrt(float(inverse.sum())) / max(abs(total), 1.0)
+            found.append(Fit(course, 1.0, sure, float(drawn @ sizes)))
+    return found
 
 
 def at_the_ends(count: int) -> tuple[Course, Course]:

@@ -104,6 +104,8 @@ def diagnosis_of(block: Block, ledger: Ledger | None = None, seen: Seen | None =
     seen : Seen, optional
         The row of the session that asks for the report.
     """
+    if not block.ended or block.solved is None:
+        return Diagnosis(block.subject, (), (), ())
     balances = Balances.of_block(block)
     rejected = block.whole is not None and block.whole["verdict"] == "reject"
     limits = limits_of(block)

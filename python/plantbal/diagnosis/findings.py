@@ -24,16 +24,17 @@ from plantbal.diagnosis.days import (
     at_the_ends,
     fits_of,
     for_some_days,
+    free_on,
     from_a_day_on,
-    on_days,
     one_day,
 )
 from plantbal.diagnosis.evidence import Evidence
 from plantbal.model.facts import Fact
 
-# What a mistake costs: readings that repeat themselves, another unit, a run of days, a table, a
-# stream that was left out.
-_FROZEN, _UNIT, _RUN, _TABLE, _FORGOTTEN = 1.0, 3.0, 6.0, 12.0, 14.0
+# What a mistake costs: another unit, a run of days, a table, a stream that was left out.
+_UNIT, _RUN, _TABLE, _FORGOTTEN = 3.0, 6.0, 12.0, 14.0
+# What each repeated reading speaks for a frozen meter, and all of them together at the most.
+_REPEATED, _FROZEN = 4.0, -20.0
 # A meter drifts by some percent; more is unlikely, and this is the most that it costs.
 _PERCENT, _MOST = 4.0, 30.0
 # Findings whose score falls short of the best one's by less than this are possible too.
@@ -128,8 +129,12 @@ def _of_member(
         candidate = make(member.name, span, fit, evidence)
         yield _finding(series, member.name, Pattern.ONE_DAY, fit, candidate)
     yield from _of_ratio(series, member, sign, evidence)
-    for fit in fits_of(series, on_days(series.spans, evidence.repeats(member.name)), sign):
-        candidate = Candidate(Kind.FROZEN, member.name, fit.total, _FROZEN)
+    repeats = evidence.repeats(member.name)
+    for fit in free_on(series, repeats, sign):
+        # readings to the gram don't repeat themselves by chance, unless they do so all the time
+        days = fit.course.last - fit.course.first
+        cost = max(_FROZEN, -_REPEATED * days) if len(repeats) == 1 else 0.0
+        candidate = Candidate(Kind.FROZEN, member.name, fit.total, cost)
         yield _finding(series, member.name, Pattern.SOME_DAYS, fit, candidate)
     for fit in _few(fits_of(series, for_some_days(count), sign)):
         candidate = Candidate(Kind.READING, member.name, fit.total, _RUN)

@@ -7,6 +7,8 @@ from dataclasses import dataclass, replace
 from decimal import Decimal
 from typing import TYPE_CHECKING
 
+from plantbal.diagnosis.diagnose import Diagnosis, diagnosis_of
+from plantbal.diagnosis.rounds import in_order, suspects_by_set, taken_by_set
 from plantbal.model.forms import day_text
 from plantbal.model.ledger import Ledger, Seen
 from plantbal.page.statement import (
@@ -117,8 +119,10 @@ def round_of(
     contents: Mapping[str, Contents],
     worth: Mapping[str, Worth],
     lost: Lost,
+    before: Sequence[Block] = (),
     stop: str = "",
     mass: Block | None = None,
+    diagnosis: Diagnosis | None = None,
 ) -> Round:
     """Return a round.
 
@@ -132,17 +136,23 @@ def round_of(
         How good its flows are, by the streams.
     lost : Lost
         How many rows were refused before it.
+    before : sequence of Block
+        The rounds before it.
     stop : str
         Why the elimination ended after it.
     mass : Block, optional
         The report whose flows it takes, if it is the balance of a component.
+    diagnosis : Diagnosis or None
+        What is known of the first round's holes: it has the order of equals.
     """
     statistics = {row["stream"]: row["low"] for row in block.measure}
     # A test of one meter counts under a global test that rejects, and if no row of the plant is
     # missing.
     rejected = block.whole is not None and block.whole["verdict"] == "reject"
-    suspects = block.suspects() if rejected and not lost.lacking else []
-    marks = {name: "suspect" for name in suspects} | {name: "taken" for name in block.taken}
+    suspects = suspects_by_set(block) if rejected and not lost.lacking else []
+    suspects = in_order(suspects, diagnosis)
+    marks = {name: "suspect" for names in suspects for name in names}
+    marks |= {name: "taken" for name in block.taken}
     lines = [
         line_of(
             declared(row, block.window),
@@ -152,7 +162,8 @@ def round_of(
         )
         for row in block.streams
     ]
-    said = verdict_of(block, lost, suspects, lines, stop)
+    taken = in_order(taken_by_set(before, block), diagnosis)
+    said = verdict_of(block, lost, suspects, lines, taken, stop)
     if block.component and worth:
         said = replace(said, reasons=[*said.reasons, *whither(block, mass)])
     return Round(block, lines, tanks_of(lines, contents), said)
@@ -267,6 +278,7 @@ def account_of(
         asked = ledger.seen[number] if ledger is not None else None
         subject = asked.subject if asked is not None else some.subject
         contents = contents_of(ledger, asked) if ledger is not None and asked is not None else {}
+        diagnosis = diagnosis_of(some.blocks[0], ledger, asked) if some.blocks else None
         rounds = []
         for block in some.blocks:
             stop = some.stop if block is some.blocks[-1] else ""
@@ -274,8 +286,11 @@ def account_of(
             if block.is_report and block.ended:
                 masses[block.period] = block
             mass = masses.get(block.period)
-            rounds.append(round_of(block, contents, good, some.lost, stop, mass))
-        report = Report(subject, rounds, some.over, asked)
+            before = some.blocks[: block.round]
+            rounds.append(
+                round_of(block, contents, good, some.lost, before, stop, mass, diagnosis)
+            )
+        report = Report(subject, rounds, some.over, asked, diagnosis)
         by_period.setdefault(subject, []).append(report)
     edits, states = _edits_of(rows), _states_of(rows)
     for period in states:
@@ -334,6 +349,7 @@ def _statement(
         changes = _with_changes(ledger, period)
     last = reports[-1].last
     said = last.verdict if last is not None else _without_report(period, reports[-1].over)
+    said = replace(said, reasons=[*said.reasons, *_unseen(reports[-1].diagnosis, last)])
     wanted = [each for each in findings if each.period == period and each.code in TOLD]
     if wanted:
         names = [each.name for each in wanted if each.code != LATE]
@@ -347,6 +363,15 @@ def _statement(
         what = f"{flows} of {names_of(names, 2)} can't be"
         said = said.but(what, [f"{each.said}." for each in cant])
     return Statement(number, period, days, state, reports, changes, said)
+
+
+def _unseen(diagnosis: Diagnosis | None, last: Round | None) -> list[str]:
+    """Return which measurements nothing checks, as a sentence, if there are tests."""
+    if diagnosis is None or last is None or last.block.whole is None or not diagnosis.unchecked:
+        return []
+    names = [last.block.shown(each.name) for each in diagnosis.unchecked]
+    checks = "Nothing checks" + (f" {len(names)} measurements:" if len(names) > 1 else "")
+    return [f"{checks} {names_of(names)}. What each could hide is said below."]
 
 
 def _sentence(finding: Finding, last: Round | None) -> str:

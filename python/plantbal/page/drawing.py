@@ -103,10 +103,11 @@ def arcs_of(lines: Iterable[Line]) -> list[Arc]:
 
 
 def to_look_at(lines: Sequence[Line]) -> str:
-    """Return which stream most needs a look: a suspect, or that of the greatest adjustment."""
-    for line in lines:
-        if line.mark:
-            return line.name
+    """Return which stream most needs a look: the greatest suspect, what was taken out, or what is
+    adjusted most."""
+    marked = [line for line in lines if line.mark]
+    if marked:  # of equals the one that is adjusted by the most of its own deviations
+        return max(marked, key=lambda line: (line.statistic or 0, abs(line.deviations or 0))).name
     moved = [line for line in lines if line.deviations is not None]
     if moved:
         return max(moved, key=lambda line: abs(line.deviations or 0)).name

@@ -13,6 +13,7 @@ from plantbal.faults import ToolMissing
 from plantbal.model.facts import Fact
 from plantbal.model.forms import day_text
 from plantbal.model.ledger import Ledger
+from plantbal.page import diagnosed
 from plantbal.page.drawing import KINDS, Draftsman
 from plantbal.page.grades import real
 from plantbal.page.head import Origin, days_text, head_of
@@ -253,6 +254,7 @@ def environment() -> Environment:
         spark=spark,
         real=real,
         grade_unit=_grade_unit,
+        **diagnosed.FILTERS,
     )
     return made
 

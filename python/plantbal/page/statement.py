@@ -15,6 +15,7 @@ from plantbal.report.blocks import Block
 
 if TYPE_CHECKING:
     from plantbal.balance.grades import Grades
+    from plantbal.diagnosis.diagnose import Diagnosis
     from plantbal.explain import Told
     from plantbal.lint import Finding
     from plantbal.page.gates import PeriodGates
@@ -165,6 +166,7 @@ class Report:
     rounds: list[Round]
     over: str = ""
     asked: Seen | None = None
+    diagnosis: Diagnosis | None = None
 
     @property
     def last(self) -> Round | None:

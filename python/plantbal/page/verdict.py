@@ -7,6 +7,7 @@ from dataclasses import dataclass, field, replace
 from math import log10
 from typing import TYPE_CHECKING
 
+from plantbal.diagnosis.rounds import one_of_said
 from plantbal.report.blocks import Block
 
 if TYPE_CHECKING:
@@ -120,8 +121,19 @@ def count_of(number: int, one: str, many: str) -> str:
     return f"1 {one}" if number == 1 else f"{number:,} {many}"
 
 
+# How many names of a set of equals a headline has, and a sentence.
+MOST_IN_HEADLINE, MOST_IN_SENTENCE = 4, 12
+# A set of equals: measurements of which no readings can tell which is wrong.
+Set = Sequence[str]
+
+
 def verdict_of(
-    block: Block, lost: Lost, suspects: Sequence[str], lines: Sequence[Line], stop: str = ""
+    block: Block,
+    lost: Lost,
+    suspects: Sequence[Set],
+    lines: Sequence[Line],
+    taken: Sequence[Set] = (),
+    stop: str = "",
 ) -> Verdict:
     """Return what is said of a round.
 
@@ -131,10 +143,12 @@ def verdict_of(
         The round.
     lost : Lost
         The rows that were refused before it.
-    suspects : sequence of str
+    suspects : sequence of sets of equals
         The streams whose test rejects, if that counts.
     lines : sequence of Line
         Its streams.
+    taken : sequence of sets of equals
+        Those that were taken out before, each with those that might as well have been.
     stop : str
         Why the elimination ended after it.
     """
@@ -142,7 +156,7 @@ def verdict_of(
         return Verdict(
             "bad", "The report is cut off", ["Its last rows are missing: run the session again."]
         )
-    level, headline = _headline(block, lost.lacking, suspects)
+    level, headline = _headline(block, lost.lacking, suspects, taken)
     reasons = lost.reasons
     if block.solved["state"] != "converged":
         reasons.append(
@@ -152,8 +166,9 @@ def verdict_of(
     if block.taken:
         ended = f": {STOPS[stop]}" if stop in STOPS else ""
         were = "was" if len(block.taken) == 1 else "were"
-        taken = f"The {_measured(block)} of {names_of(_shown(block, block.taken))}"
-        reasons.append(f"{taken} {were} taken out{ended}.")
+        out = f"The {_measured(block)} of {names_of(_taken(block, taken))}"
+        reasons.append(f"{out} {were} taken out{ended}.")
+        reasons += _equals_of_taken(block, taken)
     reasons.append(_tests(block))
     if block.whole is not None and block.whole["verdict"] == "reject":
         reasons.append(_suspects(block, lost.lacking, suspects))
@@ -201,7 +216,9 @@ def _of_lines(lines: Sequence[Line]) -> list[str]:
     return said
 
 
-def _headline(block: Block, lacking: int, suspects: Sequence[str]) -> tuple[str, str]:
+def _headline(
+    block: Block, lacking: int, suspects: Sequence[Set], taken: Sequence[Set]
+) -> tuple[str, str]:
     """Return the level and the headline of a round that isn't cut off."""
     assert block.solved is not None
     verdict = block.whole["verdict"] if block.whole else ""
@@ -211,10 +228,10 @@ def _headline(block: Block, lacking: int, suspects: Sequence[str]) -> tuple[str,
         return "bad", f"{count_of(lacking, 'row', 'rows')} refused: not to be booked"
     if verdict == "reject":
         if suspects:
-            return "look", f"Look at {block.shown(suspects[0])}"
+            return "look", f"Look at {one_of_said(suspects[0], block, MOST_IN_HEADLINE)}"
         return "look", f"Rejected: look at the {_measured(block)}s"
     if verdict == "accept" and block.taken:
-        return "look", f"Accepted without {names_of(_shown(block, block.taken))}"
+        return "look", f"Accepted without {names_of(_taken(block, taken))}"
     if verdict == "accept":
         return "good", "Accepted"
     if verdict == "undecided":
@@ -222,9 +239,21 @@ def _headline(block: Block, lacking: int, suspects: Sequence[str]) -> tuple[str,
     return "plain", "Not tested"
 
 
-def _shown(block: Block, names: Sequence[str]) -> list[str]:
-    """Return streams as they are declared, in place of the codes of a window."""
-    return [block.shown(name) for name in names]
+def _taken(block: Block, taken: Sequence[Set]) -> list[str]:
+    """Return what was taken out: of a set of equals that it was one of them."""
+    sets = taken or [(name,) for name in block.taken]
+    some = (one_of_said(names, block, MOST_IN_HEADLINE) for names in sets)
+    return [f"one of {text}" if len(names) > 1 else text for names, text in zip(sets, some)]
+
+
+def _equals_of_taken(block: Block, taken: Sequence[Set]) -> list[str]:
+    """Return that it isn't known of sets of equals which one is wrong, as a sentence each."""
+    return [
+        f"That it was {block.shown(name)} is no finding: these readings can't tell which of "
+        f"{one_of_said(names, block, MOST_IN_SENTENCE)} is off."
+        for name, names in zip(block.taken, taken)
+        if len(names) > 1
+    ]
 
 
 def _measured(block: Block) -> str:
@@ -259,7 +288,7 @@ def _tests(block: Block) -> str:
     }[block.whole["verdict"]]
 
 
-def _suspects(block: Block, lacking: int, suspects: Sequence[str]) -> str:
+def _suspects(block: Block, lacking: int, suspects: Sequence[Set]) -> str:
     """Return which meters a test that rejects points at."""
     if lacking:
         return "Which meter is off can't be said while rows of the plant are missing."
@@ -269,11 +298,17 @@ def _suspects(block: Block, lacking: int, suspects: Sequence[str]) -> str:
     low = {row["stream"]: thousandths(row["low"]) for row in block.measure}
     critical = {row["stream"]: thousandths(row["critical"]) for row in block.measure}
     first = suspects[0]
+    tested = next(name for name in first if name in low)
+    names = one_of_said(first, block, MOST_IN_SENTENCE)
+    its, which = "its measurement", ""
+    if len(first) > 1:
+        its, which = "the measurement of any one of them", " (these readings can't tell which)"
     said = (
-        f"The first to look at is {block.shown(first)}: without its measurement the statistic falls by at least "
-        f"{low[first]}, where {critical[first]} is critical."
+        f"The first to look at is {names}{which}: without {its} the statistic falls by at least "
+        f"{low[tested]}, where {critical[tested]} is critical."
     )
-    if len(suspects) > 1:
+    more = sum(len(names) for names in suspects[1:])
+    if more:
         others = f"other {_measured(block)}"
-        said += f" The tests of {count_of(len(suspects) - 1, others, f'{others}s')} reject as well."
+        said += f" The tests of {count_of(more, others, f'{others}s')} reject as well."
     return said

@@ -58,6 +58,8 @@ WIDTH, METER, STATISTIC, LEGEND = 13.0, 1.55, 2.0, 0.45
 MANY = 40
 # An axis with more ticks than these has one for each month besides, of up to that many months.
 MANY_TICKS, MONTH, MOST_MONTHS = 12, 31.0, 150
+# How many rejected periods have below the statistic what is missing in them, the last ones.
+MOST_HOLES = 3
 # How many names there is room for above the statistic, how long one may be, and of how many periods
 # they stand across.
 MOST_NAMES, LONGEST, FEW = 105, 12, 17
@@ -207,6 +209,9 @@ class Chart:
                 gid=f"rejected-{trend.names[place]}",
             )
         self._rejected_names(axes)
+        holes = [hole for hole in trend.holes if hole][-MOST_HOLES:]
+        if holes:
+            axes.set_xlabel("\n".join(holes), color=REJECTED, fontsize=7.5, loc="left")
 
     def _rejected_names(self, axes: Any) -> None:
         """Write the names of rejected periods above a panel, each that doesn't touch another."""

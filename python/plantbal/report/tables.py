@@ -11,7 +11,9 @@ from typing import TYPE_CHECKING
 
 from plantbal.amounts import tonnes_of
 from plantbal.faults import Fault, ToolMissing
-from plantbal.inert import inert_frame
+from plantbal.files import write_text
+from plantbal.forms import read_session
+from plantbal.inert import csv_text, inert_frame
 from plantbal.report.blocks import Block, Values, blocks_of, last_blocks, read_rows
 
 if TYPE_CHECKING:
@@ -35,6 +37,17 @@ or as lines with tabs between:
   imbalance  what the measurements leave over at each unit whose streams are all measured: period,
              unit, tonnes
 
+or, of the first round of each period's last report, as CSV:
+
+  balances   under a global test that rejects what doesn't close, the worst first: the nodes that
+             unmeasured streams join, in less out, standard deviations, percent of each stream
+  holes      the errors that the tests tell: the measurements of which no readings can tell which
+             is wrong, tonnes, and with --session the days and what fits them
+  unseen     the measurements that nothing checks: by how much each may be too much and too little
+             before a stream would flow backwards, and the streams that rest on it alone
+
+With --keep the session of a period's days is written: a run of it makes the report of each day.
+
 Flows, classes and count are of the last round of each period's last report. With --component they
 are those of the balances of a component, and with --window those of the last window: its flows
 have a row for each stream and its periods as columns.
@@ -44,7 +57,12 @@ examples:
   plantbal run --tests < month.csv | plantbal-desk tables suspects
   plantbal-desk tables flows shifts.out.csv --component cu
   plantbal-desk tables contents month.out.csv
+  plantbal-desk tables holes march.out.csv --session march.csv --keep march.days.csv
 """
+
+
+# The tables of what is diagnosed.
+DIAGNOSED = ("balances", "holes", "unseen")
 
 
 @dataclass(frozen=True, slots=True)
@@ -215,19 +233,40 @@ def imbalances(blocks: list[Block]) -> Iterator[tuple[str, str, str]]:
 def add_arguments(parser: argparse.ArgumentParser) -> None:
     """Add the words of the command."""
     words = ["flows", "classes", "count", "contents", "suspects", "imbalance"]
-    parser.add_argument("what", choices=words)
+    parser.add_argument("what", choices=[*words, *DIAGNOSED])
     parser.add_argument("output", metavar="OUTPUT", nargs="?", default="-")
     which = parser.add_mutually_exclusive_group()
     component = "of the balances of a component"
     which.add_argument("--component", metavar="NAME", default="", help=component)
     which.add_argument("--window", action="store_true", help="of the last window")
+    session = "with holes: the session, for days, tickets and dips"
+    parser.add_argument("--session", metavar="FILE", help=session)
+    keep = "with --session: write the session of the days of its last report"
+    parser.add_argument("--keep", metavar="FILE", help=keep)
+
+
+def _write_diagnosed(options: argparse.Namespace, blocks: list[Block]) -> None:
+    """Write a table of what is diagnosed, and the session of the days if it is to be kept."""
+    from plantbal.diagnosis.tables import days_kept, rows_of
+    from plantbal.model.ledger import Ledger
+
+    if options.keep and not options.session:
+        raise Fault("--keep is of a session", remedy="say --session FILE too")
+    ledger = Ledger(*read_session(options.session)) if options.session else None
+    sys.stdout.write(csv_text(rows_of(options.what, blocks, ledger)))
+    if options.keep and ledger is not None:
+        write_text(options.keep, days_kept(ledger))
 
 
 def run(options: argparse.Namespace) -> int:
     """Write the table."""
     rows = read_rows(options.output, "report")
     choice = Choice(options.component, options.window)
-    if options.what == "contents":
+    if (options.session or options.keep) and options.what != "holes":
+        raise Fault("--session and --keep are of the table holes", remedy="leave them out")
+    if options.what in DIAGNOSED:
+        _write_diagnosed(options, choice.of(rows))
+    elif options.what == "contents":
         if options.component:
             raise Fault("contents are those of a window", remedy="leave --component out")
         sys.stdout.write(inert_frame(contents(rows)).to_csv())

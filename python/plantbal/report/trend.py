@@ -13,6 +13,8 @@ from plantbal.records import read_records
 from plantbal.report.blocks import Block, Values
 from plantbal.report.output import Output
 
+# How many holes of a rejected period are said, and how many measurements of each.
+_MOST_HOLES, _MOST_NAMES = 3, 6
 Days = tuple[datetime.date, datetime.date]
 _DAYS_OF_NAME = re.compile(r"(\d{4})(?:-(?:Q([1-4])|(\d\d)(?:-(\d\d))?))?")
 
@@ -61,6 +63,8 @@ class Trend:
         NaN if there is none.
     rejected : array of bool
         Whether the global test rejects.
+    holes : list of str
+        What is missing in a period that is rejected, and where; empty of others.
     lines : dict of str to Line
         The streams that have a flow to book in some period.
     """
@@ -72,6 +76,7 @@ class Trend:
     high: Any
     critical: Any
     rejected: Any
+    holes: list[str]
     lines: dict[str, Line]
 
     @property
@@ -154,6 +159,7 @@ def trend_of(output: Output, session: bytes = b"", component: str = "") -> Trend
         high=numpy.array([_statistic(block) for block in firsts]),
         critical=numpy.array([_critical(block) for block in firsts]),
         rejected=numpy.array([_verdict(block) == "reject" for block in firsts]),
+        holes=[_hole_of(block) for block in firsts],
         lines=_lines_of(list(rounds.values())),
     )
 
@@ -195,6 +201,21 @@ def _critical(block: Block) -> float:
 def _verdict(block: Block) -> str:
     """Return what the global test says."""
     return (block.whole or {}).get("verdict", "")
+
+
+def _hole_of(block: Block) -> str:
+    """Return how much is missing in a round that is rejected, and which measurements may be off."""
+    from plantbal.diagnosis.diagnose import diagnosis_of
+    from plantbal.diagnosis.rounds import one_of_said
+    from plantbal.diagnosis.words import tonnes
+
+    if _verdict(block) != "reject":
+        return ""
+    some = [
+        f"{tonnes(told.hole.size)} at {one_of_said(told.names, block, _MOST_NAMES)}"
+        for told in diagnosis_of(block).holes[:_MOST_HOLES]
+    ]
+    return f"{block.subject}: {'; '.join(some)}" if some else ""
 
 
 def _lines_of(rounds: list[_Rounds]) -> dict[str, Line]:

@@ -37,7 +37,7 @@ def _report(options: argparse.Namespace) -> int:
     for found in book.reports(*options.periods, settings=settings_of(options)):
         output, name = found.output, found.period
         print(state_of(output, name))
-        said = [*suspects_of(output), *balances_said(output), *found.missing]
+        said = [*suspects_of(output), *found.holes, *balances_said(output), *found.missing]
         for line in [*said, *map(line_of, unsaid(found.stops))]:
             print(line)
         history = f", with {counted(found.edits, 'edit')}" if found.edits else ""
