@@ -29,7 +29,7 @@ from scipy.stats import chi2, ncx2, norm  # noqa: E402
 from plantbal.study.critical import of_each  # noqa: E402
 from plantbal.diagnosis.balances import Balances  # noqa: E402
 from plantbal.diagnosis.days import Days  # noqa: E402
-from plantbal.diagnosis.diagnose import Told, told_of  # noqa: E402
+from plantbal.diagnosis.diagnose import Told, told_holes  # noqa: E402
 from plantbal.diagnosis.evidence import Evidence  # noqa: E402
 from plantbal.diagnosis.gross import Limits, holes_of, sets_of_equals  # noqa: E402
 from plantbal.diagnosis.words import told_said  # noqa: E402
@@ -87,12 +87,7 @@ def told(data: bytes, daily: bool = True) -> tuple[Study, Balances, list[Told]]:
     holes = holes_of(balances, LIMITS)
     view = study.seen.view
     evidence, days = Evidence(ledger.state, view), Days(ledger.state, view) if daily else None
-    names = {name for hole in holes for name in hole.names}
-    return (
-        study,
-        balances,
-        [told_of(hole, names - set(hole.names), LIMITS, evidence, days) for hole in holes],
-    )
+    return study, balances, list(told_holes(holes, LIMITS, evidence, days))
 
 
 # ---- theory, by dense matrices of its own

@@ -4,13 +4,13 @@ seen."""
 from __future__ import annotations
 
 from collections.abc import Iterable
-from dataclasses import dataclass
+from dataclasses import dataclass, replace
 
 from plantbal.diagnosis.balances import Balance, Balances
 from plantbal.diagnosis.candidates import Candidate, Kind, candidates_of
 from plantbal.diagnosis.days import Days, Series, Span
 from plantbal.diagnosis.evidence import Evidence
-from plantbal.diagnosis.findings import Finding, findings_of
+from plantbal.diagnosis.findings import AS_GOOD, Finding, findings_of
 from plantbal.diagnosis.gross import LEVEL, Hole, Limits, holes_of
 from plantbal.diagnosis.running import Overrun, overruns
 from plantbal.diagnosis.unseen import Unchecked, unchecked_of
@@ -112,7 +112,7 @@ def diagnosis_of(block: Block, ledger: Ledger | None = None, seen: Seen | None =
     told: Iterable[Told] = ()
     if rejected:
         holes = holes_of(balances, limits)
-        told = _told(holes, limits, *_facts_of(block, ledger, seen))
+        told = told_holes(holes, limits, *_facts_of(block, ledger, seen))
     ranked = balances.ranked() if rejected else []
     return Diagnosis(block.subject, tuple(ranked), tuple(told), tuple(unchecked_of(block)))
 
@@ -133,13 +133,44 @@ def _facts_of(
     return Evidence(ledger.state, seen.view), days if same else None
 
 
-def _told(
+def told_holes(
     holes: list[Hole], limits: Limits, evidence: Evidence | None, days: Days | None
 ) -> Iterable[Told]:
+    """Give what is told of the holes of a period, in their order.
+
+    Parameters
+    ----------
+    holes : list of Hole
+        The holes.
+    limits : Limits
+        The critical values.
+    evidence : Evidence or None
+        The facts of the period.
+    days : Days or None
+        Its days.
+    """
     every = {name for hole in holes for name in hole.names}
     for hole in holes:
         others = every - set(hole.names)
-        yield told_of(hole, others, limits, evidence, days)
+        found = told_of(hole, others, limits, evidence, days)
+        rivals = [told_of(each, others, limits, evidence, days) for each in hole.rivals]
+        yield _by_days(found, rivals)
+
+
+def _by_days(found: Told, rivals: list[Told]) -> Told:
+    """Return that of a hole and its rivals which fits the days best; the others are its rivals.
+
+    The month alone can hardly tell them apart, and the days often can.
+    """
+    best = max([found, *rivals], key=_score)
+    if best is found or _score(best) < _score(found) + AS_GOOD:
+        return found
+    others = (found.hole, *(each.hole for each in rivals if each is not best))
+    return replace(best, hole=replace(best.hole, rivals=others))
+
+
+def _score(told: Told) -> float:
+    return told.best.score if told.best is not None else float("-inf")
 
 
 def told_of(

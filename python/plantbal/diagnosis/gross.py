@@ -88,8 +88,8 @@ class Hole:
         holes left out.
     deviation : float
         The standard deviation of the size.
-    rivals : tuple of Equals
-        Other sets that explain nearly as much.
+    rivals : tuple of Hole
+        What it would be at other sets that explain nearly as much.
     signs : dict of str to int
         For each member 1 if it leads from the first side to the second, and else -1.
     """
@@ -98,7 +98,7 @@ class Hole:
     ends: tuple[tuple[str, ...], tuple[str, ...]]
     size: float
     deviation: float
-    rivals: tuple[Equals, ...]
+    rivals: tuple[Hole, ...]
     signs: dict[str, int]
 
     @property
@@ -216,6 +216,8 @@ def _one_after_another(
 
 def _hole(balances: Balances, equals: Equals, near: tuple[Equals, ...], names: set[str]) -> Hole:
     """Return a hole with its size once the other holes are left out."""
+    apart = names - set(equals.names)
+    rivals = tuple(_hole(balances, each, (), apart | set(each.names)) for each in near)
     others = balances.without(names - set(equals.names))
     arc = equals.members[0].arc
     pair = others.pair(arc)
@@ -225,4 +227,4 @@ def _hole(balances: Balances, equals: Equals, near: tuple[Equals, ...], names: s
     size, weight = ratio(others, pair)
     sides = [() if number == GROUND else others.sets[number] for number in pair]
     signs = {each.name: others.sign(each.arc) for each in equals.members}
-    return Hole(equals, (sides[0], sides[1]), size, 1 / sqrt(weight), near, signs)
+    return Hole(equals, (sides[0], sides[1]), size, 1 / sqrt(weight), rivals, signs)
