@@ -89,6 +89,8 @@ _plantbal_desk() {
         from-spreadsheet:--skip) :; return ;;
         from-spreadsheet:--before) _plantbal_files -f; return ;;
         tables:--component) :; return ;;
+        tables:--session) _plantbal_files -f; return ;;
+        tables:--keep) _plantbal_files -f; return ;;
         uncertainty:--form) _plantbal_words 'text csv json'; return ;;
         advise:--form) _plantbal_words 'text csv'; return ;;
         advise:--draw) _plantbal_files -f; return ;;
@@ -237,14 +239,14 @@ _plantbal_desk() {
         _plantbal_words '-h --help --decimal --date --limits --missing --skip --before' ;;
     tables)
         if [[ $here != -* ]]; then
-            if [[ ! " ${COMP_WORDS[*]:at + 1:COMP_CWORD - at - 1} " =~ ' '(flows|classes|count|contents|suspects|imbalance)' ' ]]; then
-                _plantbal_words 'flows classes count contents suspects imbalance'
+            if [[ ! " ${COMP_WORDS[*]:at + 1:COMP_CWORD - at - 1} " =~ ' '(flows|classes|count|contents|suspects|imbalance|balances|holes|unseen)' ' ]]; then
+                _plantbal_words 'flows classes count contents suspects imbalance balances holes unseen'
                 return
             fi
             _plantbal_files -f
             return
         fi
-        _plantbal_words '-h --help --component --window' ;;
+        _plantbal_words '-h --help --component --window --session --keep' ;;
     uncertainty)
         if [[ $here != -* ]]; then
             _plantbal_files -f

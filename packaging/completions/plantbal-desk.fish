@@ -141,7 +141,9 @@ complete -c plantbal-desk -n '__fish_seen_subcommand_from from-spreadsheet' -F
 complete -c plantbal-desk -n '__fish_seen_subcommand_from tables' -s h -l help -d 'show this help message and exit'
 complete -c plantbal-desk -n '__fish_seen_subcommand_from tables' -l component -x -d 'of the balances of a component'
 complete -c plantbal-desk -n '__fish_seen_subcommand_from tables' -l window -d 'of the last window'
-complete -c plantbal-desk -n '__fish_seen_subcommand_from tables' -a 'flows classes count contents suspects imbalance'
+complete -c plantbal-desk -n '__fish_seen_subcommand_from tables' -l session -r -F -d 'with holes: the session, for days, tickets and dips'
+complete -c plantbal-desk -n '__fish_seen_subcommand_from tables' -l keep -r -F -d 'with --session: write the session of the days of its last report'
+complete -c plantbal-desk -n '__fish_seen_subcommand_from tables' -a 'flows classes count contents suspects imbalance balances holes unseen'
 complete -c plantbal-desk -n '__fish_seen_subcommand_from tables' -F
 complete -c plantbal-desk -n '__fish_seen_subcommand_from uncertainty' -s h -l help -d 'show this help message and exit'
 complete -c plantbal-desk -n '__fish_seen_subcommand_from uncertainty' -l form -x -a 'text csv json' -d 'the form of the table (default: text)'

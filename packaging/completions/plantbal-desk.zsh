@@ -185,8 +185,10 @@ _plantbal_desk() {
             '--help[show this help message and exit]'
             '--component=[of the balances of a component]:NAME:'
             '--window[of the last window]'
+            '--session=[with holes\: the session, for days, tickets and dips]:FILE:_files'
+            '--keep=[with --session\: write the session of the days of its last report]:FILE:_files'
             '1:word:(tables)'
-            '2:WHAT:(flows classes count contents suspects imbalance)'
+            '2:WHAT:(flows classes count contents suspects imbalance balances holes unseen)'
             '*:OUTPUT:_files'
         ) ;;
     uncertainty)
