@@ -157,6 +157,21 @@ def test_a_flow_is_not_below_nothing() -> None:
     assert solve(Problem(gain)).flow("B") == pytest.approx(1 - 4 * 4 / 6)
 
 
+def test_a_bound_tells_nothing_of_what_nothing_determines() -> None:
+    # copper goes round from TWO to ONE in two streams that nobody assayed: any amount may
+    flows = [
+        Flow("FEED", "env", "ONE", Measured(100, 1)),
+        Flow("ON", "ONE", "TWO", Measured(130, 1)),
+        Flow("BACK", "TWO", "ONE", Measured(30, 1)),
+        Flow("OUT", "TWO", "env", Measured(100, 1)),
+    ]
+    grades = {(name, "cu"): Measured(0.02, 1e-8) for name in ("FEED", "OUT")}
+    known = Known(solve(Problem(flows, ["cu"], grades)))
+    for name in ("ON", "BACK"):
+        assert known.class_of(name, "cu") is Class.UNOBSERVABLE, name
+    assert known.held == ()
+
+
 def test_bad_input_is_said() -> None:
     metered = Measured(10, 1)
     one, two = Flow("A", "env", "U", metered), Flow("B", "U", "env")

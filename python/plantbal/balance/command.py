@@ -134,7 +134,7 @@ def notes_of(asked: Asked, known: Known, lines: Iterable[Line]) -> Iterable[str]
     """Yield what is to be said of a balance beside its figures."""
     for said in asked.left_out:
         yield f"left out: {said}"
-    for bound in known.solution.active:
+    for bound in known.held:
         yield f"{bound.said}: the measurements pull it there"
     loose = [
         line.stream for line in lines if not line.component and line.kind is Class.UNOBSERVABLE

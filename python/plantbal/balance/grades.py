@@ -139,7 +139,7 @@ def of_known(known: Known, said: Sequence[str] = ()) -> Grades:
         What is to be said of them already.
     """
     problem = known.system.problem
-    bounds = [f"{bound.said}: the measurements pull it there" for bound in known.solution.active]
+    bounds = [f"{bound.said}: the measurements pull it there" for bound in known.held]
     grades = {
         component: [_grade(known, flow, component) for flow in problem.flows]
         for component in problem.components

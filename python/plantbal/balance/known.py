@@ -18,12 +18,12 @@ from __future__ import annotations
 
 import math
 from collections.abc import Mapping
-from dataclasses import dataclass
+from dataclasses import dataclass, replace
 from enum import Enum
 from functools import cached_property
 from typing import Any
 
-from plantbal.balance.solve import Solution, _matrix
+from plantbal.balance.solve import Bound, Solution, _matrix
 from plantbal.balance.system import System
 
 # A pivot below this part of the greatest is 0, and so is what a number owes to loose ones below this.
@@ -66,13 +66,28 @@ class Known:
         return self.solution.system
 
     @cached_property
+    def held(self) -> tuple[Bound, ...]:
+        """The bounds to which measurements pull: those that count as equations.
+
+        A number that nothing determines may lie at a bound too, since it may lie anywhere. Nothing
+        pulls it there, and nothing is known of it by that.
+        """
+        solution = self.solution
+        if not solution.active:
+            return ()
+        free = Known(replace(solution, active=())).is_determined
+        return tuple(
+            bound for bound in solution.active if all(free[column] for column, _ in bound.terms)
+        )
+
+    @cached_property
     def _parts(self) -> tuple[Any, Any, Any, Any]:
         """The columns measured and not, and the matrices of both, of which the first is sparse."""
         import numpy
         from scipy.sparse import csc_array
 
         solution = self.solution
-        jacobian = csc_array(_matrix(self.system, solution.vector, list(solution.active)))
+        jacobian = csc_array(_matrix(self.system, solution.vector, list(self.held)))
         known = self.system.is_measured
         measured, free = numpy.flatnonzero(known), numpy.flatnonzero(~known)
         return measured, free, jacobian[:, measured], jacobian[:, free].toarray()

@@ -171,7 +171,7 @@ def choices(kind: str) -> dict[tuple[str, str], Choice]:
     }
     tanks = Choice(f"tanks!$A$2:$A${_LAST}")
     found |= {(sheet, "tank"): tanks for sheet in ("straps", "dips")}
-    found["assays", "stream"] = streams
+    found["assays", "stream"] = found["moistures", "stream"] = streams
     found["assays", "unit"] = Choice(f'"{",".join(GRADES)}"')
     return {key: choice for key, choice in found.items() if key[0] in KINDS[kind]}
 
@@ -185,6 +185,7 @@ def heads(sheet: str) -> tuple[str, ...]:
         "streams": "tag stream from to kind unit density error base since until",
         "tickets": "id stream first last amount unit density error",
         "estimates": "tag stream day amount unit density error",
+        "moistures": "tag stream id day first last moisture error amount unit",
         "critical": "test dof value",
     }
     return tuple(order[sheet].split()) if sheet in order else (*needed, *others)
