@@ -8,7 +8,7 @@ from fractions import Fraction
 import numpy
 import pytest
 from conftest import example
-from hypothesis import given, settings
+from hypothesis import HealthCheck, given, settings
 from hypothesis import strategies as some
 
 from plantbal.accounts.account import Level, Rolled, Table
@@ -51,6 +51,7 @@ def test_last_gram(grams: int, weights: dict[str, Fraction | int], wanted: dict[
     assert split(grams, weights) == wanted
 
 
+@settings(deadline=None, suppress_health_check=[HealthCheck.too_slow])
 @given(
     some.integers(-(10**15), 10**15), some.lists(some.fractions(0, 1), min_size=1, max_size=6)
 )
@@ -113,7 +114,7 @@ def books(draw: some.DrawFn) -> tuple[list[Month], Accounts]:
     return months, Accounts(rows)
 
 
-@settings(max_examples=60, deadline=None)
+@settings(max_examples=60, deadline=None, suppress_health_check=[HealthCheck.too_slow])
 @given(books())
 def test_each_account_closes(found: tuple[list[Month], Accounts]) -> None:
     months, accounts = found

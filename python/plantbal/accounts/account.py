@@ -10,8 +10,9 @@ is what the others leave.
 
 from __future__ import annotations
 
+import datetime
 from collections import defaultdict
-from collections.abc import Callable, Iterable, Mapping, Sequence
+from collections.abc import Callable, Iterable, Iterator, Mapping, Sequence
 from dataclasses import dataclass, field
 from enum import Enum
 from fractions import Fraction
@@ -33,6 +34,7 @@ class Level(Enum):
     OWNER = "owner"
 
 
+_DAY = datetime.timedelta(1)
 # What cancels in the whole plant by the balances of its units and tanks.
 _WITHIN = (Line.PRODUCTION, Line.PROCESSED, Line.REGRADED)
 
@@ -253,8 +255,15 @@ class Rolled:
             tanks,
             self.accounts,
             self.owned[at],
-            list(_said(self.months[at], stocks, entries, self.owned[at])),
+            [*self._before(at), *_said(self.months[at], stocks, entries, self.owned[at])],
         )
+
+    def _before(self, at: int) -> Iterator[str]:
+        """Say whether days are missing between a month and the one before it."""
+        month = self.months[at]
+        if at and (month.first - self.months[at - 1].last).days != 1:
+            days = f"{self.months[at - 1].last + _DAY} to {month.first - _DAY}"
+            yield f"no report has {days}: what happened then is in the stock adjustments"
 
 
 def _by(level: Level, entries: Iterable[Entry], key: Callable[[Entry], str]) -> list[_Draft]:
@@ -368,12 +377,19 @@ def _said(
     owners: Mapping[str, Sequence[Entry]],
 ) -> Iterable[str]:
     """Give what has to be looked at in a month."""
+    block = month.block
+    if block is not None and (block.solved is None or block.solved["state"] != "converged"):
+        yield "its report hasn't converged"
+    if block is not None and block.whole is not None and block.whole["verdict"] == "reject":
+        yield "its report is rejected: some reading is wrong, and the account with it"
     untold = dict.fromkeys(entry.name for entry in entries if not entry.account.is_told)
     if untold and len(untold) < len({entry.name for entry in entries}):
         yield f"in no account: {', '.join(untold)}"
     for stock in stocks:
         if stock.opened in (Opened.NOTHING, Opened.CLOSING_DIP):
             yield f"{stock.tank}: its opening stock rests on {stock.opened.value}"
+        if stock.basis is Basis.UNKNOWN and stock.opened is not Opened.NOTHING:
+            yield f"{stock.tank}: nothing determines what it gained"
         if stock.closing < 0:
             yield f"{stock.tank}: its closing stock is below 0"
     for flow in month.flows.values():

@@ -106,11 +106,11 @@ def _stock_entries(stocks: Iterable[Stock], accounts: Accounts) -> Iterator[Entr
     for stock in stocks:
         account = accounts.of_tank(stock.tank)
         opening, adjustment, closing = stock.sums
-        known = Basis.MEASURED
-        yield Entry(Line.OPENING, stock.tank, account, stock.opening, known, opening)
+        basis = stock.opening_basis
+        yield Entry(Line.OPENING, stock.tank, account, stock.opening, basis, opening)
         if stock.adjustment:
             amount = stock.adjustment
-            yield Entry(Line.ADJUSTMENT, stock.tank, account, amount, known, adjustment)
+            yield Entry(Line.ADJUSTMENT, stock.tank, account, amount, basis, adjustment)
         yield Entry(Line.CLOSING, stock.tank, account, stock.closing, stock.basis, closing)
 
 

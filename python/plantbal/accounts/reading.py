@@ -10,6 +10,7 @@ from fractions import Fraction
 
 from plantbal.accounts.sheet import (
     NO_ACCOUNT,
+    NOBODY,
     OUTGOING,
     Account,
     Accounts,
@@ -151,7 +152,7 @@ class SheetReader:
         if is_computed(word):
             what = f"a spreadsheet would compute {word!r}"
             raise self._fault(cell, what, "let it begin with a letter or a digit", head)
-        if word.casefold() == NO_ACCOUNT:
+        if word.casefold() in (NO_ACCOUNT, NOBODY):
             raise self._fault(cell, f"no {head} can be called {word!r}", "empty the cell", head)
         was, where = self._spelt.setdefault((head, word.casefold()), (word, cell))
         if was != word:

@@ -15,6 +15,8 @@ from plantbal.workbook.cells import GRAMS, VOLUMES
 
 # What a product or a group is called that no row of the sheet names.
 NO_ACCOUNT = "in no account"
+# What is said for an owner if there is none, so that no owner can have this name.
+NOBODY = "nobody"
 
 
 class Kind(StrEnum):

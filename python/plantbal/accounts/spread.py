@@ -41,18 +41,28 @@ class Sum:
         Of flows and of tanks' gains.
     values : dict of str to float
         Of what was measured.
-    dips : dict of str to float
-        Of what tanks held by their opening dips.
+    dips, ends : dict of str to float
+        Of what tanks held by their opening and by their closing dips.
+    is_unknown : bool
+        Whether something is in it that no dip and no flow says.
     """
 
     flows: Terms = field(default_factory=dict)
     values: Terms = field(default_factory=dict)
     dips: Terms = field(default_factory=dict)
+    ends: Terms = field(default_factory=dict)
+    is_unknown: bool = False
 
     def plus(self, other: Sum, times: float = 1) -> Sum:
         """Return the sum of this one and of a multiple of another."""
-        parts = ((self.flows, other.flows), (self.values, other.values), (self.dips, other.dips))
-        return Sum(*(_added(one, two, times) for one, two in parts))
+        parts = (
+            (self.flows, other.flows),
+            (self.values, other.values),
+            (self.dips, other.dips),
+            (self.ends, other.ends),
+        )
+        flows, values, dips, ends = (_added(one, two, times) for one, two in parts)
+        return Sum(flows, values, dips, ends, self.is_unknown or other.is_unknown)
 
 
 def _added(one: Terms, other: Terms, times: float) -> Terms:
@@ -146,7 +156,7 @@ class Spread:
         if plant is None:
             return [None] * len(sums)
         row = {j: at for at, j in enumerate(plant.measured)}
-        found = [self._measured(each.flows) for each in sums]
+        found = [None if each.is_unknown else self._measured(each.flows) for each in sums]
         entries = [
             (number, row[j], column)
             for column, members in enumerate(found)
@@ -180,8 +190,9 @@ class Spread:
             source = self.month.name, name
             self.variances[source] = max(variance, 0.0)
             found[source] += slope
-        for tank, number in each.dips.items():
-            found[self._dip(tank, opens=True)] += number
+        for terms, opens in ((each.dips, True), (each.ends, False)):
+            for tank, number in terms.items():
+                found[self._dip(tank, opens)] += number
         return found
 
     def _dip(self, tank: str, opens: bool) -> Source:

@@ -57,7 +57,9 @@ class Stock:
     why : Why
         Why it is adjusted.
     basis : Basis
-        What the gain rests on.
+        What the gain rests on, and the closing stock with it.
+    opening_basis : Basis
+        What the opening rests on.
     sums : tuple of Across
         Opening, adjustment and closing as sums of what periods have.
     """
@@ -70,6 +72,7 @@ class Stock:
     why: Why = Why.NONE
     basis: Basis = Basis.RECONCILED
     sums: tuple[Across, Across, Across] = _NO_SUMS
+    opening_basis: Basis = Basis.MEASURED
 
     @property
     def closing(self) -> int:
@@ -87,10 +90,13 @@ class _Booked:
         Its closing stock.
     sums : Across
         It as a sum: a dip, and what was gained since.
+    basis : Basis
+        What it rests on.
     """
 
     grams: int
     sums: Across
+    basis: Basis
 
 
 def rolled(months: Sequence[Month]) -> list[list[Stock]]:
@@ -111,7 +117,7 @@ def rolled(months: Sequence[Month]) -> list[list[Stock]]:
             stocks.append(stock)
         stocks += _left(booked)
         booked = {
-            stock.tank: _Booked(stock.closing, stock.sums[2])
+            stock.tank: _Booked(stock.closing, stock.sums[2], stock.basis)
             for stock in stocks
             if stock.tank in month.gains
         }
@@ -124,20 +130,20 @@ def _stock(gain: Gain, before: _Booked | None, at: int, gap: bool) -> Stock:
     tank, dip = gain.tank, gain.opening
     if dip is None:
         return _undipped(gain, before, at)
-    held, closing = {at: Sum(dips={tank: 1})}, {at: Sum(flows={tank: 1}, dips={tank: 1})}
+    held: Across = {at: Sum(dips={tank: 1})}
+    closing: Across = {at: Sum(flows={tank: 1}, dips={tank: 1})}
+    none: Across = {}
     if before is not None:
         adjustment = dip - before.grams
         why = Why.NONE if not adjustment else Why.GAP if gap else Why.DIP
         sums = before.sums, _adjusted(tank, before, at), closing
-        return Stock(
-            tank, before.grams, adjustment, gain.grams, Opened.BOOKED, why, gain.basis, sums
-        )
+        figures = before.grams, adjustment, gain.grams, Opened.BOOKED, why
+        return Stock(tank, *figures, gain.basis, sums, before.basis)
     if at == 0 and not gain.begins:
-        return Stock(
-            tank, dip, 0, gain.grams, Opened.DIP, Why.NONE, gain.basis, (held, {}, closing)
-        )
-    why = Why.BEGINS if dip else Why.NONE
-    return Stock(tank, 0, dip, gain.grams, Opened.EMPTY, why, gain.basis, ({}, held, closing))
+        figures = dip, 0, gain.grams, Opened.DIP, Why.NONE
+        return Stock(tank, *figures, gain.basis, (held, none, closing))
+    figures = 0, dip, gain.grams, Opened.EMPTY, Why.BEGINS if dip else Why.NONE
+    return Stock(tank, *figures, gain.basis, (none, held, closing))
 
 
 def _adjusted(tank: str, before: _Booked, at: int) -> Across:
@@ -149,34 +155,33 @@ def _adjusted(tank: str, before: _Booked, at: int) -> Across:
 
 def _undipped(gain: Gain, before: _Booked | None, at: int) -> Stock:
     """Return the stock of a tank that nobody dipped before the month."""
-    tank = gain.tank
+    tank, gained = gain.tank, Sum(flows={gain.tank: 1})
+    none: Across = {}
     if before is not None:
-        closing = dict(before.sums)
-        closing[at] = closing.get(at, Sum()).plus(Sum(flows={tank: 1}))
-        none: Across = {}
+        closing: Across = {**before.sums, at: before.sums.get(at, Sum()).plus(gained)}
         sums = before.sums, none, closing
-        return Stock(tank, before.grams, 0, gain.grams, Opened.BOOKED, Why.NONE, gain.basis, sums)
+        basis = Basis.least({before.basis, gain.basis})
+        figures = before.grams, 0, gain.grams, Opened.BOOKED, Why.NONE
+        return Stock(tank, *figures, basis, sums, before.basis)
     if gain.closing is not None:
-        opening, opened = gain.closing - gain.grams, Opened.CLOSING_DIP
-    else:
-        opening, opened = 0, Opened.NOTHING
-    return Stock(tank, opening, 0, gain.grams, opened, Why.NONE, gain.basis)
+        end = Sum(ends={tank: 1})
+        opening: Across = {at: end.plus(gained, -1)}
+        closed: Across = {at: end}
+        sums = opening, none, closed
+        figures = gain.closing - gain.grams, 0, gain.grams, Opened.CLOSING_DIP, Why.NONE
+        return Stock(tank, *figures, Basis.MEASURED, sums, gain.basis)
+    unknown: Across = {at: Sum(is_unknown=True)}
+    sums = unknown, none, unknown
+    figures = 0, 0, gain.grams, Opened.NOTHING, Why.NONE
+    return Stock(tank, *figures, Basis.UNKNOWN, sums, Basis.UNKNOWN)
 
 
 def _left(booked: Mapping[str, _Booked]) -> Iterator[Stock]:
     """Give the tanks that the books still have and the plant hasn't: the rest is written off."""
     for tank, before in booked.items():
         if before.grams:
-            off = {at: Sum().plus(each, -1) for at, each in before.sums.items()}
+            off: Across = {at: Sum().plus(each, -1) for at, each in before.sums.items()}
             none: Across = {}
+            figures = before.grams, -before.grams, 0, Opened.BOOKED, Why.ENDS
             sums = before.sums, off, none
-            yield Stock(
-                tank,
-                before.grams,
-                -before.grams,
-                0,
-                Opened.BOOKED,
-                Why.ENDS,
-                Basis.RECONCILED,
-                sums,
-            )
+            yield Stock(tank, *figures, Basis.RECONCILED, sums, before.basis)

@@ -9,13 +9,13 @@ from fractions import Fraction
 
 from plantbal.accounts.account import Amount, Level, MonthAccount, Table, TankAmounts, Unaccounted
 from plantbal.accounts.entries import Line
+from plantbal.accounts.sheet import NOBODY
 from plantbal.amounts import tonnes_of, tonnes_text
 
 HEADS = ("account", "line", "t", "± t", "sales", "unit", "basis")
 STOCK_HEADS = (
     *("tank", "opening, t", "± t", "adjustment, t", "± t", "gain, t", "closing, t", "± t", "why"),
 )
-NOBODY = "nobody"
 
 
 def sales_text(amount: Fraction | None, places: int = 3) -> str:

@@ -149,9 +149,8 @@ def _months_of_year(book: Store, year: str, some: list[Version]) -> Iterator[Mon
         at = each.seen
     text = "".join([*parts, *rows[at:]])
     ledger = Ledger(str(book.path(year_file(year))), text.encode("utf-8"))
-    seen = [each for each in ledger.seen if each.is_report]
-    for each, saw in zip(ordered, seen):
-        yield Month.of(_block_of(book, each), ledger, saw)
+    for each in ordered:
+        yield Month.of(_block_of(book, each), ledger, ledger.reported[each.period])
 
 
 def _block_of(book: Store, version: Version) -> Block:

@@ -13,7 +13,7 @@ from plantbal.accounts.month import Month
 from plantbal.accounts.posting import FLOW, Change
 from plantbal.accounts.entries import Line
 from plantbal.accounts.spread import Slopes, Spread, Sum
-from plantbal.amounts import tonnes_text
+from plantbal.amounts import tonnes_of, tonnes_text
 from plantbal.book.accounting import Version
 from plantbal.book.forms import year_file
 from plantbal.book.ledger import Fact
@@ -187,12 +187,23 @@ def _some(facts: Sequence[Cause]) -> Iterator[str]:
         yield f"and {len(facts) - _MOST:,} more"
 
 
-def change_row(change: Change) -> tuple[str, ...]:
-    """Return a change as a row of texts, in tonnes."""
+def change_row(change: Change, plain: bool = False) -> tuple[str, ...]:
+    """Return a change as a row of texts, in tonnes.
+
+    Parameters
+    ----------
+    change : Change
+        The change.
+    plain : bool
+        Whether the figures are to be read by a program, without commas and signs.
+    """
     item = change.item
     account = item.what if item.what != FLOW else f"{item.source} to {item.target}"
-    grams = (change.before, change.after)
-    sign = "+" if change.grams > 0 else ""
-    difference = f"{sign}{tonnes_text(change.grams, 6)}"
-    figures = *(tonnes_text(each, 6) for each in grams), difference
+    grams = (change.before, change.after, change.grams)
+    if plain:
+        figures = tuple(f"{tonnes_of(each):f}" for each in grams)
+    else:
+        sign = "+" if change.grams > 0 else ""
+        texts = [tonnes_text(each, 6) for each in grams]
+        figures = texts[0], texts[1], f"{sign}{texts[2]}"
     return (item.name, account, item.product, *figures, change.cause)

@@ -7,8 +7,8 @@ from typing import TYPE_CHECKING, Any
 
 from plantbal.accounts.account import MonthAccount, Table
 from plantbal.accounts.entries import Line
+from plantbal.accounts.sheet import NOBODY
 from plantbal.accounts.tables import (
-    NOBODY,
     basis_text,
     deviation_text,
     sales_text,

@@ -7,7 +7,8 @@ from types import SimpleNamespace
 
 from plantbal.accounts.account import Level, MonthAccount, Table
 from plantbal.accounts.posting import posting_rows, postings_of
-from plantbal.accounts.tables import HEADS, NOBODY, rows_of, stock_text, text_of
+from plantbal.accounts.sheet import NOBODY
+from plantbal.accounts.tables import HEADS, rows_of, stock_text, text_of
 from plantbal.accounts.trend import Unusual
 from plantbal.amounts import tonnes_text
 from plantbal.book.accounting import PeriodAccount
@@ -170,7 +171,7 @@ def said(found: Difference) -> list[str]:
 
 def _write(options: argparse.Namespace, found: Difference) -> None:
     """Write the files that are wanted."""
-    rows = [CHANGE_HEADS, *map(change_row, found.changes)]
+    rows = [CHANGE_HEADS, *(change_row(change, plain=True) for change in found.changes)]
     if options.csv:
         write_text(options.csv, csv_text(rows))
     if options.postings:
