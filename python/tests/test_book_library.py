@@ -15,11 +15,13 @@ from plantbal import Book, Fault
 from plantbal.book.adding import Unreasoned
 from plantbal.book.closing import NotClosed
 from plantbal.book.results import ReportState
+from plantbal.gates import Gate
 from plantbal.program import RunSettings
 from plantbal.workbook.options import ReadingOptions
 
 GERMAN = ReadingOptions(locale="de")
 WHY = "FI-302 read high all June, work order 4711"
+GUESSED = "342 t is from the shift's log"
 # What is typed, and the same as a call.
 STORY: list[tuple[list[str], Callable[[Book], object]]] = [
     (
@@ -40,7 +42,10 @@ STORY: list[tuple[list[str], Callable[[Book], object]]] = [
     (["report", "2024-04"], lambda b: b.report("2024-04")),
     (["add", "may", "--locale", "de"], lambda b: b.add("may", reading=GERMAN)),
     (["add", "estimates.csv", "--locale", "de"], lambda b: b.add("estimates.csv", reading=GERMAN)),
-    (["close", "2024-05"], lambda b: b.close("2024-05")),
+    (
+        ["close", "2024-05", "--anyway", f"estimated={GUESSED}"],
+        lambda b: b.close("2024-05", anyway={Gate.ESTIMATED: GUESSED}),
+    ),
     (["add", "june", "--locale", "de"], lambda b: b.add("june", reading=GERMAN)),
     (
         ["report", "2024-06", "--eliminate", "1"],
@@ -51,6 +56,14 @@ STORY: list[tuple[list[str], Callable[[Book], object]]] = [
         lambda b: b.add("june_mended", reading=GERMAN, strike=True, why=WHY),
     ),
     (["close", "2024-06"], lambda b: b.close("2024-06")),
+    (
+        ["close", "2024-06", "--anyway", f"missing={WHY}"],
+        lambda b: b.close("2024-06", anyway={Gate.MISSING: WHY}),
+    ),
+    (
+        ["quiet", "near-names", "TAILS", "TAILINGS", "--why", "they are called so"],
+        lambda b: b.quiet("near-names", "TAILS", "TAILINGS", why="they are called so"),
+    ),
     (
         ["next", "2024-25", "--plant", "plant_2024-25", "--locale", "de"],
         lambda b: b.next("2024-25", plant="plant_2024-25", reading=GERMAN),
