@@ -702,7 +702,14 @@ REFINERY = [
         "146200",
         "dips.csv: line 2, column 3: dip TK_CRUDE_2024-04-30: MM is '146200'",
     ),
-    ("dips", 2, "14620", "14.62", "was rounded"),
+    (
+        "dips",
+        2,
+        "14620",
+        "14.62",
+        "dips.csv: line 2, column 3 (level): the level 14.62 has decimals and no unit: 14.62 m",
+    ),
+    ("dips", 2, "14620", "14620.4", "was rounded"),
     (
         "dips",
         2,

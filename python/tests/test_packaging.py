@@ -69,7 +69,10 @@ def test_bash_completes_plantbal(typed: list[str], wanted: list[str]) -> None:
     assert said_by_bash("plantbal", *typed) == wanted
 
 
-BOOK = set("new add show amend strike report window close status next verify head accept".split())
+BOOK = set(
+    "new add show amend strike report window close quiet account difference posted status next "
+    "verify head accept".split()
+)
 
 
 def test_bash_completes_plantbal_desk() -> None:
