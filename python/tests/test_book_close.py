@@ -86,3 +86,9 @@ def test_what_is_quieted_stops_nothing_and_is_listed(
     assert "[negative]" in book("report", "2024-04").out
     assert "isn't quieted for FEED" in book("quiet", "--off", "negative", "FEED", "--why", "x").err
     assert book("verify").status == 0
+
+
+def test_an_amended_level_wants_its_unit(book: Type) -> None:
+    said = book("amend", "SILO", "2024-04-30", "9.512", "--why", "read again")
+    assert (said.status, "9.512 m or 9.512 cm?" in said.err) == (1, True), said
+    assert book("amend", "SILO", "2024-04-30", "9.512 m", "--why", "read again").status == 0

@@ -57,7 +57,8 @@ class Other:
         density = reader.density(cell_of(self.density)) or meter.density
         if fact.kind == "dip":
             exact = reader.density(cell_of(self.density)) or Fraction(fact.values[1])
-            mm = reader.level(cell_of(self.amount))
+            top = tank.points[-1][0] if tank is not None and tank.points else None
+            mm = reader.level(cell_of(self.amount), top=top)
             values: tuple[int, ...] = (mm, reader.whole(cell_of(self.density), exact))
             slope = tank.slope(mm, exact) if tank is not None else Fraction(0)
         else:
