@@ -186,7 +186,7 @@ def gone(years: Years, work: Converter, facts: list[Fact]) -> list[tuple[Ledger,
     found: dict[tuple[str, str], tuple[Ledger, Fact]] = {}
     for ledger in {ledger.name: ledger for ledger, _ in scope}.values():
         kept = {fact.id for fact in (ledger.ticket(each, own) for each in own) if fact is not None}
-        for fact in ledger.facts.values():
+        for fact in ledger.within(period for _, period in scope):
             there = fact.id in kept or (fact.place, fact.first) in slots
             if there or not _in_sheets(work, fact):
                 continue
@@ -197,9 +197,7 @@ def gone(years: Years, work: Converter, facts: list[Fact]) -> list[tuple[Ledger,
     return list(found.values())
 
 
-def _begins_elsewhere(
-    ledger: Ledger, fact: Fact, scope: list[tuple[Ledger, Period]]
-) -> bool:
+def _begins_elsewhere(ledger: Ledger, fact: Fact, scope: list[tuple[Ledger, Period]]) -> bool:
     """Say whether the first day of a fact is one of another year, or of a period out of scope."""
     day = fact.first.toordinal()
     within = (each for each in ledger.periods.values() if each.first <= day <= each.last)

@@ -315,6 +315,19 @@ class Ledger:
         """Whether a period is closed, so that the plant can't change any more."""
         return any(period.closed for period in self.session.periods)
 
+    def within(self, periods: Iterable[Period]) -> Iterator[Fact]:
+        """Give the facts that aren't struck from the eve of some periods to their end.
+
+        A year has many facts, and only these are made.
+        """
+        days = [(period.first - 1, period.last) for period in periods]
+        if not days:
+            return
+        first, last = min(day for day, _ in days), max(day for _, day in days)
+        for fact in self.session.state.facts.live():
+            if fact.first <= last and fact.last >= first:
+                yield Fact.booked(fact)
+
     def on(self, place: str, day: datetime.date) -> Fact | None:
         """Return the reading or the dip of a day, or None."""
         found = self.session.state.facts.on(place, day.toordinal())
