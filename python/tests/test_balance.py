@@ -172,6 +172,22 @@ def test_a_bound_tells_nothing_of_what_nothing_determines() -> None:
     assert known.held == ()
 
 
+def test_bounds_that_hold_together_count() -> None:
+    # two side streams that nobody meters must add up to -5: both are at nothing, and are known
+    flows = [
+        Flow("A", "env", "U", Measured(100, 1)),
+        Flow("B", "env", "U"),
+        Flow("C", "env", "U"),
+        Flow("D", "U", "env", Measured(95, 1)),
+    ]
+    known = Known(solve(Problem(flows)))
+    assert len(known.held) == 2
+    assert known.solution.flow("A") == pytest.approx(97.5)
+    assert known.flow_deviation("A") == pytest.approx(0.5**0.5)
+    assert known.class_of("B") is Class.OBSERVABLE
+    assert known.flow_deviation("B") < 1e-12
+
+
 def test_bad_input_is_said() -> None:
     metered = Measured(10, 1)
     one, two = Flow("A", "env", "U", metered), Flow("B", "U", "env")

@@ -29,6 +29,8 @@ from plantbal.balance.system import System
 # A pivot below this part of the greatest is 0, and so is what a number owes to loose ones below this.
 _NOTHING = 1e-9
 _LOOSE = 1e-7
+# A pull below this part of the firmest measurement's is none.
+_LEAST_PULL = 1e-7
 
 
 def _rank(triangle: Any) -> int:
@@ -56,9 +58,12 @@ class Known:
     ----------
     solution : Solution
         The solution.
+    all_count : bool
+        Whether each bound that holds counts as an equation.
     """
 
     solution: Solution
+    all_count: bool = False
 
     @property
     def system(self) -> System:
@@ -70,14 +75,19 @@ class Known:
         """The bounds to which measurements pull: those that count as equations.
 
         A number that nothing determines may lie at a bound too, since it may lie anywhere. Nothing
-        pulls it there, and nothing is known of it by that.
+        pulls it there, and nothing is known of it by that. So a bound counts if something pulls, or
+        if its numbers are determined by the others.
         """
         solution = self.solution
-        if not solution.active:
-            return ()
-        free = Known(replace(solution, active=())).is_determined
+        if not solution.active or self.all_count:
+            return solution.active
+        least = _LEAST_PULL / math.sqrt(float(self.system.variance.min()))
+        pulled = [bound for bound, pull in zip(solution.active, solution.pulls) if pull > least]
+        known = Known(replace(solution, active=tuple(pulled)), all_count=True).is_determined
         return tuple(
-            bound for bound in solution.active if all(free[column] for column, _ in bound.terms)
+            bound
+            for bound in solution.active
+            if bound in pulled or all(known[column] for column, _ in bound.terms)
         )
 
     @cached_property
