@@ -89,6 +89,7 @@ def test_what_is_quieted_stops_nothing_and_is_listed(
 
 
 def test_an_amended_level_wants_its_unit(book: Type) -> None:
-    said = book("amend", "SILO", "2024-04-30", "9.512", "--why", "read again")
+    words = ("--why", "read again", "--locale", "en")
+    said = book("amend", "SILO", "2024-04-30", "9.512", *words)
     assert (said.status, "9.512 m or 9.512 cm?" in said.err) == (1, True), said
-    assert book("amend", "SILO", "2024-04-30", "9.512 m", "--why", "read again").status == 0
+    assert book("amend", "SILO", "2024-04-30", "9.512 m", *words).status == 0
