@@ -198,7 +198,7 @@ def test_one_file_and_an_estimate(book: Type, tmp_path: Path) -> None:
     rows = "tag,day,amount,error\nF-1,2024-04-04,1190,60 t\n"
     (tmp_path / "guessed.csv").write_text(rows, encoding="utf-8")
     assert "new: 1 reading" in book("add", tmp_path / "guessed.csv").out
-    wanted = f"reading,F-1_2024-04-04,FEED,2024-04-04,1190000000,{60_000_000**2}"
+    wanted = f"reading,F-1_2024-04-04.est,FEED,2024-04-04,1190000000,{60_000_000**2}"
     assert rows_of(tmp_path)[-1] == wanted
     (tmp_path / "other.csv").write_text("checked,by\ncu,FEED\n", encoding="utf-8")
     said = book("add", tmp_path / "other.csv").out

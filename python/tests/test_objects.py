@@ -233,5 +233,5 @@ def test_coroutines(program: Path) -> None:
 def test_too_little_memory(program: Path) -> None:
     rows = "".join(f"unit,U{number}\n" for number in range(900)) * 400
     with pytest.raises(ProgramFault) as caught:
-        plantbal.run_text(rows, program=program, memory=12_000_000)
+        plantbal.run_text(rows, program=program, memory=5_000_000)
     assert caught.value.name in ("NoMemory", "Ended")

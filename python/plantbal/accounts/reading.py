@@ -22,7 +22,7 @@ from plantbal.accounts.sheet import (
 from plantbal.book.meters import decimal
 from plantbal.workbook.cells import DENSITIES, GRAMS, VOLUMES, Reader
 from plantbal.workbook.plant import Plant as Workbook
-from plantbal.faults import InputFault
+from plantbal.faults import InputFault, Place
 from plantbal.inert import is_computed
 from plantbal.model.plant import ENV, Plant, Stream
 from plantbal.workbook.sheets import Cell, Sheet, Value
@@ -295,11 +295,15 @@ def parse_accounts(name: str, text: str) -> Accounts:
     InputFault
         If a cell can't be read, or two rows contradict each other.
     """
-    rows = csv.reader(io.StringIO(text))
+    try:
+        rows = list(csv.reader(io.StringIO(text, newline=""), strict=True))
+    except csv.Error as error:
+        remedy = "take the file as plantbal wrote it, or from a backup"
+        raise InputFault(f"this is no CSV: {error}", place=Place(file=name), remedy=remedy) from error
     values: list[list[Value]] = [[each or None for each in row] for row in rows]
     table = Sheet(name, SHEET, list(enumerate(values, 1)), is_csv=True)
     sheet = SheetReader(Reader("en"))
-    lines = list(table.rows())
+    lines = [cells for cells in table.rows() if cells]
     heads = tuple(cell.text for cell in lines[0]) if lines else ()
     if lines and heads != HEADS:
         remedy = f"its heads are {', '.join(HEADS)}"

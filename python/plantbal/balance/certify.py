@@ -73,7 +73,7 @@ def pulls_of(found: Solution, known: Known) -> list[Pull]:
         sure = alone.is_determined[alone.system.columns[flow.name, ""]]
         before = alone.flow_deviation(flow.name) ** 2 if sure else float("inf")
         pull = float(force[column]) / found.system.scale
-        gain = 1 / after - 1 / before if after > 0 else 0.0
+        gain = 1 / after - 1 / before if after > 0 and before > 0 else 0.0
         if gain * after < _LEAST_GAIN:
             if abs(pull) * after**0.5 < _LEAST_GAIN:
                 continue
