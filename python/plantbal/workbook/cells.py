@@ -222,12 +222,14 @@ class Reader:
         exponent = _EXPONENT.fullmatch(plain)
         if exponent:
             plain = exponent.group(1)
-        number = plain_number(plain, *self._symbols())
+        number = plain_number(plain, *self.marks)
         if number is None or (not self.locale and not exponent and _EITHER.fullmatch(plain)):
             raise self.fault(cell, *self._why_not(text, plain), head)
         return number.scaleb(int(exponent.group(2)), _EXACT) if exponent else number
 
-    def _symbols(self) -> tuple[str, str]:
+    @property
+    def marks(self) -> tuple[str, str]:
+        """The decimal mark, and what is between thousands."""
         return symbols(self.locale) if self.locale else (".", "")
 
     def _why_not(self, text: str, plain: str) -> tuple[str, str]:

@@ -4,7 +4,7 @@ from __future__ import annotations
 
 import difflib
 import re
-from collections.abc import Iterable, Sequence
+from collections.abc import Collection, Iterable, Sequence
 from dataclasses import dataclass, field
 from fractions import Fraction
 
@@ -12,6 +12,7 @@ from plantbal.schema import schema
 from plantbal.session import ENV, dates_of_service, most_streams
 from plantbal.workbook.base import MOST_VARIANCE, tonnes_of
 from plantbal.workbook.cells import AMOUNTS, VOLUMES, Error, Reader
+from plantbal.workbook.kinds import Evidence, evidence_of
 from plantbal.workbook.sheets import Cell, Sheet
 from plantbal.workbook.tables import Row, Tables
 
@@ -102,6 +103,12 @@ class Plant(Tables):
         self.tanks: dict[str, Tank] = {}
         self.bases: dict[str, Cell] = {}
         self.bad: set[str] = set()
+        self.kinds: dict[str, str] = {}  # of the book
+        self.evidence = Evidence()
+
+    def names_across(self, kind: str) -> Collection[str]:
+        """Return the tanks if a sheet may have a column for each; those at fault too."""
+        return {*self.tanks, *self.bad} if kind in ("straps", "dips") else ()
 
     def begin(self, known: Iterable[tuple[str, ...]] = ()) -> None:
         """Begin the session: it is of version 2 if the workbook needs it, or what is known already.
@@ -112,6 +119,7 @@ class Plant(Tables):
             The rows of a plant that is known. Its boundaries are taken if the workbook has none.
         """
         rows = list(known)
+        self.kinds = {row[1]: row[4] for row in rows if row[0] == "stream"}
         if ("version", "2") in rows or self._needs_version_2():
             self.session.row("version", "2")
         if not self.sheets["boundaries"]:
@@ -141,7 +149,9 @@ class Plant(Tables):
             if not self.put(["boundary", row.text("name")], {"name": row["name"]}):
                 self.bad.add(row.text("name"))
         self._read_tanks()
+        self.evidence = evidence_of(self.sheets["tickets"], self.sheets["readings"])
         ends = [(row, self._stream_of(row)) for row in self.rows("streams")]
+        self.notes += self.evidence.notes()
         self._declare_units([row for row, _ in ends])
         for fields, cells in self._tank_rows:
             if not self.put(["tank", *fields], cells):
@@ -257,11 +267,22 @@ class Plant(Tables):
                 if self.put(["strap", name, str(mm), str(ml)], cells):
                     self.tanks[name].points.append((mm, ml))
 
+    def _kind_of(self, row: Row, tag: str) -> str:
+        """Return the kind of a stream of which no kind is written: by the book, or what it has."""
+        name = row.text("stream")
+        if name in self.kinds:
+            return self.kinds[name]
+        found = self.evidence.kind(name, tag)
+        if found is None:
+            what = f"{name} has tickets and readings, and no kind: batch or metered?"
+            self.fault(row["stream"], what, "write batch or metered into a column kind", "stream")
+        return found or "plain"
+
     def _stream_of(self, row: Row) -> Stream | None:
         """Return a stream, or None if something of it is wrong."""
         count = len(self.faults)
         tag = "" if self.reader.is_missing(row["tag"]) else row.text("tag")
-        kind = row.text("kind").casefold() or ("metered" if tag else "plain")
+        kind = row.text("kind").casefold() or self._kind_of(row, tag)
         if kind not in ("metered", "batch", "plain"):
             remedy = "write metered, batch or plain"
             self.fault(row["kind"], f"{row.text('kind')!r} is no kind of stream", remedy, "kind")

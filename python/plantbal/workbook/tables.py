@@ -5,7 +5,7 @@ from __future__ import annotations
 import datetime
 import difflib
 import re
-from collections.abc import Container, Iterator, Mapping, Sequence
+from collections.abc import Collection, Container, Iterator, Mapping, Sequence
 from contextlib import contextmanager
 from dataclasses import dataclass
 from decimal import Decimal
@@ -15,6 +15,7 @@ from plantbal.session import Session
 from plantbal.workbook.account import Account, Fate, is_figure, unread_column, unread_rows
 from plantbal.workbook.base import MOST_GRAMS, MOST_VARIANCE, tonnes_of
 from plantbal.workbook.cells import Reader
+from plantbal.workbook.shapes import Shape, shape_of
 from plantbal.workbook.sheets import Cell, Sheet
 
 # The columns of each sheet: those that it needs, and others.
@@ -42,6 +43,8 @@ SHEETS: dict[str, tuple[tuple[str, ...], tuple[str, ...]]] = {
     "accounts": (("name",), ("kind", "product", "group", "owner", "unit", "density")),
     "rows": ((), ()),
 }
+# The sheets with figures, which may be in other shapes than with a row for each figure.
+_SHAPED = ("streams", "tanks", "straps", "dips", "tickets", "estimates", "moistures", "assays")
 # The sheets that have the plant itself.
 PLANT_SHEETS = ("streams", "boundaries", "units", "tanks", "straps", "critical", "accounts")
 _PASSED = ("about", "lists")
@@ -197,9 +200,29 @@ class Tables:
             with self.kept():
                 yield from self._rows_of(sheet, kind, facts)
 
+    def names_across(self, kind: str) -> Collection[str]:
+        """Return the names that may be the heads of columns in a sheet of a kind."""
+        return ()
+
     def _rows_of(self, sheet: Sheet, kind: str, facts: bool) -> Iterator[Row]:
+        shape = Shape()
+        if kind in _SHAPED:
+            names = self.names_across(kind)
+            shape = shape_of(sheet, kind, SHEETS[kind][0], names, self.reader)
+        if not shape.tables:
+            yield from self._rows_in(sheet, list(sheet.rows()), kind, facts)
+            return
+        self.notes += shape.notes
+        self.account.put(Fate.HEADS, *shape.heads)
+        if shape.read:
+            self.say_columns(shape.heads[0], shape.body, shape.read)
+        for table in shape.tables:
+            yield from self._rows_in(sheet, table.lines, kind, facts)
+
+    def _rows_in(
+        self, sheet: Sheet, lines: list[list[Cell]], kind: str, facts: bool
+    ) -> Iterator[Row]:
         needed, others = SHEETS[kind]
-        lines = list(sheet.rows())
         at, heads = self._heads(sheet, lines, needed, others)
         self.account.put(Fate.HEADS, lines[at])
         wrong = self._wrong_heads(lines[at], heads, others)
@@ -290,7 +313,9 @@ class Tables:
     def pass_row(self, cells: list[Cell], first: Cell) -> None:
         """Pass over a row, and say so by its first cell with a value."""
         self.account.put(Fate.PASSED, cells)
-        self.notes.append(f"{first.place()} the row {first.text!r} is passed over")
+        note = f"{first.place()} the row {first.text!r} is passed over"
+        if note not in self.notes:  # a row may be of several tables
+            self.notes.append(note)
 
     # ---- what isn't read
 

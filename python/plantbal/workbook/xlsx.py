@@ -47,6 +47,9 @@ def read_xlsx(path: Path) -> list[Sheet]:
         If openpyxl isn't installed.
     """
     name, data = read_bytes(path, limits.WORKBOOK_BYTES)
+    if b"opendocument.spreadsheet" in data[:200]:
+        remedy = "save it as xlsx in LibreOffice, by File, Save As"
+        raise InputFault("this is an OpenDocument workbook", place=Place(file=name), remedy=remedy)
     if not data.startswith(b"PK"):
         old = data.startswith(b"\xd0\xcf\x11\xe0")
         raise InputFault(

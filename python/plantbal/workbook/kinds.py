@@ -1,0 +1,84 @@
+"""The kind of a stream of which a workbook writes none: by what it has.
+
+A stream with tickets is a batch, one with readings is metered, and one with neither is metered if
+it has a tag and plain otherwise. One with tickets and with readings could be either.
+"""
+
+from __future__ import annotations
+
+from collections.abc import Iterable
+from dataclasses import dataclass, field
+from itertools import islice
+
+from plantbal.workbook.shapes import HEADS_WITHIN, split_head
+from plantbal.workbook.sheets import Sheet
+
+_SAID = 3  # streams that a note names
+
+
+@dataclass
+class Evidence:
+    """What the facts of a workbook say of the kinds of streams.
+
+    Attributes
+    ----------
+    tickets, readings : set of str
+        The streams and tags that have tickets, and the texts of the sheets of readings.
+    batches, metered : list of str
+        The streams that were taken for such without a tag.
+    """
+
+    tickets: set[str] = field(default_factory=set)
+    readings: set[str] = field(default_factory=set)
+    batches: list[str] = field(default_factory=list)
+    metered: list[str] = field(default_factory=list)
+
+    def kind(self, name: str, tag: str) -> str | None:
+        """Return the kind of a stream; None if it has tickets and readings."""
+        names = {name, tag} - {""}
+        if names & self.tickets and names & self.readings:
+            return None
+        if names & self.tickets:
+            self.batches.append(name)
+            return "batch"
+        if names & self.readings and not tag:
+            self.metered.append(name)
+        return "metered" if tag or names & self.readings else "plain"
+
+    def notes(self) -> list[str]:
+        """Return what was taken for a batch, and for metered without a tag."""
+        return [
+            f"streams: {_few(names)} {'is' if len(names) == 1 else 'are'} taken for {kind}, since "
+            f"no kind is written, and there are {what}"
+            for names, kind, what in (
+                (self.batches, "batch", "tickets"),
+                (self.metered, "metered", "readings"),
+            )
+            if names
+        ]
+
+
+def evidence_of(tickets: Iterable[Sheet], readings: Iterable[Sheet]) -> Evidence:
+    """Return what the sheets of tickets and of readings say."""
+    found = Evidence()
+    for sheet in tickets:
+        found.tickets |= _streams_in(sheet)
+    for sheet in readings:
+        for _, values in sheet.lines:
+            found.readings.update(value for value in values if isinstance(value, str))
+    return found
+
+
+def _streams_in(sheet: Sheet) -> set[str]:
+    """Return the texts of the columns `stream` of a sheet."""
+    for cells in islice(sheet.rows(), HEADS_WITHIN):
+        columns = [at for at, cell in enumerate(cells) if split_head(cell)[0] == "stream"]
+        if columns:
+            cut = [values[at] for _, values in sheet.lines for at in columns if at < len(values)]
+            return {value for value in cut if isinstance(value, str)}
+    return set()
+
+
+def _few(names: list[str]) -> str:
+    more = f" and {len(names) - _SAID:,} more" if len(names) > _SAID else ""
+    return ", ".join(names[:_SAID]) + more
