@@ -107,7 +107,8 @@ def test_concentrator_over_three_months(tmp_path: Path) -> None:
     assert typed("new", "2024", write(tmp_path, "plant", concentrator_plant()), *words) == 0
     for month, sheets in zip(months, concentrator_months(months)):
         assert typed("add", write(tmp_path, month, sheets), *words) == 0
-        assert typed("close", month, "--book", place, "--anyway") == 0
+        typed("report", month, "--book", place)  # by lot a month is rejected, and stays open
+        typed("close", month, "--book", place)
     accounts = assert_sums_to_0(rolled(place))
     assert {table.name for table in accounts[2].groups} == {"ore", "concentrate", "tailings"}
     assert {table.unit for table in accounts[2].products} == {"dmt"}
@@ -368,7 +369,7 @@ def test_random_books(
         assert typed("add", write(room, month, sheets), *words) == 0
         typed("report", month, "--book", place)
         if rng.random() < 0.7:
-            assert typed("close", month, "--book", place, "--anyway") == 0
+            typed("close", month, "--book", place)  # one that is rejected stays open
     for month in months:
         if rng.random() < 0.5:
             fact = f"{month}-{rng.choice(['MINED', 'FEED', 'TAILS'])}"
