@@ -26,8 +26,9 @@ if TYPE_CHECKING:
     from plantbal.runs import arun, check, run, run_text
     from plantbal.session import Session
     from plantbal.study.advice import advise
-    from plantbal.study.solver import solve
+    from plantbal.study.solver import certify, solve
     from plantbal.study.uncertainty import uncertainty_of
+    from plantbal.study.uncertified import Uncertified
     from plantbal.workbook.conversion import convert
 
 __all__ = [
@@ -40,9 +41,11 @@ __all__ = [
     "Refusal",
     "Session",
     "ToolMissing",
+    "Uncertified",
     "__version__",
     "advise",
     "arun",
+    "certify",
     "check",
     "convert",
     "find_program",
@@ -64,8 +67,10 @@ _HOMES = {
     "Refusal": "faults",
     "Session": "session",
     "ToolMissing": "faults",
+    "Uncertified": "study.uncertified",
     "advise": "study.advice",
     "arun": "runs",
+    "certify": "study.solver",
     "check": "runs",
     "convert": "workbook.conversion",
     "find_program": "program",

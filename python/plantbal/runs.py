@@ -55,6 +55,7 @@ def run(
     memory: int | None = None,
     watch: Callable[[bytes], None] | None = None,
     judged: bool = False,
+    fallback: str = "",
 ) -> Output:
     """Run a session.
 
@@ -82,6 +83,10 @@ def run(
     judged : bool
         Whether each report has to agree with itself, as the checker in plain Python finds: this
         takes 0.1 s for a report of 300 streams, and 1 s for one of 2,000.
+    fallback : {'', 'scipy'}
+        What solves a report that isn't converged, as `plantbal.solve` does: certified, and without
+        tests of single measurements. It needs a run without elimination. A report on whose flows
+        balances of components rest stays as it is.
 
     Returns
     -------
@@ -95,7 +100,10 @@ def run(
         If the program ends with 2 to 6.
     InputFault
         If a number isn't in its range, or a report is judged, and doesn't agree with itself.
+    Uncertified
+        If what the fallback solves doesn't get the check's `yes`.
     """
+    _require_fallback(fallback, eliminate)
     words = words_of(tests=tests, eliminate=eliminate, gap=gap, sweeps=sweeps)
     source, data, left_out = session_bytes(session)
     status, text = call(words, data, program=program, timeout=timeout, memory=memory, watch=watch)
@@ -103,7 +111,28 @@ def run(
         judge(text, f"the output of {source}", program)
     output = parse_report(text.decode("utf-8"), f"the output of {source}", status)
     output.left_out = left_out
+    if fallback:
+        from plantbal.study.solver import solved_again
+
+        return solved_again(output, data, tests=tests, program=program, timeout=timeout)
     return output
+
+
+def _require_fallback(fallback: str, eliminate: int) -> None:
+    """Return if a run may have this fallback.
+
+    Raises
+    ------
+    InputFault
+        If there is no such engine, or rounds of elimination are asked for beside it.
+    """
+    if fallback not in ("", "scipy"):
+        raise InputFault(
+            f"there is no engine {fallback!r}", text=str(fallback), remedy="say 'scipy'"
+        )
+    if fallback and eliminate:
+        what = "elimination needs the program's own solver, so there is no fallback beside it"
+        raise InputFault(what, remedy="leave one of the two out")
 
 
 def run_text(text: str, **how: Any) -> Output:

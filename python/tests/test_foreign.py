@@ -14,7 +14,8 @@ from plantbal import Output, Session, check, read_report, run, solve
 from plantbal.faults import Fault
 from plantbal.program import call
 from plantbal.report.output import parse_report
-from plantbal.study.solver import Uncertified
+from plantbal.study.plant import Plant
+from plantbal.study.uncertified import Uncertified
 
 NAMES = ["heat_exchanger", "refinery_day", "badly_typed", "concentrator/session"]
 HEAT = example("heat_exchanger.out.csv")
@@ -150,15 +151,15 @@ def test_solve_examples(program: Path, path: Path) -> None:
 
 def test_uncertified(program: Path, monkeypatch: pytest.MonkeyPatch) -> None:
     """What doesn't get a yes isn't handed out."""
-    from plantbal.study import solver
+    from plantbal.study import certificate
 
-    flows_of = solver.flows_of
+    flows_of = certificate.flows_of
 
-    def wrong(plant: solver.Plant, prices: list[int]) -> list[int]:
+    def wrong(plant: Plant, prices: list[int]) -> list[int]:
         flows = flows_of(plant, prices)
         return [flows[0] + 1, *flows[1:]]
 
-    monkeypatch.setattr(solver, "flows_of", wrong)
+    monkeypatch.setattr(certificate, "flows_of", wrong)
     with pytest.raises(Uncertified, match="doesn't say yes to 1 of 1 blocks: d: balance"):
         solve(line(3), program=program)
 

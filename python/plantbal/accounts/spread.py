@@ -25,7 +25,7 @@ from functools import cached_property
 from typing import Any
 
 from plantbal.accounts.month import Month
-from plantbal.study.solver import Plant
+from plantbal.study.plant import Plant
 from plantbal.study.uncertainty import answers_to, plant_in
 
 Terms = Mapping[str, float]

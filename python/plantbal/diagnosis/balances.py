@@ -16,7 +16,7 @@ from math import sqrt
 from typing import TYPE_CHECKING, Any
 
 from plantbal.faults import ToolMissing
-from plantbal.study.solver import Labels
+from plantbal.study.plant import Labels
 from plantbal.model.topology import Arc
 
 if TYPE_CHECKING:

@@ -174,14 +174,12 @@ class Output:
         over = [f"the total of {row['stream']} in {row['period']}" for row in self._of_kind("over")]
         if over:
             said.append(f"{', '.join(over)} is beyond the limits")
-        for what, some in (
-            ("is cut off", [b for b in blocks if not b.ended or b.solved is None]),
-            (
-                "isn't converged",
-                [b for b in blocks if b.solved and b.solved["state"] != "converged"],
-            ),
-        ):
-            said += [f"{block.title} {what}" for block in some]
+        said += [f"{b.title} is cut off" for b in blocks if not b.ended or b.solved is None]
+        said += [
+            f"{b.title} isn't converged after {b.head['sweeps']} sweeps (plantbal.solve needs none)"
+            for b in blocks
+            if b.solved and b.solved["state"] != "converged"
+        ]
         for block, later in zip(blocks, [*blocks[1:], None]):
             if block.whole and block.whole["verdict"] == "reject":
                 taken = later.taken[len(block.taken) :] if later and later.round else []

@@ -9,7 +9,7 @@ import re
 from plantbal.faults import Fault
 from plantbal.files import write_text
 from plantbal.report.blocks import csv_of, read_rows, reports_of
-from plantbal.study.solver import solved_rows
+from plantbal.study.certificate import solved_rows
 
 HELP = """
 REPORT is what plantbal wrote for a session, as CSV or as JSON lines; without it standard input is

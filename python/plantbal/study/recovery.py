@@ -607,9 +607,7 @@ def run(options: argparse.Namespace) -> int:
     blocks = [each for each in balances_of(output, options.component) if each.ended]
     _check_names(blocks, [*options.feed, *(options.product if options.feed else ())])
     within = options.product if options.feed else ()
-    balances = [
-        Balance(each, options.feed, within, mass=mass_of(output, each)) for each in blocks
-    ]
+    balances = [Balance(each, options.feed, within, mass=mass_of(output, each)) for each in blocks]
     shares = [share for balance in balances for share in balance.shares()]
     if options.product:
         products_of(shares, options.product)

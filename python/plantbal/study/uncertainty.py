@@ -16,7 +16,7 @@ from plantbal.faults import InputFault, ToolMissing
 from plantbal.inert import inert_frame
 from plantbal.report.blocks import Block, Values, last_blocks
 from plantbal.report.output import Output, read_whole
-from plantbal.study.solver import Labels, Plant, plant_of
+from plantbal.study.plant import Labels, Plant, plant_of
 
 if TYPE_CHECKING:
     import pandas
