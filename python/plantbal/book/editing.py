@@ -84,7 +84,7 @@ class Other:
         return replace(fact, values=values, variance=variance + born)
 
 
-def _born(ledger: Ledger, fact: Fact, meter: Meter) -> int:
+def born(ledger: Ledger, fact: Fact, meter: Meter) -> int:
     """Return what the day of a reading bears of a systematic error that is wider than a row."""
     excess = meter.stream("metered", cell_of("")).excess
     if not excess or fact.kind != "reading":
@@ -116,8 +116,8 @@ def amend(
             raise Fault(f"{fact.id} was struck", text=name, remedy=remedy)
         tanks = {tank.name: tank for tank in taken(places[-1][0].plant, meters)[1]}
         meter = meters.get(fact.place, Meter(fact.place))
-        born = _born(places[-1][0], fact, meter)
-        new = other.of(fact, meter, tanks.get(fact.place), born)
+        more = born(places[-1][0], fact, meter)
+        new = other.of(fact, meter, tanks.get(fact.place), more)
         if (new.values, new.variance) == (fact.values, fact.variance):
             return Edited(fact, new, is_booked=False)
         action = Action(Act.AMEND, fact.id, new.said(), why, who)

@@ -54,6 +54,7 @@ class Act(StrEnum):
     ADD = "add"
     AMEND = "amend"
     STRIKE = "strike"
+    ESTIMATE = "estimate"
     REPORT = "report"
     WINDOW = "window"
     CLOSE = "close"

@@ -16,6 +16,7 @@ from plantbal.book import (
     adding,
     closing,
     editing,
+    estimating,
     overview,
     quieting,
     reporting,
@@ -37,6 +38,7 @@ from plantbal.book.results import (
     Begun,
     Closed,
     Edited,
+    Estimated,
     Reported,
     Shown,
     Status,
@@ -265,6 +267,31 @@ class Book:
     def strike(self, name: str, day: Day = None, *, why: str, locale: str = "") -> Edited:
         """Take a fact out; the parameters are those of `amend`."""
         return editing.strike(self._store(), name, _day(day, locale), why=why, who=self.who)
+
+    def estimate(
+        self, period: str, stream: str = "", *, take: bool = False, why: str = ""
+    ) -> Estimated:
+        """Propose estimates for the days without a reading, or book them.
+
+        Parameters
+        ----------
+        period : str
+            The period.
+        stream : str
+            A tag or stream; all that have such days without it. Of a named one the zero or frozen
+            readings of a dead meter are replaced, too.
+        take : bool
+            Whether the estimates are booked.
+        why : str
+            The reason, if they are.
+
+        Raises
+        ------
+        Fault
+            If there is no such period or stream, or no reason.
+        """
+        who = self.who
+        return estimating.estimate(self._store(), period, stream, take=take, why=why, who=who)
 
     # ---- reports
 

@@ -11,6 +11,7 @@ from pathlib import Path
 from plantbal.book.changes import Changes
 from plantbal.book.ledger import Fact
 from plantbal.book.store import Head
+from plantbal.diagnosis.proposal import Proposal
 from plantbal.gates import Gate, Stop
 from plantbal.lint import Finding
 from plantbal.report.output import Output
@@ -127,6 +128,34 @@ class Edited:
     old: Fact
     new: Fact | None
     is_booked: bool
+    older_reports: tuple[str, ...] = ()
+    closed: tuple[str, ...] = ()
+
+
+@dataclass(frozen=True)
+class Estimated:
+    """Estimates that are proposed, or were booked.
+
+    Attributes
+    ----------
+    period : str
+        The period.
+    proposals : tuple of Proposal
+        The proposals.
+    missing : tuple of str
+        The streams with days for which an estimate is wanted.
+    is_booked : bool
+        Whether they were booked now.
+    older_reports : tuple of str
+        The periods whose reports don't have them.
+    closed : tuple of str
+        Those of the periods that are closed.
+    """
+
+    period: str
+    proposals: tuple[Proposal, ...]
+    missing: tuple[str, ...]
+    is_booked: bool = False
     older_reports: tuple[str, ...] = ()
     closed: tuple[str, ...] = ()
 

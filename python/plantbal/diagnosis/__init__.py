@@ -8,6 +8,8 @@
     The facts of a period, and what an error of a size may be.
 ``days``, ``findings``, ``running``
     The days of an error, which measurement fits them, and the running content of a tank.
+``proposal``
+    Estimates for days without a reading.
 ``unseen``
     What no test can see.
 ``diagnose``

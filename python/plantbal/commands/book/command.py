@@ -71,6 +71,11 @@ COMMANDS: Sequence[Inner] = (
     Inner("show", "showing:SHOW", "show what is booked of a stream or tank"),
     Inner("amend", "editing:AMEND", "give a fact another value, with a reason"),
     Inner("strike", "editing:STRIKE", "take a fact out, with a reason"),
+    Inner(
+        "estimate",
+        "estimating:ESTIMATE",
+        "propose estimates for days without a reading, or book them",
+    ),
     Inner("report", "reporting:REPORT", "write the reports of periods"),
     Inner(
         "window",

@@ -1,0 +1,93 @@
+"""Proposes estimates for days without a reading, and books them."""
+
+from __future__ import annotations
+
+import argparse
+from types import SimpleNamespace
+
+from plantbal.book.library import Book
+from plantbal.book.said import reopened_said
+from plantbal.diagnosis.proposal import Basis, Proposal
+from plantbal.diagnosis.words import tonnes
+from plantbal.faults import Fault
+from plantbal.gates.words import days_said
+from plantbal.lint.findings import some_of
+
+
+def _add(parser: argparse.ArgumentParser) -> None:
+    parser.add_argument("period", metavar="PERIOD", help="the period")
+    about = "a tag or stream; then zero or frozen readings of a dead meter are replaced, too"
+    parser.add_argument("stream", metavar="STREAM", nargs="?", default="", help=about)
+    parser.add_argument("--take", action="store_true", help="book what is proposed")
+    parser.add_argument("--why", metavar="TEXT", default="", help="the reason, for --take")
+
+
+def _estimate(options: argparse.Namespace) -> int:
+    """Propose estimates, or book them."""
+    if options.take and not options.why:
+        raise Fault("a reason is wanted, and none came", remedy="say --why TEXT")
+    book = Book(options.book, who=options.who)
+    period, stream = options.period, options.stream
+    found = book.estimate(period, stream, take=options.take, why=options.why)
+    for each in found.proposals:
+        print(said_of(each))
+    for name in found.missing:
+        if not any(each.stream == name for each in found.proposals):
+            print(
+                f"{name}: neither a balance nor enough other days say what is missing: write a "
+                "guess into a sheet estimates, with its error"
+            )
+    if found.is_booked:
+        taken = sum(len(each.days) for each in found.proposals if each.is_needed)
+        print(f"{taken:,} {'day is' if taken == 1 else 'days are'} booked as estimates")
+        for each_period in found.closed:
+            print(reopened_said(each_period))
+        for each_period in found.older_reports:
+            if each_period not in found.closed:
+                again = f"plantbal-desk book report {each_period}"
+                print(f"{each_period}: its report is older: {again}")
+    elif any(each.is_needed for each in found.proposals):
+        words = " ".join(filter(None, (period, stream)))
+        print(
+            f"nothing is booked; to book it: plantbal-desk book estimate {words} --take --why TEXT"
+        )
+    elif not found.missing:
+        print(f"{period}: no day of {stream or 'a meter'} is without a reading")
+    return 0
+
+
+def said_of(proposal: Proposal) -> str:
+    """Return a proposal in a line."""
+    count = len(proposal.days)
+    amount = f"{_signed(proposal.grams)} ± {tonnes(proposal.error)}"
+    if count > 1:
+        total = f"{_signed(count * proposal.grams)} ± {tonnes(count * proposal.error)}"
+        amount = f"{amount} each, {total} on {count} days"
+    line = f"{proposal.stream} {days_said(proposal.days)}: {amount}, {_basis_said(proposal)}"
+    if not proposal.is_needed:
+        line += "; the report has this without an estimate, which would count the others twice"
+    return line
+
+
+def _signed(grams: int) -> str:
+    return f"{'-' if grams < 0 else ''}{tonnes(grams)}"
+
+
+def _basis_said(proposal: Proposal) -> str:
+    """Return what a proposal rests on."""
+    beside = f"of {some_of(proposal.names)}" if proposal.names else ""
+    return {
+        Basis.DAY: f"by the balance of the day, {beside}",
+        Basis.DAYS: f"by the balance between two dips, {beside}, less its own readings",
+        Basis.PERIOD: f"by the balance of the period, {beside}, less its own readings",
+        Basis.OTHERS: f"the mean of its {proposal.readings} other days",
+        Basis.EARLIER: f"the mean of its {proposal.readings} days before",
+    }[proposal.basis]
+
+
+ESTIMATE = SimpleNamespace(
+    __doc__="Proposes an estimate for each day without a reading: what the balance leaves over, or "
+    "the mean of the meter's other days, whichever is surer. With --take it is booked.",
+    add_arguments=_add,
+    run=_estimate,
+)
