@@ -213,14 +213,14 @@ _plantbal_desk() {
         _plantbal_words '-h --help --out --locale --missing --skip --limits --design' ;;
     book)
         if [[ $here != -* ]]; then
-            if [[ ! " ${COMP_WORDS[*]:at + 1:COMP_CWORD - at - 1} " =~ ' '(new|add|show|amend|strike|report|window|close|quiet|difference|posted|account|status|next|verify|head|accept)' ' ]]; then
-                _plantbal_words 'new add show amend strike report window close quiet difference posted account status next verify head accept'
+            if [[ ! " ${COMP_WORDS[*]:at + 1:COMP_CWORD - at - 1} " =~ ' '(new|add|show|amend|strike|estimate|report|window|close|quiet|difference|posted|account|status|next|verify|head|accept)' ' ]]; then
+                _plantbal_words 'new add show amend strike estimate report window close quiet difference posted account status next verify head accept'
                 return
             fi
             _plantbal_files -f
             return
         fi
-        _plantbal_words '-h --help --program --locale --missing --skip --limits --book --who --why --strike --anyway --year --dry-run --density --error --session --gap --sweeps --no-tests --eliminate --off --csv --xlsx --postings --by --owner --tanks --page --title --all --plant --first --head' ;;
+        _plantbal_words '-h --help --program --locale --missing --skip --limits --book --who --why --strike --anyway --year --dry-run --density --error --take --session --gap --sweeps --no-tests --eliminate --off --csv --xlsx --postings --by --owner --tanks --page --title --all --plant --first --head' ;;
     template)
         if [[ $here != -* ]]; then
             if [[ ! " ${COMP_WORDS[*]:at + 1:COMP_CWORD - at - 1} " =~ ' '(refinery|concentrator|utility)' ' ]]; then

@@ -106,6 +106,7 @@ complete -c plantbal-desk -n '__fish_seen_subcommand_from book' -l year -x -d 't
 complete -c plantbal-desk -n '__fish_seen_subcommand_from book' -l dry-run -d 'say what would be booked, and book nothing'
 complete -c plantbal-desk -n '__fish_seen_subcommand_from book' -l density -x -d 'another density: 862'
 complete -c plantbal-desk -n '__fish_seen_subcommand_from book' -l error -x -d 'another error: 0.2 t'
+complete -c plantbal-desk -n '__fish_seen_subcommand_from book' -l take -d 'book what is proposed'
 complete -c plantbal-desk -n '__fish_seen_subcommand_from book' -l session -r -F -d 'write the session that asks for the window too'
 complete -c plantbal-desk -n '__fish_seen_subcommand_from book' -l gap -x -d 'the greatest gap, in thousandths of a standard deviation (default: 10)'
 complete -c plantbal-desk -n '__fish_seen_subcommand_from book' -l sweeps -x -d 'at most N sweeps (default: 5,000)'
@@ -124,7 +125,7 @@ complete -c plantbal-desk -n '__fish_seen_subcommand_from book' -l all -d 'close
 complete -c plantbal-desk -n '__fish_seen_subcommand_from book' -l plant -r -F -d 'another plant (default: plant.csv)'
 complete -c plantbal-desk -n '__fish_seen_subcommand_from book' -l first -x -d 'its first day (default: January 1st)'
 complete -c plantbal-desk -n '__fish_seen_subcommand_from book' -l head -x -d 'a head that was kept elsewhere: this book has to have it'
-complete -c plantbal-desk -n '__fish_seen_subcommand_from book' -a 'new add show amend strike report window close quiet difference posted account status next verify head accept'
+complete -c plantbal-desk -n '__fish_seen_subcommand_from book' -a 'new add show amend strike estimate report window close quiet difference posted account status next verify head accept'
 complete -c plantbal-desk -n '__fish_seen_subcommand_from book' -F
 complete -c plantbal-desk -n '__fish_seen_subcommand_from template' -s h -l help -d 'show this help message and exit'
 complete -c plantbal-desk -n '__fish_seen_subcommand_from template' -a 'refinery concentrator utility'

@@ -135,6 +135,7 @@ _plantbal_desk() {
             '--dry-run[say what would be booked, and book nothing]'
             '--density=[another density\: 862]:TEXT:'
             '--error=[another error\: 0.2 t]:TEXT:'
+            '--take[book what is proposed]'
             '--session=[write the session that asks for the window too]:FILE:_files'
             '--gap=[the greatest gap, in thousandths of a standard deviation (default\: 10)]:N:'
             '--sweeps=[at most N sweeps (default\: 5,000)]:N:'
@@ -154,7 +155,7 @@ _plantbal_desk() {
             '--first=[its first day (default\: January 1st)]:DAY:'
             '--head=[a head that was kept elsewhere\: this book has to have it]:DIGEST:'
             '1:word:(book)'
-            '2:COMMAND:(new add show amend strike report window close quiet difference posted account status next verify head accept)'
+            '2:COMMAND:(new add show amend strike estimate report window close quiet difference posted account status next verify head accept)'
             '*:FILE:_files'
         ) ;;
     template)
