@@ -38,11 +38,15 @@ WORKBOOK is an xlsx file, or a folder of CSV files, each of which is the sheet o
   periods    name, first, last (without it, each calendar month with a reading is a period)
   windows    first, last: periods to reconcile together as well, from the first to the last
   accounts   name, kind, product, group, owner, unit, density: where a book adds each stream up
+  settings   setting, value, for: zone (Europe/Berlin), day begins (06:00), stamps (begin or end),
+             missing hours (0), counter (where it begins again at 0; its tag in the column for)
   rows       rows of a session, unchanged, such as amend, strike and close
 
 straps and dips may have a column for each tank, and tables may be side by side; units may be in
 brackets in a head, or in a row below the heads. A stream of which no kind is written is a batch if
 it has tickets, and metered if it has readings or a tag.
+Readings with a row for each hour are added up by day, and a counter's are subtracted; an hour
+without a figure is a fault, unless settings has missing hours 0.
 Columns may be in any order; titles above, sums below, remarks and other columns are skipped, and
 standard error says so; a column or row of figures or units that isn't read is a fault.
 Units are t, kt, kg, g, lb, klb, and with a density m3, L, mL, bbl; densities are in kg/m3 and

@@ -12,8 +12,10 @@ from plantbal.session import period_days
 from plantbal.workbook.account import Fate, is_unit
 from plantbal.workbook.base import MOST_VARIANCE, Span, share_at, tonnes_of
 from plantbal.workbook.cells import AMOUNTS, Error, Reader, day_order, is_rate, unit_of
+from plantbal.workbook.daily import long_by_day, wide_by_day
 from plantbal.workbook.drying import Drying, Figure
 from plantbal.workbook.plant import Stream
+from plantbal.workbook.settings import Settings, settings_of
 from plantbal.workbook.sheets import Cell, Sheet
 from plantbal.workbook.tables import HEADS_WITHIN, TOTALS
 
@@ -55,6 +57,7 @@ class Readings(Drying):
         self.listed: set[str] = set()
         self.whole = True
         self.spans: list[Span] = []
+        self.settings = Settings()
 
     def reading(self, stream: Stream, cell: Cell, day: datetime.date | None, unit: str) -> None:
         """Take a reading."""
@@ -156,10 +159,11 @@ class Readings(Drying):
                 if form:
                     self.account.put(Fate.HEADS, lines[at])
                 if form == "long":
-                    self._read_long(lines[at], lines[at + 1 :])
+                    self._read_long(lines[at], self._by_day(lines[at], lines[at + 1 :], form))
                 elif form == "wide":
                     wide = True
-                    found |= self._read_wide(lines[at], lines[at + 1 :])
+                    below = self._by_day(lines[at], lines[at + 1 :], form)
+                    found |= self._read_wide(lines[at], below)
                 elif form == "across":
                     self._read_across(lines[at], lines[at + 1 :])
                 else:
@@ -174,6 +178,34 @@ class Readings(Drying):
                     remedy = "add it; its cells may be empty"
                     self.faults.append(InputFault(what, place=sheet.place(), remedy=remedy))
         self._check_order()
+
+    def read_settings(self) -> None:
+        """Read what holds for all figures."""
+        rows = [(row["setting"], row["value"], row["for"]) for row in self.rows("settings")]
+        self.settings, faults = settings_of(rows, self.reader)
+        self.faults += faults
+        counters = dict(self.settings.counters)
+        self.settings.counters.clear()
+        for _, _, of in rows:
+            stream = self.named(of, "for") if of.text in counters else None
+            if stream is not None:
+                self.settings.counters[stream.name] = counters[of.text]
+
+    def _by_day(self, heads: list[Cell], lines: list[list[Cell]], form: str) -> list[list[Cell]]:
+        """Return the rows below the heads with a figure a day, if they have hours or counters."""
+        names = {stream.name: stream.name for stream in self.streams.values()}
+        names |= {tag: stream.name for tag, stream in self.tags.items()}
+        if form == "wide":
+            found = wide_by_day(self.reader, self.settings, heads, lines, names)
+        else:
+            at = _long_columns(heads)
+            found = long_by_day(self.reader, self.settings, heads, lines, names, at)
+        if found is None:
+            return lines
+        self.account.put(Fate.READ, *found.taken)
+        self.faults += found.faults
+        self.notes += found.notes
+        return found.lines
 
     def _form(self, lines: list[list[Cell]]) -> tuple[int, str]:
         """Return which row has the heads, and whether they are wide, long or days across."""
@@ -190,11 +222,7 @@ class Readings(Drying):
         return 0, ""
 
     def _read_long(self, heads: list[Cell], lines: list[list[Cell]]) -> None:
-        at: dict[str, int] = {}
-        for column, cell in enumerate(heads):
-            for name, words in _LONG.items():
-                if cell.text.casefold() in words:
-                    at.setdefault(name, column)
+        at = _long_columns(heads)
         self.say_columns(heads, lines, set(at.values()))
         for cells in lines:
             row = {
@@ -382,6 +410,16 @@ class Readings(Drying):
             own_locale = self.reader.locale
             what = f"read as {own_locale}, days from {texts[0].text} on don't follow each other"
             self.fault(texts[0], what, f"read as {other} they do: say --locale {other}")
+
+
+def _long_columns(heads: list[Cell]) -> dict[str, int]:
+    """Return the columns of a sheet with a row for each figure."""
+    at: dict[str, int] = {}
+    for column, cell in enumerate(heads):
+        for name, words in _LONG.items():
+            if cell.text.casefold() in words:
+                at.setdefault(name, column)
+    return at
 
 
 def _ordinal(day: datetime.date) -> int:

@@ -41,6 +41,7 @@ SHEETS: dict[str, tuple[tuple[str, ...], tuple[str, ...]]] = {
     "periods": (("name", "first", "last"), ()),
     "windows": (("first", "last"), ()),
     "accounts": (("name",), ("kind", "product", "group", "owner", "unit", "density")),
+    "settings": (("setting", "value"), ("for",)),
     "rows": ((), ()),
 }
 # The sheets with figures, which may be in other shapes than with a row for each figure.

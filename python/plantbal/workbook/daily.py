@@ -1,0 +1,302 @@
+"""Sheets of readings with hours, zones or counters, turned into sheets with a figure a day.
+
+The rows of hours become a row for each day, wide or long as the sheet is; rows above, sums and
+remarks stay as they are.
+"""
+
+from __future__ import annotations
+
+import datetime
+import re
+from collections.abc import Mapping
+from dataclasses import dataclass, field, replace
+
+from plantbal.faults import InputFault
+from plantbal.workbook.cells import Reader
+from plantbal.workbook.hours import (
+    Clock,
+    DayFigure,
+    Days,
+    Figure,
+    clock_of,
+    counted,
+    has_times,
+    stamp_of,
+    summed,
+)
+from plantbal.workbook.settings import Settings
+from plantbal.workbook.sheets import Cell
+
+_BY_HOUR = re.compile(r"[\[(]?([^\W\d_][\w³]*)/(?:h|hr|hour)[\])]?", re.IGNORECASE)
+
+
+@dataclass
+class Daily:
+    """What a sheet has by day.
+
+    Attributes
+    ----------
+    lines : list of list of Cell
+        The rows below the heads.
+    taken : list of list of Cell
+        The rows of hours that were read.
+    faults : list of InputFault
+        What is wrong.
+    notes : list of str
+        What was recognised, and by what.
+    """
+
+    lines: list[list[Cell]]
+    taken: list[list[Cell]] = field(default_factory=list)
+    faults: list[InputFault] = field(default_factory=list)
+    notes: list[str] = field(default_factory=list)
+    by_hours: dict[int, set[datetime.date]] = field(default_factory=dict)
+    filled: int = 0
+
+    def take(self, days: Days) -> None:
+        """Count the hours of the days of a series, and keep its faults."""
+        self.faults += days.faults
+        self.filled += days.filled
+        for each in days.found:
+            self.by_hours.setdefault(each.hours, set()).add(each.day)
+
+
+def wide_by_day(
+    reader: Reader,
+    settings: Settings,
+    heads: list[Cell],
+    lines: list[list[Cell]],
+    names: Mapping[str, str],
+) -> Daily | None:
+    """Return a sheet with days down by day; None if its stamps are days, and no column a counter's.
+
+    Parameters
+    ----------
+    reader : Reader
+        How its cells are written.
+    settings : Settings
+        What holds for its figures.
+    heads : list of Cell
+        The row of heads.
+    lines : list of list of Cell
+        The rows below it.
+    names : mapping of str to str
+        The streams by their names and tags.
+
+    Raises
+    ------
+    InputFault
+        If a stamp can be read in two ways.
+    """
+    columns = [at for at, cell in enumerate(heads) if at and cell.text in names]
+    at = _stamp_column(reader, lines, min(columns, default=0))
+    stamps = [stamp_of(reader, cells[at]) if at < len(cells) else None for cells in lines]
+    stamped = [(cells, stamp) for cells, stamp in zip(lines, stamps) if stamp is not None]
+    timed = has_times([stamp for _, stamp in stamped])
+    counters = [c for c in columns if names[heads[c].text] in settings.counters]
+    if not stamped or not (timed or counters):
+        return None
+    series = {
+        column: [Figure(cells[at], _at(cells, column), stamp) for cells, stamp in stamped]
+        for column in columns
+    }
+    first = [Figure(cells[at], cells[at], stamp) for cells, stamp in stamped]
+    clock = Clock(settings, settings.stamps == "end")
+    if timed:
+        clock = clock_of(reader, settings, first, first)
+    found = Daily([], taken=[cells for cells, _ in stamped])
+    rows: dict[datetime.date, list[Cell]] = {}
+    for column, figures in series.items():
+        name = heads[column].text
+        days = _days_of(reader, clock, name, names[name], figures, timed)
+        found.take(days)
+        for each in days.found:
+            row = rows.setdefault(each.day, _empty(heads, each, at))
+            row[column] = each.cell
+    hourly = timed and max(found.by_hours, default=1) > 1
+    for cells, stamp in zip(lines, stamps):
+        if stamp is None:
+            found.lines.append(_without_rates(cells, columns) if hourly else cells)
+    found.lines += [rows[day] for day in sorted(rows)]
+    _say(found, heads, clock, [heads[c].text for c in counters], hourly)
+    return found
+
+
+def long_by_day(
+    reader: Reader,
+    settings: Settings,
+    heads: list[Cell],
+    lines: list[list[Cell]],
+    names: Mapping[str, str],
+    at: Mapping[str, int],
+) -> Daily | None:
+    """Return a sheet with a row for each figure by day, as `wide_by_day` does.
+
+    Parameters
+    ----------
+    reader, settings, heads, lines, names
+        As `wide_by_day` has them.
+    at : mapping of str to int
+        The columns ``day``, ``tag``, ``value`` and perhaps ``unit``.
+
+    Raises
+    ------
+    InputFault
+        If a stamp can be read in two ways, or a tag has several units.
+    """
+    column, tag = at["day"], at["tag"]
+    stamped = [(cells, stamp_of(reader, _at(cells, column))) for cells in lines]
+    there = [stamp for _, stamp in stamped if stamp is not None]
+    tags = {_at(cells, tag).text for cells, stamp in stamped if stamp is not None}
+    timed = has_times(there)
+    counters = sorted(each for each in tags if names.get(each) in settings.counters)
+    if not there or not (timed or counters):
+        return None
+    series: dict[str, list[tuple[list[Cell], Figure]]] = {}
+    found = Daily([])
+    for cells, stamp in stamped:
+        if stamp is None:
+            found.lines.append(cells)
+            continue
+        figure = Figure(_at(cells, column), _at(cells, at["value"]), stamp)
+        series.setdefault(_at(cells, tag).text, []).append((cells, figure))
+        found.taken.append(cells)
+    most = max(len(rows) for rows in series.values())
+    longest = sorted(next(r for r in series.values() if len(r) == most), key=_order_of)
+    every = [figure for rows in series.values() for _, figure in rows]
+    clock = Clock(settings, settings.stamps == "end")
+    if timed:
+        clock = clock_of(reader, settings, [figure for _, figure in longest], every)
+    for name, rows in series.items():
+        if name not in names:
+            found.lines.append(_as_day(rows[0][0], column, rows[0][1].at.date()))
+            continue
+        rows.sort(key=_order_of)
+        days = _days_of(reader, clock, name, names[name], [each for _, each in rows], timed)
+        found.take(days)
+        by_stamp = {figure.stamp.line: cells for cells, figure in rows}
+        unit = _one_unit(reader, [cells for cells, _ in rows], at.get("unit"))
+        for each in days.found:
+            row = _as_day(by_stamp[each.stamp.line], column, each.day)
+            row[at["value"]] = each.cell
+            found.lines.append(_without_rates(row, [unit]) if each.hours > 1 else row)
+    hourly = timed and max(found.by_hours, default=1) > 1
+    _say(found, heads, clock, counters, hourly)
+    return found
+
+
+def _order_of(row: tuple[list[Cell], Figure]) -> datetime.datetime:
+    """Return what rows are put in order by; those of one clock time stay as they are."""
+    at = row[1].at
+    return at.astimezone(datetime.timezone.utc).replace(tzinfo=None) if at.tzinfo else at
+
+
+def _days_of(
+    reader: Reader, clock: Clock, said: str, name: str, figures: list[Figure], timed: bool
+) -> Days:
+    """Return the days of a series."""
+    modulus = clock.settings.counters.get(name)
+    if modulus is not None:
+        figures = figures if timed else _at_begins(reader, clock, figures)
+        return counted(reader, clock, said, modulus, figures)
+    if timed:
+        return summed(reader, clock, said, figures)
+    plain = [each for each in figures if not reader.is_missing(each.cell)]
+    return Days([DayFigure(each.at.date(), each.stamp, each.cell, 1) for each in plain])
+
+
+def _at_begins(reader: Reader, clock: Clock, figures: list[Figure]) -> list[Figure]:
+    """Return the figures of a counter, a day each, with the time at which they were read.
+
+    Raises
+    ------
+    InputFault
+        If it isn't told whether that was the day's begin or its end.
+    """
+    if not clock.settings.stamps:
+        what = "was this counter read at the begin or the end of the day?"
+        remedy = "write stamps and begin, or end, into a sheet settings"
+        raise reader.fault(figures[0].stamp, what, remedy)
+    shift = clock.settings.begins + datetime.timedelta(days=clock.ends)
+    return [replace(each, at=each.at + shift) for each in figures]
+
+
+def _one_unit(reader: Reader, rows: list[list[Cell]], column: int | None) -> int:
+    """Return the column of the units, if all rows of a tag have one unit; -1 without a column.
+
+    Raises
+    ------
+    InputFault
+        If they have several.
+    """
+    if column is None:
+        return -1
+    first = _at(rows[0], column)
+    for cells in rows:
+        if _at(cells, column).text != first.text:
+            what = f"this tag has figures in {first.text or 'no unit'} and in "
+            cell = _at(cells, column)
+            raise reader.fault(cell, what + (cell.text or "none"), "write the same unit for all")
+    return column
+
+
+def _stamp_column(reader: Reader, lines: list[list[Cell]], end: int) -> int:
+    """Return the first column before those of the figures that has stamps."""
+    for column in range(end):
+        if any(stamp_of(reader, _at(cells, column)) for cells in lines[:10]):
+            return column
+    return 0
+
+
+def _at(cells: list[Cell], column: int) -> Cell:
+    if column < len(cells):
+        return cells[column]
+    return Cell(cells[0].sheet, cells[0].line, column + 1, None)
+
+
+def _empty(heads: list[Cell], figure: DayFigure, at: int) -> list[Cell]:
+    """Return a row with nothing but its day."""
+    stamp = figure.stamp
+    cells = [Cell(stamp.sheet, stamp.line, head.column, None) for head in heads]
+    return _as_day(cells, at, figure.day)
+
+
+def _as_day(cells: list[Cell], column: int, day: datetime.date) -> list[Cell]:
+    """Return a row with a day in place of its stamp."""
+    at = datetime.datetime(day.year, day.month, day.day)
+    cells = list(cells)
+    cells[column] = Cell(cells[column].sheet, cells[column].line, cells[column].column, at)
+    return cells
+
+
+def _without_rates(cells: list[Cell], columns: list[int]) -> list[Cell]:
+    """Return a row whose units an hour are those of an hour's amount."""
+    found = list(cells)
+    for column in columns:
+        match = _BY_HOUR.fullmatch(cells[column].text) if 0 <= column < len(cells) else None
+        if match:
+            cell = cells[column]
+            found[column] = Cell(cell.sheet, cell.line, cell.column, match.group(1))
+    return found
+
+
+def _say(found: Daily, heads: list[Cell], clock: Clock, counters: list[str], hourly: bool) -> None:
+    """Say what was recognised."""
+    place = heads[0].sheet.place(heads[0].line)
+    zone = f" in {clock.settings.zone}" if clock.settings.zone else ""
+    if hourly:
+        counts = {hours: len(days) for hours, days in sorted(found.by_hours.items())}
+        days = ", ".join(f"{count} of {hours} hours" for hours, count in counts.items())
+        end = "end" if clock.ends else "begin"
+        found.notes.append(
+            f"{place} figures of hours are added up by day{zone}, days: {days}; a stamp is the "
+            f"{end} of its hour, and a figure in t/h counts for one hour"
+        )
+    elif found.by_hours and clock.is_daily:
+        end = "end" if clock.ends else "begin"
+        found.notes.append(f"{place} each stamp is the {end} of a day{zone}")
+    if found.filled:
+        found.notes.append(f"{place} {found.filled:,} hours without a figure are taken for 0")
+    if counters:
+        names = ", ".join(counters)
+        found.notes.append(f"{place} figures of the counters {names} are subtracted by day{zone}")

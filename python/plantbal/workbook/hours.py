@@ -1,0 +1,387 @@
+"""Hourly figures, stamps with a zone, and counters: turned into a figure for each day.
+
+A series is a column, or a tag of a long sheet. Its stamps become instants: by their own zone, or by
+the plant's, in which the hour that comes twice in autumn is told by its order. A day goes from its
+begin to the next day's, so it has 23, 24 or 25 hours, and its figure is the sum of as many. A figure
+in t/h is the mean of its hour, so it counts for one hour. A counter's figure is what it went on
+between the two begins; it begins again at 0 at most once between two of its stamps.
+
+An hour without a figure is a fault, with its time, unless it is told to be 0; a day without any
+figure is a missing day. Figures keep the place of the first hour of their day.
+"""
+
+from __future__ import annotations
+
+import datetime
+import re
+from collections import Counter
+from collections.abc import Iterator, Sequence
+from dataclasses import dataclass, field
+from decimal import Decimal
+from fractions import Fraction
+from functools import lru_cache
+from zoneinfo import ZoneInfo
+
+from plantbal.faults import InputFault
+from plantbal.workbook.cells import Reader
+from plantbal.workbook.settings import Settings
+from plantbal.workbook.sheets import Cell
+
+_HOUR = datetime.timedelta(hours=1)
+_DAY = datetime.timedelta(days=1)
+_UTC = datetime.timezone.utc
+_STAMP = re.compile(
+    r"(.*?)(?:[ T]+([01]?[0-9]|2[0-4]):([0-5][0-9])(?::([0-5][0-9])(?:[.,]0+)?)?)?"
+    r"\s*(Z|UTC|[+-][0-9]{2}:?[0-9]{2})?"
+)
+_SAID = 3  # hours that a fault names
+
+
+@dataclass(frozen=True, slots=True)
+class Figure:
+    """A figure of a series: its stamp's cell, its own, and its stamp, with a zone or without."""
+
+    stamp: Cell
+    cell: Cell
+    at: datetime.datetime
+
+
+@dataclass(frozen=True, slots=True)
+class DayFigure:
+    """What a series has on a day, at the cells of the day's first figure."""
+
+    day: datetime.date
+    stamp: Cell
+    cell: Cell
+    hours: int
+
+
+@dataclass
+class Days:
+    """The figures of the days of a series, and what is wrong with others.
+
+    Attributes
+    ----------
+    found : list of DayFigure
+        The days with a figure.
+    faults : list of InputFault
+        What is wrong.
+    filled : int
+        How many hours were taken for 0.
+    """
+
+    found: list[DayFigure] = field(default_factory=list)
+    faults: list[InputFault] = field(default_factory=list)
+    filled: int = 0
+
+
+def stamp_of(reader: Reader, cell: Cell) -> datetime.datetime | None:
+    """Return the stamp of a cell, or None if it has none, or none of a known form."""
+    value = cell.value
+    if isinstance(value, datetime.datetime):
+        return (value + datetime.timedelta(milliseconds=500)).replace(microsecond=0)
+    if not isinstance(value, str) or not re.match(r"[0-9]", value):
+        return None
+    return _stamp_of(reader.locale, value)
+
+
+@lru_cache(maxsize=100_000)
+def _stamp_of(locale: str, text: str) -> datetime.datetime | None:
+    from plantbal.workbook.sheets import Sheet
+
+    match = _STAMP.fullmatch(text.strip())
+    if match is None:
+        return None
+    date, hour, minute, second, zone = match.groups()
+    try:
+        day = Reader(locale).day(Cell(Sheet("", "", []), 1, 1, date.strip()))
+    except InputFault:
+        return None
+    at = datetime.datetime(day.year, day.month, day.day)
+    numbers = (int(part or 0) for part in (hour, minute, second))
+    at += datetime.timedelta(**dict(zip(("hours", "minutes", "seconds"), numbers)))
+    if zone is None:
+        return at
+    if zone in ("Z", "UTC"):
+        return at.replace(tzinfo=_UTC)
+    offset = datetime.timedelta(hours=int(zone[1:3]), minutes=int(zone[-2:]))
+    return at.replace(tzinfo=datetime.timezone(-offset if zone[0] == "-" else offset))
+
+
+def has_times(stamps: Sequence[datetime.datetime]) -> bool:
+    """Say whether stamps have a zone, or a time of the day other than midnight."""
+    return any(at.tzinfo is not None or at.time() != datetime.time() for at in stamps)
+
+
+@dataclass
+class Clock:
+    """Turns stamps into days, by the plant's settings.
+
+    Attributes
+    ----------
+    settings : Settings
+        The settings.
+    ends : bool
+        Whether a stamp is the end of its hour or day.
+    is_daily : bool
+        Whether each stamp is the begin of a day, so that a figure is a day's.
+    """
+
+    settings: Settings
+    ends: bool = False
+    is_daily: bool = False
+
+    def begin(self, day: datetime.date) -> datetime.datetime:
+        """Return the instant at which a day begins; without a zone all is as if in UTC."""
+        local = datetime.datetime(day.year, day.month, day.day) + self.settings.begins
+        return self._instant(local)
+
+    def _instant(self, local: datetime.datetime, fold: int = 0) -> datetime.datetime:
+        zone = self.settings.zone or ZoneInfo("UTC")
+        return local.replace(tzinfo=zone, fold=fold).astimezone(_UTC)
+
+    def local(self, instant: datetime.datetime) -> datetime.datetime:
+        """Return the time that the plant's clocks show."""
+        return instant.astimezone(self.settings.zone or ZoneInfo("UTC")).replace(tzinfo=None)
+
+    def day(self, instant: datetime.datetime) -> datetime.date:
+        """Return the day that an instant is in."""
+        return (self.local(instant) - self.settings.begins).date()
+
+    def hours(self, day: datetime.date) -> list[datetime.datetime]:
+        """Return the instants at which the hours of a day begin."""
+        at, end = self.begin(day), self.begin(day + _DAY)
+        found = []
+        while at < end:
+            found.append(at)
+            at += _HOUR
+        return found
+
+    def instants(self, reader: Reader, figures: Sequence[Figure]) -> Iterator[datetime.datetime]:
+        """Give the instants of a series.
+
+        Raises
+        ------
+        InputFault
+            If a stamp comes twice, or isn't there on the day on which clocks are put forward.
+        """
+        seen: Counter[datetime.datetime] = Counter()
+        for figure in figures:
+            at = figure.at
+            if at.tzinfo is not None:
+                yield at.astimezone(_UTC)
+                continue
+            instant = self._instant(at, fold=min(1, seen[at]))
+            if self.local(instant) != at:
+                what = f"{at} isn't there: clocks are put forward then in {self.settings.zone}"
+                remedy = "write the zone after the stamps, as in 2024-03-31T01:00:00Z"
+                raise reader.fault(figure.stamp, what, remedy)
+            if seen[at] and instant == self._instant(at):
+                remedy = "leave one of both out"
+                if not self.settings.zone:
+                    remedy += ", or write the plant's zone into a sheet settings"
+                raise reader.fault(figure.stamp, f"{at} is there twice", remedy)
+            seen[at] += 1
+            yield instant
+
+
+def clock_of(
+    reader: Reader, settings: Settings, figures: Sequence[Figure], every: Sequence[Figure]
+) -> Clock:
+    """Return how the stamps of a sheet are read.
+
+    Parameters
+    ----------
+    reader, settings
+        How its cells are written, and what holds for its figures.
+    figures : sequence of Figure
+        Those of its longest series, whose ends tell which end of its hour a stamp is.
+    every : sequence of Figure
+        All of them.
+
+    Raises
+    ------
+    InputFault
+        If that isn't told: the plant's zone, or which end of its hour a stamp is.
+    """
+    first, last = figures[0], figures[-1]
+    zoned = next((each for each in every if each.at.tzinfo), None)
+    if zoned is not None and settings.zone is None:
+        first = zoned
+        what = f"{first.stamp.text} has a zone, and the plant's isn't told"
+        remedy = "write zone and Europe/Berlin, or UTC, into a sheet settings"
+        raise reader.fault(first.stamp, what, remedy)
+    clock = Clock(settings, settings.stamps == "end")
+    clock.is_daily = _are_begins(clock, every)
+    if settings.stamps or clock.is_daily:
+        return clock
+    begins = settings.begins
+    ends = [
+        (clock.local(_aware(clock, each.at)) - begins).time() for each in (first, last)
+    ]
+    if ends == [datetime.time(0), datetime.time(23)]:
+        return clock
+    if ends == [datetime.time(1), datetime.time(0)]:
+        clock.ends = True
+        return clock
+    what = f"from {first.stamp.text} to {last.stamp.text} aren't whole days: is a stamp the "
+    remedy = "write stamps and begin, or end, into a sheet settings"
+    raise reader.fault(first.stamp, what + "begin or the end of its hour?", remedy)
+
+
+def _aware(clock: Clock, at: datetime.datetime) -> datetime.datetime:
+    zone = clock.settings.zone or ZoneInfo("UTC")
+    return at if at.tzinfo is not None else at.replace(tzinfo=zone)
+
+
+def _are_begins(clock: Clock, figures: Sequence[Figure]) -> bool:
+    """Say whether each stamp is the begin of a day, so that a figure is a day's."""
+    midnight = datetime.time(0)
+    begins = clock.settings.begins
+    return all(
+        (clock.local(_aware(clock, each.at)) - begins).time() == midnight for each in figures
+    )
+
+
+def summed(reader: Reader, clock: Clock, name: str, figures: Sequence[Figure]) -> Days:
+    """Return the days of a series of hourly figures, or of one figure a day."""
+    days = Days()
+    try:
+        instants = list(clock.instants(reader, figures))
+    except InputFault as fault:
+        days.faults.append(fault)
+        return days
+    hours: dict[datetime.date, dict[datetime.datetime, Figure]] = {}
+    for figure, instant in zip(figures, instants):
+        if clock.is_daily:
+            day = clock.day(instant) - (_DAY if clock.ends else datetime.timedelta(0))
+            if not reader.is_missing(figure.cell):
+                days.found.append(DayFigure(day, figure.stamp, figure.cell, 1))
+            continue
+        start = instant - (_HOUR if clock.ends else datetime.timedelta(0))
+        hours.setdefault(clock.day(start), {})[start] = figure
+    for day, found in hours.items():
+        try:
+            _sum_day(reader, clock, name, day, found, days)
+        except InputFault as fault:
+            days.faults.append(fault)
+    return days
+
+
+def _sum_day(
+    reader: Reader,
+    clock: Clock,
+    name: str,
+    day: datetime.date,
+    found: dict[datetime.datetime, Figure],
+    days: Days,
+) -> None:
+    """Add up the hours of a day.
+
+    Raises
+    ------
+    InputFault
+        If an hour has no figure, or a stamp isn't the begin of an hour.
+    """
+    first = next(iter(found.values()))
+    wanted = clock.hours(day)
+    for instant in found.keys() - set(wanted):
+        remedy = "give a figure for each hour, at its full hour"
+        raise reader.fault(found[instant].stamp, "this isn't a full hour of the day", remedy)
+    there = {at: each for at, each in found.items() if not reader.is_missing(each.cell)}
+    if not there:
+        return
+    lacks = [at for at in wanted if at not in there]
+    if lacks and not clock.settings.fill:
+        times = [f"{clock.local(at):%H:%M}" for at in lacks]
+        more = f" and {len(lacks) - _SAID} more" if len(lacks) > _SAID else ""
+        what = f"{name} has no figure for {len(lacks)} of the {len(wanted)} hours of {day}: "
+        what += f"those from {', '.join(times[:_SAID])}{more}"
+        remedy = "write them, or empty all of the day and estimate it; missing hours and 0 in a "
+        raise reader.fault(first.cell, what, f"{remedy}sheet settings take such hours for 0")
+    days.filled += len(lacks)
+    total = sum((Fraction(reader.number(each.cell, name)) for each in there.values()), Fraction(0))
+    days.found.append(DayFigure(day, first.stamp, _with(first.cell, total), len(wanted)))
+
+
+def counted(
+    reader: Reader, clock: Clock, name: str, modulus: Decimal, figures: Sequence[Figure]
+) -> Days:
+    """Return the days of a counter: what it went on from the begin of each to that of the next."""
+    days = Days()
+    try:
+        there = [each for each in figures if not reader.is_missing(each.cell)]
+        instants = list(clock.instants(reader, there))
+        went = _went(reader, name, modulus, there)
+    except InputFault as fault:
+        days.faults.append(fault)
+        return days
+    at = {instant: place for place, instant in enumerate(instants)}
+    if instants != sorted(instants):
+        days.faults.append(reader.fault(figures[0].stamp, "the stamps don't follow each other"))
+        return days
+    for day in dict.fromkeys(map(clock.day, instants)):
+        begin, end = at.get(clock.begin(day)), at.get(clock.begin(day + _DAY))
+        if begin is not None and end is not None:
+            total = sum(went[begin:end], Fraction(0))
+            cell = _with(there[begin].cell, total)
+            days.found.append(DayFigure(day, there[begin].stamp, cell, len(clock.hours(day))))
+        elif (begin is None) != (end is None) or instants[-1] >= clock.begin(day + _DAY):
+            _lack_ends(reader, clock, name, day, begin is None, instants, there, days)
+    return days
+
+
+def _lack_ends(
+    reader: Reader,
+    clock: Clock,
+    name: str,
+    day: datetime.date,
+    of_begin: bool,
+    instants: list[datetime.datetime],
+    there: Sequence[Figure],
+    days: Days,
+) -> None:
+    """Keep the fault of a day whose begin or end has no figure; not of the last stamp alone."""
+    missing = clock.begin(day if of_begin else day + _DAY)
+    if not of_begin and instants[-1] == clock.begin(day):
+        return  # the last stamp is the end of the day before
+    figure = next(each for each, at in zip(there, instants) if clock.day(at) == day)
+    what = f"the counter {name} has no figure at {clock.local(missing):%Y-%m-%d %H:%M}, so what "
+    remedy = "write it, or leave the other figures of the day out, and estimate it"
+    days.faults.append(reader.fault(figure.cell, f"{what}went on {day} isn't known", remedy))
+
+
+def _went(
+    reader: Reader, name: str, modulus: Decimal, figures: Sequence[Figure]
+) -> list[Fraction]:
+    """Return what a counter went on between its figures.
+
+    Raises
+    ------
+    InputFault
+        If a figure isn't below that at which the counter begins again, or if it went back.
+    """
+    numbers = [Fraction(reader.number(each.cell, name)) for each in figures]
+    most, went = Fraction(modulus), []
+    for number, figure in zip(numbers, figures):
+        if not 0 <= number < most:
+            what = f"the counter {name} begins again at {modulus:f}, and this is {figure.cell.text}"
+            raise reader.fault(figure.cell, what, "look at the figure in the sheet settings")
+    for before, after, figure in zip(numbers, numbers[1:], figures[1:]):
+        on = (after - before) % most
+        if 2 * on >= most:
+            what = f"the counter {name} went back, or on by more than half of {modulus:f}"
+            remedy = "correct the figure; if it was set back, leave the day out and estimate it"
+            raise reader.fault(figure.cell, what, remedy)
+        went.append(on)
+    return went
+
+
+def _with(cell: Cell, total: Fraction) -> Cell:
+    """Return a cell with a sum of decimal numbers in place of its own figure."""
+    places = 0
+    while total.denominator != 1:
+        total, places = total * 10, places + 1
+    digits = tuple(map(int, str(abs(total.numerator))))
+    number = Decimal((int(total < 0), digits, -places))
+    return Cell(cell.sheet, cell.line, cell.column, number)

@@ -1,0 +1,115 @@
+"""The sheet settings of a workbook: what holds for all of its figures, and isn't to be guessed."""
+
+from __future__ import annotations
+
+import datetime
+import re
+from collections.abc import Iterable
+from dataclasses import dataclass, field
+from decimal import Decimal
+from zoneinfo import ZoneInfo, ZoneInfoNotFoundError
+
+from plantbal.faults import InputFault
+from plantbal.workbook.cells import Reader
+from plantbal.workbook.sheets import Cell, Percent
+
+ZONE, BEGINS, STAMPS, MISSING_HOURS, COUNTER = (
+    "zone",
+    "day begins",
+    "stamps",
+    "missing hours",
+    "counter",
+)
+_CLOCK = re.compile(r"([01]?[0-9]|2[0-3])(?::([0-5][0-9]))?(?::00)?")
+
+
+@dataclass
+class Settings:
+    """What the sheet settings says.
+
+    Attributes
+    ----------
+    zone : ZoneInfo or None
+        The plant's zone.
+    begins : timedelta
+        How long after midnight its day begins.
+    stamps : str
+        ``begin`` or ``end``: which of its hour, or of its day, a stamp is; empty if it isn't said.
+    fill : bool
+        Whether an hour without a figure is 0.
+    counters : dict of str to Decimal
+        The tags whose figures are a counter's, and the figure at which it begins again at 0.
+    """
+
+    zone: ZoneInfo | None = None
+    begins: datetime.timedelta = datetime.timedelta(0)
+    stamps: str = ""
+    fill: bool = False
+    counters: dict[str, Decimal] = field(default_factory=dict)
+
+    def take(self, reader: Reader, name: Cell, value: Cell, of: Cell) -> None:
+        """Take a row.
+
+        Raises
+        ------
+        InputFault
+            If there is no such setting, or it can't have this value.
+        """
+        word = name.text.casefold()
+        if word == ZONE:
+            self.zone = _zone(reader, value)
+        elif word == BEGINS:
+            self.begins = _clock(reader, value)
+        elif word == STAMPS and value.text.casefold() in ("begin", "end"):
+            self.stamps = value.text.casefold()
+        elif word == STAMPS:
+            raise reader.fault(value, f"{value.text!r} is no end of an hour", "write begin or end")
+        elif word == MISSING_HOURS:
+            if reader.number(value) != 0:
+                raise reader.fault(value, "an hour without a figure is 0 or a fault", "write 0")
+            self.fill = True
+        elif word == COUNTER:
+            self.counters[of.text] = _modulus(reader, value, of)
+        else:
+            known = ", ".join((ZONE, BEGINS, STAMPS, MISSING_HOURS, COUNTER))
+            raise reader.fault(name, f"there is no setting {name.text!r}", f"write one of {known}")
+
+
+def _zone(reader: Reader, cell: Cell) -> ZoneInfo:
+    try:
+        return ZoneInfo(cell.text)
+    except (ZoneInfoNotFoundError, ValueError, OSError) as error:
+        remedy = "write it as Europe/Berlin, or UTC"
+        raise reader.fault(cell, f"there is no zone {cell.text!r}", remedy) from error
+
+
+def _clock(reader: Reader, cell: Cell) -> datetime.timedelta:
+    """Return a time of the day."""
+    if isinstance(cell.value, datetime.time):
+        return datetime.timedelta(hours=cell.value.hour, minutes=cell.value.minute)
+    match = _CLOCK.fullmatch(cell.text)
+    if match is None or isinstance(cell.value, Percent):
+        raise reader.fault(cell, f"{cell.text!r} is no time of the day", "write it as 06:00")
+    return datetime.timedelta(hours=int(match.group(1)), minutes=int(match.group(2) or 0))
+
+
+def _modulus(reader: Reader, value: Cell, of: Cell) -> Decimal:
+    """Return the figure at which a counter begins again at 0."""
+    number = reader.number(value)
+    if number <= 0 or not of.text:
+        remedy = "write the figure at which it begins again at 0, and its tag into the column for"
+        raise reader.fault(value, "a counter needs a figure above 0, and a tag", remedy)
+    return number
+
+
+def settings_of(
+    rows: Iterable[tuple[Cell, Cell, Cell]], reader: Reader
+) -> tuple[Settings, list[InputFault]]:
+    """Return the settings that rows of names, values and tags say, and what is wrong with others."""
+    found, faults = Settings(), []
+    for name, value, of in rows:
+        try:
+            found.take(reader, name, value, of)
+        except InputFault as fault:
+            faults.append(fault)
+    return found, faults
