@@ -330,10 +330,11 @@ REFUSED: dict[str, tuple[Make, dict[str, Any], str]] = {
         {},
         "plant.xlsx!readings!B3: 2024-04-01 is a date",
     ),
-    "hourly rows": (
+    "days at six": (
         excel(wide([day.replace(hour=6) for day in DAYS], numbers(FEED), numbers(PRODUCT))),
         {},
-        "plant.xlsx!readings!A2: 2024-04-01 06:00:00 has a time of the day, 06:00:00",
+        "plant.xlsx!readings!A2: 2024-04-01 06:00:00 has a time of the day, 06:00, as all stamps "
+        "have: does the plant's day begin then?",
     ),
     "a day that can be two": (
         english(wide(days("%d/%m/%Y"), FEED, PRODUCT)),

@@ -80,6 +80,11 @@ READ: dict[str, tuple[Rows, list[list[Any]], dict[str, int]]] = {
         [BERLIN, ["day begins", datetime.time(6), None]],
         {"2024-03-30": 276},
     ),
+    "days at six": (
+        [*HEAD, [MAY_1 + 6 * HOUR, 7], [MAY_1 + 30 * HOUR, 8]],
+        [["day begins", "06:00", None]],
+        {"2024-05-01": 7, "2024-05-02": 8},
+    ),
     "an offset": ([*HEAD, *hours(MAY_1, 24, "%Y-%m-%d %H:%M+02:00")], [BERLIN], {"2024-05-01": 300}),
     "days with Z": (
         [*HEAD, ["2024-05-01T00:00:00Z", 7], ["2024-05-02T00:00:00Z", 8]],

@@ -213,6 +213,12 @@ def clock_of(
         raise reader.fault(first.stamp, what, remedy)
     clock = Clock(settings, settings.stamps == "end")
     clock.is_daily = _are_begins(clock, every)
+    times = {clock.local(_aware(clock, each.at)).time() for each in every}
+    if len(times) == 1 and not clock.is_daily and len(figures) > 1:
+        time = f"{times.pop():%H:%M}"
+        remedy = f"write day begins and {time} into a sheet settings if it is so"
+        what = f"{first.stamp.text} has a time of the day, {time}, as all stamps have: does the "
+        raise reader.fault(first.stamp, f"{what}plant's day begin then?", remedy)
     if settings.stamps or clock.is_daily:
         return clock
     begins = settings.begins
