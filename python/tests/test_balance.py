@@ -150,6 +150,9 @@ def test_a_flow_is_not_below_nothing() -> None:
     assert found.flow("B") == pytest.approx(0, abs=1e-9)
     assert [bound.said for bound in found.active] == ["B can't flow backwards"]
     assert found.flow("A") == pytest.approx(98.5)
+    assays = {(name, "cu"): Measured(0.02, 1e-8) for name in "AC"}
+    empty = Known(solve(Problem(flows, ["cu"], assays)))
+    assert empty.class_of("B", "cu") is Class.UNOBSERVABLE  # nothing flows, so it has no grade
     gain = [
         Flow("B", "env", "U", Measured(1, 4), either_way=True) if f.name == "B" else f
         for f in flows

@@ -113,7 +113,10 @@ def run(options: argparse.Namespace) -> int:
     if options.chart:
         _chart(options.chart, known)
     why_not = not_certified(lines, output, options.program)
-    for note in [*notes_of(asked, known, lines), *([f"not certified: {why_not}"] if why_not else [])]:
+    for note in [
+        *notes_of(asked, known, lines),
+        *([f"not certified: {why_not}"] if why_not else []),
+    ]:
         print(f"{options.prog}: {note}", file=sys.stderr)
     return int(bool(why_not))
 

@@ -17,7 +17,7 @@ rank, almost everywhere near it.
 from __future__ import annotations
 
 import math
-from collections.abc import Mapping
+from collections.abc import Mapping, Sequence
 from dataclasses import dataclass, replace
 from enum import Enum
 from functools import cached_property
@@ -29,6 +29,8 @@ from plantbal.balance.system import System
 # A pivot below this part of the greatest is 0, and so is what a number owes to loose ones below this.
 _NOTHING = 1e-9
 _LOOSE = 1e-7
+# Squares of which the checks leave less than this part are subtracted one by one.
+_NEARLY_ALL = 1e-3
 # A pull below this part of the firmest measurement's is none.
 _LEAST_PULL = 1e-7
 
@@ -78,17 +80,23 @@ class Known:
         pulls it there, and nothing is known of it by that. So a bound counts if something pulls, or
         if its numbers are determined by the others.
         """
-        solution = self.solution
-        if not solution.active or self.all_count:
-            return solution.active
-        least = _LEAST_PULL / math.sqrt(float(self.system.variance.min()))
-        pulled = [bound for bound, pull in zip(solution.active, solution.pulls) if pull > least]
-        known = Known(replace(solution, active=tuple(pulled)), all_count=True).is_determined
+        active = self.solution.active
+        if not active or self.all_count:
+            return active
+        known = self._by_pulls.is_determined
         return tuple(
             bound
-            for bound in solution.active
-            if bound in pulled or all(known[column] for column, _ in bound.terms)
+            for bound in active
+            if bound in self._by_pulls.held or all(known[column] for column, _ in bound.terms)
         )
+
+    @cached_property
+    def _by_pulls(self) -> Known:
+        """What is known if only the bounds to which something pulls count."""
+        solution = self.solution
+        least = _LEAST_PULL / math.sqrt(float(self.system.variance.min()))
+        pulled = [bound for bound, pull in zip(solution.active, solution.pulls) if pull > least]
+        return Known(replace(solution, active=tuple(pulled)), all_count=True)
 
     @cached_property
     def _parts(self) -> tuple[Any, Any, Any, Any]:
@@ -113,7 +121,9 @@ class Known:
         import numpy
         from scipy.linalg import qr, solve_triangular
 
-        _, free, measured, unmeasured = self._parts
+        if not self.all_count and self.solution.active and self.held == self._by_pulls.held:
+            return self._by_pulls._split
+        _, _, measured, unmeasured = self._parts
         rows, columns = unmeasured.shape
         if not columns:
             none = numpy.zeros((0, measured.shape[1]))
@@ -176,6 +186,8 @@ class Known:
 
         column = self.system.columns[stream, component]
         if not self.system.is_measured[column]:
+            if component and self.solution.is_empty(stream):
+                return Class.UNOBSERVABLE  # a stream without a flow has no grade
             carried = self.is_determined[column] and (
                 not component or self.is_determined[self.system.columns[stream, ""]]
             )
@@ -192,28 +204,50 @@ class Known:
 
     def deviation(self, gradient: Mapping[int, float]) -> float:
         """Return the standard deviation of a figure that depends on numbers by these derivatives."""
-        import numpy
+        return self.deviations([gradient])[0]
 
-        whole = numpy.zeros(self.system.size)
-        for column, slope in gradient.items():
-            whole[column] = slope
+    def deviations(self, gradients: Sequence[Mapping[int, float]]) -> list[float]:
+        """Return the standard deviations of figures, each by its derivatives: faster than one by one.
+
+        What the checks take away is subtracted from the squares; if nearly nothing is left, from
+        the errors themselves, since a small difference of great squares would be rounding.
+        """
+        import numpy
+        from scipy.sparse import csr_array, diags
+
+        entries = [(row, *each) for row, some in enumerate(gradients) for each in some.items()]
+        rows, columns, slopes = zip(*entries) if entries else ((), (), ())
+        shape = (len(gradients), self.system.size)
+        whole = csr_array((numpy.array(slopes, float), (rows, columns)), shape=shape).tocsc()
         measured, free, _, _ = self._parts
-        own = whole[measured]
-        columns = numpy.flatnonzero(whole[free])
-        if len(columns):
-            own = own + whole[free][columns] @ self._split[0][columns]
-        # in standard deviations, without what the checks take away
-        error = own * self._roots
-        error = error - self._satisfied @ (self._satisfied.T @ error)
-        return math.sqrt(float(error @ error))
+        # in standard deviations
+        own = csr_array(whole[:, measured] @ diags(self._roots))
+        loose = csr_array(whole[:, free])
+        error, inside = own.toarray(), own @ self._satisfied
+        some = numpy.flatnonzero(numpy.diff(loose.indptr))
+        error[some] += (loose[some] @ self._split[0]) * self._roots
+        inside[some] = error[some] @ self._satisfied
+        squares = (error * error).sum(axis=1)
+        left = squares - (inside * inside).sum(axis=1)
+        near = numpy.flatnonzero(left < _NEARLY_ALL * squares)
+        if len(near):
+            rest = error[near] - inside[near] @ self._satisfied.T
+            left[near] = (rest * rest).sum(axis=1)
+        return [float(value) for value in numpy.sqrt(left)]
 
     def flow_deviation(self, stream: str) -> float:
         """Return the standard deviation of a flow, in tonnes."""
-        return self.deviation({self.system.columns[stream, ""]: self.system.scale})
+        return self.deviation(self.gradient(stream))
 
     def grade_deviation(self, stream: str, component: str) -> float:
         """Return the standard deviation of a grade, as a fraction."""
-        return self.deviation(self.grade_gradient(stream, component))
+        return self.deviation(self.gradient(stream, component))
+
+    def gradient(self, stream: str, component: str = "") -> dict[int, float]:
+        """Return the derivatives of a flow in tonnes, or of a grade as a fraction."""
+        if component:
+            return self.grade_gradient(stream, component)
+        return {self.system.columns[stream, ""]: self.system.scale}
 
     def carried_gradient(self, stream: str, component: str) -> dict[int, float]:
         """Return the derivatives of what a stream carries of a component, in tonnes."""

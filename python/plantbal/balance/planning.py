@@ -52,15 +52,11 @@ def offers_of(path: str, state: State, locale: str = "") -> list[Instrument]:
         stream, component = cells["stream"].text, cells["component"].text
         if stream not in state.problem.place:
             remedy = f"say one of {', '.join(state.problem.place)}"
-            raise reader.fault(
-                cells["stream"], f"there is no stream {stream}", remedy, "stream"
-            )
+            raise reader.fault(cells["stream"], f"there is no stream {stream}", remedy, "stream")
         if component and component not in state.problem.components:
             there = ", ".join(state.problem.components) or "none"
             what = f"no grade of {component} is known in the period"
-            raise reader.fault(
-                cells["component"], what, f"there are those of {there}", "component"
-            )
+            raise reader.fault(cells["component"], what, f"there are those of {there}", "component")
         cost = reader.number(cells["cost"], "cost")
         if cost != int(cost) or cost < 0:
             remedy = "write a whole number from 0, in any unit, such as cents"
@@ -94,9 +90,7 @@ def _rows_of(path: str) -> Iterator[dict[str, Cell]]:
     raise InputFault(what, place=Place(file=path), remedy=remedy)
 
 
-def _deviation(
-    reader: Reader, state: State, stream: str, component: str, cell: Cell
-) -> float:
+def _deviation(reader: Reader, state: State, stream: str, component: str, cell: Cell) -> float:
     """Return an error as tonnes of the period, or as a fraction of a grade."""
     if component:
         grade = Fraction(state.grade(stream, component) * MILLION)

@@ -17,6 +17,7 @@ passes becomes an equation, and is dropped again if its multiplier says that it 
 
 from __future__ import annotations
 
+from collections.abc import Callable
 from dataclasses import dataclass
 from typing import Any
 
@@ -44,6 +45,8 @@ _HOLD = 1e-9
 _SLACK = 1e-13
 _REFINED = 3
 _SHORTEST = 2.0**-30
+# How near the place where the search begins is sought, and in how many steps at most.
+_BEGIN, _MOST_BEGIN = 1e-6, 1000
 
 
 class NotFound(Fault):
@@ -133,8 +136,13 @@ class Solution:
         """Return a grade as a fraction; NaN of a stream without a flow."""
         if (stream, component) in self.system.problem.grades:
             return float(self.vector[self.system.columns[stream, component]])
-        flow = self.flow(stream)
-        return self.carried(stream, component) / flow if flow else float("nan")
+        if self.is_empty(stream):
+            return float("nan")
+        return self.carried(stream, component) / self.flow(stream)
+
+    def is_empty(self, stream: str) -> bool:
+        """Whether nothing flows in a stream: its flow is less than rounding leaves of it."""
+        return abs(float(self.vector[self.system.columns[stream, ""]])) < _LEAST_EXCESS
 
 
 def solve(problem: Problem) -> Solution:
@@ -155,6 +163,7 @@ def solve(problem: Problem) -> Solution:
     system = System(problem)
     _ = system.scale  # refuses a problem without a measured flow
     bounds = bounds_of(system)
+    below = _excesses(system, bounds)
     vector = _begin(system)
     active: list[Bound] = []
     seen: set[frozenset[Bound]] = set()
@@ -164,7 +173,7 @@ def solve(problem: Problem) -> Solution:
         vector, multipliers, pulls, taken = _minimum(system, vector, active)
         steps += taken
         loose = {one: pull for one, pull in zip(active, pulls) if pull < -_LEAST_LOOSE * firm}
-        passed = [one for one in bounds if one not in active and one.excess(vector) > _LEAST_EXCESS]
+        passed = [bounds[at] for at in below(vector) if bounds[at] not in active]
         if not loose and not passed:
             squares = float(_squares(system, vector))
             return Solution(system, vector, multipliers, tuple(active), pulls, squares, steps)
@@ -200,6 +209,18 @@ def bounds_of(system: System) -> list[Bound]:
             if component not in problem.ratios:
                 found.append(Bound(rest, -1.0 if assayed else 0.0, f"{what} can't be above 100 %"))
     return found
+
+
+def _excesses(system: System, bounds: list[Bound]) -> Callable[[Any], list[int]]:
+    """Return what finds the places of the bounds that a vector passes."""
+    import numpy
+    from scipy.sparse import csr_array
+
+    entries = [(f, row, c) for row, one in enumerate(bounds) for c, f in one.terms]
+    values, rows, columns = zip(*entries) if entries else ((), (), ())
+    factors = csr_array((values, (rows, columns)), shape=(len(bounds), system.size), dtype=float)
+    limits = numpy.array([one.limit for one in bounds])
+    return lambda vector: list(numpy.flatnonzero(limits - factors @ vector > _LEAST_EXCESS))
 
 
 def _squares(system: System, vector: Any) -> Any:
@@ -240,7 +261,7 @@ def _begin(system: System) -> Any:
     firm = float(numpy.median(weights[known[free]])) * 3
     matrix = vstack([diags(weights), jacobian * firm])
     wanted = numpy.concatenate([weights * typical, numpy.zeros(jacobian.shape[0])])
-    vector[free] = lsqr(matrix, wanted, atol=1e-10, btol=1e-10, iter_lim=4 * system.size)[0]
+    vector[free] = lsqr(matrix, wanted, atol=_BEGIN, btol=_BEGIN, iter_lim=_MOST_BEGIN)[0]
     return vector
 
 
@@ -357,7 +378,7 @@ def _step(
     gradient = unit * weights * numpy.where(known, vector - system.measured, 0.0)
     right = numpy.concatenate([-gradient, -rows * _residual(system, vector, active)])
     try:
-        factors = splu(matrix)
+        factors = splu(matrix, permc_spec="MMD_AT_PLUS_A")
         found = factors.solve(right)
         for _ in range(_REFINED):  # towards the solution without slack
             found = found + factors.solve(right - plain @ found)

@@ -50,26 +50,27 @@ class Line:
 def lines_of(known: Known) -> Iterator[Line]:
     """Yield the flows in the order of the streams, each followed by its grades."""
     problem = known.system.problem
-    for flow in problem.flows:
-        yield _line(known, flow.name, "")
-        for component in problem.components:
-            yield _line(known, flow.name, component)
+    places = [
+        (flow.name, component) for flow in problem.flows for component in ("", *problem.components)
+    ]
+    kinds = {place: known.class_of(*place) for place in places}
+    sure = [place for place in places if kinds[place] is not Class.UNOBSERVABLE]
+    deviations = dict(zip(sure, known.deviations([known.gradient(*place) for place in sure])))
+    for stream, component in places:
+        sd = deviations.get((stream, component), _NAN)
+        yield _line(known, stream, component, kinds[stream, component], sd)
 
 
-def _line(known: Known, stream: str, component: str) -> Line:
+def _line(known: Known, stream: str, component: str, kind: Class, sd: float) -> Line:
     """Return a flow or a grade."""
     system, found = known.system, known.solution
     column = system.columns[stream, component]
-    kind = known.class_of(stream, component)
     scale = 1.0 if component else system.scale
     measured = float(system.measured[column]) * scale
     measured_sd = float(system.variance[column]) ** 0.5 * scale
     if kind is Class.UNOBSERVABLE:
         return Line(stream, component, kind, _NAN, _NAN, _NAN, _NAN, _NAN)
-    if component:
-        value, sd = found.grade(stream, component), known.grade_deviation(stream, component)
-    else:
-        value, sd = found.flow(stream), known.flow_deviation(stream)
+    value = found.grade(stream, component) if component else found.flow(stream)
     if not system.is_measured[column]:
         evidence = () if component else tuple(known.evidence(stream))
         return Line(stream, component, kind, _NAN, _NAN, value, sd, _NAN, evidence)

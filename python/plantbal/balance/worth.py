@@ -123,7 +123,9 @@ class State:
         grades = {
             key: Measured(self.grade(*key), 1 / weight) for key, weight in weights.items() if key[1]
         }
-        problem = Planned(flows, self.problem.components, grades, self.problem.closed, self.problem.ratios)
+        problem = Planned(
+            flows, self.problem.components, grades, self.problem.closed, self.problem.ratios
+        )
         return Known(self._placed(System(problem)))
 
     def _placed(self, system: System) -> Solution:
@@ -193,5 +195,7 @@ def changed(state: State, add: Iterable[Instrument], lose: Iterable[Instrument])
         del there[each.stream, each.component]
     left = [*there.values(), *add]
     if all(each.component for each in left):
-        raise Fault("no meter is left", remedy="grades give only the parts of a flow: keep one meter")
+        raise Fault(
+            "no meter is left", remedy="grades give only the parts of a flow: keep one meter"
+        )
     return state.with_(left)
