@@ -2,6 +2,8 @@
 #
 #   make install DESTDIR= PREFIX=/usr/local   the program, the package plantbal of Python, manual pages, completions, documents
 #   make deb                                  packaging/out/plantbal_*.deb and packaging/out/python3-plantbal_*.deb, and those of what else is built
+#   make wheel                                packaging/out/plantbal-*.whl, for pip: the package of Python with the program in it
+#   make release                              the packages, the wheel, the build record and SHA256SUMS, in an empty packaging/out
 #   make check-packages                       all packages made, unpacked elsewhere and tried
 #   make install-verify VERIFY=..             plantbal-verify and its manual page, from coq/ (`make -C coq` proves and builds it)
 #   make fuzz SECONDS=3600 SEED=1             changed inputs to all subcommands; failures are kept in KEEP
@@ -41,7 +43,7 @@ SECONDS = 600
 SEED = 0
 KEEP = /tmp/plantbal-fuzz
 
-.PHONY: install install-program install-desk install-verify install-library install-library-dev deb check-packages book-tries fuzz clean
+.PHONY: install install-program install-desk install-verify install-library install-library-dev deb wheel release check-packages book-tries fuzz clean
 
 install: install-program install-desk
 
@@ -113,6 +115,12 @@ install-library-dev: $(LIBRARY_FROM)/libplantbal.so.0
 
 deb: $(PROGRAM)
 	packaging/deb $(PROGRAM) $(DEBS)
+
+wheel: $(PROGRAM)
+	packaging/wheel $(PROGRAM) $(DEBS)
+
+release: $(PROGRAM)
+	packaging/release $(PROGRAM) $(DEBS)
 
 check-packages: $(PROGRAM)
 	.ci/packages $(PROGRAM)

@@ -6,6 +6,7 @@ import os
 import select
 import shutil
 import subprocess
+import sys
 import tempfile
 import time
 from collections.abc import Callable, Sequence
@@ -25,6 +26,8 @@ STATUSES = {
     5: ("TooLarge", "the input has more than 67,108,864 bytes: split it"),
     6: ("NoMemory", "it ran out of memory"),
 }
+# The program that a wheel has beside its modules, and the one that is built in a checkout.
+OWN = Path(__file__).resolve().parent / "bin" / "plantbal"
 CHECKOUT = Path(__file__).resolve().parents[2] / "crates" / "plantbal" / "out" / "plantbal"
 
 
@@ -34,8 +37,9 @@ def find_program(program: str | Path | None = None) -> Path:
     Parameters
     ----------
     program : str or Path, optional
-        The program. Without it, it is that of the environment's ``PLANTBAL``, else ``plantbal`` on
-        the path, else the one that is built in this checkout.
+        The program. Without it, it is that of the environment's ``PLANTBAL``, else the one that a
+        wheel installed with this package, else ``plantbal`` on the path, else the one that is
+        built in this checkout.
 
     Raises
     ------
@@ -48,12 +52,22 @@ def find_program(program: str | Path | None = None) -> Path:
         if found is None:
             raise ToolMissing(f"program {named}", "plantbal, or name it in PLANTBAL")
         return Path(found).resolve()
+    if os.access(OWN, os.X_OK):
+        return OWN
     found = shutil.which("plantbal")
     if found is not None:
         return Path(found).resolve()
     if os.access(CHECKOUT, os.X_OK):
         return CHECKOUT
     raise ToolMissing("program plantbal on the path", "plantbal, or name it in PLANTBAL")
+
+
+def main() -> None:
+    """Become the program that a wheel installed: this is its command there."""
+    try:
+        os.execv(OWN, ["plantbal", *sys.argv[1:]])
+    except OSError as error:
+        raise SystemExit(f"plantbal: {OWN}: {error.strerror}") from error
 
 
 def call(
@@ -70,8 +84,8 @@ def call(
     It may take as many seconds as `timeout` says and as many bytes of memory as `memory` says.
 
     `watch` gets what it writes piece by piece, and nothing once in a while. If neither a program
-    nor a limit is named, here or in the environment, a run or a check takes place in this process,
-    if the library is there: it gives the same bytes.
+    nor a limit is named, here or in the environment, and no wheel brought a program, a run or a
+    check takes place in this process, if the library is there: it gives the same bytes.
 
     Raises
     ------
@@ -79,7 +93,8 @@ def call(
         If it ends otherwise; the fault has the status and its name.
     """
     limited = timeout is not None or memory is not None
-    if program is None and not limited and watch is None and not os.environ.get("PLANTBAL"):
+    named = program is not None or os.environ.get("PLANTBAL") or OWN.exists()
+    if not named and not limited and watch is None:
         answered = inside.answer(words, data)
         if answered is not None:
             return answered

@@ -226,6 +226,13 @@ def test_finding(program: Path, monkeypatch: pytest.MonkeyPatch, tmp_path: Path)
     (tmp_path / "plantbal").symlink_to(program)
     monkeypatch.setenv("PATH", str(tmp_path))
     assert find_program() == program
+    own = tmp_path / "bin" / "plantbal"
+    own.parent.mkdir()
+    own.write_bytes(b"")
+    own.chmod(0o755)
+    monkeypatch.setattr("plantbal.program.OWN", own)
+    assert find_program() == own  # a wheel's own program goes before the path
+    monkeypatch.setattr("plantbal.program.OWN", tmp_path / "none")
     monkeypatch.setenv("PATH", "")
     monkeypatch.setattr("plantbal.program.CHECKOUT", tmp_path / "none")
     with pytest.raises(ToolMissing, match="no program plantbal on the path"):
