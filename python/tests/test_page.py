@@ -534,6 +534,18 @@ def test_xlsx(say: Desk, tmp_path: Path) -> None:
     assert edit[6] == "6,580 mm at 1.250 t/m³ ± 1.581 t (3,290.000 t)"
 
 
+def test_xlsx_says_where_to_look(say: Desk, tmp_path: Path) -> None:
+    import openpyxl
+
+    path, session = tmp_path / "day.xlsx", example("heat_exchanger_suspect.csv")
+    words = ["--session", session, "--xlsx", path]
+    assert say("page", example("heat_exchanger_suspect.out.csv"), *words).status == 0
+    head, *rows = openpyxl.load_workbook(path)["diagnosis"].iter_rows(values_only=True)
+    assert head[:5] == ("period", "what", "where", "amount, t", "±, t")
+    assert rows[0][1:4] == ("doesn't close", "EXCHANGER", 4.25)  # 68.45 less 64.20
+    assert ("one of", "F2") in [row[1:3] for row in rows]
+
+
 # ---- large plants
 
 

@@ -46,7 +46,7 @@ def test_legend() -> None:
 def test_layout_is_shared() -> None:
     """Three months of one plant are laid out once."""
     made = page_of(*SAMPLES["periods"])
-    places = re.findall(r'<text x="([0-9.]+)" y="[0-9.]+">[●○△?!] TAILS', made)
+    places = re.findall(r'<text x="([0-9.]+)" y="[0-9.]+">(?:[●○△?!]|!!) TAILS', made)
     assert len(places) == 3 and len(set(places)) == 1
 
 

@@ -57,7 +57,13 @@ def declared(row: Values, window: Window | None) -> Values:
     return {**row, **names, "side": side, "parts": parts}
 
 
-def line_of(row: Values, statistic: str = "", mark: str = "", worth: Worth | None = None) -> Line:
+def line_of(
+    row: Values,
+    statistic: str = "",
+    mark: str = "",
+    worth: Worth | None = None,
+    is_first: bool = False,
+) -> Line:
     """Return the line of a `stream` or a `class` row."""
     observable = row["class"] != "unobservable"
     return Line(
@@ -76,6 +82,7 @@ def line_of(row: Values, statistic: str = "", mark: str = "", worth: Worth | Non
         statistic=Decimal(statistic) / 1000 if statistic else None,
         mark=mark,
         worth=worth,
+        is_first=is_first,
     )
 
 
@@ -153,12 +160,14 @@ def round_of(
     suspects = in_order(suspects, diagnosis)
     marks = {name: "suspect" for names in suspects for name in names}
     marks |= {name: "taken" for name in block.taken}
+    first = suspects[0] if len(suspects) > 1 else ()
     lines = [
         line_of(
             declared(row, block.window),
             statistics.get(row["name"], ""),
             marks.get(row["name"], ""),
             worth.get(row["name"]),
+            row["name"] in first,
         )
         for row in block.streams
     ]
@@ -287,9 +296,7 @@ def account_of(
                 masses[block.period] = block
             mass = masses.get(block.period)
             before = some.blocks[: block.round]
-            rounds.append(
-                round_of(block, contents, good, some.lost, before, stop, mass, diagnosis)
-            )
+            rounds.append(round_of(block, contents, good, some.lost, before, stop, mass, diagnosis))
         report = Report(subject, rounds, some.over, asked, diagnosis)
         by_period.setdefault(subject, []).append(report)
     edits, states = _edits_of(rows), _states_of(rows)

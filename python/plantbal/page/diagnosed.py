@@ -2,12 +2,16 @@
 
 from __future__ import annotations
 
-from plantbal.amounts import tonnes_text
+from collections.abc import Iterable, Iterator
+from decimal import Decimal
+from math import isqrt
+
+from plantbal.amounts import tonnes_of, tonnes_text
 from plantbal.diagnosis import words
 from plantbal.diagnosis.balances import Balance
 from plantbal.diagnosis.diagnose import Told
 from plantbal.diagnosis.unseen import Unchecked
-from plantbal.page.statement import Report
+from plantbal.page.statement import Report, Statement
 
 # How many balances that don't close are shown.
 MOST_BALANCES = 8
@@ -52,6 +56,37 @@ def percents(balance: Balance, report: Report) -> str:
     more = len(parts) - words.MOST_THROUGH
     tail = f" and {more} more" if more > 0 else ""
     return ", ".join(parts[: words.MOST_THROUGH]) + tail
+
+
+SHEET = ("period", "what", "where", "amount, t", "±, t", "in sd", "days", "in words")
+
+
+def sheet(statements: Iterable[Statement]) -> list[tuple[str | float | Decimal | None, ...]]:
+    """Return the rows of what is diagnosed of periods, for a workbook."""
+    return [row for each in statements for row in _rows(each.period, each.report)]
+
+
+def _rows(period: str, report: Report) -> Iterator[tuple[str | float | Decimal | None, ...]]:
+    shown = shown_by(report)
+    for balance in open_balances(report):
+        sure = tonnes_of(isqrt(balance.variance))
+        where = words.nodes_said(balance.nodes, shown)
+        amounts = tonnes_of(balance.grams), sure, balance.deviations
+        yield period, "doesn't close", where, *amounts, None, percents(balance, report)
+    for hole in holes(report):
+        where, best = words.one_of([shown(name) for name in hole.names]), hole.best
+        amounts = _whole(hole.hole.size), _whole(hole.hole.deviation), hole.hole.deviations
+        days = words.days_said(best) if best else None
+        yield period, "one of", where, *amounts, days, words.hole_said(hole.hole, shown)
+        for line in told(hole, report):
+            yield period, "what it may be", where, None, None, None, None, line
+    for each in unchecked(report):
+        said = words.unchecked_said(each, shown)
+        yield period, "nothing checks", shown(each.name), None, None, None, None, said
+
+
+def _whole(grams: float) -> Decimal:
+    return tonnes_of(round(abs(grams)))
 
 
 FILTERS = {

@@ -130,6 +130,12 @@ def _of_period(stops: Iterable[Stop], period: str, told: Told) -> PeriodGates:
     return PeriodGates(shown, kept, quiet, who, when)
 
 
+def estimated(found: PeriodGates | None) -> dict[str, str]:
+    """Return what is said of the estimates of a period, by their streams."""
+    stops = found.stops if found is not None else []
+    return {stop.names[0]: said_of(stop) for stop in stops if stop.gate is Gate.ESTIMATED}
+
+
 def with_gates(statement: Statement, gates: Mapping[str, PeriodGates]) -> Statement:
     """Return a statement whose verdict says, too, what can't be or was hardly measured."""
     found = gates.get(statement.period)

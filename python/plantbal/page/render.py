@@ -13,7 +13,7 @@ from plantbal.faults import ToolMissing
 from plantbal.model.facts import Fact
 from plantbal.model.forms import day_text
 from plantbal.model.ledger import Ledger
-from plantbal.page import diagnosed
+from plantbal.page import diagnosed, gates
 from plantbal.page.drawing import KINDS, Draftsman
 from plantbal.page.grades import real
 from plantbal.page.head import Origin, days_text, head_of
@@ -136,6 +136,8 @@ def is_huge(lines: Iterable[Line]) -> bool:
 
 def sign_of(line: Line) -> str:
     """Return the sign of a stream: of its class, or that it is suspect, taken out or to meter."""
+    if line.is_first:
+        return "!!"
     return {"suspect": "!", "taken": "×", "meter": "+"}.get(line.mark) or KINDS[line.class_].sign
 
 
@@ -184,7 +186,8 @@ def marks(lines: Iterable[Line]) -> dict[str, Any]:
     some = list(lines)
     return {
         "classes": {line.class_ for line in some},
-        "suspect": any(line.mark == "suspect" for line in some),
+        "first": [line.name for line in some if line.is_first],
+        "suspect": any(line.mark == "suspect" and not line.is_first for line in some),
         "taken": any(line.mark == "taken" for line in some),
         "meter": any(line.mark == "meter" for line in some),
     }
@@ -254,6 +257,7 @@ def environment() -> Environment:
         spark=spark,
         real=real,
         grade_unit=_grade_unit,
+        estimated=gates.estimated,
         **diagnosed.FILTERS,
     )
     return made

@@ -12,6 +12,7 @@ from plantbal.amounts import tonnes_of
 from plantbal.faults import ToolMissing
 from plantbal.files import replacing
 from plantbal.inert import store
+from plantbal.page import diagnosed
 from plantbal.page.grades import table_of
 from plantbal.page.head import Origin, head_of
 from plantbal.page.statement import Account, Line, Round, Statement
@@ -195,6 +196,7 @@ def write_workbook(
         "tanks": tanks(account),
         "grades": table_of(grades or {}),
         "bounds": bounds(account),
+        "diagnosis": (diagnosed.SHEET, diagnosed.sheet(account.statements)),
         "edits": edits(account),
         "refused": refused(account, told),
         "looks wrong": lint(account),

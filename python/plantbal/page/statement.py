@@ -65,6 +65,8 @@ class Line:
         How good the flow is, if that is known.
     cost : int or None
         What its meter costs, if it is to be metered.
+    is_first : bool
+        Whether it is of the first set of suspects, beside which there are others.
     """
 
     name: str
@@ -83,6 +85,7 @@ class Line:
     mark: str = ""
     worth: Worth | None = None
     cost: int | None = None
+    is_first: bool = False
 
     @property
     def is_tank(self) -> bool:
