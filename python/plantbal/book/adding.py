@@ -256,7 +256,7 @@ def put_plant(ledger: Ledger, work: Converter) -> int:
     Fault
         If something of it is otherwise in the book, or a period is closed already.
     """
-    if not any(work.sheets[kind] for kind in ("streams", "rows", "critical")):
+    if not any(work.sheets[kind] for kind in ("streams", "rows", "critical", "settings")):
         return 0
     there = set(ledger.plant)
     others = ("version", "strap", "critical")

@@ -20,7 +20,7 @@ from plantbal.workbook.facts import Converter
 from plantbal.workbook.options import ReadingOptions
 from plantbal.workbook.plant import Stream, Tank
 from plantbal.workbook.sheets import Sheet, read_workbook
-from plantbal.workbook.tables import OTHER_HEADS, SHEETS
+from plantbal.workbook.tables import OTHER_HEADS, SHEETS, is_rows_of_critical
 
 _PLANT = ("boundaries", "units", "tanks", "straps")
 _FIRST = 12  # faults that are said; the others are counted
@@ -45,6 +45,8 @@ def sheets_of(path: str | Path) -> list[Sheet]:
 
 def _kind_of(sheet: Sheet) -> str:
     """Return the kind of a sheet that has the heads of one; without them it is one of readings."""
+    if is_rows_of_critical(sheet):
+        return "rows"
     for cells in islice(sheet.rows(), _HEADS_WITHIN):
         texts = [cell.text.casefold() for cell in cells]
         heads = {OTHER_HEADS.get(text, text) for text in texts}

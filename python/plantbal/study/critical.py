@@ -3,6 +3,7 @@
 from __future__ import annotations
 
 import argparse
+from collections.abc import Iterator, Sequence
 
 from plantbal.faults import ToolMissing
 from plantbal.schema import schema
@@ -77,6 +78,33 @@ def of_each(of_all: float, count: int) -> float:
     `of_all`."""
     each: float = 1 - (1 - of_all) ** (1 / count)
     return each
+
+
+def values_of(
+    of_all: float, kinds: Sequence[str], streams: Sequence[Sequence[str]]
+) -> Iterator[tuple[str, ...]]:
+    """Give the critical values that the reports of a plant may need, as rows of a session.
+
+    A report has at most a degree of freedom for each unit and tank, and a window of two periods
+    twice as many. Each unit and tank may be tested, and each tank and stream that isn't plain; with
+    fewer tests the level is kept too.
+
+    Parameters
+    ----------
+    of_all : float
+        The chance that a plant without a fault is rejected by the tests of one kind.
+    kinds : sequence of str
+        For each unit and tank, ``unit`` or ``tank``.
+    streams : sequence of sequence of str
+        The streams as rows of the session.
+    """
+    most = min(2 * len(kinds), schema().limits["most_freedom"])
+    for dof in range(1, most + 1):
+        yield "critical", "global", str(dof), str(thousandths(of_all, dof))
+    measured = kinds.count("tank") + sum(row[4] != "plain" for row in streams)
+    for test, count in (("nodal", len(kinds)), ("measure", measured)):
+        if count:
+            yield "critical", test, str(thousandths(of_each(of_all, count), 1))
 
 
 def add_arguments(parser: argparse.ArgumentParser) -> None:

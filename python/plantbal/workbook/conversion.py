@@ -38,8 +38,9 @@ WORKBOOK is an xlsx file, or a folder of CSV files, each of which is the sheet o
   periods    name, first, last (without it, each calendar month with a reading is a period)
   windows    first, last: periods to reconcile together as well, from the first to the last
   accounts   name, kind, product, group, owner, unit, density: where a book adds each stream up
-  settings   setting, value, for: zone (Europe/Berlin), day begins (06:00), stamps (begin or end),
-             missing hours (0), counter (where it begins again at 0; its tag in the column for)
+  settings   setting, value, for: tests (5 %: the critical values that reports may need), zone
+             (Europe/Berlin), day begins (06:00), stamps (begin or end), missing hours (0), counter
+             (the figure at which it begins again at 0; its tag in the column for)
   rows       rows of a session, unchanged, such as amend, strike and close
 
 straps and dips may have a column for each tank, and tables may be side by side; units may be in

@@ -259,7 +259,7 @@ class Converter(Readings):
 
     def read_facts(self) -> None:
         """Read all facts, and the periods: before them if they have a sheet."""
-        self.read_settings()
+        self.check_counters()
         if self.sheets["periods"]:
             self.read_periods()
         self.read_moistures()

@@ -10,9 +10,11 @@ from fractions import Fraction
 
 from plantbal.schema import schema
 from plantbal.session import ENV, dates_of_service, most_streams
+from plantbal.study.critical import values_of
 from plantbal.workbook.base import MOST_VARIANCE, tonnes_of
 from plantbal.workbook.cells import AMOUNTS, VOLUMES, Error, Reader
 from plantbal.workbook.kinds import Evidence, evidence_of
+from plantbal.workbook.settings import Settings, settings_of
 from plantbal.workbook.sheets import Cell, Sheet
 from plantbal.workbook.tables import Row, Tables
 
@@ -105,6 +107,8 @@ class Plant(Tables):
         self.bad: set[str] = set()
         self.kinds: dict[str, str] = {}  # of the book
         self.evidence = Evidence()
+        self.settings = Settings()
+        self.setting_rows: list[Row] = []
 
     def names_across(self, kind: str) -> Collection[str]:
         """Return the tanks if a sheet may have a column for each; those at fault too."""
@@ -369,8 +373,37 @@ class Plant(Tables):
             else:
                 self.fault(cell, f"{name} has nothing {lacks}, so its flows would be 0", remedy)
 
+    def read_settings(self) -> None:
+        """Read what holds for all figures."""
+        self.setting_rows = list(self.rows("settings"))
+        rows = [(row["setting"], row["value"], row["for"]) for row in self.setting_rows]
+        self.settings, faults = settings_of(rows, self.reader)
+        self.faults += faults
+
+    def _make_critical(self) -> None:
+        """Make the critical values of the level that the settings have, but for those there are."""
+        level, cell = self.settings.level, self.settings.level_at
+        if level is None or cell is None or not self.session.nodes:
+            return
+        there = {row[:-1] for row in self.session if row[0] == "critical"}
+        streams = [row for row in self.session if row[0] == "stream"]
+        made = [
+            row
+            for row in values_of(level, list(self.session.nodes.values()), streams)
+            if row[:-1] not in there and self.put(row, {"value": cell})
+        ]
+        if made:
+            note = f"{str(cell.place()).rstrip(':')}: {len(made):,} critical values are made for "
+            note += f"the level {level:g}; for tests of many nodes and streams by Šidák's correction"
+            self.notes.append(note)
+
     def read_critical(self) -> None:
         """Read critical values; one that the session has already is none more."""
+        self.read_settings()
+        self._read_critical()
+        self._make_critical()
+
+    def _read_critical(self) -> None:
         there = set(self.session)
         for row in self.rows("critical"):
             with self.kept():

@@ -15,7 +15,6 @@ from plantbal.workbook.cells import AMOUNTS, Error, Reader, day_order, is_rate, 
 from plantbal.workbook.daily import long_by_day, wide_by_day
 from plantbal.workbook.drying import Drying, Figure
 from plantbal.workbook.plant import Stream
-from plantbal.workbook.settings import Settings, settings_of
 from plantbal.workbook.sheets import Cell, Sheet
 from plantbal.workbook.tables import HEADS_WITHIN, TOTALS
 
@@ -57,7 +56,6 @@ class Readings(Drying):
         self.listed: set[str] = set()
         self.whole = True
         self.spans: list[Span] = []
-        self.settings = Settings()
 
     def reading(self, stream: Stream, cell: Cell, day: datetime.date | None, unit: str) -> None:
         """Take a reading."""
@@ -179,17 +177,13 @@ class Readings(Drying):
                     self.faults.append(InputFault(what, place=sheet.place(), remedy=remedy))
         self._check_order()
 
-    def read_settings(self) -> None:
-        """Read what holds for all figures."""
-        rows = [(row["setting"], row["value"], row["for"]) for row in self.rows("settings")]
-        self.settings, faults = settings_of(rows, self.reader)
-        self.faults += faults
-        counters = dict(self.settings.counters)
-        self.settings.counters.clear()
-        for _, _, of in rows:
-            stream = self.named(of, "for") if of.text in counters else None
+    def check_counters(self) -> None:
+        """Give the counters of the settings to their streams, or say that there is no such tag."""
+        counters, self.settings.counters = self.settings.counters, {}
+        for row in self.setting_rows:
+            stream = self.named(row["for"], "for") if row.text("for") in counters else None
             if stream is not None:
-                self.settings.counters[stream.name] = counters[of.text]
+                self.settings.counters[stream.name] = counters[row.text("for")]
 
     def _by_day(self, heads: list[Cell], lines: list[list[Cell]], form: str) -> list[list[Cell]]:
         """Return the rows below the heads with a figure a day, if they have hours or counters."""

@@ -13,7 +13,8 @@ from plantbal.faults import InputFault
 from plantbal.workbook.cells import Reader
 from plantbal.workbook.sheets import Cell, Percent
 
-ZONE, BEGINS, STAMPS, MISSING_HOURS, COUNTER = (
+TESTS, ZONE, BEGINS, STAMPS, MISSING_HOURS, COUNTER = (
+    "tests",
     "zone",
     "day begins",
     "stamps",
@@ -29,6 +30,10 @@ class Settings:
 
     Attributes
     ----------
+    level : float or None
+        The chance that a plant without a fault is rejected by the tests of one kind.
+    level_at : Cell or None
+        Where it is told.
     zone : ZoneInfo or None
         The plant's zone.
     begins : timedelta
@@ -41,6 +46,8 @@ class Settings:
         The tags whose figures are a counter's, and the figure at which it begins again at 0.
     """
 
+    level: float | None = None
+    level_at: Cell | None = None
     zone: ZoneInfo | None = None
     begins: datetime.timedelta = datetime.timedelta(0)
     stamps: str = ""
@@ -56,7 +63,9 @@ class Settings:
             If there is no such setting, or it can't have this value.
         """
         word = name.text.casefold()
-        if word == ZONE:
+        if word == TESTS:
+            self.level, self.level_at = _level(reader, value), value
+        elif word == ZONE:
             self.zone = _zone(reader, value)
         elif word == BEGINS:
             self.begins = _clock(reader, value)
@@ -71,8 +80,18 @@ class Settings:
         elif word == COUNTER:
             self.counters[of.text] = _modulus(reader, value, of)
         else:
-            known = ", ".join((ZONE, BEGINS, STAMPS, MISSING_HOURS, COUNTER))
+            known = ", ".join((TESTS, ZONE, BEGINS, STAMPS, MISSING_HOURS, COUNTER))
             raise reader.fault(name, f"there is no setting {name.text!r}", f"write one of {known}")
+
+
+def _level(reader: Reader, cell: Cell) -> float:
+    """Return a level: `5 %` or 0.05."""
+    share = reader.error(cell, head="value").share if cell.text.endswith("%") else None
+    level = float(reader.number(cell) if share is None else share * reader.divisor)
+    if not 0 < level < 1:
+        what = f"{cell.text!r} is no level of a test"
+        raise reader.fault(cell, what, "write the chance of a false alarm: 5 %, or 0.05")
+    return level
 
 
 def _zone(reader: Reader, cell: Cell) -> ZoneInfo:

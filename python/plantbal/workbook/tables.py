@@ -47,7 +47,16 @@ SHEETS: dict[str, tuple[tuple[str, ...], tuple[str, ...]]] = {
 # The sheets with figures, which may be in other shapes than with a row for each figure.
 _SHAPED = ("streams", "tanks", "straps", "dips", "tickets", "estimates", "moistures", "assays")
 # The sheets that have the plant itself.
-PLANT_SHEETS = ("streams", "boundaries", "units", "tanks", "straps", "critical", "accounts")
+PLANT_SHEETS = (
+    "streams",
+    "boundaries",
+    "units",
+    "tanks",
+    "straps",
+    "critical",
+    "accounts",
+    "settings",
+)
 _PASSED = ("about", "lists")
 HEADS_WITHIN = 40  # rows of a sheet
 _HEADS_THAT_TELL = 3  # with fewer columns a sheet of another kind might be meant
@@ -83,6 +92,11 @@ def kind_of_heads(sheet: Sheet) -> str:
     return ""
 
 
+def is_rows_of_critical(sheet: Sheet) -> bool:
+    """Say whether a sheet has the rows that `plantbal-desk critical` writes."""
+    return bool(sheet.lines) and all(values[0] == "critical" for _, values in sheet.lines)
+
+
 class Tables:
     """Reads the tables of a workbook, and keeps what is wrong.
 
@@ -116,6 +130,8 @@ class Tables:
         for sheet in sheets:
             self.notes += [f"{sheet.place()} {note}" for note in sheet.notes]
             word = re.split(r"[^a-z]", sheet.name.strip().casefold(), maxsplit=1)[0]
+            if word == "critical" and is_rows_of_critical(sheet):
+                word = "rows"
             if word in found:
                 # without a row below its heads a sheet is as if it weren't there
                 if len(sheet.lines) > (0 if word in ("streams", "rows") else 1):
