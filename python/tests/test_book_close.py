@@ -2,8 +2,10 @@
 
 from __future__ import annotations
 
+import re
 from pathlib import Path
 
+import pytest
 from books import Type, fixture_book, folder, journal_of, month
 from conftest import Desk, text_of
 
@@ -93,3 +95,23 @@ def test_an_amended_level_wants_its_unit(book: Type) -> None:
     said = book("amend", "SILO", "2024-04-30", "9.512", *words)
     assert (said.status, "9.512 m or 9.512 cm?" in said.err) == (1, True), said
     assert book("amend", "SILO", "2024-04-30", "9.512 m", *words).status == 0
+
+
+def test_where_to_look_is_said_in_the_sales_unit(book: Type, say: Desk, tmp_path: Path) -> None:
+    """PRODUCT brings 35,985 t, the silo gains 441.4 t, trucks take the same each day; one lacks."""
+    sheets, each = month(last=30), (35_985 - 1500 * 4708 / 20_000 * 1.25) / 30
+    days = [row[0] for row in sheets["readings"][1:] if not row[0].endswith("-17")]
+    sheets["tickets"][1:] = [[f"truck-{day}", "TRUCKS", day, f"{each:.3f}"] for day in days]
+    sheets["accounts"] = [
+        ["name", "kind", "product", "unit", "density"],
+        ["TRUCKS", "shipment", "dust", "bbl", "2000"],
+        ["SILO", "", "dust", "", ""],
+    ]
+    assert book("add", folder(tmp_path / "whole", sheets), "--why", "x", "--strike").status == 0
+    said = book("report", "2024-04", "--session", tmp_path / "s.csv").out
+    found = re.search(r"a ticket of TRUCKS of (1,185 t, ([0-9,]+) bbl) is missing", said)
+    assert found is not None, said
+    assert float(found[2].replace(",", "")) == pytest.approx(each / 2 / 0.158987294928, rel=1e-3)
+    report, words = tmp_path / "mill/reports/2024-04.csv", ("--session", tmp_path / "s.csv")
+    assert found[1] in say("page", report, *words, "--book", tmp_path / "mill").out
+    assert " bbl" not in say("page", report, *words).out

@@ -196,3 +196,22 @@ def _kinded(account: Account, start: str, end: str) -> Account:
         account.unit,
         account.is_told,
     )
+
+
+def sales_units(accounts: Accounts) -> dict[str, SalesUnit]:
+    """Return in what streams and tanks are sold, of those that aren't sold by the tonne.
+
+    One without a unit of its own has that of its product, if that has a single one.
+    """
+    tonne = SalesUnit()
+    by_product: dict[str, set[SalesUnit]] = {}
+    for row in accounts.values():
+        if row.unit != tonne:
+            by_product.setdefault(row.product, set()).add(row.unit)
+    found = {}
+    for name, row in accounts.items():
+        others = by_product.get(row.product, set()) if row.product != NO_ACCOUNT else set()
+        unit = next(iter(others)) if row.unit == tonne and len(others) == 1 else row.unit
+        if unit != tonne:
+            found[name] = unit
+    return found

@@ -2,10 +2,12 @@
 
 from __future__ import annotations
 
-from collections.abc import Iterator, Sequence
+from collections.abc import Iterator, Mapping, Sequence
 from decimal import Decimal
 
+from plantbal.accounts.sheet import SalesUnit, sales_units
 from plantbal.audit.believed import judge, program_digest
+from plantbal.book.accounting import accounts_of
 from plantbal.book.answers import Quiet, quieted
 from plantbal.book.forms import earlier_file, old_earlier_file, report_file, year_file
 from plantbal.book.ledger import Ledger, plain
@@ -138,7 +140,9 @@ def suspects_of_block(block: Block) -> list[str]:
     return [f"{block.subject}: suspects: {', '.join(names[:_MOST])}{more}"]
 
 
-def holes_said(output: Output, session: bytes = b"") -> list[str]:
+def holes_said(
+    output: Output, session: bytes = b"", units: Mapping[str, SalesUnit] | None = None
+) -> list[str]:
     """Return what is missing in a report that is rejected, where, and since when: a line each.
 
     Parameters
@@ -147,6 +151,8 @@ def holes_said(output: Output, session: bytes = b"") -> list[str]:
         The report.
     session : bytes
         The session that asks for it: with it tickets, dips and days are looked at.
+    units : mapping of str to SalesUnit, optional
+        In what streams and tanks are sold, of those that aren't sold by the tonne.
     """
     blocks = [block for block in output.blocks_in_order if block.is_report]
     first = [block for block in blocks if block.round == 0][-1:]
@@ -154,7 +160,7 @@ def holes_said(output: Output, session: bytes = b"") -> list[str]:
         return []
     read = model.Ledger("the session", session) if session else None
     seen = read.reported.get(first[0].period) if read else None
-    said = list(lines_said(diagnosis_of(first[0], read, seen)))
+    said = list(lines_said(diagnosis_of(first[0], read, seen).sold_in(units or {})))
     for names in taken_by_set(blocks, blocks[-1]):
         if len(names) > 1:
             said.append(f"taken out is one of {one_of_said(names, blocks[-1])}")
@@ -237,7 +243,8 @@ def reports(
             text = book.text(f"{ledger.name}.csv")
             stops = stops_in(text, name, output, quieted(book.journal()))
             whole = text + rows_asking(name, components)
-            holes = holes_said(output, whole.encode("ascii"))
+            units = sales_units(accounts_of(book))
+            holes = holes_said(output, whole.encode("ascii"), units)
             path = book.path(report_file(name))
             yield Reported(name, output, path, new, tuple(missing), tuple(stops), tuple(holes))
 

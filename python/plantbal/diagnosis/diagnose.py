@@ -3,8 +3,9 @@ seen."""
 
 from __future__ import annotations
 
-from collections.abc import Iterable
-from dataclasses import dataclass, replace
+from collections.abc import Iterable, Mapping
+from dataclasses import dataclass, field, replace
+from typing import TYPE_CHECKING
 
 from plantbal.diagnosis.balances import Balance, Balances
 from plantbal.diagnosis.candidates import Candidate, Kind, candidates_of
@@ -17,6 +18,9 @@ from plantbal.diagnosis.unseen import Unchecked, unchecked_of
 from plantbal.model.ledger import Ledger, Seen
 from plantbal.report.blocks import Block
 from plantbal.model.studies import study_of
+
+if TYPE_CHECKING:
+    from plantbal.accounts.sheet import SalesUnit
 
 # The level that is taken of critical values beyond all sense.
 _LEVELS = 1e-9, 0.5
@@ -40,6 +44,8 @@ class Told:
         The first days whose own test of the set rejects.
     overruns : tuple of Overrun
         The days by which a tank's running content can't be, if it isn't dipped within the month.
+    units : mapping of str to SalesUnit
+        In what streams and tanks are sold, of those that aren't sold by the tonne.
     """
 
     hole: Hole
@@ -48,6 +54,7 @@ class Told:
     findings: tuple[Finding, ...] = ()
     since: Span | None = None
     overruns: tuple[Overrun, ...] = ()
+    units: Mapping[str, SalesUnit] = field(default_factory=dict)
 
     @property
     def best(self) -> Finding | None:
@@ -76,6 +83,10 @@ class Diagnosis:
     balances: tuple[Balance, ...]
     holes: tuple[Told, ...]
     unchecked: tuple[Unchecked, ...]
+
+    def sold_in(self, units: Mapping[str, SalesUnit]) -> Diagnosis:
+        """Return the same with the units in which streams and tanks are sold."""
+        return replace(self, holes=tuple(replace(told, units=units) for told in self.holes))
 
 
 def limits_of(block: Block) -> Limits:

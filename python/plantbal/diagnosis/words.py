@@ -2,7 +2,8 @@
 
 from __future__ import annotations
 
-from collections.abc import Callable, Iterator, Sequence
+from collections.abc import Callable, Iterator, Mapping, Sequence
+from typing import TYPE_CHECKING
 
 from plantbal.amounts import tonnes_text
 from plantbal.diagnosis.balances import Balance
@@ -14,12 +15,16 @@ from plantbal.diagnosis.unseen import Unchecked
 from plantbal.model.facts import Fact
 from plantbal.model.forms import day_text
 
+if TYPE_CHECKING:
+    from plantbal.accounts.sheet import SalesUnit
+
 # What stands in place of a code of a window.
 Shown = Callable[[str], str]
 # How many streams of a balance, nodes of a set, candidates and tickets are named.
 MOST_THROUGH, MOST_NODES, MOST_CANDIDATES, MOST_ALIKE = 6, 6, 4, 3
 # A candidate of a greater cost isn't said: nobody would look there first.
 MOST_COST = 6.0
+NONE_SOLD: Mapping[str, SalesUnit] = {}
 
 
 def same(name: str) -> str:
@@ -102,7 +107,22 @@ def fact_said(fact: Fact) -> str:
     return f"{fact.id} of {fact.of}, {tonnes(fact.grams)}, {days}"
 
 
-def candidate_said(candidate: Candidate, shown: Shown = same, dated: bool = True) -> str:
+def sold_said(units: Mapping[str, SalesUnit], name: str, grams: float) -> str:
+    """Return an amount in tonnes, and in the unit in which a stream is sold if it has another."""
+    unit = units.get(name)
+    if unit is None:
+        return tonnes(grams)
+    amount = unit.amount(round(abs(grams)))
+    places = 0 if amount >= 100 else 1
+    return f"{tonnes(grams)}, {float(amount):,.{places}f} {unit.label}"
+
+
+def candidate_said(
+    candidate: Candidate,
+    shown: Shown = same,
+    dated: bool = True,
+    units: Mapping[str, SalesUnit] = NONE_SOLD,
+) -> str:
     """Return what an error may be, with its size.
 
     Parameters
@@ -113,8 +133,10 @@ def candidate_said(candidate: Candidate, shown: Shown = same, dated: bool = True
         What shows a name.
     dated : bool
         Whether the day of a reading is said.
+    units : mapping of str to SalesUnit
+        In what streams and tanks are sold, of those that aren't sold by the tonne.
     """
-    name, size = shown(candidate.name), tonnes(candidate.error)
+    name, size = shown(candidate.name), sold_said(units, candidate.name, candidate.error)
     unit = f": {candidate.unit.words}?" if candidate.unit else ""
     kind, error, fact = candidate.kind, candidate.error, candidate.fact
     if kind is Kind.METER:
@@ -177,9 +199,11 @@ def days_said(finding: Finding) -> str:
     return f"from {first} on" if finding.pattern is Pattern.FROM_A_DAY_ON else "all days"
 
 
-def finding_said(finding: Finding, shown: Shown = same) -> str:
+def finding_said(
+    finding: Finding, shown: Shown = same, units: Mapping[str, SalesUnit] = NONE_SOLD
+) -> str:
     """Return what fits the days, such as ``2024-03-03: a ticket of DIES_SHIP ..``."""
-    return f"{days_said(finding)}: {candidate_said(finding.candidate, shown, dated=False)}"
+    return f"{days_said(finding)}: {candidate_said(finding.candidate, shown, False, units)}"
 
 
 def as_good(told: Told) -> list[Finding]:
@@ -201,12 +225,12 @@ def told_said(told: Told, shown: Shown = same) -> Iterator[str]:
     yield f"{set_said(told.names, shown)}. {hole_said(told.hole, shown)}."
     if told.findings:
         for finding in as_good(told):
-            yield f"{finding_said(finding, shown)}."
+            yield f"{finding_said(finding, shown, told.units)}."
         if told.since is not None:
             yield f"The first day whose own test rejects is {day_text(told.since.first)}."
     else:
         for candidate in likely(told):
-            yield f"Perhaps {candidate_said(candidate, shown)}."
+            yield f"Perhaps {candidate_said(candidate, shown, units=told.units)}."
     for over in told.overruns:
         holds = "more than its table has" if over.is_above else "less than its table begins with"
         yield f"By {day_text(over.day)} {shown(over.tank)} would hold {holds}."

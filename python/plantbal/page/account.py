@@ -27,6 +27,7 @@ from plantbal.report.blocks import Block, Values, Window, advice_of, blocks_of, 
 from plantbal.report.carried import Impossible, impossible
 
 if TYPE_CHECKING:
+    from plantbal.accounts.sheet import SalesUnit
     from plantbal.lint import Finding
 
 
@@ -262,6 +263,7 @@ def account_of(
     refused: Sequence[Refused] = (),
     findings: Sequence[Finding] = (),
     worth: Mapping[tuple[int, str], Worth] | None = None,
+    units: Mapping[str, SalesUnit] | None = None,
 ) -> Account:
     """Return all that a page shows of an output.
 
@@ -277,6 +279,8 @@ def account_of(
         What lint finds in the session; notes are left out.
     worth : mapping, optional
         How good each flow is, by the number of its block and its name.
+    units : mapping, optional
+        In what streams and tanks are sold, of those that aren't sold by the tonne.
     """
     by_block: dict[int, dict[str, Worth]] = {}
     for (number, name), value in (worth or {}).items():
@@ -288,6 +292,7 @@ def account_of(
         subject = asked.subject if asked is not None else some.subject
         contents = contents_of(ledger, asked) if ledger is not None and asked is not None else {}
         diagnosis = diagnosis_of(some.blocks[0], ledger, asked) if some.blocks else None
+        diagnosis = diagnosis.sold_in(units) if diagnosis and units else diagnosis
         rounds = []
         for block in some.blocks:
             stop = some.stop if block is some.blocks[-1] else ""

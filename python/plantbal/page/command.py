@@ -159,7 +159,10 @@ def prepare(source: Source) -> Prepared:
         key=lambda each: (SEVERITIES.index(each.severity), each.place.line or 0),
     )
     heard, quiet = without_quiet(without_gates(findings), source.told.quiets)
-    account = account_of(source.rows, ledger=ledger, refused=refused, findings=heard, worth=worth)
+    units = source.told.units
+    account = account_of(
+        source.rows, ledger=ledger, refused=refused, findings=heard, worth=worth, units=units
+    )
     gates = gates_of(ledger, blocks_of(source.rows), source.told)
     statements = [with_gates(each, gates) for each in account.statements]
     account = replace(account, statements=statements, gates=gates, quieted=len(quiet))

@@ -15,6 +15,7 @@ from plantbal.model.ledger import Ledger
 from plantbal.report.blocks import Block
 
 if TYPE_CHECKING:
+    from plantbal.accounts.sheet import SalesUnit
     from plantbal.book.answers import Answered, Quiet
     from plantbal.lint import Finding
     from plantbal.page.statement import Statement
@@ -27,10 +28,12 @@ _MOST = 3
 
 @dataclass(frozen=True)
 class Told:
-    """What a book tells of its periods: how each was closed, and which rules are quieted."""
+    """What a book tells of its periods: how each was closed, which rules are quieted, and in what
+    streams and tanks are sold."""
 
     closes: Mapping[str, Answered] = field(default_factory=dict)
     quiets: Sequence[Quiet] = ()
+    units: Mapping[str, SalesUnit] = field(default_factory=dict)
 
 
 @dataclass(frozen=True, slots=True)
@@ -81,14 +84,18 @@ def told_of(folder: str | None) -> Told:
     """
     if folder is None:
         return Told()
+    from plantbal.accounts.sheet import sales_units
+    from plantbal.book.accounting import accounts_of
     from plantbal.book.answers import answered, quieted
     from plantbal.book.store import Act, Store
 
     store = Store(folder)
     with store.opened(reading=True):
         journal = store.journal()
+        units = sales_units(accounts_of(store))
     closed = [line.of for line in journal if line.act is Act.CLOSE]
-    return Told({period: answered(journal, period) for period in closed}, quieted(journal))
+    closes = {period: answered(journal, period) for period in closed}
+    return Told(closes, quieted(journal), units)
 
 
 def gates_of(
