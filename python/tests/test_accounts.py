@@ -3,6 +3,7 @@
 from __future__ import annotations
 
 import datetime
+from dataclasses import replace
 from fractions import Fraction
 
 import numpy
@@ -11,13 +12,14 @@ from conftest import example
 from hypothesis import HealthCheck, given, settings
 from hypothesis import strategies as some
 
-from plantbal.accounts.account import Level, Rolled, Table
+from plantbal.accounts.account import Level, MonthAccount, Rolled, Table
 from plantbal.accounts.entries import Line
 from plantbal.accounts.month import Basis, Flow, Gain, Month
 from plantbal.accounts.shares import split
 from plantbal.accounts.sheet import Account, Accounts, Kind, Ownership, Rule, SalesUnit
 from plantbal.accounts.spread import Sum, deviations
 from plantbal.accounts.stock import Opened, Why, rolled
+from plantbal.accounts.trend import Unusual, unusual
 from plantbal.model.ledger import Ledger
 from plantbal.report.blocks import last_blocks, blocks_of, read_rows
 
@@ -251,6 +253,52 @@ def test_sales_units() -> None:
     assert SalesUnit("bbl", Fraction(862_000)).amount(10**9) == 10**9 / (
         Fraction("0.158987294928") * 862_000
     )
+
+
+# ---- beside the months before
+
+
+def receipts_of(first: str, grams: int, deviation: float | None = None) -> MonthAccount:
+    """The account of a month in which a unit received so much, with a ±."""
+    flows = [Flow("IN", "env", "U", grams), Flow("OUT", "U", "env", grams)]
+    day = datetime.date.fromisoformat(first)
+    one = Month(first, day, day, {flow.name: flow for flow in flows})
+    account = Rolled([one], Accounts([Account("IN", Kind.RECEIPT, "ore", "ore")])).account(first)
+    lines = dict(account.plant.lines)
+    lines[Line.RECEIPTS] = replace(lines[Line.RECEIPTS], deviation=deviation)
+    return replace(account, plant=replace(account.plant, lines=lines))
+
+
+@pytest.mark.parametrize(
+    "grams, deviation, wanted",
+    [
+        # By hand: the mean is 105,000, the standard deviation the root of 500,000,000 / 3, that is
+        # 12,909.9, and a table has 5.841 as Student's 99.5 % at 3 degrees of freedom. So half of
+        # the range is 5.841 * 12,909.9 * root of 1.25 = 84,307.
+        (189_200, None, None),
+        (189_400, None, (20_694, 189_306)),
+        (20_500, None, (20_694, 189_306)),
+        # Its own ± of 20,000 is more than their spread: 5.841 * 20,000 * root of 1.25 = 130,609.
+        (189_400, 20_000.0, None),
+        (236_000, 20_000.0, (-25_606, 235_606)),
+    ],
+)
+def test_unusual(grams: int, deviation: float | None, wanted: tuple[int, int] | None) -> None:
+    said = {"2023-11-01": 100_000, "2024-08-01": 110_000, "2024-09-01": 90_000}
+    before = [receipts_of(*each) for each in {**said, "2024-10-01": 120_000}.items()]
+    now = receipts_of("2024-11-01", grams, deviation)
+
+    def beside(some: list[MonthAccount]) -> list[Unusual]:
+        every = unusual(now, some)
+        return [each for each in every if (each.account, each.line) == ("plant", "receipts")]
+
+    found = beside(before)
+    assert len(found) == (wanted is not None)
+    for each in found:
+        assert (each.now, each.mean, each.year_ago) == (grams, 105_000, 100_000)
+        assert (each.low, each.high) == pytest.approx(wanted, abs=4)
+    assert not beside(before[2:])  # two months have no spread to speak of
+    assert {each.year_ago for each in beside(before[1:])} <= {None}
 
 
 # ---- ± from the covariance

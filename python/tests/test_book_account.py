@@ -6,23 +6,26 @@ import csv
 import io
 import random
 import re
-from collections.abc import Callable
+from collections.abc import Callable, Iterable
 from decimal import Decimal
 from pathlib import Path
 from typing import Any
 
 import openpyxl
 import pytest
-from books import folder, typed
+from books import Sheets, folder, typed
 from conftest import Desk, Said
+from dense import Dense
 from hypothesis import HealthCheck, given, settings
 from hypothesis import strategies as some
 from months import (
     INTO_SERVICE,
     OUT_OF_SERVICE,
+    PRODUCTS,
     Refinery,
     concentrator_months,
     concentrator_plant,
+    tanks_of,
     write,
 )
 
@@ -32,6 +35,7 @@ from plantbal.book.accounting import rolled_of
 from plantbal.book.store import Store
 
 MONTHS = ["2024-01", "2024-02", "2024-03"]
+THIRD_QUARTER = ["2024-07", "2024-08", "2024-09"]
 LATE = [
     ["id", "stream", "first", "last", "amount", "error"],
     ["2024-01-608", "LIFT_fuel_oil1", "2024-01-30", "2024-01-30", "6.77 t", "0.2 t"],
@@ -67,17 +71,29 @@ def assert_sums_to_0(found: Rolled) -> list[MonthAccount]:
     return accounts
 
 
+def booked(place: Path, plant: Sheets, months: Iterable[tuple[str, Sheets]]) -> Path:
+    """A book of closed months."""
+    words = ["--book", place, "--locale", "en"]
+    assert typed("new", "2024", write(place.parent, "plant", plant), *words) == 0
+    for month, sheets in months:
+        assert typed("add", write(place.parent, month, sheets), *words) == 0
+        assert typed("close", month, "--book", place) == 0
+    return place
+
+
 @pytest.fixture(name="refinery", scope="module")
 def fixture_refinery(tmp_path_factory: pytest.TempPathFactory) -> Path:
     """A book of three closed months."""
-    room = tmp_path_factory.mktemp("refinery")
-    plant, place = Refinery(), room / "book"
-    words = ["--book", place, "--locale", "en"]
-    assert typed("new", "2024", write(room, "plant", plant.plant()), *words) == 0
-    for month in MONTHS:
-        assert typed("add", write(room, month, plant.month(month)), *words) == 0
-        assert typed("close", month, "--book", place) == 0
-    return place
+    plant, place = Refinery(), tmp_path_factory.mktemp("refinery") / "book"
+    return booked(place, plant.plant(), ((month, plant.month(month)) for month in MONTHS))
+
+
+@pytest.fixture(name="concentrator", scope="module")
+def fixture_concentrator(tmp_path_factory: pytest.TempPathFactory) -> Path:
+    """A book of three closed months."""
+    place = tmp_path_factory.mktemp("concentrator") / "book"
+    months = zip(THIRD_QUARTER, concentrator_months(THIRD_QUARTER))
+    return booked(place, concentrator_plant(), months)
 
 
 def copy_of(book: Path, room: Path) -> Path:
@@ -101,17 +117,58 @@ def test_refinery_over_three_months(refinery: Path) -> None:
     assert {table.name for table in accounts[0].owners} == {"Alpha", "Beta"}
 
 
-def test_concentrator_over_three_months(tmp_path: Path) -> None:
-    place, months = tmp_path / "book", ["2024-07", "2024-08", "2024-09"]
-    words = ["--book", place, "--locale", "en"]
-    assert typed("new", "2024", write(tmp_path, "plant", concentrator_plant()), *words) == 0
-    for month, sheets in zip(months, concentrator_months(months)):
-        assert typed("add", write(tmp_path, month, sheets), *words) == 0
-        typed("report", month, "--book", place)  # by lot a month is rejected, and stays open
-        typed("close", month, "--book", place)
-    accounts = assert_sums_to_0(rolled(place))
+def test_concentrator_over_three_months(concentrator: Path) -> None:
+    accounts = assert_sums_to_0(rolled(concentrator))
     assert {table.name for table in accounts[2].groups} == {"ore", "concentrate", "tailings"}
     assert {table.unit for table in accounts[2].products} == {"dmt"}
+
+
+# ---- the ± of totals
+
+
+def refinery_model(book: Path) -> Dense:
+    """A dip is good to 3 mm of 2 m3 each, at the density of its product."""
+    plant = Refinery()
+    names = [(product, tank) for product in PRODUCTS for tank in tanks_of(product)]
+    errors = {tank: 3 * 2 * PRODUCTS[product][1] / 1000 for product, tank in names}
+    sheets = plant.plant()
+    return Dense(sheets, errors, [plant.month(month) for month in MONTHS], book / "reports")
+
+
+def concentrator_model(book: Path) -> Dense:
+    errors, months = {"HEAP": 2600, "STORE": 40}, concentrator_months(THIRD_QUARTER)
+    return Dense(concentrator_plant(), errors, months, book / "reports")
+
+
+@pytest.mark.parametrize(
+    "plant, model", [("refinery", refinery_model), ("concentrator", concentrator_model)]
+)
+def test_deviations_over_three_months(
+    plant: str, model: Callable[[Path], Dense], request: pytest.FixtureRequest
+) -> None:
+    """The ± of all lines, of what is unaccounted and of tanks, by one dense model of all months."""
+    book = request.getfixturevalue(plant)
+    dense, found = model(book), rolled(book)
+    for month, (lines, closing) in zip(found.months, dense.totals()):
+        account = found.account(month.name)
+        pairs = [
+            (amount.deviation, lines[table.level.value, table.name, line.value])
+            for table in [account.plant, *account.groups, *account.products]
+            for line, amount in table.lines.items()
+        ]
+        pairs += [
+            (
+                table.unaccounted.amount.deviation,
+                lines[table.level.value, table.name, "unaccounted"],
+            )
+            for table in [account.plant, *account.groups, *account.products]
+            if table.unaccounted is not None
+        ]
+        stocks = {each.stock.tank: each for each in account.tanks}
+        pairs += [(stocks[tank].closing, row) for tank, row in closing.items()]
+        assert len(pairs) > 25
+        for deviation, row in pairs:
+            assert deviation == pytest.approx(dense.deviation(row), rel=1e-6, abs=1)
 
 
 def said_of(say: Desk, book: Path) -> Callable[..., Said]:

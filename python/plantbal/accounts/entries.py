@@ -108,7 +108,7 @@ def _stock_entries(stocks: Iterable[Stock], accounts: Accounts) -> Iterator[Entr
         opening, adjustment, closing = stock.sums
         basis = stock.opening_basis
         yield Entry(Line.OPENING, stock.tank, account, stock.opening, basis, opening)
-        if stock.adjustment:
+        if adjustment or stock.adjustment:  # one of 0 g has its ± all the same
             amount = stock.adjustment
             yield Entry(Line.ADJUSTMENT, stock.tank, account, amount, basis, adjustment)
         yield Entry(Line.CLOSING, stock.tank, account, stock.closing, stock.basis, closing)
