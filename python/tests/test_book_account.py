@@ -219,6 +219,33 @@ def test_reopened_month(refinery: Path, tmp_path: Path, say: Desk) -> None:
     assert typed_("verify").status == 0
 
 
+@pytest.mark.parametrize("keeps", [True, False], ids=["", "by an older version"])
+def test_posted_while_open(
+    tmp_path: Path, say: Desk, monkeypatch: pytest.MonkeyPatch, keeps: bool
+) -> None:
+    """The report that was posted is kept, and what changed since names its facts, and no sheet."""
+    if not keeps:  # as books are that were written before reports of open months were kept
+        monkeypatch.setattr("plantbal.book.reporting._is_posted", lambda *_: False)
+    place, month = tmp_path / "book", "2024-07"
+    typed_ = said_of(say, place)
+    plant = write(tmp_path, "plant", concentrator_plant())
+    assert typed_("new", "2024", plant, "--locale", "en").status == 0
+    sheets = concentrator_months([month])[0]
+    assert typed_("add", write(tmp_path, month, sheets), "--locale", "en").status == 0
+    assert typed_("report", month).status == 0
+    assert typed_("posted", month).status == 1  # it is open
+    assert typed_("posted", month, "--anyway", "--why", "early").status == 0
+    amount = ("196000 t", "--error", "900 t", "--why", "typed wrongly", "--who", "paul")
+    assert typed_("amend", f"{month}-FEED", *amount).status == 0
+    assert typed_("report", month).status == 0
+    assert (place / f"reports/earlier/{month}.1.csv").exists() == keeps
+    file = tmp_path / "p.csv"
+    said = typed_("difference", month, "--postings", file).out
+    assert f"cause: {month}-FEED (FEED) amended, 194,504.634 t becomes 196,000 t" in said
+    rows = list(csv.DictReader(io.StringIO(file.read_text())))
+    assert rows and all("by paul: typed wrongly" in row["cause"] for row in rows)
+
+
 def flows_of(report: Path) -> dict[str, int]:
     """The flows of a report's stream rows, read without the package."""
     rows = [line.split(",") for line in report.read_text().splitlines()]

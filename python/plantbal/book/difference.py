@@ -209,7 +209,10 @@ def _posted_side(book: Store, versions: dict[str, Version], period: str) -> Side
         if kept is not None and rows is not None and Kept.of(text.encode()).digest == kept.digest:
             side = _of_version(book, versions, version, POSTED)
             return Side(POSTED, version, posted, side.month)
-    return Side(POSTED, versions[period], posted)
+    # Its report wasn't kept: which facts are otherwise is known by the rows that were there.
+    seen = rows.lines if rows is not None else None
+    version = Version(period, year, "", seen or versions[period].seen, line)
+    return Side(POSTED, version, posted)
 
 
 # ---- the actions

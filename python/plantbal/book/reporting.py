@@ -10,6 +10,7 @@ from plantbal.audit.believed import judge, program_digest
 from plantbal.book.accounting import accounts_of
 from plantbal.book.answers import Quiet, quieted
 from plantbal.book.forms import earlier_file, old_earlier_file, report_file, year_file
+from plantbal.book.journal import Kept
 from plantbal.book.ledger import Ledger, plain
 from plantbal.book.meters import read_meters
 from plantbal.book.results import Reported
@@ -168,7 +169,9 @@ def holes_said(
 
 
 def keep(book: Store, action: Action, ledger: Ledger, period: str, text: str, closed: bool) -> bool:
-    """Have an action write a report, and keep the one before it if its period was closed then.
+    """Have an action write a report, and keep the one before it if it has gone out.
+
+    It has if its period was closed then, or if it was posted.
 
     Returns
     -------
@@ -180,9 +183,16 @@ def keep(book: Store, action: Action, ledger: Ledger, period: str, text: str, cl
     if before and before != text:
         # Older versions gave the report of `2024-04.1` the name of an earlier one of `2024-04`.
         of = reported_in(before)
-        if closed or of not in ("", period):
+        if closed or of not in ("", period) or _is_posted(book, period, before):
             action.written[free_name(book, of or period)] = before
     return keep_as(book, action, ledger, name, text)
+
+
+def _is_posted(book: Store, period: str, text: str) -> bool:
+    """Return whether something was posted that was made of a report."""
+    name, digest = report_file(period), Kept.of(text.encode("utf-8")).digest
+    lines = (line for line in book.journal() if line.act is Act.POSTED and line.of == period)
+    return any(name in line.files and line.files[name].digest == digest for line in lines)
 
 
 def keep_as(book: Store, action: Action, ledger: Ledger, name: str, text: str) -> bool:
