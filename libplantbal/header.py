@@ -11,10 +11,13 @@ from __future__ import annotations
 import re
 import textwrap
 from dataclasses import dataclass
+from graphlib import TopologicalSorter
 from pathlib import Path
 
 TOP = Path(__file__).resolve().parent.parent
 CRATE = TOP / "crates" / "plantbal_c" / "src"
+# What C reads of a book: structs that the exports write.
+SHOWN = TOP / "crates" / "pb_shown" / "src"
 HEADER = TOP / "libplantbal" / "plantbal.h"
 EXPORTS = TOP / "libplantbal" / "exports.map"
 PYTHON = TOP / "python" / "plantbal" / "_declarations.py"
@@ -33,7 +36,7 @@ STRUCT = re.compile(
     r"((?:^/// .*\n)+)^#\[repr\(C\)\]\n(?:^#\[derive.*\n)*^pub struct (\w+) \{\n([^{}]*)^\}",
     re.M,
 )
-FIELD = re.compile(r"((?:^ +/// .*\n)*)^ +pub (\w+): (\w+),$", re.M)
+FIELD = re.compile(r"((?:^ +/// .*\n)*)^ +pub (\w+): (\w+|\[u8; \d+\]),$", re.M)
 STATUS = re.compile(r"((?:^/// .*\n)+)^pub\(crate\) const (\w+): u8 = (\d+);", re.M)
 CAUSE = re.compile(r"((?:^ +/// .*\n)+)^ +(\w+),$", re.M)
 CONSTANT = re.compile(r"(?m)^pub const (\w+): u32 = ([\d_]+);")
@@ -75,6 +78,17 @@ def c_name(rust: str) -> str:
     return re.sub(r"(?<!^)(?=[A-Z])", "_", rust).lower()
 
 
+def c_type(rust: str) -> str:
+    """Return the type in C of a number or a struct."""
+    return NUMBERS.get(rust) or c_name(rust)
+
+
+def c_field(name: str, rust: str) -> str:
+    """Return the declaration of a field: bytes in a row are a text of C, with zeros after it."""
+    text = re.fullmatch(r"\[u8; (\d+)\]", rust)
+    return f"char {name}[{text[1]}];" if text else f"{c_type(rust)} {name};"
+
+
 def c_parameters(name: str, rust: str) -> list[str]:
     """Return the parameters in C for one in Rattle."""
     if rust == "Global":
@@ -86,12 +100,12 @@ def c_parameters(name: str, rust: str) -> list[str]:
     slice_of = re.fullmatch(r"&(mut )?\[(\w+)\]", rust)
     if slice_of:
         const = "" if slice_of[1] else "const "
-        element = "void" if slice_of[2] == "u8" else NUMBERS[slice_of[2]]
+        element = "void" if slice_of[2] == "u8" else c_type(slice_of[2])
         return [f"{const}{element} *{name}", f"size_t {name}_length"]
     pointer = re.fullmatch(r"&(mut )?(\w+)", rust)
     if pointer:
         const = "" if pointer[1] else "const "
-        return [f"{const}{NUMBERS.get(pointer[2]) or c_name(pointer[2])} *{name}"]
+        return [f"{const}{c_type(pointer[2])} *{name}"]
     raise SystemExit(f"header: no rule for the parameter {name}: {rust}")
 
 
@@ -135,18 +149,23 @@ def usual() -> str:
 
 
 def structs() -> list[str]:
-    """Return the declarations of the structs that C fills or reads."""
-    found = []
-    for path in sorted(CRATE.rglob("*.rt")):
+    """Return the declarations of the structs that C fills or reads, each after those in it."""
+    found: dict[str, tuple[set[str], str]] = {}
+    for path in [*sorted(CRATE.rglob("*.rt")), *sorted(SHOWN.rglob("*.rt"))]:
         for comment, name, body in STRUCT.findall(path.read_text("utf-8")):
             if name == HANDLE:
                 continue
+            fields = FIELD.findall(body)
+            if len(fields) != len(re.findall(r"(?m)^ +pub ", body)):
+                raise SystemExit(f"header: {name} has fields that can't be read")
             lines = [block(words(comment)), f"typedef struct {c_name(name)} {{"]
-            for about, field, kind in FIELD.findall(body):
+            for about, field, kind in fields:
                 lines.append(block(words(about), "    "))
-                lines.append(f"    {NUMBERS[kind]} {field};")
-            found.append("\n".join([*lines, f"}} {c_name(name)};"]))
-    return found
+                lines.append(f"    {c_field(field, kind)}")
+            held = {kind for _, _, kind in fields if kind not in NUMBERS and kind[0] != "["}
+            found[name] = held, "\n".join([*lines, f"}} {c_name(name)};"])
+    order = TopologicalSorter({name: held for name, (held, _) in found.items()})
+    return [found[name][1] for name in order.static_order()]
 
 
 def status_numbers() -> list[tuple[str, str, str]]:

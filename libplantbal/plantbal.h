@@ -29,6 +29,8 @@ enum plantbal_status {
     PLANTBAL_BAD_HANDLE = 7,
     /* The buffer is too small. Nothing was done. */
     PLANTBAL_SMALL_BUFFER = 8,
+    /* There is nothing at this place, or nothing of this name. Nothing was written. */
+    PLANTBAL_NOT_THERE = 9,
 };
 
 /* The codes of records: why one is refused, or 0. The first cause that holds counts. */
@@ -86,6 +88,114 @@ typedef struct plantbal_options {
     uint32_t form;
 } plantbal_options;
 
+/* A whole number of up to 128 bits: high times 2 to the power of 64, plus low. */
+typedef struct plantbal_wide {
+    /* The low word. */
+    uint64_t low;
+    /* The high word, with the sign. */
+    int64_t high;
+} plantbal_wide;
+
+/* How much there is of everything. What there are n of has the places from 0 to n - 1. */
+typedef struct plantbal_counts {
+    /* The version of the session, 1 or 2; 0 while no row is stored. */
+    uint32_t version;
+    /* Nodes: the environment, whose place is 0, the units and the tanks. */
+    uint32_t nodes;
+    /* Streams, and tanks as what they hold. */
+    uint32_t streams;
+    /* Periods. */
+    uint32_t periods;
+    /* Facts that were booked, struck ones too. */
+    uint32_t facts;
+    /* Assays. */
+    uint32_t assays;
+    /* Edits: periods closed, facts booked late, changed or struck. */
+    uint64_t edits;
+} plantbal_counts;
+
+/* A period. */
+typedef struct plantbal_period {
+    /* Its name, with zeros after it. */
+    char name[33];
+    /* Whether it is closed. */
+    bool closed;
+    /* Its first day, counted from 1970-01-01. */
+    int32_t first;
+    /* Its last day. */
+    int32_t last;
+} plantbal_period;
+
+/* A node of the plant: the environment, a unit or a tank. */
+typedef struct plantbal_node {
+    /* Its name, with zeros after it. */
+    char name[33];
+    /* Whether it is a tank. */
+    bool tank;
+} plantbal_node;
+
+/* An edit of the book. */
+typedef struct plantbal_edit {
+    /* The name of the period that is closed, or the id of the fact, with zeros after it. */
+    char id[33];
+    /* Why a fact was changed or struck, with zeros after it; else zeros. */
+    char reason[81];
+    /* 0 for a period closed, 1 for a fact booked late, 2 for one changed, 3 for one struck. */
+    uint8_t kind;
+    /* The number of the record, counted from 1. */
+    uint32_t record;
+    /* The grams that a fact has from then on, or the level of a dip in millimetres; 0 for a
+       period and a fact that is struck. */
+    int64_t amount;
+    /* The density of a dip in grams per cubic metre, and else 0. */
+    int64_t density;
+    /* The variance in squared grams; 0 for a period and a fact that is struck. */
+    plantbal_wide variance;
+} plantbal_edit;
+
+/* A fact that was booked, with its last values. */
+typedef struct plantbal_fact {
+    /* Its id, with zeros after it. */
+    char id[33];
+    /* The name of its stream or tank, with zeros after it. */
+    char stream[33];
+    /* 0 for a reading, 1 for a transfer, 2 for a dip. */
+    uint8_t kind;
+    /* Whether it was struck. */
+    bool struck;
+    /* Its day or its first day, counted from 1970-01-01. */
+    int32_t first;
+    /* Its day or its last day. */
+    int32_t last;
+    /* Grams, or the level of a dip in millimetres. */
+    int64_t amount;
+    /* The density of a dip in grams per cubic metre, and else 0. */
+    int64_t density;
+    /* The variance in squared grams. */
+    plantbal_wide variance;
+} plantbal_fact;
+
+/* A stream of the plant, or a tank as what it holds, which leads from the tank to the
+   environment. */
+typedef struct plantbal_stream {
+    /* Its name, with zeros after it. */
+    char name[33];
+    /* 0 for a metered stream, 1 for one that moves in batches, 2 for a plain one, 3 for a tank. */
+    uint8_t kind;
+    /* Whether it has days of service. If not, it is in service on every day. */
+    bool served;
+    /* The place of the node from which it leads. */
+    uint32_t from;
+    /* The place of the node to which it leads. */
+    uint32_t to;
+    /* The first day of its service, counted from 1970-01-01. */
+    int32_t since;
+    /* The last day of its service. */
+    int32_t until;
+    /* Its base variance in squared grams; 0 for a plain one. */
+    plantbal_wide base;
+} plantbal_stream;
+
 /* The options that a run has if its words ask for nothing else. */
 #define PLANTBAL_OPTIONS {10, 5000, 0, 0, 0}
 
@@ -116,6 +226,101 @@ uint8_t plantbal_session_row(
     const size_t *ends,
     size_t ends_length,
     uint8_t *code);
+
+/* Writes how much there is of everything in the book. PLANTBAL_BAD_HANDLE: the handle holds no
+   session. */
+uint8_t plantbal_session_counts(plantbal_session session, plantbal_counts *counts);
+
+/* Writes the node at a place, counted from 0, which is the environment. PLANTBAL_NOT_THERE:
+   there are no more than place nodes, and nothing is written. PLANTBAL_BAD_HANDLE: the handle
+   holds no session. */
+uint8_t plantbal_session_node(plantbal_session session, uint32_t place, plantbal_node *node);
+
+/* Writes the stream at a place, counted from 0 in the order of declaration. PLANTBAL_NOT_THERE:
+   there are no more than place streams, and nothing is written. PLANTBAL_BAD_HANDLE: the handle
+   holds no session. */
+uint8_t plantbal_session_stream(plantbal_session session, uint32_t place, plantbal_stream *stream);
+
+/* Writes the period at a place, counted from 0 in the order of declaration. PLANTBAL_NOT_THERE:
+   there are no more than place periods, and nothing is written. PLANTBAL_BAD_HANDLE: the handle
+   holds no session. */
+uint8_t plantbal_session_period(plantbal_session session, uint32_t place, plantbal_period *period);
+
+/* Writes the fact at a place, counted from 0 in the order of booking, with its last values.
+   PLANTBAL_NOT_THERE: there are no more than place facts, and nothing is written.
+   PLANTBAL_BAD_HANDLE: the handle holds no session. */
+uint8_t plantbal_session_fact(plantbal_session session, uint32_t place, plantbal_fact *fact);
+
+/* Writes the edit at a place, counted from 0 in the order of the records. PLANTBAL_NOT_THERE:
+   there are no more than place edits, and nothing is written. PLANTBAL_BAD_HANDLE: the handle
+   holds no session. */
+uint8_t plantbal_session_edit(plantbal_session session, uint64_t place, plantbal_edit *edit);
+
+/* Writes whether the fact at one place touches the period at another: whether it counts there.
+   PLANTBAL_NOT_THERE: there is no such fact or period, and nothing is written.
+   PLANTBAL_BAD_HANDLE: the handle holds no session. */
+uint8_t plantbal_session_fact_touches(
+    plantbal_session session,
+    uint32_t fact,
+    uint32_t period,
+    bool *touches);
+
+/* Writes whether the edit at one place touches the period at another: whether it counts there.
+   PLANTBAL_NOT_THERE: there is no such edit or period, and nothing is written.
+   PLANTBAL_BAD_HANDLE: the handle holds no session. */
+uint8_t plantbal_session_edit_touches(
+    plantbal_session session,
+    uint64_t edit,
+    uint32_t period,
+    bool *touches);
+
+/* Writes the place of the node of a name, 0 for the environment and for a boundary.
+   PLANTBAL_NOT_THERE: there is none, or the bytes are no name, and nothing is written.
+   PLANTBAL_BAD_HANDLE: the handle holds no session. */
+uint8_t plantbal_session_node_named(
+    plantbal_session session,
+    const void *name,
+    size_t name_length,
+    uint32_t *place);
+
+/* Writes the place of the stream or the tank of a name. PLANTBAL_NOT_THERE: there is none, or
+   the bytes are no name, and nothing is written. PLANTBAL_BAD_HANDLE: the handle holds no
+   session. */
+uint8_t plantbal_session_stream_named(
+    plantbal_session session,
+    const void *name,
+    size_t name_length,
+    uint32_t *place);
+
+/* Writes the place of the period of a name. PLANTBAL_NOT_THERE: there is none, or the bytes are
+   no name, and nothing is written. PLANTBAL_BAD_HANDLE: the handle holds no session. */
+uint8_t plantbal_session_period_named(
+    plantbal_session session,
+    const void *name,
+    size_t name_length,
+    uint32_t *place);
+
+/* Writes the place of the live fact that has this id. PLANTBAL_NOT_THERE: there is none, or the
+   bytes are no name, and nothing is written. PLANTBAL_BAD_HANDLE: the handle holds no session. */
+uint8_t plantbal_session_fact_named(
+    plantbal_session session,
+    const void *name,
+    size_t name_length,
+    uint32_t *place);
+
+/* Makes the session of a number with this many streams, as plantbal make does, or, if summary
+   isn't 0, studies its period by this gap and this many sweeps, and makes the row that sums up
+   the study. The handle then holds a session of the usual options that has taken no record, and
+   whose output is that text. PLANTBAL_USAGE: the streams, the gap or the sweeps are outside
+   their limits. PLANTBAL_BAD_HANDLE: the handle already holds a session, which stays. After
+   these and PLANTBAL_NO_MEMORY the handle is as it was. */
+uint8_t plantbal_make(
+    uint32_t number,
+    uint32_t streams,
+    uint32_t summary,
+    uint32_t gap,
+    uint32_t sweeps,
+    plantbal_session session);
 
 /* Answers the records of the input as plantbal run does. The handle then holds a session of
    these options that has taken no record, and whose output is that of the run.

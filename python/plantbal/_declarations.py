@@ -14,6 +14,59 @@ typedef struct plantbal_options {
     uint32_t tests;
     uint32_t form;
 } plantbal_options;
+typedef struct plantbal_wide {
+    uint64_t low;
+    int64_t high;
+} plantbal_wide;
+typedef struct plantbal_counts {
+    uint32_t version;
+    uint32_t nodes;
+    uint32_t streams;
+    uint32_t periods;
+    uint32_t facts;
+    uint32_t assays;
+    uint64_t edits;
+} plantbal_counts;
+typedef struct plantbal_period {
+    char name[33];
+    bool closed;
+    int32_t first;
+    int32_t last;
+} plantbal_period;
+typedef struct plantbal_node {
+    char name[33];
+    bool tank;
+} plantbal_node;
+typedef struct plantbal_edit {
+    char id[33];
+    char reason[81];
+    uint8_t kind;
+    uint32_t record;
+    int64_t amount;
+    int64_t density;
+    plantbal_wide variance;
+} plantbal_edit;
+typedef struct plantbal_fact {
+    char id[33];
+    char stream[33];
+    uint8_t kind;
+    bool struck;
+    int32_t first;
+    int32_t last;
+    int64_t amount;
+    int64_t density;
+    plantbal_wide variance;
+} plantbal_fact;
+typedef struct plantbal_stream {
+    char name[33];
+    uint8_t kind;
+    bool served;
+    uint32_t from;
+    uint32_t to;
+    int32_t since;
+    int32_t until;
+    plantbal_wide base;
+} plantbal_stream;
 uint8_t plantbal_session_rows(
     plantbal_session session,
     const void *bytes,
@@ -29,6 +82,49 @@ uint8_t plantbal_session_row(
     const size_t *ends,
     size_t ends_length,
     uint8_t *code);
+uint8_t plantbal_session_counts(plantbal_session session, plantbal_counts *counts);
+uint8_t plantbal_session_node(plantbal_session session, uint32_t place, plantbal_node *node);
+uint8_t plantbal_session_stream(plantbal_session session, uint32_t place, plantbal_stream *stream);
+uint8_t plantbal_session_period(plantbal_session session, uint32_t place, plantbal_period *period);
+uint8_t plantbal_session_fact(plantbal_session session, uint32_t place, plantbal_fact *fact);
+uint8_t plantbal_session_edit(plantbal_session session, uint64_t place, plantbal_edit *edit);
+uint8_t plantbal_session_fact_touches(
+    plantbal_session session,
+    uint32_t fact,
+    uint32_t period,
+    bool *touches);
+uint8_t plantbal_session_edit_touches(
+    plantbal_session session,
+    uint64_t edit,
+    uint32_t period,
+    bool *touches);
+uint8_t plantbal_session_node_named(
+    plantbal_session session,
+    const void *name,
+    size_t name_length,
+    uint32_t *place);
+uint8_t plantbal_session_stream_named(
+    plantbal_session session,
+    const void *name,
+    size_t name_length,
+    uint32_t *place);
+uint8_t plantbal_session_period_named(
+    plantbal_session session,
+    const void *name,
+    size_t name_length,
+    uint32_t *place);
+uint8_t plantbal_session_fact_named(
+    plantbal_session session,
+    const void *name,
+    size_t name_length,
+    uint32_t *place);
+uint8_t plantbal_make(
+    uint32_t number,
+    uint32_t streams,
+    uint32_t summary,
+    uint32_t gap,
+    uint32_t sweeps,
+    plantbal_session session);
 uint8_t plantbal_run(
     const plantbal_options *options,
     const void *input,
@@ -62,3 +158,5 @@ class Status(IntEnum):
     BAD_HANDLE = 7
     # The buffer is too small. Nothing was done.
     SMALL_BUFFER = 8
+    # There is nothing at this place, or nothing of this name. Nothing was written.
+    NOT_THERE = 9

@@ -127,6 +127,23 @@ def check(data: bytes | bytearray | memoryview) -> tuple[int, bytes]:
     return _answer(native, handle, native.functions.plantbal_check(given, len(given), handle))
 
 
+def make(
+    number: int,
+    streams: int,
+    *,
+    summary: bool = False,
+    gap: int = 10,
+    sweeps: int = 5000,
+) -> bytes:
+    """Return the session of a number with this many streams, or the row that sums up its study."""
+    numbers = (number, streams, int(summary), gap, sweeps)
+    if not all(0 <= given < 2**32 for given in numbers):
+        raise fault(Status.USAGE)
+    native = library()
+    handle = native.handle()
+    return _answer(native, handle, native.functions.plantbal_make(*numbers, handle))[1]
+
+
 def _answer(native: Library, handle: Any, status: int) -> tuple[int, bytes]:
     """Return a status and the output that goes with it."""
     if status > Status.DONE_REFUSED:
@@ -178,6 +195,27 @@ class Session:
         if status != Status.DONE:
             raise fault(Status(status))
         return bytes(codes[: taken[0]])
+
+    def look(self, what: str, kind: str, *words: Any) -> Any | None:
+        """Return what a look-up of the library finds, or None if there is nothing there.
+
+        Parameters
+        ----------
+        what : str
+            The look-up: the name of its function without ``plantbal_session_``.
+        kind : str
+            The type in C of what it writes.
+        *words
+            What it takes after the session: a place, or a name and its length.
+        """
+        found = self._native.ffi.new(f"{kind} *")
+        function = getattr(self._native.functions, f"plantbal_session_{what}")
+        status = function(self._handle, *words, found)
+        if status == Status.NOT_THERE:
+            return None
+        if status != Status.DONE:
+            raise fault(Status(status))
+        return found[0]
 
     def row(self, fields: Iterable[bytes]) -> int:
         """Take one row by its fields, and return its code: 0 if it is accepted."""

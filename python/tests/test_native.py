@@ -3,12 +3,27 @@
 from __future__ import annotations
 
 from concurrent.futures import ThreadPoolExecutor
+from datetime import date
 from pathlib import Path
 
 import pytest
 
 from plantbal import inside, program
 from plantbal.faults import ProgramFault
+
+pytest.importorskip("cffi", reason="python3-cffi isn't installed")
+from plantbal._looks import (  # noqa: E402
+    Counts,
+    Edit,
+    EditKind,
+    Fact,
+    FactKind,
+    Looks,
+    Node,
+    Period,
+    Stream,
+    StreamKind,
+)
 
 EXAMPLES = Path(__file__).resolve().parents[2] / "examples"
 ROWS = b"unit,A\nunit,A\nfrob\n"
@@ -53,6 +68,57 @@ def test_rows_and_fields() -> None:
     with native.Session() as session:
         codes = [session.row(row.split(b",")) for row in ROWS.splitlines()]
         assert (codes, session.output()) == ([0, 7, 1], REFUSALS)
+
+
+def test_look_ups() -> None:
+    """The book says what the rows said: each value here stands in its row."""
+    rows = b"""unit,MILL
+tank,SILO,1000000000000
+strap,SILO,0,0
+strap,SILO,9000,9000000000
+stream,ORE,env,MILL,metered,10000000000
+period,mar,2024-03-01,2024-03-31
+reading,r1,ORE,2024-03-02,-5,10000000000000000000
+dip,s1,SILO,2024-03-31,8120,1250000,25000000000000
+amend,r1,11,13,read twice
+close,mar
+"""
+    first, last = date(2024, 3, 1), date(2024, 3, 31)
+    with native.Session() as session:
+        looks = Looks(session)
+        assert looks.counts() == Counts(0, 1, 0, 0, 0, 0, 0)
+        assert set(session.rows(rows)) == {0}
+        assert looks.counts() == Counts(1, 3, 2, 1, 2, 0, 2)
+        assert looks.nodes() == [Node("env", False), Node("MILL", False), Node("SILO", True)]
+        assert looks.streams() == [
+            Stream("SILO", StreamKind.TANK, 2, 0, 10**12, None),
+            Stream("ORE", StreamKind.METERED, 0, 1, 10**10, None),
+        ]
+        assert looks.periods() == [Period("mar", first, last, True)]
+        day = date(2024, 3, 2)
+        assert looks.facts() == [
+            Fact("r1", "ORE", FactKind.READING, False, day, day, 11, 0, 13),
+            Fact("s1", "SILO", FactKind.DIP, False, last, last, 8120, 1250000, 25 * 10**12),
+        ]
+        assert looks.edits() == [
+            Edit(9, EditKind.AMEND, "r1", "read twice", 11, 0, 13),
+            Edit(10, EditKind.CLOSE, "mar", "", 0, 0, 0),
+        ]
+        assert (looks.node("SILO"), looks.stream("ORE"), looks.period("apr")) == (2, 1, None)
+        assert (looks.fact("s1"), looks.fact("s2"), looks.node("no name")) == (1, None, None)
+        assert looks.fact_touches(0, 0) and looks.edit_touches(1, 0)
+        with pytest.raises(IndexError):
+            looks.fact_touches(2, 0)
+    assert refusal(looks.counts) == 7
+
+
+def test_made_sessions() -> None:
+    """What is made is what the program makes, and its limits are the program's."""
+    made = native.make(3, 40)
+    assert program.call(["make", "--number", "3", "--streams", "40"], b"") == (0, made)
+    assert native.run(made)[0] == 0
+    for number, streams in ((-1, 40), (3, 2), (3, 2001)):
+        assert refusal(native.make, number, streams) == 2, streams
 
 
 def test_wrong_use() -> None:

@@ -28,3 +28,7 @@ bad_handle = 7
 -- the buffer is too small, and nothing was done
 abbrev pub small_buffer : ℕ
 small_buffer = 8
+
+-- there is nothing at this place, or nothing of this name, and nothing was written
+abbrev pub not_there : ℕ
+not_there = 9

@@ -8,6 +8,8 @@
 mod blocks;
 mod fields;
 mod handle;
+mod looks;
+mod made;
 mod opened;
 mod options;
 mod runs;

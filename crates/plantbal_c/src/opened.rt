@@ -4,6 +4,7 @@ ghost use Rattle.pb_study.specs.Options.{AreOptions};
 ghost use Rattle.pb_session.specs.Session.{new_session};
 ghost use Rattle.plantbal_c.specs.Block.{TakesOne, most_records};
 
+use pb_book::Book;
 use pb_report::Form;
 use pb_rows::Row;
 use pb_session::Session;
@@ -94,6 +95,13 @@ impl OpenSession {
             }
             Err(_) => Err(NotTaken::NoMemory),
         }
+    }
+
+    /// The book of the rows that it has stored.
+    pub(crate) fn book(&self) -> &Book
+        ensures { result.now ≡ self.now.state.rows }
+    {
+        self.session.book()
     }
 
     /// The output that C hasn't taken yet.

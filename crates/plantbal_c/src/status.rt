@@ -20,3 +20,6 @@ pub(crate) const BAD_HANDLE: u8 = 7;
 
 /// The buffer is too small. Nothing was done.
 pub(crate) const SMALL_BUFFER: u8 = 8;
+
+/// There is nothing at this place, or nothing of this name. Nothing was written.
+pub(crate) const NOT_THERE: u8 = 9;

@@ -1,0 +1,60 @@
+-- Statement. A fact as C has it.
+use Rattle.std.specs.Prelude.{◌≡◌, ℕ, ℤ, List, pos}
+use Rattle.pb_facts.specs.declared.fact.Fact.{Fact}
+use Rattle.pb_facts.specs.declared.fact.Fact.TheVariants.{Reading, Transfer, Dip}
+use Rattle.pb_facts.specs.declared.facts.KeptFact.{KeptFact}
+use Rattle.pb_facts.specs.Fact.{id_of, named_by}
+use Rattle.pb_shown.specs.Texts.{name_field}
+use Rattle.pb_shown.specs.Wide.{value_of}
+use Rattle.pb_shown.specs.declared.facts.PlantbalFact.{PlantbalFact}
+
+-- the number of a fact's kind
+abbrev pub fact_kind : Fact → ℕ
+fact_kind (Reading id stream day grams variance) = 0
+fact_kind (Transfer id stream first last grams variance) = 1
+fact_kind (Dip id tank day mm density variance) = 2
+
+-- its day or its first day
+abbrev pub first_day : Fact → ℤ
+first_day (Reading id stream day grams variance) = day
+first_day (Transfer id stream first last grams variance) = first
+first_day (Dip id tank day mm density variance) = day
+
+-- its day or its last day
+abbrev pub last_day : Fact → ℤ
+last_day (Reading id stream day grams variance) = day
+last_day (Transfer id stream first last grams variance) = last
+last_day (Dip id tank day mm density variance) = day
+
+-- its grams, or its level
+abbrev pub amount_of : Fact → ℤ
+amount_of (Reading id stream day grams variance) = grams
+amount_of (Transfer id stream first last grams variance) = grams
+amount_of (Dip id tank day mm density variance) = mm
+
+-- the density of a dip, and else 0
+abbrev pub density_of : Fact → ℤ
+density_of (Reading id stream day grams variance) = pos 0
+density_of (Transfer id stream first last grams variance) = pos 0
+density_of (Dip id tank day mm density variance) = density
+
+-- its variance
+abbrev pub variance_of : Fact → ℤ
+variance_of (Reading id stream day grams variance) = variance
+variance_of (Transfer id stream first last grams variance) = variance
+variance_of (Dip id tank day mm density variance) = variance
+
+-- the struct says what the fact is
+pub record ShowsFact (fact : Fact) (shown : PlantbalFact) : Type 0 where
+  pub id : shown.id ≡ name_field (id_of fact)
+  pub stream : shown.stream ≡ name_field (named_by fact)
+  pub kind : shown.kind ≡ fact_kind fact
+  pub first : shown.first ≡ first_day fact
+  pub last : shown.last ≡ last_day fact
+  pub amount : shown.amount ≡ amount_of fact
+  pub density : shown.density ≡ density_of fact
+  pub variance : value_of shown.variance ≡ variance_of fact
+
+-- and whether it was struck
+abbrev pub ShowsKept : KeptFact → PlantbalFact → Type 0
+ShowsKept kept shown = ShowsFact kept.fact shown × (shown.struck ≡ kept.struck)

@@ -1,0 +1,14 @@
+-- Statement. Names and reasons as C has them: their bytes, and zeros after them.
+use Rattle.std.specs.Prelude.{ℕ, List, ◌++◌, length, drop, replicate}
+
+-- the bytes of a text, with zeros after them up to this many
+abbrev pub with_zeros : ℕ → List ℕ → List ℕ
+with_zeros room text = text ++ drop (length text) (replicate room 0)
+
+-- a name has at most 32 bytes, so a zero is at its end
+abbrev pub name_field : List ℕ → List ℕ
+name_field name = with_zeros 33 name
+
+-- a reason has at most 80 bytes
+abbrev pub reason_field : List ℕ → List ℕ
+reason_field reason = with_zeros 81 reason
