@@ -8,8 +8,8 @@ use Rattle.pb_kinds.specs.declared.rows.Edit.TheVariants as edits
 use Rattle.pb_kinds.specs.declared.rows.Effect.{Effect}
 use Rattle.pb_kinds.specs.declared.rows.Effect.TheVariants.{Books, Closes, Edits}
 use Rattle.pb_kinds.specs.declared.rows.StoredRow.{StoredRow}
-use Rattle.pb_shown.specs.Facts.{amount_of, density_of, variance_of}
-use Rattle.pb_shown.specs.Texts.{name_field, reason_field}
+use Rattle.pb_shown.specs.Facts.{booked_amount, booked_density, booked_variance}
+use Rattle.pb_shown.specs.Texts.{padded_name, padded_reason}
 use Rattle.pb_shown.specs.Wide.{value_of}
 use Rattle.pb_shown.specs.declared.edits.PlantbalEdit.{PlantbalEdit}
 use Rattle.pb_shown.specs.declared.numbers.PlantbalWide.{PlantbalWide}
@@ -17,7 +17,7 @@ use Rattle.pb_shown.specs.declared.numbers.PlantbalWide.{PlantbalWide}
 -- the values of a fact
 abbrev pub ShowsFactValues : Fact → ℤ → ℤ → PlantbalWide → Type 0
 ShowsFactValues fact amount density variance =
-    (amount ≡ amount_of fact) × (density ≡ density_of fact) × (value_of variance ≡ variance_of fact)
+    (amount ≡ booked_amount fact) × (density ≡ booked_density fact) × (value_of variance ≡ booked_variance fact)
 
 -- the new values of a fact
 abbrev pub ShowsChange : Change → ℤ → ℤ → PlantbalWide → Type 0
@@ -32,14 +32,14 @@ ShowsNone shown = (shown.amount ≡ pos 0) × (shown.density ≡ pos 0) × (valu
 
 -- the struct says what an edit does; what isn't an edit has no place among them
 abbrev pub ShowsEffect : Effect → PlantbalEdit → Type 0
-ShowsEffect (Closes name) shown = (shown.kind ≡ 0) × (shown.id ≡ name_field name) × ShowsNone shown
+ShowsEffect (Closes name) shown = (shown.kind ≡ 0) × (shown.id ≡ padded_name name) × ShowsNone shown
 ShowsEffect (Books fact late) shown =
-    (shown.kind ≡ 1) × (shown.id ≡ name_field (id_of fact)) × ShowsFactValues fact shown.amount shown.density shown.variance
+    (shown.kind ≡ 1) × (shown.id ≡ padded_name (id_of fact)) × ShowsFactValues fact shown.amount shown.density shown.variance
 ShowsEffect (Edits id (edits.Change change) reason) shown =
-    (shown.kind ≡ 2) × (shown.id ≡ name_field id) × (shown.reason ≡ reason_field reason)
+    (shown.kind ≡ 2) × (shown.id ≡ padded_name id) × (shown.reason ≡ padded_reason reason)
     × ShowsChange change shown.amount shown.density shown.variance
 ShowsEffect (Edits id edits.Strike reason) shown =
-    (shown.kind ≡ 3) × (shown.id ≡ name_field id) × (shown.reason ≡ reason_field reason) × ShowsNone shown
+    (shown.kind ≡ 3) × (shown.id ≡ padded_name id) × (shown.reason ≡ padded_reason reason) × ShowsNone shown
 ShowsEffect effect shown = ⊤
 
 -- and which record it was

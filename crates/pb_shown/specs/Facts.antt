@@ -4,7 +4,7 @@ use Rattle.pb_facts.specs.declared.fact.Fact.{Fact}
 use Rattle.pb_facts.specs.declared.fact.Fact.TheVariants.{Reading, Transfer, Dip}
 use Rattle.pb_facts.specs.declared.facts.KeptFact.{KeptFact}
 use Rattle.pb_facts.specs.Fact.{id_of, named_by}
-use Rattle.pb_shown.specs.Texts.{name_field}
+use Rattle.pb_shown.specs.Texts.{padded_name}
 use Rattle.pb_shown.specs.Wide.{value_of}
 use Rattle.pb_shown.specs.declared.facts.PlantbalFact.{PlantbalFact}
 
@@ -27,33 +27,33 @@ last_day (Transfer id stream first last grams variance) = last
 last_day (Dip id tank day mm density variance) = day
 
 -- its grams, or its level
-abbrev pub amount_of : Fact → ℤ
-amount_of (Reading id stream day grams variance) = grams
-amount_of (Transfer id stream first last grams variance) = grams
-amount_of (Dip id tank day mm density variance) = mm
+abbrev pub booked_amount : Fact → ℤ
+booked_amount (Reading id stream day grams variance) = grams
+booked_amount (Transfer id stream first last grams variance) = grams
+booked_amount (Dip id tank day mm density variance) = mm
 
 -- the density of a dip, and else 0
-abbrev pub density_of : Fact → ℤ
-density_of (Reading id stream day grams variance) = pos 0
-density_of (Transfer id stream first last grams variance) = pos 0
-density_of (Dip id tank day mm density variance) = density
+abbrev pub booked_density : Fact → ℤ
+booked_density (Reading id stream day grams variance) = pos 0
+booked_density (Transfer id stream first last grams variance) = pos 0
+booked_density (Dip id tank day mm density variance) = density
 
 -- its variance
-abbrev pub variance_of : Fact → ℤ
-variance_of (Reading id stream day grams variance) = variance
-variance_of (Transfer id stream first last grams variance) = variance
-variance_of (Dip id tank day mm density variance) = variance
+abbrev pub booked_variance : Fact → ℤ
+booked_variance (Reading id stream day grams variance) = variance
+booked_variance (Transfer id stream first last grams variance) = variance
+booked_variance (Dip id tank day mm density variance) = variance
 
 -- the struct says what the fact is
 pub record ShowsFact (fact : Fact) (shown : PlantbalFact) : Type 0 where
-  pub id : shown.id ≡ name_field (id_of fact)
-  pub stream : shown.stream ≡ name_field (named_by fact)
+  pub id : shown.id ≡ padded_name (id_of fact)
+  pub stream : shown.stream ≡ padded_name (named_by fact)
   pub kind : shown.kind ≡ fact_kind fact
   pub first : shown.first ≡ first_day fact
   pub last : shown.last ≡ last_day fact
-  pub amount : shown.amount ≡ amount_of fact
-  pub density : shown.density ≡ density_of fact
-  pub variance : value_of shown.variance ≡ variance_of fact
+  pub amount : shown.amount ≡ booked_amount fact
+  pub density : shown.density ≡ booked_density fact
+  pub variance : value_of shown.variance ≡ booked_variance fact
 
 -- and whether it was struck
 abbrev pub ShowsKept : KeptFact → PlantbalFact → Type 0

@@ -6,7 +6,7 @@ use Rattle.pb_site.specs.declared.declared.ArcKind.TheVariants.{Metered, Batch, 
 use Rattle.pb_site.specs.declared.declared.Declared.{Declared}
 use Rattle.pb_site.specs.declared.declared.Service.{Service}
 use Rattle.pb_site.specs.Site.{is_tank}
-use Rattle.pb_shown.specs.Texts.{name_field}
+use Rattle.pb_shown.specs.Texts.{padded_name}
 use Rattle.pb_shown.specs.Wide.{value_of}
 use Rattle.pb_shown.specs.declared.plant.PlantbalNode.{PlantbalNode}
 use Rattle.pb_shown.specs.declared.plant.PlantbalStream.{PlantbalStream}
@@ -20,7 +20,7 @@ kind_number Tank = 3
 
 -- the struct says what the node of this name is
 pub record ShowsNode (declared : List Declared) (name : List ℕ) (shown : PlantbalNode) : Type 0 where
-  pub name_shown : shown.name ≡ name_field name
+  pub name_shown : shown.name ≡ padded_name name
   pub tank : shown.tank ≡ is_tank declared name
 
 -- the days of service, if there are any
@@ -30,7 +30,7 @@ ShowsService None served since until = served ≡ false
 
 -- the struct says what the stream is
 pub record ShowsStream (arc : Arc) (shown : PlantbalStream) : Type 0 where
-  pub name : shown.name ≡ name_field arc.name
+  pub name : shown.name ≡ padded_name arc.name
   pub kind : shown.kind ≡ kind_number arc.kind
   pub leads_from : shown.from ≡ arc.from
   pub leads_to : shown.to ≡ arc.to

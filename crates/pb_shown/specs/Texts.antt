@@ -6,9 +6,9 @@ abbrev pub with_zeros : ℕ → List ℕ → List ℕ
 with_zeros room text = text ++ drop (length text) (replicate room 0)
 
 -- a name has at most 32 bytes, so a zero is at its end
-abbrev pub name_field : List ℕ → List ℕ
-name_field name = with_zeros 33 name
+abbrev pub padded_name : List ℕ → List ℕ
+padded_name name = with_zeros 33 name
 
 -- a reason has at most 80 bytes
-abbrev pub reason_field : List ℕ → List ℕ
-reason_field reason = with_zeros 81 reason
+abbrev pub padded_reason : List ℕ → List ℕ
+padded_reason reason = with_zeros 81 reason

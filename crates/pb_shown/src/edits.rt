@@ -5,7 +5,7 @@ ghost use Rattle.pb_book.specs.Rows.{periods_of};
 ghost use Rattle.pb_shown.specs.Edits.{ShowsChange, ShowsEdit, ShowsFactValues};
 
 use crate::numbers::{PlantbalWide, wide_of};
-use crate::texts::{name_field, no_name, no_reason, reason_field};
+use crate::texts::{no_name, no_reason, padded_name, padded_reason};
 use pb_book::Book;
 use pb_facts::{Change, Fact};
 use pb_kinds::{Edit, Effect, StoredRow};
@@ -56,18 +56,18 @@ fn shown_edit(edit: &StoredRow) -> PlantbalEdit
         variance: wide_of(0),
     };
     match &edit.effect {
-        Effect::Closes(name) => shown.id = name_field(name),
+        Effect::Closes(name) => shown.id = padded_name(name),
         Effect::Books { fact, .. } => {
             shown.kind = 1;
-            shown.id = name_field(&fact.id());
+            shown.id = padded_name(&fact.id());
             let (amount, density, variance) = values_of(fact);
             shown.amount = amount;
             shown.density = density;
             shown.variance = variance;
         }
         Effect::Edits { id, edit, reason } => {
-            shown.id = name_field(id);
-            shown.reason = reason_field(reason);
+            shown.id = padded_name(id);
+            shown.reason = padded_reason(reason);
             match edit {
                 Edit::Change(change) => {
                     shown.kind = 2;

@@ -6,7 +6,7 @@ ghost use Rattle.pb_site.specs.Site.{version_of};
 ghost use Rattle.pb_shown.specs.Facts.{ShowsFact, ShowsKept};
 
 use crate::numbers::{PlantbalWide, wide_of};
-use crate::texts::name_field;
+use crate::texts::padded_name;
 use pb_book::Book;
 use pb_facts::Fact;
 use pb_periods::touches_in;
@@ -62,8 +62,8 @@ fn shown_fact(fact: &Fact, struck: bool) -> PlantbalFact
             grams,
             variance,
         } => PlantbalFact {
-            id: name_field(id),
-            stream: name_field(stream),
+            id: padded_name(id),
+            stream: padded_name(stream),
             kind: 0,
             struck,
             first: *day,
@@ -80,8 +80,8 @@ fn shown_fact(fact: &Fact, struck: bool) -> PlantbalFact
             grams,
             variance,
         } => PlantbalFact {
-            id: name_field(id),
-            stream: name_field(stream),
+            id: padded_name(id),
+            stream: padded_name(stream),
             kind: 1,
             struck,
             first: *first,
@@ -98,8 +98,8 @@ fn shown_fact(fact: &Fact, struck: bool) -> PlantbalFact
             density,
             variance,
         } => PlantbalFact {
-            id: name_field(id),
-            stream: name_field(tank),
+            id: padded_name(id),
+            stream: padded_name(tank),
             kind: 2,
             struck,
             first: *day,

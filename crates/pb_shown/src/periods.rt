@@ -3,7 +3,7 @@ ghost use Rattle.std.specs.Prelude.{◌≡◌, ◌≤◌, length, slice_get, IsS
 ghost use Rattle.pb_book.specs.Rows.{periods_of};
 ghost use Rattle.pb_shown.specs.Periods.{ShowsPeriod};
 
-use crate::texts::name_field;
+use crate::texts::padded_name;
 use pb_book::Book;
 
 /// A period.
@@ -31,7 +31,7 @@ pub fn period_at(book: &Book, place: u32) -> Option<PlantbalPeriod>
     }
     let period = book.period(place);
     Some(PlantbalPeriod {
-        name: name_field(&period.name),
+        name: padded_name(&period.name),
         closed: period.closed,
         first: period.first,
         last: period.last,

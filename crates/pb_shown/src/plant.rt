@@ -5,7 +5,7 @@ ghost use Rattle.pb_site.specs.Site.{arcs_of, is_tank, node_names};
 ghost use Rattle.pb_shown.specs.Plant.{ShowsNode, ShowsService, ShowsStream, kind_number};
 
 use crate::numbers::{PlantbalWide, wide_of};
-use crate::texts::name_field;
+use crate::texts::padded_name;
 use pb_book::Book;
 use pb_site::{Arc, ArcKind, Service};
 
@@ -53,7 +53,7 @@ pub fn node_at(book: &Book, place: u32) -> Option<PlantbalNode>
     }
     let name = site.node_name(place);
     Some(PlantbalNode {
-        name: name_field(&name),
+        name: padded_name(&name),
         tank: site.is_tank(&name),
     })
 }
@@ -77,7 +77,7 @@ fn shown_stream(arc: &Arc) -> PlantbalStream
 {
     let (served, since, until) = days_of(&arc.service);
     PlantbalStream {
-        name: name_field(&arc.name),
+        name: padded_name(&arc.name),
         kind: kind_number(arc.kind),
         served,
         from: arc.from,

@@ -1,12 +1,12 @@
 // Names and reasons as C has them.
 ghost use Rattle.std.specs.Prelude.{◌≡◌, []};
-ghost use Rattle.pb_shown.specs.Texts.{name_field, reason_field};
+ghost use Rattle.pb_shown.specs.Texts.{padded_name, padded_reason};
 
 use pb_rows::{Name, Reason};
 
 /// A name with zeros after it.
-pub(crate) fn name_field(name: &Name) -> [u8; 33]
-    ensures { result ≡ name_field name.now }
+pub(crate) fn padded_name(name: &Name) -> [u8; 33]
+    ensures { result ≡ padded_name name.now }
 {
     let text = name.bytes();
     let mut bytes = [0u8; 33];
@@ -16,14 +16,14 @@ pub(crate) fn name_field(name: &Name) -> [u8; 33]
 
 /// The name of nothing.
 pub(crate) fn no_name() -> [u8; 33]
-    ensures { result ≡ name_field [] }
+    ensures { result ≡ padded_name [] }
 {
     [0u8; 33]
 }
 
 /// A reason with zeros after it.
-pub(crate) fn reason_field(reason: &Reason) -> [u8; 81]
-    ensures { result ≡ reason_field reason.now }
+pub(crate) fn padded_reason(reason: &Reason) -> [u8; 81]
+    ensures { result ≡ padded_reason reason.now }
 {
     let text = reason.bytes();
     let mut bytes = [0u8; 81];
@@ -33,7 +33,7 @@ pub(crate) fn reason_field(reason: &Reason) -> [u8; 81]
 
 /// The reason for what has none.
 pub(crate) fn no_reason() -> [u8; 81]
-    ensures { result ≡ reason_field [] }
+    ensures { result ≡ padded_reason [] }
 {
     [0u8; 81]
 }
