@@ -99,9 +99,6 @@ pub extern "C" fn plantbal_session_stream(
         (λ arc. ShowsStream arc stream.new) }
     ensures not_there { result ≡ not_there
         → length (arcs_of (declared_of session.old.value.state.rows)) ≤ place }
-    ensures there { session.old.live ≡ true
-        → place < length (arcs_of (declared_of session.old.value.state.rows))
-        → result ≡ done }
     ensures unwritten { result ≢ done → stream.new ≡ stream.old }
 {
     match replace(session, SessionHandle::none(alloc)).into_box() {
@@ -335,10 +332,6 @@ pub extern "C" fn plantbal_session_stream_named(
     ensures not_there { result ≡ not_there → is_name name.now ≡ true
         → position (same_name name.now)
         (arc_names (declared_of session.old.value.state.rows)) ≡ None }
-    ensures there { session.old.live ≡ true
-        → is_name name.now ≡ true
-        → position (same_name name.now)
-        (arc_names (declared_of session.old.value.state.rows)) ≢ None → result ≡ done }
     ensures unwritten { result ≢ done → place.new ≡ place.old }
 {
     match replace(session, SessionHandle::none(alloc)).into_box() {
