@@ -413,7 +413,23 @@ def test_not_amended(book: Type, tmp_path: Path, words: list[str], said: str) ->
     assert files_of(tmp_path / "mill") == before
 
 
-@pytest.mark.parametrize("why", ["Zähler", "x" * 81])
+@pytest.mark.parametrize(
+    ("why", "row"),
+    [
+        ("Schätzung: Zähler außer Betrieb", "Schaetzung: Zaehler ausser Betrieb"),
+        ("erreur à la saisie, corrigée", '"erreur a la saisie, corrigee"'),
+        ("ошибка", "oshibka"),
+    ],
+)
+def test_a_reason_in_any_language(book: Type, tmp_path: Path, why: str, row: str) -> None:
+    """The journal keeps it as it was typed, and the row has it in plain letters."""
+    assert book("amend", "F-1", "2024-04-02", "1210 t", "--why", why).status == 0
+    assert rows_of(tmp_path)[-1].startswith("amend,F-1_2024-04-02,1210000000,")
+    assert rows_of(tmp_path)[-1].endswith(f",{row}")
+    assert journal_of(tmp_path / "mill")[-1][4] == why
+
+
+@pytest.mark.parametrize("why", ["Zähler\n", "x" * 81])
 def test_a_reason_that_a_session_cannot_hold(book: Type, tmp_path: Path, why: str) -> None:
     before = files_of(tmp_path / "mill")
     sheets = month()

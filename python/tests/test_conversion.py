@@ -498,10 +498,10 @@ def test_many_alike_are_counted(tmp_path: Path) -> None:
     start = datetime.date(2024, 4, 1)
     rows = [[str(start + datetime.timedelta(at)), f"{at}x1", "1"] for at in range(30)]
     found = convert(folder_of(tmp_path, sheet_with([PLAIN[0], *rows])))
-    assert len(found.faults) == 30 and len(found.said()) == 13
-    assert found.said()[-1].endswith(
-        "readings.csv: line 31, column 2 (F-1): the last of 18 more like these"
-    )
+    assert len(found.faults) == 30
+    (said,) = found.said()
+    assert "readings.csv: line 2, column 2 (F-1): '0x1'" in said and "(30 like this; the next: " in said
+    assert said.endswith("line 4, column 2 (F-1))")
 
 
 # ---- months and days that lack

@@ -164,6 +164,7 @@ PACKAGES = {
     "openpyxl": "python3-openpyxl",
     "pandas": "python3-pandas",
     "scipy": "python3-scipy",
+    "unidecode": "python3-unidecode",
     "tqdm": "python3-tqdm",
 }
 

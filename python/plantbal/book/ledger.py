@@ -10,6 +10,7 @@ from decimal import Decimal
 from math import isqrt
 
 from plantbal.amounts import tonnes_of
+from plantbal.book.reasons import in_ascii
 from plantbal.faults import Fault, InputFault, Place, Refusal
 from plantbal.memory import uncollected
 from plantbal.model import facts
@@ -221,13 +222,15 @@ class Ledger:
     # ---- rows
 
     def put(self, *fields: str) -> None:
-        """Add a row.
+        """Add a row; a reason in another alphabet, or with accents, in plain letters.
 
         Raises
         ------
         Refusal
             If the program would refuse it.
         """
+        if fields[0] in ("amend", "strike"):
+            fields = (*fields[:-1], in_ascii(fields[-1]))
         number = self.count + 1  # a row is a line
         effect = self.session.take_row(fields, at=facts.At(number, number))
         assert effect is not None, "the session is strict"

@@ -63,7 +63,7 @@ examples:
   plantbal-desk convert april.xlsx --out april.csv
   plantbal-desk convert --locale de_DE april_folder --out april.csv
 """
-_SAID = 12  # faults of one sort in a sheet; the others are counted
+_SAID = 3  # faults of one sort in a sheet whose places are said; the others are counted
 
 
 @dataclass
@@ -93,7 +93,10 @@ class Conversion:
         return not self.faults
 
     def said(self) -> list[str]:
-        """Return the faults as sentences; of many alike in a sheet the first, and their number."""
+        """Return the faults as sentences; more than three of one sort in a sheet are one sentence.
+
+        It is that of the first, with their number and the first three places.
+        """
         groups: dict[tuple[str, str, str], list[Fault]] = {}
         for fault in self.faults:
             sort = re.sub(r"'[^']*'|[0-9][\w.,:/-]*", "", fault.what)
@@ -101,10 +104,12 @@ class Conversion:
             groups.setdefault(key, []).append(fault)
         lines = []
         for faults in groups.values():
-            lines += [str(fault) for fault in faults[:_SAID]]
-            if len(faults) > _SAID:
-                last = str(faults[-1].place).rstrip(":")
-                lines.append(f"{last}: the last of {len(faults) - _SAID:,} more like these")
+            first, *more = dict.fromkeys(map(str, faults))
+            if len(faults) <= _SAID:
+                lines += [first, *more]
+                continue
+            places = [str(fault.place).rstrip(":") for fault in faults[1:_SAID]]
+            lines.append(f"{first} ({len(faults):,} like this; the next: {', '.join(places)})")
         return lines
 
 
