@@ -106,6 +106,8 @@ _plantbal_desk() {
         balance:--component) :; return ;;
         balance:--closed) :; return ;;
         balance:--feed) :; return ;;
+        balance:--pulps) _plantbal_files -f; return ;;
+        balance:--locale) :; return ;;
         balance:--chart) _plantbal_files -f; return ;;
         balance:--form) _plantbal_words 'text csv json'; return ;;
         balance:--given) _plantbal_files -f; return ;;
@@ -264,7 +266,7 @@ _plantbal_desk() {
             _plantbal_files -f
             return
         fi
-        _plantbal_words '-h --help --component --closed --feed --chart --form --given --out --program' ;;
+        _plantbal_words '-h --help --component --closed --feed --pulps --locale --chart --form --given --out --program' ;;
     recovery)
         if [[ $here != -* ]]; then
             _plantbal_files -f

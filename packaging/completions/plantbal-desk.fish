@@ -168,6 +168,8 @@ complete -c plantbal-desk -n '__fish_seen_subcommand_from balance' -s h -l help 
 complete -c plantbal-desk -n '__fish_seen_subcommand_from balance' -l component -x -d 'a component to balance'
 complete -c plantbal-desk -n '__fish_seen_subcommand_from balance' -l closed -x -d 'a stream whose components sum to 100 %'
 complete -c plantbal-desk -n '__fish_seen_subcommand_from balance' -l feed -x -d 'recoveries are parts of what this stream carries'
+complete -c plantbal-desk -n '__fish_seen_subcommand_from balance' -l pulps -r -F -d 'balance water too: a workbook with a sheet pulps, or that sheet'
+complete -c plantbal-desk -n '__fish_seen_subcommand_from balance' -l locale -x -d 'whose numbers the sheet has, such as de or en_GB'
 complete -c plantbal-desk -n '__fish_seen_subcommand_from balance' -l chart -r -F -d 'a .svg, .png or .pdf file'
 complete -c plantbal-desk -n '__fish_seen_subcommand_from balance' -l form -x -a 'text csv json' -d 'how it is written'
 complete -c plantbal-desk -n '__fish_seen_subcommand_from balance' -l given -r -F -d 'keep the session that is certified'

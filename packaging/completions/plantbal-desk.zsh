@@ -227,6 +227,8 @@ _plantbal_desk() {
             '--component=[a component to balance]:NAME:'
             '--closed=[a stream whose components sum to 100 %]:STREAM:'
             '--feed=[recoveries are parts of what this stream carries]:STREAM:'
+            '--pulps=[balance water too\: a workbook with a sheet pulps, or that sheet]:WORKBOOK:_files'
+            '--locale=[whose numbers the sheet has, such as de or en_GB]:NAME:'
             '--chart=[a .svg, .png or .pdf file]:FILE:_files'
             '--form=[how it is written]:FORM:(text csv json)'
             '--given=[keep the session that is certified]:FILE:_files'

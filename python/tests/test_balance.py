@@ -3,10 +3,14 @@
 from __future__ import annotations
 
 import math
+from pathlib import Path
 
 import plants
 import pytest
 from plantbal.balance import Class, Flow, Known, Measured, Problem, solids_of, solve, water_of
+from plantbal.balance.certify import pulls_of, session_of
+from plantbal.balance.pulps import with_water
+from plantbal.balance.table import lines_of
 from plantbal.faults import Fault
 
 
@@ -105,6 +109,60 @@ def test_a_cyclone_of_a_book() -> None:
     for part in solids.values():
         density = 1 / (part / 2.65 + 1 - part)
         assert solids_of(exact(density), 2.65).value == pytest.approx(part, rel=1e-12)
+
+
+PULPS = """stream,measure,value,unit,error,solids density,from,to
+FEED,solids,20,%,1 %,,,
+UNDER,density,1452,,10 kg/m3,2.65 t/m3,,
+FLOC,water,2.5,m3,1 %,,,THICKENER
+OVER,water,,,,,THICKENER,
+"""
+
+
+def watered(tmp_path: Path, text: str = PULPS) -> Problem:
+    """Return a thickener of 100 t of solids with the water of a sheet."""
+    flows = (Flow("FEED", "env", "THICKENER", exact(100.0)), Flow("UNDER", "THICKENER", "env"))
+    (tmp_path / "pulps.csv").write_text(text)
+    return with_water(Problem(flows), str(tmp_path), "may")
+
+
+def test_water_of_a_thickener_by_hand(tmp_path: Path) -> None:
+    # 80 t of water with 20 t of solids: 400 t with 100. A pulp of 1.452 t/m3 is 2.65 * 0.452 /
+    # (1.452 * 1.65) = 0.499958 solids, so 100.017 t go on; 2.5 t come with the flocculant
+    known = Known(solve(watered(tmp_path)))
+    lines = {(line.stream, line.component): line for line in lines_of(known)}
+    solids = 2.65 * 0.452 / (1.452 * 1.65)
+    left = 100 * (1 - solids) / solids
+    over = lines["OVER", "water"]
+    assert over.value == pytest.approx(400 + 2.5 - left, rel=1e-9)
+    assert lines["UNDER", "solids"].value == pytest.approx(solids, rel=1e-9)
+    assert lines["FEED", "water"].value == pytest.approx(400, rel=1e-9)
+    # 1 % of 20 % is 0.002, times 100 / 0.2^2; 0.01 t/m3 times 2.65 / (1.452^2 * 1.65) is 0.007618
+    errors = (0.002 * 100 / 0.2**2, 0.0076176 * 100 / solids**2, 0.025)
+    assert over.sd == pytest.approx(math.hypot(*errors), rel=1e-4)
+    assert [node for _, node in over.evidence] == ["THICKENER", "THICKENER"]
+    # the program is given solids alone
+    assert "OVER" not in session_of(known.system.problem, pulls_of(known.solution, known), "may")
+
+
+def test_a_sheet_of_pulps_that_can_not_be(tmp_path: Path) -> None:
+    for old, new, said in (
+        ("FEED,solids,20", "FEED,solids,1200", "line 2, column 3 (value): 1200 % can't be the"),
+        ("FEED,solids", "FEAD,solids", "line 2, column 1 (stream): there is no stream FEAD"),
+        ("20,%", "20,", "line 2, column 3 (value): the grade 20 has no unit"),
+        ("1452", "1.45", "line 3, column 3 (density): 1.45 kg/m3 is no density"),
+        ("1452", "452", "line 3, column 3 (value): a pulp of 0.452 t/m3 isn't between water and solids"),
+        ("2.65 t/m3", "", "line 3, column 6 (solids density): there is no density"),
+        ("1 %,,,THICKENER", "0 %,,,THICKENER", "line 4, column 5 (error): '0 %' is no error"),
+        ("FLOC,water", "UNDER,water", "line 4, column 1 (stream): the water of UNDER stands above"),
+        (",,,,,THICKENER,\n", ",,,,,MILL,\n", "line 5, column 7 (from): there is no unit MILL"),
+        ("OVER,water", "OVER,wet", "line 5, column 2 (measure): 'wet' is no measure"),
+        ("measure", "kind", "no row has the heads stream, measure, value, error"),
+    ):
+        assert old in PULPS, old
+        with pytest.raises(Fault) as raised:
+            watered(tmp_path, PULPS.replace(old, new))
+        assert said in str(raised.value), (said, str(raised.value))
 
 
 def test_assays_make_flows_observable() -> None:

@@ -61,13 +61,13 @@ def pulls_of(found: Solution, known: Known) -> list[Pull]:
     """
     problem = found.system.problem
     # without bounds: what a bound holds isn't determined by meters
-    free = [replace(flow, either_way=True) for flow in problem.flows]
+    free = [replace(flow, either_way=True) for flow in problem.flows if not flow.only]
     alone = Known(solve(Problem(free)))
     force = _forces(found)
     rows = []
     for flow in problem.flows:
         column = found.system.columns[flow.name, ""]
-        if not known.is_determined[column]:
+        if flow.only or not known.is_determined[column]:
             continue
         after = known.flow_deviation(flow.name) ** 2
         sure = alone.is_determined[alone.system.columns[flow.name, ""]]
@@ -106,9 +106,11 @@ def session_of(problem: Problem, pulls: list[Pull], period: str) -> str:
     above what a row may have is shared by several.
     """
     by_name = {pull.stream: pull for pull in pulls}
-    rows = [f"unit,{node}" for node in problem.nodes]
+    masses = [flow for flow in problem.flows if not flow.only]
+    joined = {end for flow in masses for end in (flow.start, flow.end)}
+    rows = [f"unit,{node}" for node in problem.nodes if node in joined]
     facts: list[tuple[str, str, float, float]] = []
-    for flow in problem.flows:
+    for flow in masses:
         pull, meter = by_name.get(flow.name), flow.measured
         kind = "batch,1" if pull or meter else "plain,0"
         rows.append(

@@ -6,13 +6,15 @@ import argparse
 import json
 import sys
 from collections.abc import Iterable, Sequence
+from dataclasses import replace
 from pathlib import Path
 
 from plantbal.balance.certify import pulls_of, session_of
 from plantbal.balance.known import Class, Known
+from plantbal.balance.pulps import with_water
 from plantbal.balance.reading import GRAMS, Asked, asked_of
 from plantbal.balance.solve import solve
-from plantbal.balance.table import Line, lines_of, recoveries_of, said_of
+from plantbal.balance.table import SOLIDS, Line, Unit, lines_of, recoveries_of, said_of
 from plantbal.commands.options import add_program
 from plantbal.faults import Fault, read_bytes
 from plantbal.files import replacing, write_text
@@ -41,6 +43,12 @@ program was given and what it wrote.
   text   a table to be read
   csv    tonnes and fractions with all digits
   json   the same as a list of objects; a missing figure is null
+
+--pulps balances water beside the solids. The sheet pulps has a row for each stream whose water was
+measured: stream, measure, value, error; and unit, solids density, from, to, period where they are
+needed. The measure is solids (the part of the pulp, such as 34 %), density (of the pulp, such as
+1.62 t/m3, with the solids density beside it), or water: a stream of water alone, in t or m3, with
+its ends. Without a value such a stream is found by the balances.
 
 --chart draws the grades, each as it was assayed and as it is reconciled, with two standard
 deviations to each side.
@@ -74,6 +82,10 @@ def add_arguments(parser: argparse.ArgumentParser) -> None:
         default=[],
         help="recoveries are parts of what this stream carries",
     )
+    pulps = "balance water too: a workbook with a sheet pulps, or that sheet"
+    parser.add_argument("--pulps", metavar="WORKBOOK", help=pulps)
+    form = "whose numbers the sheet has, such as de or en_GB"
+    parser.add_argument("--locale", metavar="NAME", default="", help=form)
     parser.add_argument("--chart", metavar="FILE", help="a .svg, .png or .pdf file")
     parser.add_argument(
         "--form", choices=["text", "csv", "json"], default="text", help="how it is written"
@@ -94,7 +106,11 @@ def run(options: argparse.Namespace) -> int:
         options.closed,
         source=source,
         program=options.program,
+        mass_alone=bool(options.pulps),
     )
+    if options.pulps:
+        watered = with_water(asked.problem, options.pulps, options.period, options.locale)
+        asked = replace(asked, problem=watered)
     names = [flow.name for flow in asked.problem.flows]
     for name in [*options.feed, *options.closed]:
         if name not in names:
@@ -139,8 +155,11 @@ def notes_of(asked: Asked, known: Known, lines: Iterable[Line]) -> Iterable[str]
         yield f"left out: {said}"
     for bound in known.held:
         yield f"{bound.said}: the measurements pull it there"
+    alone = known.system.problem.alone
     loose = [
-        line.stream for line in lines if not line.component and line.kind is Class.UNOBSERVABLE
+        line.stream
+        for line in lines
+        if line.kind is Class.UNOBSERVABLE and (not line.component or line.stream in alone)
     ]
     if loose:
         yield f"nothing determines the flow of {', '.join(loose)}: add a meter or an assay there"
@@ -166,19 +185,22 @@ def not_certified(lines: Iterable[Line], output: Output, program: str | None) ->
 
 def _text(known: Known, lines: list[Line], feeds: Sequence[str]) -> Iterable[str]:
     """Yield the table to be read."""
+    alone, beside = known.system.problem.alone, {SOLIDS, *known.system.problem.ratios}
     wide = max(len(line.stream) for line in lines)
     yield f"{'':{wide}}  {'':8}{'measured':>16}{'reconciled':>16}{'±':>12}{'in sd':>8}  class"
     for line in lines:
-        factor = 100.0 if line.component else 1.0
-        digits = 4 if line.component else 3
-        name = line.component or line.stream
+        if line.kind is Class.UNOBSERVABLE and line.component in beside and line.stream not in alone:
+            continue  # few streams have their water measured
+        is_part, is_own = line.unit is Unit.PART, not line.component or line.stream in alone
+        factor, digits = (100.0, 4) if is_part else (1.0, 3)
+        name = line.stream if is_own else line.component
         shown = [
             "" if value != value else f"{value * factor:,.{digits}f}"
             for value in (line.measured, line.value, line.sd)
         ]
-        pull = "" if line.adjustment != line.adjustment else f"{line.adjustment:+.2f}"
-        left = f"{'  ' * bool(line.component)}{name}"
-        unit = "%" if line.component else "t"
+        pull = "" if line.adjustment != line.adjustment else f"{round(line.adjustment, 2) + 0.0:+.2f}"
+        left = f"{'  ' * (not is_own)}{name}"
+        unit = "%" if is_part else f"t {line.component}" if line.stream in alone else "t"
         why = f": {said_of(line.evidence)}" if line.evidence else ""
         yield (
             f"{left:{wide}}  {unit:8}{shown[0]:>16}{shown[1]:>16}{shown[2]:>12}{pull:>8}"
@@ -191,7 +213,7 @@ def _text(known: Known, lines: list[Line], feeds: Sequence[str]) -> Iterable[str
 
 def _csv(known: Known, lines: list[Line], feeds: Sequence[str]) -> Iterable[str]:
     """Yield the table in CSV."""
-    heads = "stream component kind measured measured_sd value sd adjustment".split()
+    heads = "stream component unit kind measured measured_sd value sd adjustment".split()
     yield ",".join([*heads, "evidence"])
     for line in lines:
         cells = ["" if v is None else f"{v}" for v in map(line.as_dict().get, heads)]

@@ -141,8 +141,9 @@ def of_known(known: Known, said: Sequence[str] = ()) -> Grades:
     problem = known.system.problem
     bounds = [f"{bound.said}: the measurements pull it there" for bound in known.held]
     grades = {
-        component: [_grade(known, flow, component) for flow in problem.flows]
+        component: [_grade(known, flow, component) for flow in problem.flows if not flow.only]
         for component in problem.components
+        if component not in problem.ratios
     }
     return Grades(grades, list(recoveries_of(known)), [*said, *bounds])
 

@@ -186,11 +186,11 @@ class Known:
 
         column = self.system.columns[stream, component]
         if not self.system.is_measured[column]:
-            if component and self.solution.is_empty(stream):
-                return Class.UNOBSERVABLE  # a stream without a flow has no grade
-            carried = self.is_determined[column] and (
-                not component or self.is_determined[self.system.columns[stream, ""]]
-            )
+            flow = self.system.columns[stream, ""]
+            if component and stream not in self.system.problem.alone:
+                if self.solution.is_empty(stream) or not self.is_determined[flow]:
+                    return Class.UNOBSERVABLE  # a stream without a flow has no grade
+            carried = self.is_determined[column]
             return Class.OBSERVABLE if carried else Class.UNOBSERVABLE
         place = int(numpy.searchsorted(self._parts[0], column))
         size, scale = (float(sizes[place]) for sizes in self._sizes)

@@ -11,7 +11,7 @@ from collections.abc import Mapping, Sequence
 from dataclasses import dataclass, field
 from functools import cached_property
 
-from plantbal.faults import Fault
+from plantbal.faults import Fault, InputFault, Place
 
 ENV = "env"
 
@@ -25,10 +25,13 @@ class Measured:
     value, variance : float
         The figure, and the variance of its error: tonnes and squared tonnes of a flow, fractions
         and squared fractions of a grade.
+    place : Place
+        Where it stands, to be said if it can't be.
     """
 
     value: float
     variance: float
+    place: Place = field(default=Place(), compare=False)
 
 
 @dataclass(frozen=True, slots=True)
@@ -43,6 +46,10 @@ class Flow:
         Its amount in tonnes.
     either_way : bool
         Whether it may flow against its arrow, as the gain of a tank may.
+    only : str
+        The component that is all that flows, such as the water of a process, if it isn't counted in
+        the mass of the others: the stream has no part in the balance of mass, and ``measured`` is
+        of the component.
     """
 
     name: str
@@ -50,6 +57,7 @@ class Flow:
     end: str
     measured: Measured | None = None
     either_way: bool = False
+    only: str = ""
 
 
 @dataclass(frozen=True)
@@ -96,8 +104,9 @@ class Problem:
                     remedy="a stream joins two different nodes: correct its ends",
                 )
             if flow.measured and not flow.measured.variance > 0:
-                raise Fault(
+                raise InputFault(
                     f"the flow of {flow.name} has no error",
+                    place=flow.measured.place,
                     remedy="give the standard deviation of its measurement",
                 )
         _check_grades(self, names)
@@ -113,8 +122,14 @@ class Problem:
         """The place of each stream."""
         return {flow.name: place for place, flow in enumerate(self.flows)}
 
-    def incidence(self) -> list[tuple[int, int, float]]:
-        """Return the entries of the balances: node, stream, and 1 if it flows in, -1 if out.
+    @cached_property
+    def alone(self) -> frozenset[str]:
+        """The streams that have no mass of their own, only a component beside it."""
+        return frozenset(flow.name for flow in self.flows if flow.only)
+
+    def incidence(self, component: str = "") -> list[tuple[int, int, float]]:
+        """Return the entries of a balance, of mass without a component: node, stream, and 1 if it
+        flows in, -1 if out.
 
         Each part of the plant that isn't joined to ``env`` leaves out its first node, since its
         balance follows from those of the others.
@@ -123,6 +138,7 @@ class Problem:
         return [
             (rows[node], column, sign)
             for column, flow in enumerate(self.flows)
+            if flow.only in ("", component)
             for node, sign in ((flow.start, -1.0), (flow.end, 1.0))
             if node in rows
         ]
@@ -158,11 +174,12 @@ def water_of(solids: Measured) -> Measured:
     """
     part = solids.value
     if not 0 < part <= 1:
-        raise Fault(
+        raise InputFault(
             f"{part * 100:g} % can't be the solids of a pulp",
+            place=solids.place,
             remedy="the part of a pulp that is solids is above 0 and at most 100 %: look at its unit",
         )
-    return Measured((1 - part) / part, solids.variance / part**4)
+    return Measured((1 - part) / part, solids.variance / part**4, solids.place)
 
 
 def solids_of(density: Measured, of_solids: float, of_water: float = 1.0) -> Measured:
@@ -174,41 +191,49 @@ def solids_of(density: Measured, of_solids: float, of_water: float = 1.0) -> Mea
         If the density isn't between that of water and that of the solids.
     """
     if not of_water < density.value <= of_solids:
-        raise Fault(
+        raise InputFault(
             f"a pulp of {density.value:g} t/m3 isn't between water and solids of {of_solids:g} t/m3",
+            place=density.place,
             remedy="look at its unit: t/m3, the same for all three",
         )
     part = of_solids * (density.value - of_water) / (density.value * (of_solids - of_water))
     slope = of_solids * of_water / (density.value**2 * (of_solids - of_water))
-    return Measured(part, density.variance * slope**2)
+    return Measured(part, density.variance * slope**2, density.place)
 
 
 def _check_grades(problem: Problem, names: set[str]) -> None:
     """Refuse grades that can't be."""
     for (stream, component), grade in problem.grades.items():
         if stream not in names:
-            raise Fault(f"an assay names {stream}, which isn't a stream", remedy="correct its name")
+            what = f"an assay names {stream}, which isn't a stream"
+            raise InputFault(what, place=grade.place, remedy="correct its name")
         if component not in problem.components:
-            raise Fault(
+            raise InputFault(
                 f"an assay of {stream} names {component}, which isn't balanced",
+                place=grade.place,
                 remedy="name the component among those to be balanced, or leave the assay out",
             )
         if grade.value < 0 or (grade.value > 1 and component not in problem.ratios):
-            raise Fault(
+            raise InputFault(
                 f"{component} in {stream} is {grade.value * 100:g} %",
+                place=grade.place,
                 remedy="a grade is between 0 and 100 %: look at its unit",
             )
         if not grade.variance > 0:
-            raise Fault(
+            raise InputFault(
                 f"the assay of {component} in {stream} has no error",
+                place=grade.place,
                 remedy="give its standard deviation",
             )
     for component in problem.components:
         streams = [stream for stream, other in problem.grades if other == component]
+        streams += [flow.name for flow in problem.flows if flow.only == component and flow.measured]
         if len(streams) < 2:
             where = f"in {streams[0]} alone" if streams else "nowhere"
-            raise Fault(
+            known = (each for key, each in problem.grades.items() if key[1] == component)
+            raise InputFault(
                 f"{component} was assayed {where}",
+                place=next((each.place for each in known), None),
                 remedy="a balance needs the grades of two streams at least: add assays",
             )
     for flow in problem.flows:
@@ -220,8 +245,9 @@ def _check_grades(problem: Problem, names: set[str]) -> None:
         total = sum(grade.value for grade in own)
         slack = 3 * sum(grade.variance for grade in own) ** 0.5
         if total > 1 + slack:
-            raise Fault(
+            raise InputFault(
                 f"the assays of {flow.name} sum to {total * 100:.2f} %",
+                place=own[-1].place,
                 remedy="the components are parts of the stream: look at their units",
             )
 
@@ -234,7 +260,9 @@ def scale_of(problem: Problem) -> float:
     Fault
         If no flow was measured.
     """
-    sizes = [abs(flow.measured.value) for flow in problem.flows if flow.measured]
+    sizes = [
+        abs(flow.measured.value) for flow in problem.flows if flow.measured and not flow.only
+    ]
     if not sizes or not max(sizes) > 0:
         raise Fault(
             "no flow was measured",

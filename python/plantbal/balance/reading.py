@@ -3,7 +3,7 @@
 from __future__ import annotations
 
 from collections.abc import Collection, Iterator
-from dataclasses import dataclass
+from dataclasses import dataclass, replace
 
 from plantbal.balance.problem import Flow, Measured, Problem
 from plantbal.faults import InputFault, Place
@@ -72,13 +72,15 @@ def asked_of(
     names = {flow.name for flow in flows}
     grades: dict[tuple[str, str], Measured] = {}
     left_out = []
-    for component, stream, ppm, variance in _assays(data, period):
+    for component, stream, ppm, variance, line in _assays(data, period):
         if components and component not in components:
             continue
         if stream not in names:
-            left_out.append(f"{component} in {stream}: it isn't in service in {period}")
+            said = f"{component} in {stream} (line {line}): it isn't in service in {period}"
+            left_out.append(said)
             continue
-        grades[stream, component] = grade_of(ppm, variance)
+        place = Place(file=source, line=line)
+        grades[stream, component] = replace(grade_of(ppm, variance), place=place)
     named = list(dict.fromkeys(component for _, component in grades))
     for component in components:
         if component not in named:
@@ -145,10 +147,10 @@ def _mass_of(data: bytes, period: str, source: str, program: str | None) -> Bloc
 _ASKS = tuple((word,) for word in ("design", "advise", "report", "history", "window", "component"))
 
 
-def _assays(data: bytes, period: str) -> Iterator[tuple[str, str, int, int]]:
-    """Yield component, stream, grade and its variance, of the assays of a period."""
+def _assays(data: bytes, period: str) -> Iterator[tuple[str, str, int, int, int]]:
+    """Yield component, stream, grade, its variance and its line, of the assays of a period."""
     for record in read_records(data):
         fields = without_empty_end(record.fields)
         if len(fields) == 6 and fields[0] == "assay" and fields[3] == period:
             if fields[4].isdecimal() and fields[5].isdecimal():
-                yield fields[1], fields[2], int(fields[4]), int(fields[5])
+                yield fields[1], fields[2], int(fields[4]), int(fields[5]), record.line

@@ -198,9 +198,9 @@ def bounds_of(system: System) -> list[Bound]:
     for flow in problem.flows:
         if flow.either_way:
             continue
-        column = system.columns[flow.name, ""]
+        column = system.columns[flow.name, flow.only]
         found.append(Bound(((column, 1.0),), 0.0, f"{flow.name} can't flow backwards"))
-        for component in problem.components:
+        for component in () if flow.only else problem.components:
             own = system.columns[flow.name, component]
             assayed = (flow.name, component) in problem.grades
             rest = ((own, -1.0),) if assayed else ((own, -1.0), (column, 1.0))

@@ -56,7 +56,7 @@ class System:
         found = numpy.full(self.size, numpy.nan)
         for flow in self.problem.flows:
             if flow.measured:
-                found[self.columns[flow.name, ""]] = flow.measured.value / self.scale
+                found[self.columns[flow.name, flow.only]] = flow.measured.value / self.scale
         for key, grade in self.problem.grades.items():
             found[self.columns[key]] = grade.value
         return found
@@ -69,7 +69,7 @@ class System:
         found = numpy.full(self.size, numpy.inf)
         for flow in self.problem.flows:
             if flow.measured:
-                found[self.columns[flow.name, ""]] = flow.measured.variance / self.scale**2
+                found[self.columns[flow.name, flow.only]] = flow.measured.variance / self.scale**2
         for key, grade in self.problem.grades.items():
             found[self.columns[key]] = grade.variance
         return found
@@ -106,7 +106,7 @@ class System:
                 linear.append((row, column, sign))
 
         for number, component in enumerate(problem.components, 1):
-            for row, column, sign in problem.incidence():
+            for row, column, sign in problem.incidence(component):
                 carries(number * nodes + row, problem.flows[column].name, component, sign)
         first = (1 + len(problem.components)) * nodes
         for row, stream in enumerate(sorted(problem.closed), first):

@@ -4,11 +4,21 @@ from __future__ import annotations
 
 from collections.abc import Iterator, Sequence
 from dataclasses import asdict, dataclass
+from enum import Enum
 
 from plantbal.balance.known import Class, Known
 from plantbal.balance.problem import ENV
 
 _NAN = float("nan")
+# What is said of a stream beside which a ratio flows: which part of both is the stream.
+SOLIDS = "solids"
+
+
+class Unit(Enum):
+    """What a figure is in."""
+
+    TONNES = "t"
+    PART = "part"
 
 
 @dataclass(frozen=True)
@@ -19,6 +29,8 @@ class Line:
     ----------
     stream, component : str
         Of what; the component is empty if it is the flow.
+    unit : Unit
+        In what: a flow in tonnes, and so is what comes beside the mass, such as water.
     kind : Class
         What it rests on.
     measured, measured_sd : float
@@ -33,6 +45,7 @@ class Line:
 
     stream: str
     component: str
+    unit: Unit
     kind: Class
     measured: float
     measured_sd: float
@@ -44,38 +57,85 @@ class Line:
     def as_dict(self) -> dict[str, object]:
         """Return it as plain values; None for what isn't there."""
         found = {key: None if value != value else value for key, value in asdict(self).items()}
-        return found | {"kind": self.kind.value}
+        return found | {"kind": self.kind.value, "unit": self.unit.value}
 
 
 def lines_of(known: Known) -> Iterator[Line]:
-    """Yield the flows in the order of the streams, each followed by its grades."""
+    """Yield the flows in the order of the streams, each followed by its grades.
+
+    A component beside the mass, such as water, has two lines: the part that is solids, and tonnes.
+    """
+    figures = list(_figures(known))
+    sure = [each for each in figures if each.kind is not Class.UNOBSERVABLE]
+    deviations = dict(zip(map(id, sure), known.deviations([each.gradient for each in sure])))
+    for each in figures:
+        yield _line(known, each, deviations.get(id(each), _NAN))
+
+
+@dataclass(frozen=True)
+class _Figure:
+    """A figure of a stream, by its derivatives; ``shown`` is the component that is written."""
+
+    stream: str
+    component: str
+    shown: str
+    unit: Unit
+    kind: Class
+    gradient: dict[int, float]
+
+
+def _figures(known: Known) -> Iterator[_Figure]:
+    """Yield the figures of a table."""
     problem = known.system.problem
-    places = [
-        (flow.name, component) for flow in problem.flows for component in ("", *problem.components)
-    ]
-    kinds = {place: known.class_of(*place) for place in places}
-    sure = [place for place in places if kinds[place] is not Class.UNOBSERVABLE]
-    deviations = dict(zip(sure, known.deviations([known.gradient(*place) for place in sure])))
-    for stream, component in places:
-        sd = deviations.get((stream, component), _NAN)
-        yield _line(known, stream, component, kinds[stream, component], sd)
+    for flow in problem.flows:
+        name = flow.name
+        if flow.only:
+            gradient = known.carried_gradient(name, flow.only)
+            kind = known.class_of(name, flow.only)
+            yield _Figure(name, flow.only, flow.only, Unit.TONNES, kind, gradient)
+            continue
+        yield _Figure(name, "", "", Unit.TONNES, known.class_of(name), known.gradient(name))
+        for component in problem.components:
+            kind, gradient = known.class_of(name, component), known.gradient(name, component)
+            if component not in problem.ratios:
+                yield _Figure(name, component, component, Unit.PART, kind, gradient)
+                continue
+            yield _Figure(name, component, SOLIDS, Unit.PART, kind, gradient)
+            if kind is not Class.UNOBSERVABLE and known.class_of(name) is Class.UNOBSERVABLE:
+                kind = Class.UNOBSERVABLE
+            elif kind is not Class.UNOBSERVABLE:
+                kind = Class.OBSERVABLE
+            carried = known.carried_gradient(name, component)
+            yield _Figure(name, component, component, Unit.TONNES, kind, carried)
 
 
-def _line(known: Known, stream: str, component: str, kind: Class, sd: float) -> Line:
-    """Return a flow or a grade."""
+def _line(known: Known, figure: _Figure, sd: float) -> Line:
+    """Return the line of a figure."""
     system, found = known.system, known.solution
+    stream, component = figure.stream, figure.component
+    head = (stream, figure.shown, figure.unit, figure.kind)
+    if figure.kind is Class.UNOBSERVABLE:
+        return Line(*head, _NAN, _NAN, _NAN, _NAN, _NAN)
+    is_amount = figure.unit is Unit.TONNES
+    if not component:
+        value = found.flow(stream)
+    else:
+        value = (found.carried if is_amount else found.grade)(stream, component)
     column = system.columns[stream, component]
-    scale = 1.0 if component else system.scale
-    measured = float(system.measured[column]) * scale
-    measured_sd = float(system.variance[column]) ** 0.5 * scale
-    if kind is Class.UNOBSERVABLE:
-        return Line(stream, component, kind, _NAN, _NAN, _NAN, _NAN, _NAN)
-    value = found.grade(stream, component) if component else found.flow(stream)
-    if not system.is_measured[column]:
-        evidence = () if component else tuple(known.evidence(stream))
-        return Line(stream, component, kind, _NAN, _NAN, value, sd, _NAN, evidence)
-    adjusted = (value - measured) / measured_sd
-    return Line(stream, component, kind, measured, measured_sd, value, sd, adjusted)
+    if not system.is_measured[column] or (is_amount and (stream, component) in system.problem.grades):
+        evidence: tuple[tuple[str, str], ...] = ()
+        if is_amount and (not component or stream in system.problem.alone):
+            evidence = tuple(known.evidence(stream, component))
+        measured = measured_sd = adjusted = _NAN
+    else:
+        scale = system.scale if is_amount else 1.0
+        measured = float(system.measured[column]) * scale
+        measured_sd = float(system.variance[column]) ** 0.5 * scale
+        adjusted, evidence = (value - measured) / measured_sd, ()
+    if figure.shown == SOLIDS:  # of the ratio r: 1 / (1 + r), which falls if r rises
+        measured, measured_sd = 1 / (1 + measured), measured_sd / (1 + measured) ** 2
+        value, sd, adjusted = 1 / (1 + value), sd / (1 + value) ** 2, -adjusted
+    return Line(*head, measured, measured_sd, value, sd, adjusted, evidence)
 
 
 @dataclass(frozen=True)
@@ -107,10 +167,12 @@ def recoveries_of(known: Known, feeds: Sequence[str] = ()) -> Iterator[Recovery]
         The streams of whose components they are parts; without one, those that enter the plant.
     """
     problem, found = known.system.problem, known.solution
-    entering = [flow.name for flow in problem.flows if flow.start == ENV and not flow.either_way]
-    ins = list(feeds) or entering
-    outs = [flow.name for flow in problem.flows if flow.end == ENV and not flow.either_way]
+    flows = [flow for flow in problem.flows if not flow.either_way and not flow.only]
+    ins = list(feeds) or [flow.name for flow in flows if flow.start == ENV]
+    outs = [flow.name for flow in flows if flow.end == ENV]
     for component in problem.components:
+        if component in problem.ratios:
+            continue  # what comes beside the mass comes with other streams, too
         if any(known.class_of(name, component) is Class.UNOBSERVABLE for name in ins):
             continue
         fed = sum(found.carried(name, component) for name in ins)

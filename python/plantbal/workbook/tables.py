@@ -57,7 +57,7 @@ PLANT_SHEETS = (
     "accounts",
     "settings",
 )
-_PASSED = ("about", "lists")
+_PASSED = ("about", "lists", "pulps")  # pulps are read by `balance --pulps`
 HEADS_WITHIN = 40  # rows of a sheet
 _HEADS_THAT_TELL = 3  # with fewer columns a sheet of another kind might be meant
 OTHER_HEADS = {"date": "day", "datum": "day", "volume (m3)": "volume", "level (mm)": "level"}
