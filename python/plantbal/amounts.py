@@ -107,10 +107,14 @@ def grams_of_texts(tonnes: Sequence[str]) -> list[str] | None:
     return [whole + part.ljust(6, "0") for whole, _, part in parts]
 
 
-def whole_of(number: int | str, what: str) -> str:
+def whole_of(number: int | Decimal | str, what: str) -> str:
     """Return a whole number as a session writes it; a text is taken as it stands."""
     if isinstance(number, str):
         return number
+    if isinstance(number, Decimal):
+        if number.is_finite() and number.adjusted() <= 100 and number == int(number):
+            return str(int(number))
+        raise Fault(f"{what} is {number}", text=str(number), remedy="say a whole number")
     if isinstance(number, bool) or not hasattr(number, "__index__"):
         raise Fault(
             f"{what} is {number!r}, of type {type(number).__name__}",
@@ -169,7 +173,8 @@ def day_text(day: Day, what: str = "DATE") -> str:
     if isinstance(day, datetime.datetime):
         if day != day:
             raise Fault(f"{what} is missing")
-        if day.time() != datetime.time() or day.tzinfo is not None:
+        # midnight of its own zone begins a day there
+        if day.time() != datetime.time():
             raise Fault(f"{what} is {day}, with a time of the day", remedy="give a day")
         day = day.date()
     if not isinstance(day, datetime.date):

@@ -71,7 +71,8 @@ class Place:
         if self.record is not None:
             inner.append(f"record {self.record}")
         if self.row:
-            inner.append(f"row {self.row}")
+            head = self.head if self.column is None else ""
+            inner.append(f"row {self.row}" + (f", column {head}" if head else ""))
         if self.column is not None:
             inner.append(f"column {self.column}" + (f" ({self.head})" if self.head else ""))
         if inner:

@@ -257,20 +257,20 @@ def frame_of_readings(**columns: object) -> pandas.DataFrame:
 
 # Columns that are wrong, and what is said of them.
 WRONG = [
-    ({"grams": [1.0, 2.0]}, "readings: row x: column grams holds floats"),
-    ({"grams": [1, None]}, "column grams holds floats"),
-    ({"grams": pandas.array([1, None], "Int64")}, "readings: row y: column grams has no value"),
-    ({"grams": ["1", "2 741"]}, "readings: row y: reading b: GRAMS is '2 741'"),
-    ({"stream": ["FEED", "PRODUKT"]}, "readings: row y: reading b: .*did you mean PRODUCT"),
-    ({"day": ["2024-05-01", "1.5.2024"]}, "readings: row y: reading b: DATE is '1.5.2024'"),
+    ({"grams": [1.0, 2.0]}, "readings: row x, column grams: floats aren't exact"),
+    ({"grams": [1, None]}, "row x, column grams: floats aren.t exact"),
+    ({"grams": pandas.array([1, None], "Int64")}, "readings: row y, column grams: there is no value"),
+    ({"grams": ["1", "2 741"]}, "readings: row y, column grams: reading b: GRAMS is '2 741'"),
+    ({"stream": ["FEED", "PRODUKT"]}, "readings: row y, column stream: reading b: .*did you mean PRODUCT"),
+    ({"day": ["2024-05-01", "1.5.2024"]}, "readings: row y, column day: reading b: DATE is '1.5.2024'"),
     (
         {"day": pandas.to_datetime(["2024-05-01", "2024-05-01 06:00"])},
-        "row y: day is .* time of the day",
+        "row y, column day: day is .* time of the day",
     ),
-    ({"id": ["a", "a"]}, "readings: row y: reading a: the id a is that of a reading"),
-    ({"stream": ["FEED", "FEED"]}, "readings: row y: reading b: FEED has a reading of 2024-05-01"),
+    ({"id": ["a", "a"]}, "readings: row y, column id: reading a: the id a is that of a reading"),
+    ({"stream": ["FEED", "FEED"]}, "readings: row y, column day: reading b: FEED has a reading of 2024-05-01"),
     ({"tonnes": ["1", "2"]}, "the columns grams and tonnes are there"),
-    ({"variance": [0, 10**19 + 1]}, "row y: reading b: VARIANCE is"),
+    ({"variance": [0, 10**19 + 1]}, "row y, column variance: reading b: VARIANCE is"),
 ]
 
 

@@ -3,11 +3,14 @@
 from __future__ import annotations
 
 import datetime
-from collections.abc import Callable, Iterable
+from collections.abc import Callable, Iterable, Iterator, Mapping
+from contextlib import contextmanager
+from dataclasses import replace
 from decimal import Decimal
 from typing import TYPE_CHECKING, Any
 
 from plantbal.amounts import (
+    GRAMS_A_TONNE,
     day_text,
     decimal_of,
     grams_of,
@@ -16,7 +19,7 @@ from plantbal.amounts import (
     variance_of,
     whole_of,
 )
-from plantbal.faults import Fault, InputFault, Place
+from plantbal.faults import Fault, InputFault, Place, Refusal
 from plantbal.memory import uncollected
 from plantbal.session import ENV, dates_of_service, grade_of, grade_variance, most_streams
 
@@ -26,6 +29,20 @@ if TYPE_CHECKING:
     from plantbal.session.rows import SessionRows
 
 Convert = Callable[[Any], str]
+
+_DEVIATIONS = ("deviation_grams", "deviation_tonnes", "deviation_ppm", "deviation_percent")
+# The heads from which a column of a row may come, if it isn't that of its own name.
+_HEADS = {
+    "base": ("variance", *_DEVIATIONS),
+    "variance": _DEVIATIONS,
+    "grams": ("tonnes",),
+    "day": ("date",),
+    "ppm": ("percent",),
+    "name": ("stream", "tank", "unit", "period"),
+    "from": ("from_",),
+    "word": ("kind", "test"),
+    "value": ("thousandths",),
+}
 
 
 class Table:
@@ -90,22 +107,25 @@ class Table:
         series = self.frame[head]
         if pandas.api.types.is_float_dtype(series.dtype):
             raise InputFault(
-                f"column {head} holds floats, which aren't exact",
+                "floats aren't exact" if len(series) else f"column {head} is one of floats",
                 place=self.place(0, head) if len(series) else Place(file=self.name, head=head),
                 text=str(series.iloc[0]) if len(series) else "",
-                remedy="read it with dtype=str, or make whole grams or Decimals of it",
+                remedy="read it with dtype=str, or make whole grams or Decimals of it; of readings say "
+                "round='gram'",
             )
         missing = series.isna().to_numpy()
         if missing.any():
             number = int(missing.argmax())
             raise InputFault(
-                f"column {head} has no value",
+                "there is no value",
                 place=self.place(number, head),
                 remedy="leave the row out",
             )
         values: list[Any] = series.tolist()
-        if pandas.api.types.is_integer_dtype(series.dtype) and exact_integers:
-            return list(map(str, values))
+        if pandas.api.types.is_integer_dtype(series.dtype):
+            if exact_integers:
+                return list(map(str, values))
+            values = list(map(int, values))  # a column of Int64 gives numbers of numpy
         kinds = set(map(type, values))
         if kinds <= {str} and convert is str:
             return values
@@ -169,7 +189,13 @@ class Table:
         head = self.need("grams", "tonnes")
         if head == "grams":
             return self.wholes(head)
-        values = self.frame[head].tolist()
+        import pandas
+
+        series = self.frame[head]
+        values = series.tolist()
+        if pandas.api.types.is_integer_dtype(series.dtype) and not series.isna().any():
+            # a column of Int64 gives numbers of numpy
+            return [str(int(value) * GRAMS_A_TONNE) for value in values]
         kinds = set(map(type, values))
         if kinds == {str}:
             found = grams_of_texts(values)
@@ -203,6 +229,45 @@ class Table:
         if self.has("id"):
             return self.names("id")
         return [f"{place}_{day}" for place, day in zip(places, days)]
+
+
+@contextmanager
+def own_columns(
+    session: SessionRows, tables: Mapping[str, pandas.DataFrame | object | None]
+) -> Iterator[None]:
+    """Have the refusals of rows of tables name the tables' own columns.
+
+    Parameters
+    ----------
+    session : Session
+        The session that takes the rows.
+    tables : mapping
+        The tables by what they are called.
+    """
+    try:
+        yield
+    except Refusal as refusal:
+        _name_column(refusal, tables)
+        raise
+    for kept in session.refused:
+        _name_column(kept, tables)
+
+
+def _name_column(refusal: Refusal, tables: Mapping[str, pandas.DataFrame | object | None]) -> None:
+    """Put the head of the table's column at fault into the place of a refusal."""
+    there = getattr(tables.get(refusal.place.file), "columns", ())
+    for head in (refusal.column, *_HEADS.get(refusal.column, ())):
+        if head and head in there and not refusal.place.head:
+            refusal.place = replace(refusal.place, head=head)
+
+
+def tags_of(streams: pandas.DataFrame | None) -> dict[str, str]:
+    """Return the stream of each tag that a table of streams has."""
+    if streams is None or "tag" not in getattr(streams, "columns", ()):
+        return {}
+    table = Table("streams", streams)
+    pairs = zip(streams["tag"], table.names("name", "stream"))
+    return {str(tag): name for tag, name in pairs if tag == tag and tag}
 
 
 def _take(session: SessionRows, table: Table, kind: str, *columns: list[str]) -> None:

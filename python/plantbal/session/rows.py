@@ -4,10 +4,10 @@ from __future__ import annotations
 
 import csv
 import io
-from collections.abc import Callable, Iterable, Iterator, Sequence
+from collections.abc import Callable, Iterable, Iterator, Mapping, Sequence
 from itertools import chain
 from pathlib import Path
-from typing import TYPE_CHECKING, Self
+from typing import TYPE_CHECKING, Any, Self
 
 from plantbal import limits
 from plantbal.faults import Fault, Place, read_bytes
@@ -79,11 +79,10 @@ class SessionRows:
         What the session is after its rows so far.
     """
 
-    def __init__(
-        self, *, strict: bool = True, version: int = 1, kept: int | None = None
-    ) -> None:
+    def __init__(self, *, strict: bool = True, version: int = 1, kept: int | None = None) -> None:
         self.strict = strict
         self.refused = Refusals(kept)
+        self.notes: list[str] = []
         self.state = State()
         self._rows = _Kept()
         if version not in (1, 2):
@@ -334,6 +333,8 @@ class SessionRows:
         reports: bool | Iterable[str] = True,
         design: bool = False,
         strict: bool = True,
+        round: str = "",
+        error: str | Mapping[str, str] = "",
     ) -> Self:
         """Return the session of tables.
 
@@ -363,6 +364,14 @@ class SessionRows:
             Whether the design of the plant is asked for.
         strict : bool
             Whether the first refused row raises `Refusal`; otherwise they are kept in `refused`.
+        round : {'', 'gram'}
+            Whether readings may be floats; what is finer than a gram is rounded, and `notes` says
+            how many were, and by how much at most. Readings may then have the days down and the
+            streams across, or the tags of a column ``tag`` of the streams; so they may be without
+            it if they aren't floats.
+        error : str or mapping of str, optional
+            The standard deviation of a reading, such as ``1 % or 0.2 t``, of all streams or of each
+            its own; for readings without a column of it.
 
         Raises
         ------
@@ -371,23 +380,29 @@ class SessionRows:
         Fault
             If a table lacks a column, or an amount isn't exact.
         """
-        from plantbal.session.frames import fill
+        from plantbal.session.frames import fill, own_columns, tags_of
+        from plantbal.session.wide import taken_readings
 
         session = cls(strict=strict)
-        fill(
-            session,
-            boundaries=boundaries,
-            units=units,
-            tanks=tanks,
-            straps=straps,
-            streams=streams,
-            periods=periods,
-            critical=critical,
-            readings=readings,
-            transfers=transfers,
-            dips=dips,
-            assays=assays,
-        )
+        tables: dict[str, Any] = {
+            "boundaries": boundaries,
+            "units": units,
+            "tanks": tanks,
+            "straps": straps,
+            "streams": streams,
+            "periods": periods,
+            "critical": critical,
+            "readings": readings,
+            "transfers": transfers,
+            "dips": dips,
+            "assays": assays,
+        }
+        taken = dict(tables)
+        if readings is not None:
+            how: dict[str, Any] = {"rounded": round, "error": error, "tags": tags_of(streams)}
+            taken["readings"], session.notes = taken_readings(readings, **how)
+        with own_columns(session, tables):
+            fill(session, **taken)
         if design:
             session.row("design")
         wanted = [period.name for period in session.periods] if reports is True else reports
