@@ -413,7 +413,7 @@ def test_code(code: str, session: str, text: str) -> None:
 
 
 def test_each_code_has_a_case() -> None:
-    others = {"nearly-full", "no-account", "no-owner"}
+    others = {"nearly-full", "no-account", "no-owner", "exchanged", "strap-slope", "scatter"}
     assert {case[0] for case in CASES} | others == set(RULES)
 
 

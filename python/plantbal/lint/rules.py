@@ -19,6 +19,7 @@ from plantbal.lint.lacking import (
     refused_rows,
 )
 from plantbal.lint.plant import nearly_full, near_names, never_served, one_sided
+from plantbal.lint.silent import exchanged, kinks, scatter
 from plantbal.lint.studies import costs, critical_values, worse_classes
 from plantbal.lint.values import densities, deviations, magnitudes
 from plantbal.model.ledger import Ledger
@@ -37,6 +38,9 @@ _FINDERS: tuple[Callable[[Ledger], Iterator[Finding]], ...] = (
     magnitudes,
     deviations,
     densities,
+    exchanged,
+    kinks,
+    scatter,
     worse_classes,
     critical_values,
     gates,

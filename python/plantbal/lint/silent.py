@@ -1,0 +1,176 @@
+"""Mistakes that no test tells, as far as the session shows them: columns that changed places, a
+point of a strapping table, errors of meters of another size than the readings' scatter.
+
+Each rule is to be quiet on whatever a plant does. So two columns have changed places only if each
+meter reads what the other one read before, and neither what it read itself; a table's point is
+wrong only if the table is smooth without it; and an error is too great or too small only if the
+balances of the days, in which a meter's constant part cancels, scatter by a tenth or by ten times
+of what the errors say.
+"""
+
+from __future__ import annotations
+
+from collections.abc import Iterator, Mapping, Sequence
+from itertools import combinations
+from math import gcd, sqrt
+from statistics import median, stdev
+
+from plantbal.diagnosis.balances import Balance, Balances
+from plantbal.lint.findings import Finding, place_in, tonnes_said
+from plantbal.model.facts import Fact
+from plantbal.model.ledger import Ledger, Seen
+from plantbal.model.studies import measured_in
+
+# So many readings say what a meter usually reads; in a month and before it.
+FEWEST = 10
+# What is alike, and what is another figure: parts and times of a median.
+ALIKE, OTHER = 1.15, 1.5
+# By how many times the slopes beside a wrong point differ, and by how many one is above and the
+# other below those of the next segments; in a smooth table they lie between these.
+KINK, BEYOND = 2.0, 1.1
+# A point off by fewer steps of the volumes than this may be rounded.
+STEPS = 10
+# How many times a scatter is smaller or greater than the errors say, and the share of the variance
+# that a single meter has to have, so that it is the one.
+TIMES, MOST_OF_IT = 10.0, 0.9
+
+
+# ---- columns that changed places
+
+
+def exchanged(ledger: Ledger) -> Iterator[Finding]:
+    """Yield the pairs of meters of which each reads in a period what the other one read before."""
+    for seen in ledger.reported.values():
+        now, before = _medians(ledger, seen)
+        moved = [name for name in now if not _alike(now[name], before[name], OTHER)]
+        for one, other in combinations(moved, 2):
+            if _alike(now[one], before[other], ALIKE) and _alike(now[other], before[one], ALIKE):
+                period = seen.period.name
+                text = (
+                    f"{one} and {other} may have changed places in {period}: {one} reads "
+                    f"{_tonnes(now[one])} on most days and read {_tonnes(before[one])} before, "
+                    f"{other} reads {_tonnes(now[other])} and read {_tonnes(before[other])}"
+                )
+                remedy = "compare the heads of these two columns with the meters"
+                line = seen.view.facts[other][0].line
+                place = place_in(ledger, line)
+                yield Finding("exchanged", text, remedy, place, one, period, (one, other))
+
+
+def _medians(ledger: Ledger, seen: Seen) -> tuple[dict[str, float], dict[str, float]]:
+    """Return what meters usually read in a period, and before it, of those with enough of both."""
+    now: dict[str, float] = {}
+    before: dict[str, float] = {}
+    for stream in seen.view.streams:
+        name = stream.arc.name
+        if stream.kind != "metered":
+            continue
+        first = seen.period.first
+        earlier = [fact for fact in ledger.amounts.get(name, ()) if fact.first < first]
+        some = _sizes(seen.view.facts[name]), _sizes(earlier)
+        if min(map(len, some)) >= FEWEST:
+            now[name], before[name] = float(median(some[0])), float(median(some[1]))
+    return now, before
+
+
+def _sizes(facts: Sequence[Fact]) -> list[int]:
+    return [fact.grams for fact in facts if fact.grams > 0]
+
+
+def _alike(one: float, other: float, times: float) -> bool:
+    return one < times * other and other < times * one
+
+
+def _tonnes(grams: float) -> str:
+    return tonnes_said(round(grams / 1000) * 1000)
+
+
+# ---- a point of a strapping table
+
+
+def kinks(ledger: Ledger) -> Iterator[Finding]:
+    """Yield the points of tables that break a slope which is smooth without them."""
+    for tank, points in ledger.state.plant.tables.items():
+        step = gcd(*(ml for _, ml in points))
+        for at in range(2, len(points) - 2):
+            if _breaks(points[at - 2 : at + 3], step):
+                mm, ml = points[at]
+                fits = round(_between(points[at - 1], points[at + 1], mm))
+                text = (
+                    f"the table of {tank} has {ml:,} ml at {mm:,} mm, which breaks its slope: "
+                    f"its neighbours lead to some {fits:,} ml"
+                )
+                remedy = "compare this point with the calibration certificate"
+                line = ledger.state.plant.lines.get(tank)
+                yield Finding("strap-slope", text, remedy, place_in(ledger, line), tank)
+
+
+def _breaks(points: Sequence[tuple[int, int]], step: int) -> bool:
+    """Say whether the middle one of five points breaks the slope of the others."""
+    slopes = [_slope(one, other) for one, other in zip(points, points[1:])]
+    low, high = min(slopes[1], slopes[2]), max(slopes[1], slopes[2])
+    least, most = min(slopes[0], slopes[3]), max(slopes[0], slopes[3])
+    chord = _slope(points[1], points[3])
+    is_smooth = least / BEYOND < chord < most * BEYOND
+    is_kink = high > KINK * low and high > BEYOND * most and low * BEYOND < least
+    off = abs(points[2][1] - _between(points[1], points[3], points[2][0]))
+    return is_smooth and is_kink and off > STEPS * step
+
+
+def _slope(one: tuple[int, int], other: tuple[int, int]) -> float:
+    return (other[1] - one[1]) / (other[0] - one[0])
+
+
+def _between(one: tuple[int, int], other: tuple[int, int], mm: int) -> float:
+    return one[1] + _slope(one, other) * (mm - one[0])
+
+
+# ---- errors of another size than the scatter
+
+
+def scatter(ledger: Ledger) -> Iterator[Finding]:
+    """Yield the meters whose errors are ten times what the days' balances scatter, or a tenth."""
+    for seen in ledger.reported.values():
+        found = measured_in(ledger.state, seen.view).values()
+        balances = Balances.of_measured(seen.view.nodes, found)
+        facts = {
+            each.arc.name: {fact.first: fact for fact in seen.view.facts[each.arc.name]}
+            for each in seen.view.streams
+            if each.kind == "metered"
+        }
+        for balance in balances.open:
+            if all(each.name in facts for each in balance.through):
+                yield from _scatter_of(ledger, seen, balance, facts)
+
+
+def _scatter_of(
+    ledger: Ledger, seen: Seen, balance: Balance, facts: Mapping[str, Mapping[int, Fact]]
+) -> Iterator[Finding]:
+    names = [each.name for each in balance.through]
+    days = set.intersection(*(set(facts[name]) for name in names)) if names else set()
+    running = [day for day in sorted(days) if all(facts[name][day].grams for name in names)]
+    if len(names) < 2 or len(running) < FEWEST:
+        return
+    into = {each.name: 1 if each.arc.to in balance.nodes else -1 for each in balance.through}
+    rests = [sum(into[name] * facts[name][day].grams for name in names) for day in running]
+    variances = {
+        name: sum(facts[name][day].variance for day in running) / len(running) for name in names
+    }
+    total, seen_scatter = sum(variances.values()), stdev(rests)
+    widest = max(names, key=lambda name: variances[name])
+    error = sqrt(total)
+    some: tuple[str, ...]
+    if variances[widest] > MOST_OF_IT * total and 0 < seen_scatter * TIMES < error:
+        some, word = (widest,), "too great"
+    elif seen_scatter > TIMES * error > 0:
+        some, word = tuple(names), "too small"
+    else:
+        return
+    who = f"the error of {widest} seems" if len(some) == 1 else f"the errors of {', '.join(some)} seem"
+    text = (
+        f"{who} {word} in {seen.period.name}: on a day the balance of {' '.join(balance.nodes)} "
+        f"scatters by {_tonnes(seen_scatter)}, and by the errors it would by {_tonnes(error)}"
+    )
+    remedy = "compare the errors of these meters with their certificates: a digit, or percent of what?"
+    line = facts[some[0]][running[0]].line
+    yield Finding("scatter", text, remedy, place_in(ledger, line), some[0], seen.period.name, some)
