@@ -3,6 +3,7 @@
 from __future__ import annotations
 
 import csv
+import datetime
 import io
 import random
 import re
@@ -11,6 +12,7 @@ from decimal import Decimal
 from pathlib import Path
 from typing import Any
 
+import months
 import openpyxl
 import pytest
 from books import Sheets, folder, typed
@@ -30,7 +32,8 @@ from months import (
 )
 
 from plantbal.accounts.account import MonthAccount, Rolled
-from plantbal.accounts.stock import Why
+from plantbal.accounts.entries import Line
+from plantbal.accounts.stock import Opened, Why
 from plantbal.book.accounting import rolled_of
 from plantbal.book.store import Store
 
@@ -115,6 +118,30 @@ def test_refinery_over_three_months(refinery: Path) -> None:
         if each.adjustment and each.stock.why is Why.DIP:
             assert abs(each.stock.adjustment) < 5 * each.adjustment
     assert {table.name for table in accounts[0].owners} == {"Alpha", "Beta"}
+
+
+def test_over_a_close_of_the_year(tmp_path: Path, monkeypatch: pytest.MonkeyPatch) -> None:
+    """December has an emptied tank and a new one, and is reopened after January opened on it."""
+    for name, day in (("LEAVES", 20), ("COMES", 10)):
+        monkeypatch.setattr(months, name, datetime.date(2023, 12, day))
+    plant, place = Refinery(), tmp_path / "book"
+    booked(place, plant.plant(), [("2023-12", plant.month("2023-12"))])
+    assert typed("next", "2024", "--book", place) == 0
+    words = ["--book", place, "--locale", "en"]
+    assert typed("add", write(tmp_path, "2024-01", plant.month("2024-01")), *words) == 0
+    assert typed("close", "2024-01", "--book", place) == 0
+    before = assert_sums_to_0(rolled(place))
+    late = [LATE[0], ["608", "LIFT_fuel_oil1", "2023-12-30", "2023-12-30", "6.77 t", "0.2 t"]]
+    assert typed("add", folder(tmp_path / "late", {"tickets": late}), *words) == 0
+    assert typed("report", "2023-12", "--book", place) == 0
+    after = assert_sums_to_0(rolled(place))
+    stocks = {each.stock.tank: each.stock for each in after[1].tanks}
+    left = stocks[OUT_OF_SERVICE]
+    assert (left.why, left.closing, left.adjustment) == (Why.ENDS, 0, -left.opening)
+    assert stocks[INTO_SERVICE].opened is Opened.BOOKED and stocks[INTO_SERVICE].opening
+    opens = [account[1].plant.lines[Line.OPENING].grams for account in (before, after)]
+    assert opens == [account[0].plant.closing for account in (before, after)]
+    assert opens[0] != opens[1] and before[1].plant.closing == after[1].plant.closing
 
 
 def test_concentrator_over_three_months(concentrator: Path) -> None:
