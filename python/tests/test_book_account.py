@@ -327,6 +327,11 @@ def evaluated(path: Path, sheet: str) -> list[float]:
     ]
 
 
+def owned_by(name: str, account: MonthAccount) -> float:
+    """What an owner has in the end, in tonnes."""
+    return next(table.closing for table in account.owners if table.name == name) / 10**6
+
+
 def test_workbook_and_page(refinery: Path, tmp_path: Path, say: Desk) -> None:
     typed_ = said_of(say, refinery)
     xlsx, page = tmp_path / "a.xlsx", tmp_path / "a.html"
@@ -350,6 +355,11 @@ def test_workbook_and_page(refinery: Path, tmp_path: Path, say: Desk) -> None:
         out = tmp_path / f"{name}.html"
         assert typed_("account", "2024-02", "--owner", name, "--page", out).status == 0
         assert f"Account of {name}" in out.read_text()
+    assert typed_("account", "2024-02", "--owner", "Alpha", "--xlsx", xlsx).status == 0
+    assert len(evaluated(xlsx, "account")) == 9  # each line, and the check, which is 0
+    assert evaluated(xlsx, "account")[-2:] == [pytest.approx(owned_by("Alpha", account)), 0]
+    stock = [cell.value for cell in openpyxl.load_workbook(xlsx)["entries"][2]]
+    assert stock[2:6] == ["opening stock", "stock", None, None]  # of all products
     assert "there is no owner 'Gamma'" in typed_("account", "2024-02", "--owner", "Gamma").err
 
 

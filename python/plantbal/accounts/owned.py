@@ -126,4 +126,5 @@ class _Month:
 
 def _own(line: Line, name: str, grams: int, sums: Across) -> Entry:
     """Return an entry of an owner's stock."""
-    return Entry(line, name, Account(name), grams, Basis.RECONCILED, sums)
+    of_all = Account(name, product="", group="")
+    return Entry(line, name, of_all, grams, Basis.RECONCILED, sums)
