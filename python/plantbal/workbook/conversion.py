@@ -18,7 +18,7 @@ from plantbal.session import Session
 from plantbal.workbook.account import SheetAccount
 from plantbal.workbook.facts import Converter
 from plantbal.workbook.options import ReadingOptions
-from plantbal.workbook.sheets import read_workbook
+from plantbal.workbook.sheets import Source, read_workbook
 
 HELP = """
 WORKBOOK is an xlsx file, or a folder of CSV files, each of which is the sheet of its name:
@@ -114,7 +114,7 @@ class Conversion:
 
 
 def convert(
-    path: str | Path,
+    path: Source,
     *,
     locale: str = "",
     missing: Iterable[str] = (),
@@ -126,8 +126,9 @@ def convert(
 
     Parameters
     ----------
-    path : str or Path
-        An xlsx file, or a folder of CSV files.
+    path : str, Path, binary file or mapping of DataFrame
+        An xlsx file, also an open one, or a folder of CSV files; or tables by the names of the
+        sheets, of which floats are read as the decimal numbers that they show.
     locale : str
         Whose numbers and days are read, such as ``de``; empty for digits with a decimal point.
     missing : iterable of str
@@ -150,7 +151,8 @@ def convert(
         work = Converter(read_workbook(path), reader, how.skip)
         if not work.sheets["streams"] and not work.sheets["rows"] and not work.faults:
             what, remedy = "there is no sheet streams", "plantbal-desk template writes one"
-            raise InputFault(what, place=Place(file=str(path)), remedy=remedy)
+            name = str(path) if isinstance(path, (str, Path)) else ""
+            raise InputFault(what, place=Place(file=name), remedy=remedy)
         work.read_plant()
         work.accounts = read_accounts(work)
         if design:

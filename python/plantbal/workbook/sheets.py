@@ -11,13 +11,14 @@ import datetime
 import io
 import re
 import sys
-from collections.abc import Iterator, Sequence
+from collections.abc import Iterator, Mapping, Sequence
 from dataclasses import dataclass, field
 from decimal import Decimal
 from pathlib import Path
+from typing import Any, BinaryIO
 
 from plantbal import limits
-from plantbal.faults import InputFault, Place, read_bytes, unread
+from plantbal.faults import InputFault, Place, read_bytes, too_large, unread
 
 # How the letters of columns begin: Z is the 26th.
 _LETTERS = 26
@@ -137,19 +138,28 @@ def letters(column: int) -> str:
     return text
 
 
-def read_workbook(path: str | Path) -> list[Sheet]:
-    """Return the sheets of a workbook, or of a folder of CSV files.
+Source = str | Path | BinaryIO | Mapping[str, Any]
+
+
+def read_workbook(path: Source) -> list[Sheet]:
+    """Return the sheets of a workbook, of a folder of CSV files, or of tables in memory.
 
     Parameters
     ----------
-    path : str or Path
-        An xlsx file, a CSV file, or a folder.
+    path : str, Path, binary file or mapping of DataFrame
+        An xlsx file, also an open one, a CSV file, or a folder; or tables by the names of sheets.
 
     Raises
     ------
     InputFault
         If it can't be read, or holds more than `plantbal.limits` has.
     """
+    if isinstance(path, Mapping):
+        from plantbal.workbook.frames import sheets_of_frames
+
+        return sheets_of_frames(path)
+    if not isinstance(path, (str, Path)):
+        return _read_open(path)
     place = Path(path)
     try:
         if place.is_dir():
@@ -161,6 +171,23 @@ def read_workbook(path: str | Path) -> list[Sheet]:
     from plantbal.workbook.xlsx import read_xlsx
 
     return read_xlsx(place)
+
+
+def _read_open(file: BinaryIO) -> list[Sheet]:
+    """Return the sheets of an open xlsx file."""
+    if not hasattr(file, "read"):
+        what = f"a {type(file).__name__} is no workbook"
+        raise InputFault(what, remedy="give a path, an open xlsx file, or DataFrames by sheets")
+    name = str(getattr(file, "name", "the workbook"))
+    data = file.read(limits.WORKBOOK_BYTES + 1)
+    if not isinstance(data, bytes):
+        what = "it is open as text"
+        raise InputFault(what, place=Place(file=name), remedy="open it with mode 'rb'")
+    if len(data) > limits.WORKBOOK_BYTES:
+        raise too_large(name, limits.WORKBOOK_BYTES)
+    from plantbal.workbook.xlsx import xlsx_of
+
+    return xlsx_of(name, data)
 
 
 def _read_folder(folder: Path) -> list[Sheet]:
@@ -323,9 +350,7 @@ def _decoded(name: str, data: bytes) -> tuple[str, list[str]]:
             what = "this is UTF-16 that is cut off or damaged"
             raise InputFault(what, place=place, remedy='save it as "CSV UTF-8"') from error
     if b"\0" in data:
-        raise InputFault(
-            "this is no text", place=place, remedy='save it as "CSV UTF-8" or as xlsx'
-        )
+        raise InputFault("this is no text", place=place, remedy='save it as "CSV UTF-8" or as xlsx')
     try:
         return data.decode("utf-8-sig"), []
     except UnicodeDecodeError:

@@ -46,7 +46,11 @@ def read_xlsx(path: Path) -> list[Sheet]:
     ToolMissing
         If openpyxl isn't installed.
     """
-    name, data = read_bytes(path, limits.WORKBOOK_BYTES)
+    return xlsx_of(*read_bytes(path, limits.WORKBOOK_BYTES))
+
+
+def xlsx_of(name: str, data: bytes) -> list[Sheet]:
+    """Return the sheets of the bytes of an xlsx file, as `read_xlsx` does."""
     if b"opendocument.spreadsheet" in data[:200]:
         remedy = "save it as xlsx in LibreOffice, by File, Save As"
         raise InputFault("this is an OpenDocument workbook", place=Place(file=name), remedy=remedy)
