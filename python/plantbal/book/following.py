@@ -7,7 +7,8 @@ gram.
 from __future__ import annotations
 
 import datetime
-from dataclasses import replace
+from collections.abc import Iterable
+from dataclasses import dataclass, replace
 from pathlib import Path
 
 from plantbal.amounts import tonnes_of
@@ -21,6 +22,7 @@ from plantbal.book.results import Begun
 from plantbal.book.store import METERS, PLANT, Act, Action, Store
 from plantbal.book.years import Years, calendar_year, periods_of
 from plantbal.faults import Fault, InputFault, Place, Refusal
+from plantbal.model.forms import FIRST_DAY, LAST_DAY
 from plantbal.records import read_records
 from plantbal.workbook.options import ReadingOptions
 
@@ -39,6 +41,57 @@ def follow(
 ) -> Begun:
     """Begin the next year; the parameters are those of `plantbal.Book.next`."""
     check_year(year)
+    return _follow(book, year, Plant(plant, reading), first, program, who)
+
+
+def retire(
+    book: Store,
+    name: str,
+    until: datetime.date,
+    *,
+    year: str = "",
+    program: str | Path | None = None,
+    who: str = "",
+) -> Begun:
+    """End the service of a tank or stream; the parameters are those of `plantbal.Book.retire`."""
+    if not year:
+        with book.opened(reading=True):
+            year = next_part(Years(book).last.name)
+    check_year(year)
+    return _follow(book, year, Plant(retired=name, until=until), None, program, who)
+
+
+@dataclass(frozen=True)
+class Plant:
+    """The plant of a next year.
+
+    Attributes
+    ----------
+    workbook : str, Path or None
+        The workbook that has it; None for that of the book.
+    reading : ReadingOptions
+        How the workbook is read.
+    retired : str
+        A tank or stream of the book's plant that goes out of service.
+    until : date
+        Its last day.
+    """
+
+    workbook: str | Path | None = None
+    reading: ReadingOptions = ReadingOptions()
+    retired: str = ""
+    until: datetime.date = datetime.date.max
+
+
+def _follow(
+    book: Store,
+    year: str,
+    plant: Plant,
+    first: datetime.date | None,
+    program: str | Path | None,
+    who: str,
+) -> Begun:
+    """Begin the next year with a plant."""
     with book.opened():
         if year in book.years:
             return Begun(year, 0, {}, is_begun=False)
@@ -49,9 +102,9 @@ def follow(
         first = first_day(year, first, book.text(f"{old.name}.csv"), old)
         action = Action(Act.NEXT, year, who=who)
         action.program = program_digest(program)
-        new, notes = begun(book, action, year, plant, first, reading)
+        new, notes = begun(book, action, year, plant, first)
         contents = carry(old, new, first - _DAY, program)
-        classes = classes_of(new.plant, program) if plant else {}
+        classes = classes_of(new.plant, program) if plant.workbook else {}
         action.written[f"{new.name}.csv"] = rows_text(new.session)
         action.rows = [f"{new.name}: 1 to {new.count}"]
         book.do(action)
@@ -88,9 +141,8 @@ def begun(
     book: Store,
     action: Action,
     year: str,
-    plant: str | Path | None,
+    plant: Plant,
     first: datetime.date,
-    reading: ReadingOptions,
 ) -> tuple[Ledger, list[str]]:
     """Return the next year with its plant alone, and what is passed over of another plant.
 
@@ -103,12 +155,18 @@ def begun(
     """
     file, text = str(book.path(PLANT)), book.text(PLANT)
     notes: list[str] = []
-    if plant:
+    if plant.retired:
+        known = [record.fields for record in read_records(text.encode("utf-8"))]
+        rows, notes = dated(known, plant.retired, plant.until, first)
+        text = rows_text(rows)
+        action.what = f"{plant.retired} until {plant.until}"
+        action.written = {PLANT: text}
+    elif plant.workbook:
         accounts = accounts_of(book)
-        rows, work = plant_of(plant, reading, accounts)
+        rows, work = plant_of(plant.workbook, plant.reading, accounts)
         kept = read_meters(book.path(METERS)) | {each.name: each for each in meters_of(work)}
-        file, text = str(plant), rows_text(rows)
-        action.what = Path(plant).name
+        file, text = str(plant.workbook), rows_text(rows)
+        action.what = Path(plant.workbook).name
         action.written = {PLANT: text, METERS: meters_text(kept.values())}
         notes = [*put_accounts(accounts, work.accounts, book, action), *work.notes]
     new = Ledger.read(year, file, text, first, datetime.date.max)
@@ -117,6 +175,43 @@ def begun(
             place = Place(file=file, line=record.line)
             raise InputFault(f"a row {record.fields[0]} is none of a plant", place=place)
     return new, notes
+
+
+def next_part(year: str) -> str:
+    """Return the name of another part of a year: 2024b after 2024, and 2024c after that."""
+    return year[:-1] + chr(ord(year[-1]) + 1) if year[-1:] in "bcdefgh" else f"{year}b"
+
+
+def dated(
+    rows: Iterable[tuple[str, ...]], name: str, until: datetime.date, first: datetime.date
+) -> tuple[list[tuple[str, ...]], list[str]]:
+    """Return the rows of a plant with the last day of a tank or stream, and what is said of others.
+
+    With a tank the streams that come in or go out end.
+
+    Raises
+    ------
+    Fault
+        If there is no such tank or stream, or it would be out of service before the year begins.
+    """
+    kept = [row for row in rows if row[0] != "version"]
+    if not any(row[0] in ("tank", "stream") and row[1] == name for row in kept):
+        remedy = "say one as plantbal-desk book status or plant.csv has it"
+        raise Fault(f"there is no tank or stream {name!r}", text=name, remedy=remedy)
+    if until < first:
+        what = f"{until} is before {first}, on which the next part of the year begins"
+        remedy = "periods up to there are in the book; say its last day in the part that begins"
+        raise Fault(what, text=str(until), remedy=remedy)
+    found: list[tuple[str, ...]] = [("version", "2")]
+    notes: list[str] = []
+    for row in kept:
+        count = {"tank": 3, "stream": 6}.get(row[0], 0)
+        if count and (row[1] == name or (row[0] == "stream" and name in row[2:4])):
+            since, end = (*row[count:], str(FIRST_DAY), str(LAST_DAY))[:2]
+            row = (*row[:count], since, min(end, str(until)))
+            notes.append(f"{row[1]}: in service until {row[-1]}")
+        found.append(row)
+    return found, notes
 
 
 def carry(

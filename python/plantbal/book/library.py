@@ -28,7 +28,7 @@ from plantbal.book.adding import Why
 from plantbal.book.answers import Quiet
 from plantbal.book.beginning import begin
 from plantbal.book.difference import Difference, difference, post
-from plantbal.book.following import follow
+from plantbal.book.following import follow, retire
 from plantbal.book.meters import Meter
 from plantbal.book.naming import day_of
 from plantbal.book.results import (
@@ -46,6 +46,7 @@ from plantbal.book.results import (
     Windowed,
 )
 from plantbal.book.store import Head, Store
+from plantbal.faults import Fault
 from plantbal.gates import Gate
 from plantbal.program import RunSettings
 from plantbal.workbook.options import ReadingOptions
@@ -155,6 +156,30 @@ class Book:
             program=self.program,
             who=self.who,
         )
+
+    def retire(self, name: str, until: Day, *, year: str = "", locale: str = "") -> Begun:
+        """End the service of a tank or stream that is booked, by a new part of the year.
+
+        Parameters
+        ----------
+        name : str
+            The tank, with the streams at it, or the stream.
+        until : date or str
+            Its last day in service.
+        year : str
+            The name of the new part; without it ``2024b`` after ``2024``.
+        locale : str
+            Whose days are read.
+
+        Raises
+        ------
+        Fault
+            If there is none, or its last day is before the new part begins.
+        """
+        day = _day(until, locale)
+        if day is None:
+            raise Fault("there is no last day", remedy="say it as 2024-02-20")
+        return retire(self._store(), name, day, year=year, program=self.program, who=self.who)
 
     # ---- facts
 

@@ -95,6 +95,7 @@ COMMANDS: Sequence[Inner] = (
         "status", "showing:STATUS", "say what is open, what is missing, and how full the year is"
     ),
     Inner("next", "years:NEXT", "begin the next year"),
+    Inner("retire", "years:RETIRE", "end the service of a tank or stream that is booked"),
     Inner("verify", "verifying:VERIFY", "test every file of the book against its journal"),
     Inner("head", "verifying:HEAD", "print the head of its chain, to be kept elsewhere"),
     Inner("accept", "verifying:ACCEPT", "take a file as it is, with a reason, and say so for good"),

@@ -11,6 +11,7 @@ from plantbal.amounts import tonnes_of
 from plantbal.book.ledger import plain
 from plantbal.book.library import Book
 from plantbal.book.naming import day_of
+from plantbal.book.results import Begun
 from plantbal.book.said import counted, listed
 from plantbal.commands.options import add_program, add_reading, reading_of
 
@@ -54,6 +55,27 @@ def _next(options: argparse.Namespace) -> int:
         first=day_of(options.first, options.locale),
         reading=reading_of(options),
     )
+    return _say_begun(found)
+
+
+def _add_retire(parser: argparse.ArgumentParser) -> None:
+    parser.add_argument("name", metavar="NAME", help="a tank, with the streams at it, or a stream")
+    parser.add_argument("day", metavar="DAY", help="its last day in service")
+    parser.add_argument("--year", metavar="YEAR", default="", help="the new part: 2024b after 2024")
+    form = "how days are written, such as de"
+    parser.add_argument("--locale", metavar="NAME", default="", help=form)
+    add_program(parser)
+
+
+def _retire(options: argparse.Namespace) -> int:
+    """End the service of a tank or stream."""
+    day = day_of(options.day, options.locale)
+    book = Book(options.book, who=options.who, program=options.program)
+    return _say_begun(book.retire(options.name, day, year=options.year))
+
+
+def _say_begun(found: Begun) -> int:
+    """Say how a next year begins."""
     if not found.is_begun:
         print(f"{found.year}.csv is there already")
         return 0
@@ -83,4 +105,11 @@ NEXT = SimpleNamespace(
     "other begins, to the gram.",
     add_arguments=_add_next,
     run=_next,
+)
+RETIRE = SimpleNamespace(
+    __doc__="Ends the service of a tank, with the streams that come in or go out, or of a stream, "
+    "that is booked already: begins a new part of the year, after the last period, in which it has "
+    "its last day. All that touches both parts goes over, as with `next`.",
+    add_arguments=_add_retire,
+    run=_retire,
 )
