@@ -215,8 +215,8 @@ _plantbal_desk() {
         _plantbal_words '-h --help --out --locale --missing --skip --limits --design' ;;
     book)
         if [[ $here != -* ]]; then
-            if [[ ! " ${COMP_WORDS[*]:at + 1:COMP_CWORD - at - 1} " =~ ' '(new|add|show|amend|strike|estimate|report|window|close|quiet|difference|posted|account|status|next|verify|head|accept)' ' ]]; then
-                _plantbal_words 'new add show amend strike estimate report window close quiet difference posted account status next verify head accept'
+            if [[ ! " ${COMP_WORDS[*]:at + 1:COMP_CWORD - at - 1} " =~ ' '(new|add|show|amend|strike|estimate|report|window|close|quiet|difference|posted|account|status|next|retire|verify|head|accept)' ' ]]; then
+                _plantbal_words 'new add show amend strike estimate report window close quiet difference posted account status next retire verify head accept'
                 return
             fi
             _plantbal_files -f

@@ -93,7 +93,7 @@ complete -c plantbal-desk -n '__fish_seen_subcommand_from convert' -l design -d 
 complete -c plantbal-desk -n '__fish_seen_subcommand_from convert' -F
 complete -c plantbal-desk -n '__fish_seen_subcommand_from book' -s h -l help -d 'show this help message and exit'
 complete -c plantbal-desk -n '__fish_seen_subcommand_from book' -l program -r -F -d 'the program (default: that of PLANTBAL, of the path, or of this checkout)'
-complete -c plantbal-desk -n '__fish_seen_subcommand_from book' -l locale -x -d 'how numbers and days are written: de, en_GB, fr'
+complete -c plantbal-desk -n '__fish_seen_subcommand_from book' -l locale -x -d 'how days are written, such as de'
 complete -c plantbal-desk -n '__fish_seen_subcommand_from book' -l missing -x -d 'a further text that stands for a missing figure'
 complete -c plantbal-desk -n '__fish_seen_subcommand_from book' -l skip -x -d 'a column to leave out'
 complete -c plantbal-desk -n '__fish_seen_subcommand_from book' -l limits -d 'errors are limits that hold 95 times in 100: half of each is taken'
@@ -102,7 +102,7 @@ complete -c plantbal-desk -n '__fish_seen_subcommand_from book' -l who -x -d 'wh
 complete -c plantbal-desk -n '__fish_seen_subcommand_from book' -l why -x -d 'the reason'
 complete -c plantbal-desk -n '__fish_seen_subcommand_from book' -l strike -d 'strike facts that aren\'t in the workbook any more'
 complete -c plantbal-desk -n '__fish_seen_subcommand_from book' -l anyway -d 'also if the period is open'
-complete -c plantbal-desk -n '__fish_seen_subcommand_from book' -l year -x -d 'the year of its plant (default: the last)'
+complete -c plantbal-desk -n '__fish_seen_subcommand_from book' -l year -x -d 'the new part: 2024b after 2024'
 complete -c plantbal-desk -n '__fish_seen_subcommand_from book' -l dry-run -d 'say what would be booked, and book nothing'
 complete -c plantbal-desk -n '__fish_seen_subcommand_from book' -l density -x -d 'another density: 862'
 complete -c plantbal-desk -n '__fish_seen_subcommand_from book' -l error -x -d 'another error: 0.2 t'
@@ -125,7 +125,7 @@ complete -c plantbal-desk -n '__fish_seen_subcommand_from book' -l all -d 'close
 complete -c plantbal-desk -n '__fish_seen_subcommand_from book' -l plant -r -F -d 'another plant (default: plant.csv)'
 complete -c plantbal-desk -n '__fish_seen_subcommand_from book' -l first -x -d 'its first day (default: January 1st)'
 complete -c plantbal-desk -n '__fish_seen_subcommand_from book' -l head -x -d 'a head that was kept elsewhere: this book has to have it'
-complete -c plantbal-desk -n '__fish_seen_subcommand_from book' -a 'new add show amend strike estimate report window close quiet difference posted account status next verify head accept'
+complete -c plantbal-desk -n '__fish_seen_subcommand_from book' -a 'new add show amend strike estimate report window close quiet difference posted account status next retire verify head accept'
 complete -c plantbal-desk -n '__fish_seen_subcommand_from book' -F
 complete -c plantbal-desk -n '__fish_seen_subcommand_from template' -s h -l help -d 'show this help message and exit'
 complete -c plantbal-desk -n '__fish_seen_subcommand_from template' -a 'refinery concentrator utility'

@@ -122,7 +122,7 @@ _plantbal_desk() {
             '-h[show this help message and exit]'
             '--help[show this help message and exit]'
             '--program=[the program (default\: that of PLANTBAL, of the path, or of this checkout)]:PATH:_files'
-            '--locale=[how numbers and days are written\: de, en_GB, fr]:NAME:'
+            '--locale=[how days are written, such as de]:NAME:'
             '--missing=[a further text that stands for a missing figure]:TEXT:'
             '--skip=[a column to leave out]:HEAD:'
             '--limits[errors are limits that hold 95 times in 100\: half of each is taken]'
@@ -131,7 +131,7 @@ _plantbal_desk() {
             '--why=[the reason]:TEXT:'
             '--strike[strike facts that aren'\''t in the workbook any more]'
             '--anyway[also if the period is open]'
-            '--year=[the year of its plant (default\: the last)]:YEAR:'
+            '--year=[the new part\: 2024b after 2024]:YEAR:'
             '--dry-run[say what would be booked, and book nothing]'
             '--density=[another density\: 862]:TEXT:'
             '--error=[another error\: 0.2 t]:TEXT:'
@@ -155,7 +155,7 @@ _plantbal_desk() {
             '--first=[its first day (default\: January 1st)]:DAY:'
             '--head=[a head that was kept elsewhere\: this book has to have it]:DIGEST:'
             '1:word:(book)'
-            '2:COMMAND:(new add show amend strike estimate report window close quiet difference posted account status next verify head accept)'
+            '2:COMMAND:(new add show amend strike estimate report window close quiet difference posted account status next retire verify head accept)'
             '*:FILE:_files'
         ) ;;
     template)
