@@ -86,7 +86,8 @@ def run(
     fallback : {'', 'scipy'}
         What solves a report that isn't converged, as `plantbal.solve` does: certified, and without
         tests of single measurements. It needs a run without elimination. A report on whose flows
-        balances of components rest stays as it is.
+        balances of components rest stays as it is. With tests the program first tries each
+        measurement of such a report in vain, which takes minutes for 2,000 streams.
 
     Returns
     -------
