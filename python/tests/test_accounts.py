@@ -15,11 +15,13 @@ from hypothesis import strategies as some
 from plantbal.accounts.account import Level, MonthAccount, Rolled, Table
 from plantbal.accounts.entries import Line
 from plantbal.accounts.month import Basis, Flow, Gain, Month
+from plantbal.accounts.posting import parse_posted
 from plantbal.accounts.shares import split
 from plantbal.accounts.sheet import Account, Accounts, Kind, Ownership, Rule, SalesUnit
 from plantbal.accounts.spread import Sum, deviations
 from plantbal.accounts.stock import Opened, Why, rolled
 from plantbal.accounts.trend import Unusual, unusual
+from plantbal.faults import InputFault
 from plantbal.model.ledger import Ledger
 from plantbal.report.blocks import last_blocks, blocks_of, read_rows
 
@@ -253,6 +255,39 @@ def test_sales_units() -> None:
     assert SalesUnit("bbl", Fraction(862_000)).amount(10**9) == 10**9 / (
         Fraction("0.158987294928") * 862_000
     )
+
+
+# ---- what was posted
+
+
+POSTED = """posting,period,name,what,from,to,product,group,grams
+m.1-a,m,IN,flow,receipts,stock T,oil,oil,-5
+m.1-a,m,T,closing stock,,,oil,oil,95
+"""
+
+
+@pytest.mark.parametrize(
+    "old, new, said",
+    [
+        ("posting,", "posted,", "line 1: this is no file of what was posted"),
+        (POSTED, "", "line 1: this is no file of what was posted"),
+        ("oil,95", "oil,95\r\r", "this is no row of what was posted"),
+        ("receipts", "rec\reipts", "this is no row"),
+        ("oil,95", 'oil,"95', "this is no CSV"),
+        ("m.1-a,m,T", "m.2-b,m,T", "line 3: this is no row of what was posted"),
+        ("T,closing stock,,", "IN,flow,receipts,stock T", "line 3: this is no row"),
+        ("oil,95", "oil", "line 3: this is no row"),
+        ("95", "", "line 3: this is no row"),
+        ("95", "--5", "line 3: this is no row"),
+        ("95", "9" * 5000, "line 3: this is no row"),
+        ("95", "\u0661", "line 3: this is no row"),
+    ],
+)
+def test_damaged_postings(old: str, new: str, said: str) -> None:
+    assert list(parse_posted("p.csv", POSTED).state.values()) == [-5, 95]
+    with pytest.raises(InputFault) as fault:
+        parse_posted("p.csv", POSTED.replace(old, new, 1))
+    assert said in str(fault.value)
 
 
 # ---- beside the months before

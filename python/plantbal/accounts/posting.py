@@ -13,6 +13,7 @@ from __future__ import annotations
 import csv
 import hashlib
 import io
+import re
 from collections.abc import Iterable, Iterator, Mapping, Sequence
 from dataclasses import dataclass, field
 
@@ -30,6 +31,7 @@ HEADS = ("posting", "period", "name", "what", "from", "to", "product", "group", 
 POSTING_HEADS = (
     *("posting", "line", "period", "account", "stream or tank", "product", "group", "t", "cause"),
 )
+_GRAMS = re.compile("-?[0-9]{1,40}")
 FLOW, OPENING, CLOSING = "flow", Line.OPENING.value, Line.CLOSING.value
 
 
@@ -235,16 +237,23 @@ def parse_posted(name: str, text: str) -> Posted:
     InputFault
         If it is none.
     """
-    rows = list(csv.reader(io.StringIO(text)))
-    place = Place(file=name, line=1)
     remedy = "no command writes that: put it back, from a backup"
+    try:
+        rows = list(csv.reader(io.StringIO(text, newline=""), strict=True))
+    except csv.Error as error:
+        raise InputFault(
+            f"this is no CSV: {error}", place=Place(file=name), remedy=remedy
+        ) from error
     if not rows or tuple(rows[0]) != HEADS:
-        raise InputFault("this is no file of what was posted", place=place, remedy=remedy)
-    state, identity = {}, ""
+        what = "this is no file of what was posted"
+        raise InputFault(what, place=Place(file=name, line=1), remedy=remedy)
+    state: dict[Item, int] = {}
+    identity = rows[1][0] if len(rows) > 1 and rows[1] else ""
     for at, row in enumerate(rows[1:], 2):
-        if len(row) != len(HEADS) or not row[-1].lstrip("-").isdecimal():
+        item = Item(*row[2:8]) if len(row) == len(HEADS) else None
+        is_read = item is not None and row[0] == identity and _GRAMS.fullmatch(row[8])
+        if item is None or not is_read or item in state:
             place = Place(file=name, line=at)
             raise InputFault("this is no row of what was posted", place=place, remedy=remedy)
-        identity = row[0]
-        state[Item(*row[2:8])] = int(row[8])
+        state[item] = int(row[8])
     return Posted(identity, state)
