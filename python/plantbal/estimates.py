@@ -36,7 +36,11 @@ def estimate_id(label: str, day: str) -> str:
     return plain if len(plain) <= _MOST else f"{label}_{day.replace('-', '')}.e"
 
 
+def is_marked(identity: str) -> bool:
+    """Say whether an id is that of an estimate."""
+    return _MARKED.fullmatch(identity) is not None
+
+
 def is_estimate(fact: Fact) -> bool:
     """Say whether a fact is an estimate: it is marked, and its values are those it came with."""
-    is_marked = fact.kind == "reading" and _MARKED.fullmatch(fact.id) is not None
-    return is_marked and fact.line == fact.booked
+    return fact.kind == "reading" and is_marked(fact.id) and fact.line == fact.booked

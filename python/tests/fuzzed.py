@@ -252,6 +252,7 @@ def _of_books(room: Path) -> list[Target]:
         (("accept", "2024.csv", *why), False),
         (("amend", "F-1", "2024-04-02", "1300 t", *why), False),
         (("strike", "SILO", "2024-04-30", *why), False),
+        (("estimate", "2024-04", "F-1", "--take", *why), False),
         (("add", str(books.april), *why), False),
         (("next", "2024-2"), True),
         (("account", "2024-04"), False),

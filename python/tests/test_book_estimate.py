@@ -37,12 +37,12 @@ def test_the_table_of_streams_marks_what_is_estimated(
     book: Type, say: Desk, tmp_path: Path
 ) -> None:
     assert book("add", april(tmp_path, without=(17,)), "--why", "all", "--strike").status == 0
-    assert "class=\"estimated\"" not in page_of(book, say, tmp_path)
+    assert 'class="estimated"' not in page_of(book, say, tmp_path)
     assert book("estimate", "2024-04", "P-1", "--take", "--why", "x").status == 0
     page = page_of(book, say, tmp_path)
     row = page[page.index('<tr data-stream="PRODUCT"') :]
     assert '<span class="estimated">est</span>' in row[: row.index("</tr>")]
-    assert page.count("<span class=\"estimated\">") == 1
+    assert page.count('<span class="estimated">') == 1
     note = page[page.index("est: what was measured") :]
     assert "2024-04-17" in note[:300] and "±" in note[:300]
 
@@ -78,6 +78,9 @@ def test_a_dead_meter_is_estimated_if_it_is_named(book: Type, tmp_path: Path) ->
     assert sum(row.startswith("strike,") for row in rows) == len(days)
     assert all(".est," in row for row in rows if ",PRODUCT,2024-04-1" in row and row in rows[-12:])
     assert book("estimate", "2024-04", "PUMP").status == 1
+    again = book("add", april(tmp_path, dead=days))  # the same workbook changes nothing
+    assert again.status == 0 and "nothing new" in again.out, again
+    assert "P-1_2024-04-10.est: it stays amended" in again.out + again.err
 
 
 def test_what_the_report_has_anyway_is_not_booked(book: Type, tmp_path: Path) -> None:

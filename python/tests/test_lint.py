@@ -413,7 +413,8 @@ def test_code(code: str, session: str, text: str) -> None:
 
 
 def test_each_code_has_a_case() -> None:
-    others = {"nearly-full", "no-account", "no-owner", "exchanged", "strap-slope", "scatter"}
+    silent = {"exchanged", "strap-slope", "scatter"}  # which have tests of their own
+    others = {"nearly-full", "no-account", "no-owner"} | silent
     assert {case[0] for case in CASES} | others == set(RULES)
 
 

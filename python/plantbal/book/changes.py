@@ -7,6 +7,7 @@ from dataclasses import dataclass, field, replace
 
 from plantbal.book.ledger import Fact, Ledger
 from plantbal.book.years import Years
+from plantbal.estimates import is_marked
 from plantbal.faults import Fault
 from plantbal.session import Period
 from plantbal.workbook.facts import Converter
@@ -119,6 +120,8 @@ def compare(years: Years, facts: list[Fact]) -> Changes:
             was = old or ledger.lost(fact, own)
             if old is not None and old.says(fact):
                 found.same += 1
+            elif old is not None and _estimated(years, ledger, old, fact):
+                found.stale.append(Change(ledger, old, fact))
             elif was is not None and _before(years, ledger, was, fact):
                 found.stale.append(Change(ledger, was, fact))
             elif old is None:
@@ -132,6 +135,12 @@ def compare(years: Years, facts: list[Fact]) -> Changes:
             left = {ledger.name: Change(ledger, old, fact) for ledger, old in twins}
             found.left += [change for name, change in left.items() if name not in names]
     return found
+
+
+def _estimated(years: Years, ledger: Ledger, old: Fact, fact: Fact) -> bool:
+    """Say whether a fact is booked as an estimate that a command put in the place of this one."""
+    lost = ledger.lost(fact) if is_marked(old.id) else None
+    return lost is not None and _before(years, ledger, lost, fact)
 
 
 def _before(years: Years, ledger: Ledger, was: Fact, fact: Fact) -> bool:

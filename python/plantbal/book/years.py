@@ -16,7 +16,7 @@ _DAY = datetime.timedelta(1)
 # Before the first period of a year may stand days of the year before it, such as the 26th of
 # December, but no others: so a year that is typed wrong is noticed.
 _BEFORE = datetime.timedelta(31)
-_TYPED = (Act.AMEND, Act.STRIKE)
+_TYPED = (Act.AMEND, Act.STRIKE, Act.ESTIMATE)
 
 
 @dataclass(frozen=True)
@@ -121,7 +121,7 @@ class Years:
     spans : list of Span
         The years and their days.
     typed : dict of str to set of int
-        Of each year the rows that the commands `amend` and `strike` have written.
+        Of each year the rows that the commands `amend`, `strike` and `estimate` have written.
     """
 
     def __init__(

@@ -166,11 +166,17 @@ def _scatter_of(
         some, word = tuple(names), "too small"
     else:
         return
-    who = f"the error of {widest} seems" if len(some) == 1 else f"the errors of {', '.join(some)} seem"
+    who = (
+        f"the error of {widest} seems"
+        if len(some) == 1
+        else f"the errors of {', '.join(some)} seem"
+    )
     text = (
         f"{who} {word} in {seen.period.name}: on a day the balance of {' '.join(balance.nodes)} "
         f"scatters by {_tonnes(seen_scatter)}, and by the errors it would by {_tonnes(error)}"
     )
-    remedy = "compare the errors of these meters with their certificates: a digit, or percent of what?"
+    remedy = (
+        "compare the errors of these meters with their certificates: a digit, or percent of what?"
+    )
     line = facts[some[0]][running[0]].line
     yield Finding("scatter", text, remedy, place_in(ledger, line), some[0], seen.period.name, some)
