@@ -410,8 +410,9 @@ def test_lines_there_and_back() -> None:
     """Whatever stands in their cells; a line of one letter more is none."""
     texts = ["", "a", 'quote " and, comma', "'; drop", "Zürich", "=1+1", "\\n"]
     made = chained(
-        Line(0, "2024-05-01T08:00:00Z", text, text, act, text, text, text, text, "", files)
+        Line(0, "2024-05-01T08:00:00Z", text, text, act, of, text, text, text, "", files)
         for text, act in zip(texts, [Act.NEW, *Act])
+        for of in ("2024" if act in (Act.NEW, Act.NEXT) else text,)
         for files in ({"2024.csv": Kept.of(b"a\n"), "plant.csv": Kept.of(None)},)
     )
     whole = HEAD_TEXT + "".join(line.text for line in made)
@@ -420,6 +421,15 @@ def test_lines_there_and_back() -> None:
         for other in (whole[:at] + whole[at + 1 :], whole[:at] + "~" + whole[at + 1 :]):
             with pytest.raises(InputFault):
                 read_journal("j", other)
+
+
+@pytest.mark.parametrize("year", ["", "24", "2024/x", "2024" + "a" * 29, "[" * 5000])
+def test_a_year_of_another_form(year: str) -> None:
+    """Its name is that of a file, so a stranger's journal can't choose it freely."""
+    line = Line(0, "2024-05-01T08:00:00Z", "", "", Act.NEW, year)
+    whole = HEAD_TEXT + "".join(each.text for each in chained([line]))
+    with pytest.raises(InputFault, match="j: line 2: "):
+        read_journal("j", whole)
 
 
 def test_how_long_a_test_takes(tmp_path: Path) -> None:

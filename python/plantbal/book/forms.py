@@ -22,7 +22,7 @@ CHECKS = ".checks"
 PENDING = ".pending"
 LOCK = ".lock"
 
-_YEAR = r"[0-9]{4}[A-Za-z0-9_-]*"
+_YEAR = r"[0-9]{4}[A-Za-z0-9_-]{0,28}"
 _NAME = r"[A-Za-z0-9_.-]{1,32}"
 _OWN = re.compile(
     rf"(?:plant|meters|accounts|journal|{_YEAR})\.csv|{POSTED}/{_NAME}\.[0-9]+\.csv"
@@ -35,7 +35,7 @@ _OLD_BEGUN = re.compile(rf"\.(?:plant|meters|journal|\.pending|{_YEAR})\.[a-z0-9
 
 
 def is_year(name: str) -> bool:
-    """Say whether a name is that of a year: four digits, and more letters and digits if wanted."""
+    """Say whether a name is that of a year: four digits, and up to 28 more letters and digits."""
     return re.fullmatch(_YEAR, name) is not None
 
 

@@ -21,6 +21,7 @@ from dataclasses import dataclass, field, replace
 from enum import StrEnum
 from itertools import pairwise
 
+from plantbal.book.forms import is_year
 from plantbal.faults import InputFault, Place
 
 HEADS = (
@@ -322,6 +323,8 @@ def _line(file: str, at: int, row: Sequence[str]) -> Line:
     number, when, user, who, act, of, what, why, rows, program, kept, before, digest = row
     files = _files(kept)
     if not _NUMBER.fullmatch(number) or files is None:
+        raise _no_line(file, at)
+    if _ACTS[act] in (Act.NEW, Act.NEXT) and not is_year(of):
         raise _no_line(file, at)
     stated = (when, user, who, _ACTS[act], of, what, why, rows, program, files, before, digest)
     return Line(int(number), *stated)
