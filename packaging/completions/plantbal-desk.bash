@@ -108,6 +108,7 @@ _plantbal_desk() {
         balance:--feed) :; return ;;
         balance:--pulps) _plantbal_files -f; return ;;
         balance:--locale) :; return ;;
+        balance:--held) :; return ;;
         balance:--chart) _plantbal_files -f; return ;;
         balance:--form) _plantbal_words 'text csv json'; return ;;
         balance:--given) _plantbal_files -f; return ;;
@@ -241,8 +242,8 @@ _plantbal_desk() {
         _plantbal_words '-h --help --decimal --date --limits --missing --skip --before' ;;
     tables)
         if [[ $here != -* ]]; then
-            if [[ ! " ${COMP_WORDS[*]:at + 1:COMP_CWORD - at - 1} " =~ ' '(flows|classes|count|contents|suspects|imbalance|balances|holes|unseen)' ' ]]; then
-                _plantbal_words 'flows classes count contents suspects imbalance balances holes unseen'
+            if [[ ! " ${COMP_WORDS[*]:at + 1:COMP_CWORD - at - 1} " =~ ' '(flows|classes|count|contents|suspects|imbalance|balances|holes|unseen|grades)' ' ]]; then
+                _plantbal_words 'flows classes count contents suspects imbalance balances holes unseen grades'
                 return
             fi
             _plantbal_files -f
@@ -266,7 +267,7 @@ _plantbal_desk() {
             _plantbal_files -f
             return
         fi
-        _plantbal_words '-h --help --component --closed --feed --pulps --locale --chart --form --given --out --program' ;;
+        _plantbal_words '-h --help --component --closed --feed --pulps --locale --held --chart --form --given --out --program' ;;
     recovery)
         if [[ $here != -* ]]; then
             _plantbal_files -f

@@ -186,10 +186,10 @@ _plantbal_desk() {
             '--help[show this help message and exit]'
             '--component=[of the balances of a component]:NAME:'
             '--window[of the last window]'
-            '--session=[with holes\: the session, for days, tickets and dips]:FILE:_files'
+            '--session=[the session\: with grades its assays, with holes days, tickets and dips]:FILE:_files'
             '--keep=[with --session\: write the session of the days of its last report]:FILE:_files'
             '1:word:(tables)'
-            '2:WHAT:(flows classes count contents suspects imbalance balances holes unseen)'
+            '2:WHAT:(flows classes count contents suspects imbalance balances holes unseen grades)'
             '*:OUTPUT:_files'
         ) ;;
     uncertainty)
@@ -229,6 +229,7 @@ _plantbal_desk() {
             '--feed=[recoveries are parts of what this stream carries]:STREAM:'
             '--pulps=[balance water too\: a workbook with a sheet pulps, or that sheet]:WORKBOOK:_files'
             '--locale=[whose numbers the sheet has, such as de or en_GB]:NAME:'
+            '--held=[what a tank held before the period, with its error\: STOCK=12000t,1% or STOCK\:cu=26%,1%]:TANK=AMOUNT,ERROR:'
             '--chart=[a .svg, .png or .pdf file]:FILE:_files'
             '--form=[how it is written]:FORM:(text csv json)'
             '--given=[keep the session that is certified]:FILE:_files'

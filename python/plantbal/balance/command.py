@@ -14,6 +14,7 @@ from plantbal.balance.known import Class, Known
 from plantbal.balance.pulps import with_water
 from plantbal.balance.reading import GRAMS, Asked, asked_of
 from plantbal.balance.solve import solve
+from plantbal.balance.stock import Held, held_of, lines_of_stocks, stocks_of, unknown_stocks
 from plantbal.balance.table import SOLIDS, Line, Unit, lines_of, recoveries_of, said_of
 from plantbal.commands.options import add_program
 from plantbal.faults import Fault, read_bytes
@@ -49,6 +50,9 @@ measured: stream, measure, value, error; and unit, solids density, from, to, per
 needed. The measure is solids (the part of the pulp, such as 34 %), density (of the pulp, such as
 1.62 t/m3, with the solids density beside it), or water: a stream of water alone, in t or m3, with
 its ends. Without a value such a stream is found by the balances.
+
+The grade of what a tank gained stands below its gain. That of what it holds needs what it held
+before, which no row of a session says: --held says it, tonnes and grades, each with its error.
 
 --chart draws the grades, each as it was assayed and as it is reconciled, with two standard
 deviations to each side.
@@ -86,6 +90,12 @@ def add_arguments(parser: argparse.ArgumentParser) -> None:
     parser.add_argument("--pulps", metavar="WORKBOOK", help=pulps)
     form = "whose numbers the sheet has, such as de or en_GB"
     parser.add_argument("--locale", metavar="NAME", default="", help=form)
+    held = (
+        "what a tank held before the period, with its error: STOCK=12000t,1%% or STOCK:cu=26%%,1%%"
+    )
+    parser.add_argument(
+        "--held", metavar="TANK=AMOUNT,ERROR", action="append", default=[], help=held
+    )
     parser.add_argument("--chart", metavar="FILE", help="a .svg, .png or .pdf file")
     parser.add_argument(
         "--form", choices=["text", "csv", "json"], default="text", help="how it is written"
@@ -95,8 +105,8 @@ def add_arguments(parser: argparse.ArgumentParser) -> None:
     add_program(parser)
 
 
-def run(options: argparse.Namespace) -> int:
-    """Write the flows and grades, and return 1 if one of them isn't certified."""
+def _asked(options: argparse.Namespace) -> Asked:
+    """Return what is to be balanced."""
     source, data = read_bytes(options.session, SESSION_BYTES)
     plant_of(source, data)  # says what is wrong with the session
     asked = asked_of(
@@ -116,12 +126,20 @@ def run(options: argparse.Namespace) -> int:
         if name not in names:
             remedy = f"say one of {', '.join(names)}"
             raise Fault(f"there is no stream {name}", text=name, remedy=remedy)
+    return asked
+
+
+def run(options: argparse.Namespace) -> int:
+    """Write the flows and grades, and return 1 if one of them isn't certified."""
+    asked = _asked(options)
     found = solve(asked.problem)
     known = Known(found)
     lines = list(lines_of(known))
+    held = held_of(options.held, known)
+    stocks = list(lines_of_stocks(stocks_of(known, held)))
     given = session_of(asked.problem, pulls_of(found, known), options.period)
     output = run_program(given.encode("ascii"), tests=False, program=options.program)
-    written = _FORMS[options.form](known, lines, options.feed)
+    written = _FORMS[options.form](known, [*lines, *stocks], options.feed)
     write_text("-", "".join(f"{row}\n" for row in written))
     for name, text in ((options.given, given), (options.out, output.to_csv())):
         if name:
@@ -129,10 +147,8 @@ def run(options: argparse.Namespace) -> int:
     if options.chart:
         _chart(options.chart, known)
     why_not = not_certified(lines, output, options.program)
-    for note in [
-        *notes_of(asked, known, lines),
-        *([f"not certified: {why_not}"] if why_not else []),
-    ]:
+    notes = list(notes_of(asked, known, lines, held))
+    for note in [*notes, *([f"not certified: {why_not}"] if why_not else [])]:
         print(f"{options.prog}: {note}", file=sys.stderr)
     return int(bool(why_not))
 
@@ -149,7 +165,7 @@ def _chart(path: str, known: Known) -> None:
         write_chart(of_known(known), made, form)
 
 
-def notes_of(asked: Asked, known: Known, lines: Iterable[Line]) -> Iterable[str]:
+def notes_of(asked: Asked, known: Known, lines: Iterable[Line], held: Held) -> Iterable[str]:
     """Yield what is to be said of a balance beside its figures."""
     for said in asked.left_out:
         yield f"left out: {said}"
@@ -163,6 +179,11 @@ def notes_of(asked: Asked, known: Known, lines: Iterable[Line]) -> Iterable[str]
     ]
     if loose:
         yield f"nothing determines the flow of {', '.join(loose)}: add a meter or an assay there"
+    if unknown := unknown_stocks(known, held):
+        yield (
+            f"what was held before the period isn't said (--held), so the grade of the stock isn't"
+            f" known: {', '.join(unknown)}"
+        )
 
 
 def not_certified(lines: Iterable[Line], output: Output, program: str | None) -> str:
@@ -189,7 +210,11 @@ def _text(known: Known, lines: list[Line], feeds: Sequence[str]) -> Iterable[str
     wide = max(len(line.stream) for line in lines)
     yield f"{'':{wide}}  {'':8}{'measured':>16}{'reconciled':>16}{'±':>12}{'in sd':>8}  class"
     for line in lines:
-        if line.kind is Class.UNOBSERVABLE and line.component in beside and line.stream not in alone:
+        if (
+            line.kind is Class.UNOBSERVABLE
+            and line.component in beside
+            and line.stream not in alone
+        ):
             continue  # few streams have their water measured
         is_part, is_own = line.unit is Unit.PART, not line.component or line.stream in alone
         factor, digits = (100.0, 4) if is_part else (1.0, 3)
@@ -198,7 +223,9 @@ def _text(known: Known, lines: list[Line], feeds: Sequence[str]) -> Iterable[str
             "" if value != value else f"{value * factor:,.{digits}f}"
             for value in (line.measured, line.value, line.sd)
         ]
-        pull = "" if line.adjustment != line.adjustment else f"{round(line.adjustment, 2) + 0.0:+.2f}"
+        pull = (
+            "" if line.adjustment != line.adjustment else f"{round(line.adjustment, 2) + 0.0:+.2f}"
+        )
         left = f"{'  ' * (not is_own)}{name}"
         unit = "%" if is_part else f"t {line.component}" if line.stream in alone else "t"
         why = f": {said_of(line.evidence)}" if line.evidence else ""

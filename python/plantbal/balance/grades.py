@@ -12,12 +12,14 @@ from dataclasses import dataclass, field
 
 from plantbal.balance.known import Class, Known
 from plantbal.balance.problem import Flow, Measured, Problem
-from plantbal.balance.reading import MILLION, flows_of
+from plantbal.balance.reading import MILLION, flows_of, grade_of
 from plantbal.balance.solve import solve
 from plantbal.balance.table import Recovery, recoveries_of
 from plantbal.faults import Fault
+from plantbal.model.ledger import Ledger
 from plantbal.report.blocks import Block
 
+Cell = str | float | None
 _NAN = float("nan")
 # Grades below this part are shown in parts per million.
 _SMALL = 1e-3
@@ -128,6 +130,29 @@ def grades_of(mass: Block, assays: Mapping[tuple[str, str], Measured]) -> Grades
     return of_known(together, found.said)
 
 
+def by_period(blocks: Iterable[Block], ledger: Ledger) -> dict[str, Grades]:
+    """Return the grades of the periods that have assays.
+
+    Parameters
+    ----------
+    blocks : iterable of Block
+        A round of the report of each period.
+    ledger : Ledger
+        The session.
+    """
+    assays = ledger.state.assays
+    found = {}
+    for block in blocks if assays else ():
+        own = {
+            (stream, component): grade_of(assay.ppm, assay.variance)
+            for (component, stream, period), assay in assays.items()
+            if period == block.period
+        }
+        if own and block.is_report and block.solved:
+            found[block.period] = grades_of(block, own)
+    return found
+
+
 def of_known(known: Known, said: Sequence[str] = ()) -> Grades:
     """Return the grades of flows and grades that were found.
 
@@ -170,3 +195,34 @@ def _grade(known: Known, flow: Flow, component: str) -> Grade:
         found.carried(name, component) if both else _NAN,
         known.deviation(gradient) if both else _NAN,
     )
+
+
+def table_of(grades: Mapping[str, Grades]) -> tuple[tuple[str, ...], list[tuple[Cell, ...]]]:
+    """Return the grades as a table, its head first: tonnes, and grades as parts of the whole."""
+    heads = (
+        *(
+            "period",
+            "component",
+            "stream",
+            "flow, t",
+            "± of the flow, t",
+            "assay",
+            "± of the assay",
+        ),
+        *("reconciled", "± of it", "in sd", "carries, t", "± of what it carries, t"),
+        *("recovery", "± of the recovery", "class"),
+    )
+    rows: list[tuple[Cell, ...]] = []
+    for period, own in grades.items():
+        for component, some in own.by_component.items():
+            for row in some:
+                recovery = own.recovery(component, row.stream)
+                numbers = (
+                    *(row.flow, row.flow_sd, row.assay, row.assay_sd, row.value, row.sd),
+                    *(row.adjustment, row.carried, row.carried_sd),
+                    *((recovery.part, recovery.sd) if recovery else (None, None)),
+                )
+                name = f"gain of {row.stream}" if row.is_gain else row.stream
+                cells = (None if one is None or one != one else one for one in numbers)
+                rows.append((period, component, name, *cells, row.kind.value))
+    return heads, rows

@@ -260,9 +260,7 @@ def scale_of(problem: Problem) -> float:
     Fault
         If no flow was measured.
     """
-    sizes = [
-        abs(flow.measured.value) for flow in problem.flows if flow.measured and not flow.only
-    ]
+    sizes = [abs(flow.measured.value) for flow in problem.flows if flow.measured and not flow.only]
     if not sizes or not max(sizes) > 0:
         raise Fault(
             "no flow was measured",

@@ -122,7 +122,9 @@ def _line(known: Known, figure: _Figure, sd: float) -> Line:
     else:
         value = (found.carried if is_amount else found.grade)(stream, component)
     column = system.columns[stream, component]
-    if not system.is_measured[column] or (is_amount and (stream, component) in system.problem.grades):
+    if not system.is_measured[column] or (
+        is_amount and (stream, component) in system.problem.grades
+    ):
         evidence: tuple[tuple[str, str], ...] = ()
         if is_amount and (not component or stream in system.problem.alone):
             evidence = tuple(known.evidence(stream, component))

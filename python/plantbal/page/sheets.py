@@ -9,11 +9,11 @@ from typing import TYPE_CHECKING, Any
 
 from plantbal.accounts.workbook import put_sheets
 from plantbal.amounts import tonnes_of
+from plantbal.balance.grades import table_of
 from plantbal.faults import ToolMissing
 from plantbal.files import replacing
 from plantbal.inert import store
 from plantbal.page import diagnosed
-from plantbal.page.grades import table_of
 from plantbal.page.head import Origin, head_of
 from plantbal.page.statement import Account, Line, Round, Statement
 

@@ -46,6 +46,12 @@ or, of the first round of each period's last report, as CSV:
   unseen     the measurements that nothing checks: by how much each may be too much and too little
              before a stream would flow backwards, and the streams that rest on it alone
 
+or, of the last round of each period's last report, as CSV:
+
+  grades     with --session: each grade as it was assayed and as it is reconciled with the flows,
+             its standard deviation, the adjustment in standard deviations of the assay, what the
+             stream carries, recovery; grades as parts of the whole, flows in tonnes
+
 With --keep the session of a period's days is written: a run of it makes the report of each day.
 
 Flows, classes and count are of the last round of each period's last report. With --component they
@@ -57,6 +63,7 @@ examples:
   plantbal run --tests < month.csv | plantbal-desk tables suspects
   plantbal-desk tables flows shifts.out.csv --component cu
   plantbal-desk tables contents month.out.csv
+  plantbal-desk tables grades month.out.csv --session month.csv --component cu
   plantbal-desk tables holes march.out.csv --session march.csv --keep march.days.csv
 """
 
@@ -233,13 +240,13 @@ def imbalances(blocks: list[Block]) -> Iterator[tuple[str, str, str]]:
 def add_arguments(parser: argparse.ArgumentParser) -> None:
     """Add the words of the command."""
     words = ["flows", "classes", "count", "contents", "suspects", "imbalance"]
-    parser.add_argument("what", choices=[*words, *DIAGNOSED])
+    parser.add_argument("what", choices=[*words, *DIAGNOSED, "grades"])
     parser.add_argument("output", metavar="OUTPUT", nargs="?", default="-")
     which = parser.add_mutually_exclusive_group()
     component = "of the balances of a component"
     which.add_argument("--component", metavar="NAME", default="", help=component)
     which.add_argument("--window", action="store_true", help="of the last window")
-    session = "with holes: the session, for days, tickets and dips"
+    session = "the session: with grades its assays, with holes days, tickets and dips"
     parser.add_argument("--session", metavar="FILE", help=session)
     keep = "with --session: write the session of the days of its last report"
     parser.add_argument("--keep", metavar="FILE", help=keep)
@@ -258,14 +265,43 @@ def _write_diagnosed(options: argparse.Namespace, blocks: list[Block]) -> None:
         write_text(options.keep, days_kept(ledger))
 
 
+def _write_grades(options: argparse.Namespace, blocks: list[Block]) -> None:
+    """Write the grades of the reports, reconciled with the flows."""
+    from plantbal.balance.grades import Grades, by_period, table_of
+    from plantbal.model.ledger import Ledger
+
+    if not options.session:
+        raise Fault("grades need the assays", remedy="say --session FILE")
+    if options.window:
+        raise Fault("grades are those of reports", remedy="leave --window out")
+    found = by_period(blocks, Ledger(*read_session(options.session)))
+    name = options.component
+    if name and not any(name in each.by_component for each in found.values()):
+        there = sorted({one for each in found.values() for one in each.by_component})
+        remedy = f"there are those of {', '.join(there)}" if there else "a balance needs two assays"
+        raise Fault(f"there are no grades of {name}", text=name, remedy=remedy)
+    for period, each in found.items():
+        for said in each.said:
+            print(f"{options.prog}: {period}: {said}", file=sys.stderr)
+        if name:
+            found[period] = Grades({name: each.by_component.get(name, [])}, each.recoveries)
+    heads, cells = table_of(found)
+    texts = (["" if cell is None else str(cell) for cell in row] for row in cells)
+    sys.stdout.write(csv_text([heads, *texts]))
+
+
 def run(options: argparse.Namespace) -> int:
     """Write the table."""
     rows = read_rows(options.output, "report")
     choice = Choice(options.component, options.window)
-    if (options.session or options.keep) and options.what != "holes":
-        raise Fault("--session and --keep are of the table holes", remedy="leave them out")
+    if options.session and options.what not in ("holes", "grades"):
+        raise Fault("--session is of the tables holes and grades", remedy="leave it out")
+    if options.keep and options.what != "holes":
+        raise Fault("--keep is of the table holes", remedy="leave it out")
     if options.what in DIAGNOSED:
         _write_diagnosed(options, choice.of(rows))
+    elif options.what == "grades":
+        _write_grades(options, Choice().latest(rows))
     elif options.what == "contents":
         if options.component:
             raise Fault("contents are those of a window", remedy="leave --component out")
