@@ -71,7 +71,7 @@ def test_bash_completes_plantbal(typed: list[str], wanted: list[str]) -> None:
 
 BOOK = set(
     "new add show amend strike report window close quiet account difference posted status next "
-    "estimate verify head accept".split()
+    "estimate retire verify head accept".split()
 )
 
 

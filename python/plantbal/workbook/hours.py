@@ -113,6 +113,16 @@ def has_times(stamps: Sequence[datetime.datetime]) -> bool:
     return any(at.tzinfo is not None or at.time() != datetime.time() for at in stamps)
 
 
+@lru_cache(maxsize=50_000)
+def _instant_of(zone: ZoneInfo | None, local: datetime.datetime, fold: int) -> datetime.datetime:
+    return local.replace(tzinfo=zone or ZoneInfo("UTC"), fold=fold).astimezone(_UTC)
+
+
+@lru_cache(maxsize=50_000)
+def _local_of(zone: ZoneInfo | None, instant: datetime.datetime) -> datetime.datetime:
+    return instant.astimezone(zone or ZoneInfo("UTC")).replace(tzinfo=None)
+
+
 @dataclass
 class Clock:
     """Turns stamps into days, by the plant's settings.
@@ -137,12 +147,11 @@ class Clock:
         return self._instant(local)
 
     def _instant(self, local: datetime.datetime, fold: int = 0) -> datetime.datetime:
-        zone = self.settings.zone or ZoneInfo("UTC")
-        return local.replace(tzinfo=zone, fold=fold).astimezone(_UTC)
+        return _instant_of(self.settings.zone, local, fold)
 
     def local(self, instant: datetime.datetime) -> datetime.datetime:
         """Return the time that the plant's clocks show."""
-        return instant.astimezone(self.settings.zone or ZoneInfo("UTC")).replace(tzinfo=None)
+        return _local_of(self.settings.zone, instant)
 
     def day(self, instant: datetime.datetime) -> datetime.date:
         """Return the day that an instant is in."""
