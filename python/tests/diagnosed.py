@@ -23,7 +23,7 @@ sys.path.insert(0, str(Path(__file__).resolve().parents[1]))
 sys.path.insert(0, str(Path(__file__).resolve().parent))
 
 import numpy  # noqa: E402
-from refinery import DAYS, TANKS, TOP, Month, copy_of, month_of, scaled, streams  # noqa: E402
+from refinery import DAYS, TANKS, TOP, Month, copy_of, month_of, scaled  # noqa: E402
 from scipy.stats import chi2, ncx2, norm  # noqa: E402
 
 from plantbal.study.critical import of_each  # noqa: E402

@@ -273,7 +273,7 @@ def reference(found: Solution, begin: list[float]) -> tuple[Any, Any]:
     begin : list of float
         Where the search begins: not where the package ended.
     """
-    from mpmath import mp, mpf
+    from mpmath import mpf
 
     conditions = Conditions(found)
     count = conditions.count

@@ -18,7 +18,6 @@ from conftest import Desk, Said, example, text_of
 
 from plantbal.audit.archive import bundle_files
 from plantbal.audit.bundle import (
-    DIGESTS,
     MANIFEST,
     MOST_BYTES,
     NAMES,

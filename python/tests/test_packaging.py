@@ -11,6 +11,8 @@ from pathlib import Path
 
 import pytest
 
+from plantbal.commands.book.command import COMMANDS
+
 TOP = Path(__file__).resolve().parents[2]
 COMPLETIONS = TOP / "packaging" / "completions"
 
@@ -69,10 +71,7 @@ def test_bash_completes_plantbal(typed: list[str], wanted: list[str]) -> None:
     assert said_by_bash("plantbal", *typed) == wanted
 
 
-BOOK = set(
-    "new add show amend strike report window close quiet account difference posted status next "
-    "estimate retire verify head accept".split()
-)
+BOOK = {inner.word for inner in COMMANDS}
 
 
 def test_bash_completes_plantbal_desk() -> None:

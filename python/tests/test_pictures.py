@@ -2,11 +2,7 @@
 
 from __future__ import annotations
 
-import re
-import shutil
-import subprocess
 import xml.dom.minidom
-from pathlib import Path
 
 import pytest
 from conftest import Desk, example, text_of

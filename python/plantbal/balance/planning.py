@@ -17,7 +17,7 @@ from plantbal.balance.worth import Change, Instrument, State, changed, changes_o
 from plantbal.faults import Fault, InputFault, Place
 from plantbal.files import replacing, write_text
 from plantbal.report.chart import ENDINGS
-from plantbal.workbook.cells import GRADES, Reader, check_locale
+from plantbal.workbook.cells import Reader, check_locale
 from plantbal.workbook.sheets import Cell, Sheet, read_workbook
 
 _HEADS = ("stream", "component", "cost", "error")

@@ -32,7 +32,6 @@ from plantbal.book.following import follow, retire
 from plantbal.book.meters import Meter
 from plantbal.book.naming import day_of
 from plantbal.book.results import (
-    ReportState,
     Accepted,
     Added,
     Begun,

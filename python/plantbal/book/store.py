@@ -14,7 +14,7 @@ is one more writing of the year's file, at most some 20 MB.
 
 from __future__ import annotations
 
-from collections.abc import Iterator, Mapping
+from collections.abc import Iterator
 from contextlib import contextmanager
 from dataclasses import dataclass, field
 from pathlib import Path
@@ -32,7 +32,6 @@ from plantbal.book.forms import (
     POSTED,
     REPORTS,
     is_begun,
-    is_own,
     is_year_file,
     there,
     year_file,
