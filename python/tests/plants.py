@@ -24,6 +24,7 @@ import numpy
 
 sys.path.insert(0, str(Path(__file__).resolve().parents[1]))
 from plantbal.balance import Flow, Known, Measured, Problem, Solution, solve  # noqa: E402
+from plantbal.balance.solve import NoMinimum  # noqa: E402
 from plantbal.balance.table import lines_of, recoveries_of  # noqa: E402
 from plantbal.faults import Fault  # noqa: E402
 
@@ -307,6 +308,8 @@ class Compared:
         alone goes elsewhere from the truth; not at all; and equations that follow from others.
     streams : int
         The most streams of a plant.
+    endless : int
+        How many plants have no minimum, since their squares fall without an end.
     """
 
     number: float = 0.0
@@ -316,6 +319,7 @@ class Compared:
     other: int = 0
     left: int = 0
     streams: int = 0
+    endless: int = 0
 
     def take(self, found: Solution, begin: list[float]) -> None:
         """Compare a plant."""
@@ -378,7 +382,11 @@ def compared(
             problem = plant.problem(rng, rng.uniform(0.4, 0.9), rng.uniform(0.5, 0.95))
         except Fault:
             continue  # too few assays of a component
-        found = solve(problem)
+        try:
+            found = solve(problem)
+        except NoMinimum:
+            result.endless += 1
+            continue
         result.take(found, begin_of(plant, found))
     return result
 

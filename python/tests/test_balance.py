@@ -3,6 +3,7 @@
 from __future__ import annotations
 
 import math
+import random
 from pathlib import Path
 
 import plants
@@ -10,6 +11,7 @@ import pytest
 from plantbal.balance import Class, Flow, Known, Measured, Problem, solids_of, solve, water_of
 from plantbal.balance.certify import pulls_of, session_of
 from plantbal.balance.pulps import with_water
+from plantbal.balance.solve import NoMinimum
 from plantbal.balance.table import lines_of
 from plantbal.faults import Fault
 
@@ -151,7 +153,11 @@ def test_a_sheet_of_pulps_that_can_not_be(tmp_path: Path) -> None:
         ("FEED,solids", "FEAD,solids", "line 2, column 1 (stream): there is no stream FEAD"),
         ("20,%", "20,", "line 2, column 3 (value): the grade 20 has no unit"),
         ("1452", "1.45", "line 3, column 3 (density): 1.45 kg/m3 is no density"),
-        ("1452", "452", "line 3, column 3 (value): a pulp of 0.452 t/m3 isn't between water and solids"),
+        (
+            "1452",
+            "452",
+            "line 3, column 3 (value): a pulp of 0.452 t/m3 isn't between water and solids",
+        ),
         ("2.65 t/m3", "", "line 3, column 6 (solids density): there is no density"),
         ("1 %,,,THICKENER", "0 %,,,THICKENER", "line 4, column 5 (error): '0 %' is no error"),
         ("FLOC,water", "UNDER,water", "line 4, column 1 (stream): the water of UNDER stands above"),
@@ -247,6 +253,21 @@ def test_bounds_that_hold_together_count() -> None:
     assert known.flow_deviation("A") == pytest.approx(0.5**0.5)
     assert known.class_of("B") is Class.OBSERVABLE
     assert known.flow_deviation("B") < 1e-12
+
+
+def test_squares_that_fall_without_an_end_are_said() -> None:
+    # the 17 streams of the eleventh plant; by solving with the flow of S2 held: from 0 on, the squares
+    # fall from 15.13 over 10.9 at 0.1 and 2.56 at 1.5 of the greatest flow to 1.62 at 300
+    rng = random.Random(17)
+    for number, plant in enumerate(plants.plants(rng, 22, 4), 1):
+        if len(plant.flows) > 40:
+            continue
+        problem = plant.problem(rng, rng.uniform(0.4, 0.9), rng.uniform(0.5, 0.95))
+        if number == 11:
+            break
+    with pytest.raises(NoMinimum) as raised:
+        solve(problem)
+    assert "S2 can't flow backwards, and the greater it is, the better" in str(raised.value)
 
 
 def test_bad_input_is_said() -> None:

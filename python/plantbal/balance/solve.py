@@ -18,7 +18,7 @@ passes becomes an equation, and is dropped again if its multiplier says that it 
 from __future__ import annotations
 
 from collections.abc import Callable
-from dataclasses import dataclass
+from dataclasses import dataclass, replace
 from typing import Any
 
 from plantbal.balance.problem import Problem
@@ -45,6 +45,8 @@ _HOLD = 1e-9
 _SLACK = 1e-13
 _REFINED = 3
 _SHORTEST = 2.0**-30
+# By what part of the scale a bound is moved first, and how often it is moved twice as far.
+_WALK, _MOST_WALK = 0.01, 15
 # How near the place where the search begins is sought, and in how many steps at most.
 _BEGIN, _MOST_BEGIN = 1e-6, 1000
 
@@ -91,6 +93,24 @@ class Bound:
     def excess(self, vector: Any) -> float:
         """Return by how much a vector is below it."""
         return self.limit - float(sum(factor * vector[column] for column, factor in self.terms))
+
+
+class NoMinimum(Fault):
+    """The measurements fit the better the greater a flow or a grade is, without an end.
+
+    Parameters
+    ----------
+    bound : Bound
+        Its bound on the other side.
+    """
+
+    def __init__(self, bound: Bound) -> None:
+        super().__init__(
+            f"no flows and grades fit the measurements best: {bound.said}, and the greater it is, the"
+            " better they fit, without an end",
+            remedy="add a meter or an assay there, or look at the assays around it",
+        )
+        self.bound = bound
 
 
 @dataclass(frozen=True)
@@ -157,6 +177,8 @@ def solve(problem: Problem) -> Solution:
     ------
     NotFound
         If the search doesn't end.
+    NoMinimum
+        If nothing fits best.
     Fault
         If no flow was measured.
     """
@@ -181,6 +203,8 @@ def solve(problem: Problem) -> Solution:
         seen.add(frozenset(active))
         if is_round:  # the first one in order: no round is taken twice (Bland's rule)
             first = min([*passed, *loose], key=bounds.index)
+            if first in loose:
+                vector = _beyond(system, vector, active, first)
             active = [one for one in active if one is not first] + [first] * (first in passed)
         elif passed:
             active.append(max(passed, key=lambda one: one.excess(vector)))
@@ -189,6 +213,29 @@ def solve(problem: Problem) -> Solution:
     raise NotFound(
         "a flow or a grade that can't be below nothing", max(b.excess(vector) for b in bounds)
     )
+
+
+def _beyond(system: System, vector: Any, active: list[Bound], bound: Bound) -> Any:
+    """Return a place on the allowed side of a bound that was dropped and passed again.
+
+    From the bound the squares fall to the allowed side, and yet without it the search goes over a
+    ridge to the other. So the bound is moved, twice as far each time, until it pulls back: the
+    minimum on its side is near.
+
+    Raises
+    ------
+    NoMinimum
+        If it doesn't pull back however far it is moved.
+    """
+    others = [one for one in active if one is not bound]
+    step = _WALK
+    for _ in range(_MOST_WALK):
+        moved = replace(bound, limit=bound.limit + step)
+        vector, _, pulls, _ = _minimum(system, vector, [*others, moved])
+        if pulls[-1] > 0:
+            return vector
+        step *= 2
+    raise NoMinimum(bound)
 
 
 def bounds_of(system: System) -> list[Bound]:
