@@ -112,6 +112,9 @@ def test_where_to_look_is_said_in_the_sales_unit(book: Type, say: Desk, tmp_path
     found = re.search(r"a ticket of TRUCKS of (1,185 t, ([0-9,]+) bbl) is missing", said)
     assert found is not None, said
     assert float(found[2].replace(",", "")) == pytest.approx(each / 2 / 0.158987294928, rel=1e-3)
+    hole = re.search(r"1,[0-9]{3} t, ([0-9,]+) bbl ± [0-9]", said)
+    assert hole is not None, said
+    assert float(hole[1].replace(",", "")) == pytest.approx(each / 2 / 0.158987294928, rel=5e-2)
     report, words = tmp_path / "mill/reports/2024-04.csv", ("--session", tmp_path / "s.csv")
     assert found[1] in say("page", report, *words, "--book", tmp_path / "mill").out
     assert " bbl" not in say("page", report, *words).out

@@ -83,9 +83,17 @@ def percent_text(percent: float) -> str:
     return f"{percent:,.{places}f} %"
 
 
-def hole_said(hole: Hole, shown: Shown = same) -> str:
-    """Return how great a hole is, and between which nodes it is."""
-    size = f"{tonnes(hole.size)} ± {tonnes(hole.deviation)}"
+def hole_said(
+    hole: Hole, shown: Shown = same, units: Mapping[str, SalesUnit] = NONE_SOLD
+) -> str:
+    """Return how great a hole is, and between which nodes it is.
+
+    If all that may have it, and are sold in a unit of their own, are sold in the same one, it is
+    said in that one too.
+    """
+    sold = {units[name]: name for name in hole.names if name in units}
+    name = next(iter(sold.values())) if len(sold) == 1 else ""
+    size = f"{sold_said(units, name, hole.size)} ± {tonnes(hole.deviation)}"
     sure = f"{hole.deviations:,.1f} standard deviations"
     one, other = sorted(hole.ends, key=len, reverse=True)
     return f"{size} ({sure}) between {nodes_said(one, shown)} and {nodes_said(other, shown)}"
@@ -222,7 +230,7 @@ def likely(told: Told) -> list[Candidate]:
 
 def told_said(told: Told, shown: Shown = same) -> Iterator[str]:
     """Give what is told of a hole: the set, its size, the days, and what it may be."""
-    yield f"{set_said(told.names, shown)}. {hole_said(told.hole, shown)}."
+    yield f"{set_said(told.names, shown)}. {hole_said(told.hole, shown, told.units)}."
     if told.findings:
         for finding in as_good(told):
             yield f"{finding_said(finding, shown, told.units)}."

@@ -77,7 +77,7 @@ def _rows(period: str, report: Report) -> Iterator[tuple[str | float | Decimal |
         where, best = words.one_of([shown(name) for name in hole.names]), hole.best
         amounts = _whole(hole.hole.size), _whole(hole.hole.deviation), hole.hole.deviations
         days = words.days_said(best) if best else None
-        yield period, "one of", where, *amounts, days, words.hole_said(hole.hole, shown)
+        yield period, "one of", where, *amounts, days, words.hole_said(hole.hole, shown, hole.units)
         for line in told(hole, report):
             yield period, "what it may be", where, None, None, None, None, line
     for each in unchecked(report):
@@ -96,7 +96,7 @@ FILTERS = {
     "told": told,
     "percents": percents,
     "set_said": lambda each, report: words.set_said(each.names, shown_by(report)),
-    "hole_said": lambda each, report: words.hole_said(each.hole, shown_by(report)),
+    "hole_said": lambda each, report: words.hole_said(each.hole, shown_by(report), each.units),
     "nodes_said": lambda each, report: words.nodes_said(each.nodes, shown_by(report)),
     "unchecked_said": lambda each, report: words.unchecked_said(each, shown_by(report)),
     "net": lambda balance: ("+" if balance.grams > 0 else "") + tonnes_text(balance.grams),
