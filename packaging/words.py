@@ -203,8 +203,6 @@ def flat(command: Command) -> Command:
             values = [value for each in word.inner for value in each.values]
             kinds = {value.kind: value for value in values if value.kind in ("file", "folder")}
             first = Value("COMMAND", tuple(each.word for each in word.inner))
-            word = Command(
-                word.word, word.about, tuple(options.values()), (first, *kinds.values())
-            )
+            word = Command(word.word, word.about, tuple(options.values()), (first, *kinds.values()))
         inner.append(word)
     return Command(command.word, command.about, command.options, command.values, tuple(inner))

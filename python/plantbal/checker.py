@@ -262,9 +262,19 @@ CLASSES = "observable", "unobservable", "redundant", "nonredundant"
 VERDICTS = "reject", "accept", "undecided", "nocritical", "notest"
 # The columns of each kind of row and their forms: a name, a text, or a whole number between two,
 # which may be missing if None follows. Names come before numbers; texts are asked after both.
-ROUND, SWEEPS, DOF, GAP, CRITICAL = (0, 20), (0, 100_000), (0, 2000), (1, 10**6), (0, 10**12, None)
+ROUND, SWEEPS, DOF, GAP, CRITICAL = (
+    (0, 20),
+    (0, 100_000),
+    (0, 2000),
+    (1, 10**6),
+    (0, 10**12, None),
+)
 ANY, MAYBE, PRICE = (-(2**126), 2**126), (-(2**126), 2**126, None), (-(2**120), 2**120)
-VALUE, VARIANCE, FLOW = (-(10**15), 10**15, None), (1, 10**22, None), (1 - 2**68, 2**68 - 1)
+VALUE, VARIANCE, FLOW = (
+    (-(10**15), 10**15, None),
+    (1, 10**22, None),
+    (1 - 2**68, 2**68 - 1),
+)
 COLUMNS: dict[str, tuple[Any, ...]] = {
     "report": ("period round nodes streams gap sweeps", NAME, ROUND, ANY, ANY, GAP, SWEEPS),
     "node": ("name price", NAME, PRICE),

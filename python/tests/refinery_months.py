@@ -176,13 +176,17 @@ class Refinery:
         """Run a day, and read its meters."""
         rng, flow = self.rng, dict.fromkeys(self.streams, 0.0)
         self.crude += 0.2 * (19_000 - self.crude) + rng.gauss(0, 400)
-        flow["CRUDE"], flow["STEAM"] = self.crude, 240.0 if self.is_contract else 240 + rng.gauss(0, 6)
+        flow["CRUDE"], flow["STEAM"] = self.crude, 240.0 if self.is_contract else 240 + rng.gauss(
+            0, 6
+        )
         flow["IMPORT"] = rng.uniform(50, 120) if rng.random() < 0.3 else 0.0
         for name, usual in FEEDS.items():
             tank, unit = self.streams[name].start, self.streams[name].end
             fill = self.content[tank] / TANKS[tank]
             idle = unit == self.off and at in self.off_days
-            flow[name] = 0.0 if idle else usual * min(1.3, max(0.5, 0.5 + fill)) * rng.gauss(1, 0.02)
+            flow[name] = (
+                0.0 if idle else usual * min(1.3, max(0.5, 0.5 + fill)) * rng.gauss(1, 0.02)
+            )
         for unit in ORDER:
             self._unit(unit, flow, at)
         self._trade(made, flow, at)
@@ -229,9 +233,11 @@ class Refinery:
         if name == "STEAM" and self.is_contract:
             return 240_000_000
         seen = flow * (1 + self.bias[name]) * self.rng.gauss(1, 0.006)
-        return round(seen) * 10**6 if self.is_whole[name] else round(seen, 1).__trunc__() * 10**6 + (
-            round(seen * 10) % 10
-        ) * 10**5
+        return (
+            round(seen) * 10**6
+            if self.is_whole[name]
+            else round(seen, 1).__trunc__() * 10**6 + (round(seen * 10) % 10) * 10**5
+        )
 
     def _dip(self, made: Month) -> None:
         """Dip all tanks."""
@@ -249,7 +255,9 @@ def session_of(months: list[Month], asked: int = -1) -> bytes:
     for name, each in last.streams.items():
         base = "" if each.kind == "plain" else "1"
         rows.append(f"stream,{name},{each.start},{each.end},{each.kind},{base or 0}")
-    rows += [f"critical,global,{dof},{round(1000 * (dof + 3 * dof**0.5 + 3))}" for dof in range(1, 25)]
+    rows += [
+        f"critical,global,{dof},{round(1000 * (dof + 3 * dof**0.5 + 3))}" for dof in range(1, 25)
+    ]
     names = [f"m{at}" for at in range(len(months))]
     for name, month in zip(names, months):
         rows.append(f"period,{name},{month.day(0)},{month.day(month.days - 1)}")
@@ -257,7 +265,9 @@ def session_of(months: list[Month], asked: int = -1) -> bytes:
         for name, amounts in month.readings.items():
             for day, grams in enumerate(amounts):
                 variance = max(int((abs(grams) * 0.015) ** 2), 10**11)
-                rows.append(f"reading,{name}_{month.day(day)},{name},{month.day(day)},{grams},{variance}")
+                rows.append(
+                    f"reading,{name}_{month.day(day)},{name},{month.day(day)},{grams},{variance}"
+                )
         for number, (name, day, grams) in enumerate(month.tickets):
             variance = max(int((abs(grams) * 0.002) ** 2), 10**11)
             on = month.day(day)

@@ -7,7 +7,18 @@ from fractions import Fraction
 from pathlib import Path
 
 import pytest
-from books import ANYWAY, PLANT, Sheets, Type, files_of, fixture_book, folder, journal_of, month, rows_of
+from books import (
+    ANYWAY,
+    PLANT,
+    Sheets,
+    Type,
+    files_of,
+    fixture_book,
+    folder,
+    journal_of,
+    month,
+    rows_of,
+)
 from conftest import Desk, text_of
 
 from plantbal.book.meters import decimal, error_text, read_meters
@@ -313,7 +324,9 @@ def test_more_critical_values(book: Type, tmp_path: Path) -> None:
     """They need no other sheet, and may come after a close."""
     book("close", "2024-04", *ANYWAY)
     values = [*PLANT["critical"], ["measure", "", "5.7"]]
-    assert "new: 1 row of the plant" in book("add", folder(tmp_path / "m", {"critical": values})).out
+    assert (
+        "new: 1 row of the plant" in book("add", folder(tmp_path / "m", {"critical": values})).out
+    )
     assert rows_of(tmp_path)[-1] == "critical,measure,5700"
     assert text_of(tmp_path / "mill" / "plant.csv").splitlines()[-1] == "critical,measure,5700"
     values[1] = ["global", "1", "6.63"]
@@ -599,8 +612,10 @@ def test_show(book: Type, tmp_path: Path) -> None:
         "F-1_2024-04-02: 1,300 t, error 13 t; before 1,200 t",
         "F-1_2024-04-03: 1,200 t, error 12 t; struck",
     ]
-    assert book("show", "SILO").out.splitlines()[0].startswith(
-        "SILO_2024-03-31: 8,000 mm at 1,250 kg/m3, error 0.883 t"
+    assert (
+        book("show", "SILO")
+        .out.splitlines()[0]
+        .startswith("SILO_2024-03-31: 8,000 mm at 1,250 kg/m3, error 0.883 t")
     )
     assert book("show", "F-9").status == 1
 

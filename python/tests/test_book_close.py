@@ -18,7 +18,9 @@ def test_a_close_that_is_stopped_changes_nothing(book: Type, tmp_path: Path) -> 
     before = text_of(tmp_path / "mill" / "journal.csv"), text_of(tmp_path / "mill" / "2024.csv")
     said = book("close", "2024-04")
     assert said.status == 1
-    assert "2024-04 isn't closed: no reading of FEED, PRODUCT on 2024-04-04 to 2024-04-30" in said.err
+    assert (
+        "2024-04 isn't closed: no reading of FEED, PRODUCT on 2024-04-04 to 2024-04-30" in said.err
+    )
     assert "--anyway 'missing=REASON'" in said.err
     after = text_of(tmp_path / "mill" / "journal.csv"), text_of(tmp_path / "mill" / "2024.csv")
     assert after == before
@@ -61,9 +63,7 @@ def wrong_sign(book: Type, tmp_path: Path) -> None:
     assert book("add", folder(tmp_path / "more", sheets), "--why", "the whole month").status == 0
 
 
-def test_what_is_quieted_stops_nothing_and_is_listed(
-    book: Type, say: Desk, tmp_path: Path
-) -> None:
+def test_what_is_quieted_stops_nothing_and_is_listed(book: Type, say: Desk, tmp_path: Path) -> None:
     wrong_sign(book, tmp_path)
     found = book("report", "2024-04")
     assert "FEED is below 0 on 2024-04-05" in found.out and "[negative]" in found.out

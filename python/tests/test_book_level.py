@@ -26,7 +26,9 @@ def with_level(level: str) -> dict[str, list[list[str]]]:
 @pytest.mark.parametrize(("level", "values"), LEVELS)
 def test_a_level_gives_the_values(say: Desk, tmp_path: Path, level: str, values: list[int]) -> None:
     book = ("--book", tmp_path / "mill")
-    assert say("book", "new", "2024", folder(tmp_path / "plant", with_level(level)), *book).err == ""
+    assert (
+        say("book", "new", "2024", folder(tmp_path / "plant", with_level(level)), *book).err == ""
+    )
     rows = [row for row in rows_of(tmp_path) if row.startswith("critical,global,")]
     assert rows == [f"critical,global,{dof},{value}" for dof, value in enumerate(values, 1)]
     assert say("book", "add", folder(tmp_path / "april", month()), *book).err == ""
@@ -59,9 +61,7 @@ def test_a_value_that_is_there_stays(book: Type, tmp_path: Path) -> None:
 
 
 @pytest.mark.parametrize("name", ["critical.csv", "values.csv"])
-def test_what_critical_writes_is_added(
-    book: Type, say: Desk, tmp_path: Path, name: str
-) -> None:
+def test_what_critical_writes_is_added(book: Type, say: Desk, tmp_path: Path, name: str) -> None:
     (tmp_path / name).write_text(say("critical", "0.05", "3-4", "--nodal", "2").out)
     assert "new: 3 rows of the plant" in book("add", tmp_path / name).out
     assert rows_of(tmp_path)[-3:] == [

@@ -72,9 +72,7 @@ def fixture_moments(tmp_path: Path) -> dict[str, list[str]]:
     }
 
 
-def test_killed_at_any_moment(
-    moments: dict[str, list[str]], tmp_path: Path, program: Path
-) -> None:
+def test_killed_at_any_moment(moments: dict[str, list[str]], tmp_path: Path, program: Path) -> None:
     """It is as before or as after, and typing the command again gives the same end."""
     mill, whole, saved = tmp_path / "mill", tmp_path / "whole", tmp_path / "saved"
     mill.mkdir()
@@ -102,9 +100,7 @@ def test_killed_at_any_moment(
         whole.rename(mill)
 
 
-def test_killed_in_the_middle_of_its_time(
-    moments: dict[str, list[str]], tmp_path: Path
-) -> None:
+def test_killed_in_the_middle_of_its_time(moments: dict[str, list[str]], tmp_path: Path) -> None:
     mill = tmp_path / "mill"
     typed(*moments["new"], "--book", mill)
     before = files_of(mill)
@@ -128,9 +124,7 @@ def test_killed_in_the_middle_of_its_time(
     assert files_of(mill) == after
 
 
-def test_many_at_the_same_time(
-    moments: dict[str, list[str]], tmp_path: Path
-) -> None:
+def test_many_at_the_same_time(moments: dict[str, list[str]], tmp_path: Path) -> None:
     mill = tmp_path / "mill"
     typed(*moments["new"], "--book", mill)
     words = ["book", *moments["add"], "--book", str(mill), "--who", "anna"]

@@ -83,9 +83,7 @@ TABLES = {
 
 
 @pytest.mark.parametrize("sheets, said", TABLES.values(), ids=TABLES)
-def test_contents_that_would_change(
-    book: Type, tmp_path: Path, sheets: Sheets, said: str
-) -> None:
+def test_contents_that_would_change(book: Type, tmp_path: Path, sheets: Sheets, said: str) -> None:
     before = files_of(tmp_path / "mill")
     found = book("next", "2024-2", "--plant", folder(tmp_path / "other", PLANT | sheets))
     assert found.status == 1 and "SILO holds 2,797.875 t" in found.err and said in found.err

@@ -141,7 +141,9 @@ def test_recovery_has_both_errors() -> None:
     def columns(of: Block, column: str) -> Any:
         return numpy.array([float(row[column] or "nan") for row in of.streams])
 
-    node = numpy.array([(row["to"] != "env") - (row["from"] != "env") * 1.0 for row in mass.streams])
+    node = numpy.array(
+        [(row["to"] != "env") - (row["from"] != "env") * 1.0 for row in mass.streams]
+    )
     count = 40_000
     meters, variance = columns(mass, "value"), columns(mass, "variance")
     flows = fit(rng.normal(meters, variance**0.5, (count, 3)), variance[None, :], node)
@@ -234,7 +236,10 @@ def test_recovery_of_a_mill_in_a_mine(say: Desk, tmp_path: Path) -> None:
     assert [row["way"] for row in json.loads(said.out)] == ["in", "gain", "within", "out", "out"]
     said = say("recovery", path, "--feed", "FEED")
     assert said.err == "" and f"{shares['CONC'].share:.2%}" in said.out
-    assert "there is no stream FED: say one of PILE, HAULED" in say("recovery", path, "--feed", "FED").err
+    assert (
+        "there is no stream FED: say one of PILE, HAULED"
+        in say("recovery", path, "--feed", "FED").err
+    )
 
 
 def test_recovery_over_a_change_of_the_plant() -> None:
@@ -266,10 +271,14 @@ def test_recovery_over_a_change_of_the_plant() -> None:
 def test_recovery_command(say: Desk, tmp_path: Path) -> None:
     text = say("recovery", OUT).out
     line = next(each for each in text.splitlines() if "jun03   CONCENTRATE" in each)
-    assert line.split() == "cu jun03 CONCENTRATE out 96.341 0.665 28.0910% 0.1379% -0.06".split() + [
-        "88.43%",
-        "0.33%",
-    ]
+    assert (
+        line.split()
+        == "cu jun03 CONCENTRATE out 96.341 0.665 28.0910% 0.1379% -0.06".split()
+        + [
+            "88.43%",
+            "0.33%",
+        ]
+    )
     assert text.splitlines()[-1].startswith("cu         all     CONCENTRATE  out  570.025")
     rows = json.loads(say("recovery", OUT, "--form", "json").out)
     assert rows[0]["grams"] == 108950180 and rows[-1]["period"] == "all"
@@ -308,7 +317,10 @@ def test_page(say: Desk) -> None:
     page = say("page", OUT, "--session", COPPER, "--seconds", "0").out
     assert page.count("cu in jun03") > 1 and "96.341" in page
     assert "The grades fit together: the statistic is between 0.090 and 0.091" in page
-    assert "Of the cu that came in, 88.43 % ± 0.33 % went into CONCENTRATE and 11.57 % ± 0.33 %" in page
+    assert (
+        "Of the cu that came in, 88.43 % ± 0.33 % went into CONCENTRATE and 11.57 % ± 0.33 %"
+        in page
+    )
     assert "An assay on any stream of the cycle settles" in page
 
 

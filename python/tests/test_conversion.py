@@ -500,7 +500,10 @@ def test_many_alike_are_counted(tmp_path: Path) -> None:
     found = convert(folder_of(tmp_path, sheet_with([PLAIN[0], *rows])))
     assert len(found.faults) == 30
     (said,) = found.said()
-    assert "readings.csv: line 2, column 2 (F-1): '0x1'" in said and "(30 like this; the next: " in said
+    assert (
+        "readings.csv: line 2, column 2 (F-1): '0x1'" in said
+        and "(30 like this; the next: " in said
+    )
     assert said.endswith("line 4, column 2 (F-1))")
 
 
@@ -560,7 +563,14 @@ def test_an_estimate_fills_a_day(tmp_path: Path) -> None:
     ]
     found = convert(folder_of(tmp_path, sheet_with(rows) | {"estimates": estimates}))
     assert (found.said(), found.notes) == ([], [])
-    wanted = ("reading", "F-1_2024-04-02.est", "FEED", "2024-04-02", "11700000000", str(400 * 10**12))
+    wanted = (
+        "reading",
+        "F-1_2024-04-02.est",
+        "FEED",
+        "2024-04-02",
+        "11700000000",
+        str(400 * 10**12),
+    )
     assert wanted in list(found.session)
     estimates[1][1] = "2024-04-01"
     found = convert(folder_of(tmp_path, sheet_with(rows) | {"estimates": estimates}))

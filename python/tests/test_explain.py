@@ -363,7 +363,13 @@ LATER += [
     (SMALL_3, 6, "window,2024-01-05,n", "FIRST", "write p, the period of this day"),
     (SMALL_3, 8, "window,n,p", "LAST", "period p begins before period n; exchange the periods"),
     (SMALL_3, 9, "window,p,o", "LAST", "2024-02-11 is in no period, between n and o"),
-    (SMALL_3, 1, "late,assay,cu,B,p,1,1", "field 2", "an assay can't come late: put its row before"),
+    (
+        SMALL_3,
+        1,
+        "late,assay,cu,B,p,1,1",
+        "field 2",
+        "an assay can't come late: put its row before",
+    ),
     (SMALL_3, 2, "assay,cu,B,n,9000", "PPM or GRADEVAR", "is missing"),
     (SMALL_3, 3, "assay,c u,B,n,1,1", "COMPONENT", "such as c_u"),
     (SMALL_3, 4, "assay,cu,B,n,0.9,1", "PPM", "if 0.9 is in percent, write 9000"),
@@ -387,9 +393,7 @@ LATER += [
 
 
 @pytest.mark.parametrize("before, code, row, label, said", LATER, ids=[one[2] for one in LATER])
-def test_each_later(
-    program: Path, before: str, code: int, row: str, label: str, said: str
-) -> None:
+def test_each_later(program: Path, before: str, code: int, row: str, label: str, said: str) -> None:
     data = (before + row + "\nreport,o\n").encode()
     told = only(explain_bytes("day.csv", data))
     assert [(told.record, told.code, told.word)] == refused_by(program, data)

@@ -123,9 +123,7 @@ def test_no_kit(tree: Tree) -> None:
         (["make"], 0, b"made\n", ""),
     ],
 )
-def test_first_answer(
-    tree: Tree, words: list[str], status: int, output: bytes, error: str
-) -> None:
+def test_first_answer(tree: Tree, words: list[str], status: int, output: bytes, error: str) -> None:
     tree.give_kit()
     said = tree.plantbal(*words, given=b"a\nb\n")
     assert (said.returncode, said.stdout) == (status, output)

@@ -85,7 +85,11 @@ READ: dict[str, tuple[Rows, list[list[Any]], dict[str, int]]] = {
         [["day begins", "06:00", None]],
         {"2024-05-01": 7, "2024-05-02": 8},
     ),
-    "an offset": ([*HEAD, *hours(MAY_1, 24, "%Y-%m-%d %H:%M+02:00")], [BERLIN], {"2024-05-01": 300}),
+    "an offset": (
+        [*HEAD, *hours(MAY_1, 24, "%Y-%m-%d %H:%M+02:00")],
+        [BERLIN],
+        {"2024-05-01": 300},
+    ),
     "days with Z": (
         [*HEAD, ["2024-05-01T00:00:00Z", 7], ["2024-05-02T00:00:00Z", 8]],
         [["zone", "UTC", None]],
@@ -147,14 +151,26 @@ FAULTS: dict[str, tuple[Rows, list[list[Any]], str]] = {
         [],
         "has no figure for 1 of the 24 hours of 2024-05-01: those from 07:00",
     ),
-    "clocks put back without a zone": ([*HEAD, *autumn()], [], "2024-10-27 02:00:00 is there twice"),
-    "an hour that isn't there": ([*HEAD, *hours(MARCH_31, 24)], [BERLIN], "isn't there: clocks are"),
+    "clocks put back without a zone": (
+        [*HEAD, *autumn()],
+        [],
+        "2024-10-27 02:00:00 is there twice",
+    ),
+    "an hour that isn't there": (
+        [*HEAD, *hours(MARCH_31, 24)],
+        [BERLIN],
+        "isn't there: clocks are",
+    ),
     "Z without a zone": (
         [*HEAD, ["2024-05-01T00:00:00Z", 7], ["2024-05-02T00:00:00Z", 8]],
         [],
         "2024-05-01T00:00:00Z has a zone, and the plant's isn't told",
     ),
-    "no whole days": ([*HEAD, *hours(MAY_1, 30)], [], "is a stamp the begin or the end of its hour?"),
+    "no whole days": (
+        [*HEAD, *hours(MAY_1, 30)],
+        [],
+        "is a stamp the begin or the end of its hour?",
+    ),
     "quarters": (
         [*HEAD, *[[MAY_1 + n * HOUR / 4, 1] for n in range(96)]],
         [["stamps", "begin", None]],
@@ -185,8 +201,16 @@ FAULTS: dict[str, tuple[Rows, list[list[Any]], str]] = {
         [["counter", 1000, "F-2"]],
         "settings!C2: there is no tag or stream 'F-2'",
     ),
-    "no zone": ([["day", "F-1"], [MAY_1, 5]], [["zone", "Berlin", None]], "there is no zone 'Berlin'"),
-    "no setting": ([["day", "F-1"], [MAY_1, 5]], [["zon", "UTC", None]], "there is no setting 'zon'"),
+    "no zone": (
+        [["day", "F-1"], [MAY_1, 5]],
+        [["zone", "Berlin", None]],
+        "there is no zone 'Berlin'",
+    ),
+    "no setting": (
+        [["day", "F-1"], [MAY_1, 5]],
+        [["zon", "UTC", None]],
+        "there is no setting 'zon'",
+    ),
 }
 
 

@@ -42,7 +42,7 @@ def test_which_texts_are_computed() -> None:
     ):
         assert is_computed(text) is computed, text
         assert inert(text) == ("'" + text if computed else text), text
-    assert csv_text([["a", "=1"], ['b"', "-1"]]) == "a,'=1\n\"b\"\"\",-1\n"
+    assert csv_text([["a", "=1"], ['b"', "-1"]]) == 'a,\'=1\n"b""",-1\n'
     assert printable("a\x1b[2J\ud800\ufffe\tb") == "a\\x1b[2J\\ud800\\ufffe\tb"
 
 

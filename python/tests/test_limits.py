@@ -20,7 +20,9 @@ from plantbal.report.blocks import csv_of, parse_rows
 from plantbal.report.rows import Numbers, Rows
 from plantbal.session import Session
 
-PLANT = "unit,U\nstream,F,env,U,metered,1\nstream,P,U,env,metered,1\nperiod,m,2024-05-01,2024-05-31\n"
+PLANT = (
+    "unit,U\nstream,F,env,U,metered,1\nstream,P,U,env,metered,1\nperiod,m,2024-05-01,2024-05-31\n"
+)
 READING = "reading,a,F,2024-05-01,5,4\n"
 OTHER = "none of its first 1,000 rows is of a kind that a session has"
 SIZE = 1 << 18

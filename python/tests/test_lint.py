@@ -367,8 +367,9 @@ CASES = [
     ),
     (
         "tank-range",
-        changed(",4417,", ",4,")
-        .replace("report,d1", "".join(dip("SILO", f"2024-02-{day}", 2000) for day in (25, 26, 27)))
+        changed(",4417,", ",4,").replace(
+            "report,d1", "".join(dip("SILO", f"2024-02-{day}", 2000) for day in (25, 26, 27))
+        )
         + "report,d1\n",
         "SILO has 4 mm on 2024-03-02, and 2,000 to 2,000 mm in its 4 other dips: "
         "if it is in metres, write 4000 mm",
@@ -443,7 +444,9 @@ def test_accounts(tmp_path: Path) -> None:
     file.write_text(f"{heads}FEED,,ore,ore,Alpha,t,\nSILO,,ore,ore,,t,\n")
     found = lint_session(GOOD.encode(), accounts=file)
     said = {each.name: each.code for each in found if each.code in ("no-account", "no-owner")}
-    names = [line.split(",")[1] for line in GOOD.splitlines() if line.startswith(("stream", "tank"))]
+    names = [
+        line.split(",")[1] for line in GOOD.splitlines() if line.startswith(("stream", "tank"))
+    ]
     wanted = {name: "no-account" for name in names} | {"SILO": "no-owner"}
     assert said == {name: code for name, code in wanted.items() if name != "FEED"}
     assert codes(GOOD, notes=False) == []

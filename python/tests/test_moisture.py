@@ -35,7 +35,9 @@ def mill(moistures: Rows | None, unit: str = "wmt", **more: Any) -> Sheets:
 
 
 def daily(*parts: str, error: str = "5 %") -> Rows:
-    return [["ORE", "", f"2024-07-0{day}", "", part, error, ""] for day, part in enumerate(parts, 1)]
+    return [
+        ["ORE", "", f"2024-07-0{day}", "", part, error, ""] for day, part in enumerate(parts, 1)
+    ]
 
 
 def rows(session: Session, kind: str) -> list[tuple[int, int]]:

@@ -41,7 +41,10 @@ def noted(ends: dict[int, str]) -> list[str]:
     [
         (noted({0: '"see log', 2: '12" line'}), "tickets.csv: line 2: a double quote in this row"),
         (noted({0: '"see log'}), "tickets.csv: line 2: a double quote in this row isn't closed"),
-        (noted({0: '"see log', 2: 'line 12"'}), "line 2: a field within double quotes goes to line"),
+        (
+            noted({0: '"see log', 2: 'line 12"'}),
+            "line 2: a field within double quotes goes to line",
+        ),
         (noted({1: '"12" line"'}), "tickets.csv: line 3: a double quote in this row"),
         (
             [line.replace("unit", "Einheit") for line in TICKETS],
@@ -59,16 +62,19 @@ def noted(ends: dict[int, str]) -> list[str]:
         ([TICKETS[1]], "line 1, column 3: this row isn't read, and figures or units stand in it"),
     ],
 )
-def test_a_lost_figure_is_a_fault(
-    say: Desk, tmp_path: Path, lines: list[str], said: str
-) -> None:
+def test_a_lost_figure_is_a_fault(say: Desk, tmp_path: Path, lines: list[str], said: str) -> None:
     found = say("convert", with_tickets(tmp_path, lines))
     assert (found.status, found.out) == (1, "")
     assert said in found.err, found.err
 
 
 def test_what_else_is_not_read_is_noted(say: Desk, tmp_path: Path) -> None:
-    lines = ["Tickets of April,,", *noted({0: '"see\nlog"', 1: "late"}), "Total,,,,9,,,", ",,,,,,,x"]
+    lines = [
+        "Tickets of April,,",
+        *noted({0: '"see\nlog"', 1: "late"}),
+        "Total,,,,9,,,",
+        ",,,,,,,x",
+    ]
     made = with_tickets(tmp_path, lines)
     (made / "Summary.csv").write_text("what,t\ncrude,5\n", encoding="utf-8")
     (made / "May.xlsx").write_bytes(b"PK")
@@ -151,7 +157,11 @@ FAR = '<row r="1048576"><c r="XFD1048576" t="inlineStr"><is><t>x</t></is></c></r
         ('<row r="99999999999"><c><v>1</v></c></row></sheetData>', 1, "there is a cell in row 99,"),
         ('<row r="9"><c r="A9" t="s"><v>99</v></c></row></sheetData>', 1, "can't be read"),
         ('<row r="9"><c r="A9" s="99"><v>9</v></c></row></sheetData>', 1, "can't be read"),
-        (f'<row r="9"><c t="str"><v>{"x" * 40_000}</v></c></row></sheetData>', 1, "32,767 characte"),
+        (
+            f'<row r="9"><c t="str"><v>{"x" * 40_000}</v></c></row></sheetData>',
+            1,
+            "32,767 characte",
+        ),
     ],
 )
 def test_corners_of_a_sheet(say: Desk, tmp_path: Path, new: str, status: int, said: str) -> None:

@@ -152,7 +152,10 @@ OF_TAGS = {
     "garbage": (GARBAGE, "this is no UTF-8 text"),
     "a session": (SESSION, NO_TAGS),
     "a report": (REPORT, NO_TAGS),
-    "JSON lines": (JSON, "line 1: a double quote in this row isn't closed, or stands within a field"),
+    "JSON lines": (
+        JSON,
+        "line 1: a double quote in this row isn't closed, or stands within a field",
+    ),
     "workbook": (WORKBOOK, NO_TAGS),
 }
 OF_READINGS = but(OF_TAGS, workbook="") | {

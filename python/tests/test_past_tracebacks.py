@@ -40,7 +40,9 @@ CHANGES = [
     (MAY, r"^refused,\d+", "refused,x", "at of a refused row is 'x'"),
     (MAY, r"^end,\w+", "end,NONE", "this ends the report of NONE, which hasn't begun"),
 ]
-WORDS = "report|tables flows|tables imbalance|draw --dot|uncertainty|chart|page --seconds 0|from-scipy"
+WORDS = (
+    "report|tables flows|tables imbalance|draw --dot|uncertainty|chart|page --seconds 0|from-scipy"
+)
 
 
 @pytest.mark.parametrize(("text", "old", "new", "said"), CHANGES, ids=[c[1] for c in CHANGES])
@@ -68,7 +70,10 @@ def test_a_cell_that_is_no_text(say: Desk, tmp_path: Path) -> None:
         (b"\xff\xfea", "this is UTF-16 that is cut off or damaged"),
         (b"\xff\xfe\x00\xd8a\x00", "this is UTF-16 that is cut off or damaged"),
         (b"stream,from,to\n\xff\0,a,b\n", "this is no text"),
-        (b"stream,from,to\n" + b"9" * 40_000 + b",env,U\n", "more than 32,767 characters in a cell"),
+        (
+            b"stream,from,to\n" + b"9" * 40_000 + b",env,U\n",
+            "more than 32,767 characters in a cell",
+        ),
         (b"," * 20_000 + b"x\n", "more than 16,384 columns in a row"),
     ):
         path.write_bytes(data)
@@ -124,9 +129,7 @@ def test_what_is_full_is_named() -> None:
     assert done.stderr.startswith(b"plantbal-desk schema: standard output: No space left on device")
 
 
-def test_a_drawing_that_takes_too_long(
-    tmp_path: Path, monkeypatch: pytest.MonkeyPatch
-) -> None:
+def test_a_drawing_that_takes_too_long(tmp_path: Path, monkeypatch: pytest.MonkeyPatch) -> None:
     slow = tmp_path / "dot"
     slow.write_text("#!/bin/sh\nexec sleep 30\n")
     slow.chmod(0o755)

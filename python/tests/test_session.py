@@ -259,16 +259,28 @@ def frame_of_readings(**columns: object) -> pandas.DataFrame:
 WRONG = [
     ({"grams": [1.0, 2.0]}, "readings: row x, column grams: floats aren't exact"),
     ({"grams": [1, None]}, "row x, column grams: floats aren.t exact"),
-    ({"grams": pandas.array([1, None], "Int64")}, "readings: row y, column grams: there is no value"),
+    (
+        {"grams": pandas.array([1, None], "Int64")},
+        "readings: row y, column grams: there is no value",
+    ),
     ({"grams": ["1", "2 741"]}, "readings: row y, column grams: reading b: GRAMS is '2 741'"),
-    ({"stream": ["FEED", "PRODUKT"]}, "readings: row y, column stream: reading b: .*did you mean PRODUCT"),
-    ({"day": ["2024-05-01", "1.5.2024"]}, "readings: row y, column day: reading b: DATE is '1.5.2024'"),
+    (
+        {"stream": ["FEED", "PRODUKT"]},
+        "readings: row y, column stream: reading b: .*did you mean PRODUCT",
+    ),
+    (
+        {"day": ["2024-05-01", "1.5.2024"]},
+        "readings: row y, column day: reading b: DATE is '1.5.2024'",
+    ),
     (
         {"day": pandas.to_datetime(["2024-05-01", "2024-05-01 06:00"])},
         "row y, column day: day is .* time of the day",
     ),
     ({"id": ["a", "a"]}, "readings: row y, column id: reading a: the id a is that of a reading"),
-    ({"stream": ["FEED", "FEED"]}, "readings: row y, column day: reading b: FEED has a reading of 2024-05-01"),
+    (
+        {"stream": ["FEED", "FEED"]},
+        "readings: row y, column day: reading b: FEED has a reading of 2024-05-01",
+    ),
     ({"tonnes": ["1", "2"]}, "the columns grams and tonnes are there"),
     ({"variance": [0, 10**19 + 1]}, "row y, column variance: reading b: VARIANCE is"),
 ]

@@ -229,7 +229,15 @@ def test_the_long_tables_give_what_is_computed_by_hand(tmp_path: Path) -> None:
     # 3 mm of T1 are 3 * 500.05 L * 0.862 kg/L = 1,293,129.3 g
     assert ("dip", "T1_2024-03-31", "T1", "2024-03-31", "5368", "862000", "1672183386519") in rows
     assert ("strap", "T1", "10000", "5000500000") in rows
-    assert ("transfer", "b1", "SHIP", "2024-04-01", "2024-04-01", "2206500000", "1000000000000") in rows
+    assert (
+        "transfer",
+        "b1",
+        "SHIP",
+        "2024-04-01",
+        "2024-04-01",
+        "2206500000",
+        "1000000000000",
+    ) in rows
 
 
 FAULTS: dict[str, tuple[Book, str, str]] = {

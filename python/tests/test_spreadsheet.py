@@ -54,7 +54,12 @@ READINGS = [
         "11697.5",
         "line 3, column 2 (WIC-101): '11697.5' has a decimal point: say --decimal point",
     ),
-    (4, "12047,5", "12.047,5", "line 4, column 2 (WIC-101): '12.047,5' has marks between thousands"),
+    (
+        4,
+        "12047,5",
+        "12.047,5",
+        "line 4, column 2 (WIC-101): '12.047,5' has marks between thousands",
+    ),
     (3, "346,97", "Bad", "line 3, column 4 (WIC-301): 'Bad' is no figure"),
     (3, "346,97", "346,9700001", "line 3, column 4 (WIC-301): '346,9700001' is finer than a gram"),
     (3, "11482", "11482000", "line 3, column 3 (FI-201): '11482000' is above 10,000,000 t"),
@@ -163,8 +168,14 @@ def test_a_mistyped_end_is_guessed(say: Desk, tmp_path: Path) -> None:
 
 
 SHORT = {
-    "2024-04-01 2024-04-29": ["2024-04 goes from 2024-04-01 to 2024-04-29", "are missing, its last 1"],
-    "2024-04-02 2024-04-30": ["2024-04 goes from 2024-04-02 to 2024-04-30", "are missing, its first 1"],
+    "2024-04-01 2024-04-29": [
+        "2024-04 goes from 2024-04-01 to 2024-04-29",
+        "are missing, its last 1",
+    ],
+    "2024-04-02 2024-04-30": [
+        "2024-04 goes from 2024-04-02 to 2024-04-30",
+        "are missing, its first 1",
+    ],
     "2024-04-01 2024-04-30": [],
     # days and months exchanged: three months of a day each
     "2024-01-04 2024-02-04 2024-03-04": [

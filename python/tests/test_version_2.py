@@ -352,9 +352,7 @@ BAD_CELLS = [
 
 
 @pytest.mark.parametrize("sheet, row, column, text, said", BAD_CELLS)
-def test_bad_cells(
-    tmp_path: Path, sheet: str, row: int, column: int, text: str, said: str
-) -> None:
+def test_bad_cells(tmp_path: Path, sheet: str, row: int, column: int, text: str, said: str) -> None:
     sheets = {name: [list(cells) for cells in rows] for name, rows in SHEETS.items()}
     sheets["units"] = [["name"], ["MILL"]]
     sheets[sheet][row][column] = text

@@ -99,7 +99,9 @@ def test_rounds_of_a_window() -> None:
     assert "after RUNDOWN in may2 was taken out" in blocks[1].verdict
     made = page(rows, seconds=0)
     # with the pump of that day it is a set of equals
-    assert "Accepted without one of " in made and "That it was RUNDOWN in may2 is no finding" in made
+    assert (
+        "Accepted without one of " in made and "That it was RUNDOWN in may2 is no finding" in made
+    )
     assert "before RUNDOWN in may2 was taken out" in made and ">s1.2" not in made
 
 

@@ -116,7 +116,9 @@ def test_the_command(say: Desk, tmp_path: Path) -> None:
     assert "redundant → observable" in what_if.out and drawn.read_text().startswith("<?xml")
     assert "fewest: SCAV_CONC, CLN_TAIL" in what_if.out
     bought = say(*words, "--want", "CAKE=4t").out
-    assert bought.startswith("1 instrument for 20,000: ± of CAKE at most 4.000 t\nno cheaper choice")
+    assert bought.startswith(
+        "1 instrument for 20,000: ± of CAKE at most 4.000 t\nno cheaper choice"
+    )
     for more, said in (
         (("--want", "CAKE=0.1t"), "all that could be bought together doesn't reach it"),
         (("--want", "CAKE"), "CAKE has no error"),

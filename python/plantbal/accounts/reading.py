@@ -299,7 +299,9 @@ def parse_accounts(name: str, text: str) -> Accounts:
         rows = list(csv.reader(io.StringIO(text, newline=""), strict=True))
     except csv.Error as error:
         remedy = "take the file as plantbal wrote it, or from a backup"
-        raise InputFault(f"this is no CSV: {error}", place=Place(file=name), remedy=remedy) from error
+        raise InputFault(
+            f"this is no CSV: {error}", place=Place(file=name), remedy=remedy
+        ) from error
     values: list[list[Value]] = [[each or None for each in row] for row in rows]
     table = Sheet(name, SHEET, list(enumerate(values, 1)), is_csv=True)
     sheet = SheetReader(Reader("en"))

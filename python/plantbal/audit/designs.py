@@ -68,7 +68,9 @@ def _design_differs(design: Design, declared: Declared) -> Iterator[Differs]:
     try:
         block = _block(rows, declared)
     except checker.Bad as bad:
-        yield Differs(design[0].line, f"a cut or a cycle of the design can't be read ({bad.args[0]})")
+        yield Differs(
+            design[0].line, f"a cut or a cycle of the design can't be read ({bad.args[0]})"
+        )
         return
     lines = {row["name"]: record.line for record, row in zip(design[1:], rows[1:])}
     for name, _, _ in block.test_witness():

@@ -141,7 +141,9 @@ def strike(book: Store, name: str, day: datetime.date | None, *, why: str, who: 
             _put(ledger, ("strike", there.id, why))
             action.add(ledger)
         book.do(action)
-        return Edited(fact, None, True, tuple(_older(book, named.places)), tuple(closed_in(named.places)))
+        return Edited(
+            fact, None, True, tuple(_older(book, named.places)), tuple(closed_in(named.places))
+        )
 
 
 def _put(ledger: Ledger, row: tuple[str, ...]) -> None:

@@ -83,9 +83,7 @@ def percent_text(percent: float) -> str:
     return f"{percent:,.{places}f} %"
 
 
-def hole_said(
-    hole: Hole, shown: Shown = same, units: Mapping[str, SalesUnit] = NONE_SOLD
-) -> str:
+def hole_said(hole: Hole, shown: Shown = same, units: Mapping[str, SalesUnit] = NONE_SOLD) -> str:
     """Return how great a hole is, and between which nodes it is.
 
     If all that may have it, and are sold in a unit of their own, are sold in the same one, it is

@@ -72,7 +72,6 @@ class Text:
                 self.refused[record.number] = record
         self.last = None if is_empty else last
 
-
     def line_at(self, place: int) -> int:
         """Return the number of the line that a place is in, counted from 1."""
         return bisect_right(self.starts, place)

@@ -34,7 +34,8 @@ def whole_file(text: Text, refused: dict[int, Refusal]) -> list[Told]:
     for sign, records in by_sign.items():
         line = records[0].line
         made = _told(
-            f"fields have {SIGNS[sign]} between them; save the file with commas between fields", line
+            f"fields have {SIGNS[sign]} between them; save the file with commas between fields",
+            line,
         )
         made.row = shown(text.line(line).replace("\t", " "))[:WIDEST]
         made.under = [_short(text, record, refused) for record in records]

@@ -173,7 +173,13 @@ class _Cluster:
         given: list[object] = [command, str(job.session), str(job.output), timeout, limited]
         if self._asked.send:
             call = calls.run_sent
-            given = [command, read_bytes(job.session, SESSION_BYTES)[1], job.output.name, timeout, limited]
+            given = [
+                command,
+                read_bytes(job.session, SESSION_BYTES)[1],
+                job.output.name,
+                timeout,
+                limited,
+            ]
         if self._asked.scheduler is None:
             call, given = _in_this_process, [call.__name__, *given]
         with warnings.catch_warnings():

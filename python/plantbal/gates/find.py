@@ -105,6 +105,4 @@ def estimated(look: Look) -> Iterator[Stop]:
             error = isqrt(sum(fact.variance for fact in facts))
             days = tuple(fact.first for fact in facts)
             values = {"grams": grams, "error": error}
-            yield Stop(
-                Gate.ESTIMATED, look.period.name, (name,), days, values, line=facts[0].line
-            )
+            yield Stop(Gate.ESTIMATED, look.period.name, (name,), days, values, line=facts[0].line)

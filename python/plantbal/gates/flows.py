@@ -97,9 +97,7 @@ def negative_by_facts(state: State, seen: Seen) -> Iterator[Stop]:
             yield _stop(seen.period.name, name, rows[name], round(flow), round(error))
 
 
-def _block_of(
-    nodes: list[str], streams: Mapping[str, Measured]
-) -> tuple[Block, dict[str, int]]:
+def _block_of(nodes: list[str], streams: Mapping[str, Measured]) -> tuple[Block, dict[str, int]]:
     """Return a study as a block without flows, and what the readings alone make of its flows.
 
     The block has the streams with their values, classes and cuts. A tank's gain has no flow here.

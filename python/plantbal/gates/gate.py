@@ -39,7 +39,6 @@ class Gate(StrEnum):
         """Whether it speaks of streams or tanks that it may rightly be quieted for, for good."""
         return self in _OF_NAMES
 
-
     @property
     def is_of_facts(self) -> bool:
         """Whether a report says nothing of it: the facts alone show it."""

@@ -177,4 +177,3 @@ def _copies(look: Look) -> Iterator[Stop]:
             days = tuple(day for day, _ in figures)
             line = look.view.facts[names[1]][0].line
             yield Stop(Gate.COPY, look.period.name, tuple(names), days, line=line)
-

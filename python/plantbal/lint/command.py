@@ -53,9 +53,7 @@ def run(options: argparse.Namespace) -> int:
     """Write the findings, and return the status."""
     if options.session == "-" and sys.stdin.isatty():
         print("reading standard input, up to Ctrl-D", file=sys.stderr)
-    findings = lint_session(
-        options.session, ignore=options.ignore, accounts=options.accounts
-    )
+    findings = lint_session(options.session, ignore=options.ignore, accounts=options.accounts)
     quiet = 0
     if options.book is not None:
         from plantbal.book.answers import without_quiet

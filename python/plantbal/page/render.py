@@ -296,37 +296,36 @@ def render(
     designs = account.designs[-1:] if account.is_advised or not rounds else []
     made = environment()
     crossings = account.ledger.state.plant.crossings() if account.ledger is not None else {}
-    made.filters["gates"] = lambda each: account.gates.get(each.period) if each.is_of_period else None
+    made.filters["gates"] = (
+        lambda each: account.gates.get(each.period) if each.is_of_period else None
+    )
     made.filters["way"] = lambda line: way_of(line, crossings)
-    return (
-        made.get_template("page.html.j2")
-        .render(
-            title=title or default_title(account, origin),
-            head=head_of(account, origin),
-            told=prepared.told,
-            why_no_worth=prepared.why_no_worth,
-            more=prepared.more,
-            refused=account.refused,
-            refused_rows=account.refused_rows,
-            statements=account.statements,
-            unfolded=account.unfolded,
-            last=account.periods[-1] if account.statements else None,
-            drawings=drawings,
-            designs=[(lines, draftsman.draw(lines)) for lines in designs],
-            is_advised=account.is_advised,
-            meters=account.meters,
-            findings=account.findings,
-            quieted=account.quieted,
-            to_look_at=account.to_look_at,
-            is_empty=account.is_empty,
-            ledger=account.ledger,
-            grades=prepared.grades,
-            kinds=KINDS,
-            parts=parts,
-            most=MOST,
-            few=FEW,
-            has_worth=any(line.worth for lines in rounds for line in lines),
-        )
+    return made.get_template("page.html.j2").render(
+        title=title or default_title(account, origin),
+        head=head_of(account, origin),
+        told=prepared.told,
+        why_no_worth=prepared.why_no_worth,
+        more=prepared.more,
+        refused=account.refused,
+        refused_rows=account.refused_rows,
+        statements=account.statements,
+        unfolded=account.unfolded,
+        last=account.periods[-1] if account.statements else None,
+        drawings=drawings,
+        designs=[(lines, draftsman.draw(lines)) for lines in designs],
+        is_advised=account.is_advised,
+        meters=account.meters,
+        findings=account.findings,
+        quieted=account.quieted,
+        to_look_at=account.to_look_at,
+        is_empty=account.is_empty,
+        ledger=account.ledger,
+        grades=prepared.grades,
+        kinds=KINDS,
+        parts=parts,
+        most=MOST,
+        few=FEW,
+        has_worth=any(line.worth for lines in rounds for line in lines),
     )
 
 

@@ -30,10 +30,12 @@ class _Refused(Sequence[Values]):
         return len(self.codes)
 
     @overload
-    def __getitem__(self, place: int) -> Values: ...
+    def __getitem__(self, place: int) -> Values:
+        ...
 
     @overload
-    def __getitem__(self, place: slice) -> Sequence[Values]: ...
+    def __getitem__(self, place: slice) -> Sequence[Values]:
+        ...
 
     def __getitem__(self, place: int | slice) -> Values | Sequence[Values]:
         if isinstance(place, slice):
@@ -103,10 +105,12 @@ class Rows(Sequence[Values]):
             yield from part
 
     @overload
-    def __getitem__(self, place: int) -> Values: ...
+    def __getitem__(self, place: int) -> Values:
+        ...
 
     @overload
-    def __getitem__(self, place: slice) -> Sequence[Values]: ...
+    def __getitem__(self, place: slice) -> Sequence[Values]:
+        ...
 
     def __getitem__(self, place: int | slice) -> Values | Sequence[Values]:
         if isinstance(place, slice):

@@ -37,6 +37,7 @@ class Ticket:
     grams: int
     error: Error
 
+
 # One guess is for at most as many days more than its first.
 MOST_GUESSED = 366
 
@@ -415,9 +416,7 @@ class Converter(Readings):
                 self.notes.append(note)
 
 
-def tank_days(
-    service: Service, first: datetime.date, last: datetime.date
-) -> list[datetime.date]:
+def tank_days(service: Service, first: datetime.date, last: datetime.date) -> list[datetime.date]:
     """Return the days whose dips open and close a tank over a period; none out of service."""
     days = first.toordinal(), last.toordinal()
     if not is_served(service, *days):

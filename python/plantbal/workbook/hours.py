@@ -231,9 +231,7 @@ def clock_of(
     if settings.stamps or clock.is_daily:
         return clock
     begins = settings.begins
-    ends = [
-        (clock.local(_aware(clock, each.at)) - begins).time() for each in (first, last)
-    ]
+    ends = [(clock.local(_aware(clock, each.at)) - begins).time() for each in (first, last)]
     if ends == [datetime.time(0), datetime.time(23)]:
         return clock
     if ends == [datetime.time(1), datetime.time(0)]:
@@ -366,9 +364,7 @@ def _lack_ends(
     days.faults.append(reader.fault(figure.cell, f"{what}went on {day} isn't known", remedy))
 
 
-def _went(
-    reader: Reader, name: str, modulus: Decimal, figures: Sequence[Figure]
-) -> list[Fraction]:
+def _went(reader: Reader, name: str, modulus: Decimal, figures: Sequence[Figure]) -> list[Fraction]:
     """Return what a counter went on between its figures.
 
     Raises

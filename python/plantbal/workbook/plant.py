@@ -394,7 +394,9 @@ class Plant(Tables):
         ]
         if made:
             note = f"{str(cell.place()).rstrip(':')}: {len(made):,} critical values are made for "
-            note += f"the level {level:g}; for tests of many nodes and streams by Šidák's correction"
+            note += (
+                f"the level {level:g}; for tests of many nodes and streams by Šidák's correction"
+            )
             self.notes.append(note)
 
     def read_critical(self) -> None:

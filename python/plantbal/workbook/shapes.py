@@ -140,9 +140,7 @@ def shape_of(
 # ---- long tables
 
 
-def _long(
-    lines: list[list[Cell]], at: int, needed: Sequence[str], reader: Reader
-) -> Shape:
+def _long(lines: list[list[Cell]], at: int, needed: Sequence[str], reader: Reader) -> Shape:
     """Return the tables side by side of a sheet, and give figures the units of their heads."""
     heads = lines[at]
     split = [split_head(cell) for cell in heads]
@@ -174,7 +172,10 @@ def _long(
             cut = _cut(cells, first, last)
             if any(cell.value is not None for cell in cut):
                 table.lines.append(
-                    [with_unit(cell, units.get(first + n, ""), reader) for n, cell in enumerate(cut)]
+                    [
+                        with_unit(cell, units.get(first + n, ""), reader)
+                        for n, cell in enumerate(cut)
+                    ]
                 )
         shape.tables.append(table)
     if len(starts) > 1:
@@ -227,9 +228,7 @@ def _cut(cells: list[Cell], first: int, last: int) -> list[Cell]:
 # ---- a column or a pair of columns for each tank
 
 
-def _strap_columns(
-    lines: list[list[Cell]], at: int, columns: list[int], reader: Reader
-) -> Shape:
+def _strap_columns(lines: list[list[Cell]], at: int, columns: list[int], reader: Reader) -> Shape:
     """Return the table of a sheet with one column of levels, and one of volumes for each tank."""
     heads = lines[at]
     below = lines[at + 1] if at + 1 < len(lines) else []
@@ -285,9 +284,7 @@ def _pairs(lines: list[list[Cell]], at: int, columns: list[int], reader: Reader)
     return shape
 
 
-def _subheads(
-    lines: list[list[Cell]], at: int, columns: list[int]
-) -> dict[int, tuple[int, int]]:
+def _subheads(lines: list[list[Cell]], at: int, columns: list[int]) -> dict[int, tuple[int, int]]:
     """Return the columns of levels and volumes under each tank's name; none if there are no such."""
     if at + 1 >= len(lines):
         return {}

@@ -39,7 +39,9 @@ def _estimate(options: argparse.Namespace) -> int:
             )
     if found.is_booked:
         taken = sum(len(each.days) for each in found.proposals if each.is_needed)
-        print("1 day is booked as an estimate" if taken == 1 else f"{taken:,} days are estimates now")
+        print(
+            "1 day is booked as an estimate" if taken == 1 else f"{taken:,} days are estimates now"
+        )
         for each_period in found.closed:
             print(reopened_said(each_period))
         for each_period in found.older_reports:
