@@ -5,8 +5,8 @@ from __future__ import annotations
 import argparse
 import json
 import sys
-from collections.abc import Iterable, Sequence
-from dataclasses import replace
+from collections.abc import Iterable, Iterator, Sequence
+from dataclasses import dataclass, replace
 from pathlib import Path
 
 from plantbal.balance.certify import pulls_of, session_of
@@ -139,14 +139,16 @@ def run(options: argparse.Namespace) -> int:
     stocks = list(lines_of_stocks(stocks_of(known, held)))
     given = session_of(asked.problem, pulls_of(found, known), options.period)
     output = run_program(given.encode("ascii"), tests=False, program=options.program)
-    written = _FORMS[options.form](known, [*lines, *stocks], options.feed)
+    certificate = certificate_of(lines, output, options.program)
+    written = list(_FORMS[options.form](known, [*lines, *stocks], options.feed))
+    written += certificate.lines() if options.form == "text" else ()
     write_text("-", "".join(f"{row}\n" for row in written))
     for name, text in ((options.given, given), (options.out, output.to_csv())):
         if name:
             write_text(name, text)
     if options.chart:
         _chart(options.chart, known)
-    why_not = not_certified(lines, output, options.program)
+    why_not = certificate.why_not
     notes = list(notes_of(asked, known, lines, held))
     for note in [*notes, *([f"not certified: {why_not}"] if why_not else [])]:
         print(f"{options.prog}: {note}", file=sys.stderr)
@@ -186,22 +188,57 @@ def notes_of(asked: Asked, known: Known, lines: Iterable[Line], held: Held) -> I
         )
 
 
-def not_certified(lines: Iterable[Line], output: Output, program: str | None) -> str:
-    """Return why the flows aren't certified; nothing if they are."""
+@dataclass(frozen=True, slots=True)
+class Certificate:
+    """How far the flows are from those that the program certified.
+
+    Attributes
+    ----------
+    is_checked : bool
+        Whether the program's check of its report says yes.
+    stream : str
+        The stream that differs by the greatest part of its standard deviation.
+    tonnes, part : float
+        By how many tonnes, and by which part.
+    """
+
+    is_checked: bool
+    stream: str = ""
+    tonnes: float = 0.0
+    part: float = 0.0
+
+    @property
+    def why_not(self) -> str:
+        """Why the flows aren't certified; empty if they are."""
+        if not self.is_checked:
+            return "the program's check of its report doesn't say yes"
+        if self.part > MOST_DIFFERENCE:
+            return f"the flow of {self.stream} differs by {self.part:.2f} of its ±"
+        return ""
+
+    def lines(self) -> Iterator[str]:
+        """Give what is proved, what isn't, and the difference between both."""
+        if not self.why_not:
+            of = f" ({self.stream})" if self.stream else ""
+            yield f"certified: the program's flows differ by at most {self.tonnes:,.3f} t{of}"
+            yield "proved: balance and bounds of mass; only computed: grades, ±, best fit"
+
+
+def certificate_of(lines: Iterable[Line], output: Output, program: str | None) -> Certificate:
+    """Return how far flows are from those that the program certified."""
     blocks = list(last_blocks(output.blocks_in_order).values())
     if not blocks or list(check(output, program=program)["verdict"]) != ["yes"]:
-        return "the program's check of its report doesn't say yes"
-    worst, stream = 0.0, ""
+        return Certificate(False)
+    worst = (0.0, 0.0, "")
     flows = {
         row["name"].removesuffix("_gain"): int(row["flow"]) / GRAMS for row in blocks[-1].streams
     }
     for line in lines:
         if not line.component and line.kind is not Class.UNOBSERVABLE and line.sd > 0:
-            off = abs(flows[line.stream] - line.value) / line.sd
-            worst, stream = max((worst, stream), (off, line.stream))
-    if worst > MOST_DIFFERENCE:
-        return f"the flow of {stream} differs by {worst:.2f} of its ±"
-    return ""
+            off = abs(flows[line.stream] - line.value)
+            worst = max(worst, (off / line.sd, off, line.stream))
+    part, tonnes, stream = worst
+    return Certificate(True, stream, tonnes, part)
 
 
 def _text(known: Known, lines: list[Line], feeds: Sequence[str]) -> Iterable[str]:
