@@ -1,4 +1,15 @@
 // Which streams get a meter.
+//
+// Everything is observable exactly when the streams without a meter have no cycle. So the streams that may
+// stay without one are a spanning forest, and metering costs least if that forest costs most: Kruskal's
+// greedy rule (1956), by falling cost. A stream whose ends are already joined closes a cycle of streams that
+// cost no less, so it is the one to meter:
+//
+//        a            costs a-b 9, b-c 7, c-a 4, all unmeasured
+//       / \
+//      b---c          a-b and b-c stay without a meter; c-a closes their cycle, and is metered for 4
+//
+// The same cycles prove to a reader that nothing is cheaper (docs/DEFINITIONS.md, "The cheapest metering").
 
 ghost use Rattle.std.specs.Prelude.{◌≡◌, ◌≢◌, ℕ, ◌<◌, false, All, length, get_or, IfOk};
 ghost use Rattle.pb_graph.specs.ProcessGraph.{IsProcessGraph, IsStream};

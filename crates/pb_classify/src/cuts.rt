@@ -1,4 +1,11 @@
 // The boundaries of the trees of unmeasured streams, made in one pass over the streams.
+//
+// The cut of a measured stream is the boundary of the tree at its `from` end, so all measured streams
+// that leave a tree have the same one. It is made once for each tree: a stream between two trees is a
+// member of two boundaries, with opposite signs, and of no other.
+//
+//     (tree 0) --x--> (tree 3)        boundary of 0: -x +y      boundary of 3: +x -y
+//     (tree 0) <--y-- (tree 3)
 
 ghost use Rattle.std.specs.Prelude.{◌≡◌, ◌<◌, [], Some, length, slice_get, replicate, IfOk, OnOk};
 ghost use Rattle.pb_classify.specs.Points.{ArePoints};

@@ -1,4 +1,11 @@
 // The cycles of the streams outside the forest.
+//
+// A stream outside the forest and the path in the forest between its ends are a cycle: a fundamental cycle
+// (Deo, Graph Theory with Applications to Engineering and Computer Science, chapter 3). It shows that the
+// stream's flow is free if all of it is unmeasured. A held stream that is unobservable takes the first such
+// cycle that has it, so that each stream has one certificate, the same in every run. The streams are gone
+// through in order, and a cycle is given to those on it that have none yet; the work is the number of
+// steps of all these cycles.
 
 ghost use Rattle.std.specs.Prelude.{◌≡◌, ℕ, ◌+◌, ◌<◌, ◌∷◌, true, false, None, All, length, get_or, IfOk, OnOk};
 ghost use Rattle.pb_graph.specs.ProcessGraph.{IsProcessGraph};

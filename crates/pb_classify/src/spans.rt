@@ -1,4 +1,10 @@
 // The span of entry numbers below each node, with the least and the greatest number that count there.
+//
+// Tarjan's low and high points (1974, "A note on finding the bridges of a graph"), without recursion: each
+// entry begins with a span of its own number; the ends of each unmeasured stream outside the forest (a
+// leap) count for each other; then, from the last entry to the first, a span takes in the spans after it
+// as long as their entries are deeper. When an entry's turn comes, those after it are complete. Each span
+// is joined once, so the work is proportional to the number of nodes and streams.
 
 ghost use Rattle.std.specs.Prelude.{◌≡◌, ℕ, ◌+◌, ◌<◌, length, get_or, IfOk};
 ghost use Rattle.pb_graph.specs.ProcessGraph.{IsProcessGraph, some_stream};

@@ -1,4 +1,17 @@
 // A walk of the trees of held unmeasured streams, which gives each node an entry number.
+//
+// The walk goes depth first, with a stack in place of recursion, so that a plant of any depth needs no
+// more of the program's own stack. A node gets the next number when it is entered, so the nodes below a
+// node have consecutive numbers, its own first:
+//
+//          0           entry numbers 0..6, depths 0 1 2 2 1 2 1
+//        / | \
+//       1  4  6        below 1: numbers 1 to 3
+//      / \ |           below 4: numbers 4 to 5
+//     2  3 5           below 6: number 6
+//
+// Each node is entered once, and each stream looked at from both of its ends. What the numbers are for is
+// at the head of points.rt; the argument is in docs/DEFINITIONS.md, "Forest and certificates".
 
 ghost use Rattle.std.specs.Prelude.{◌≡◌, ℕ, ◌+◌, ◌*◌, ◌<◌, ◌≤◌, true, false, [], ◌∷◌, ◌++◌, Some, None, All, length, get_or, map, IfOk, OnOk};
 ghost use Rattle.pb_limits.specs.Limits.{most_nodes};

@@ -1,4 +1,10 @@
 // Passes over the border of one group.
+//
+// The best price of a group is the present one less the nearest quotient of net dual flow and variance, if
+// that is allowed. Each stream at the border allows an interval around the price at its other end (its
+// room, the greatest adjustment over its variance), and all of them together the interval from the greatest
+// low end to the least high end. To find it costs a pass over the border, which is nearly always needless:
+// if the price and the greatest price so far are together within the least room, every interval has it.
 
 ghost use Rattle.std.specs.Prelude.{◌≡◌, ◌*◌, ◌^◌, ◌<◌, ◌≤◌, ℤ, pos, neg_ℤ, List, length, All, unsigned_abs};
 ghost use Rattle.pb_limits.specs.Limits.{most_price, most_streams};

@@ -1,4 +1,18 @@
 // Prices for the groups of a graph, and sweeps of best prices.
+//
+// Coordinate ascent on the dual of the least squares problem (Bertsekas, Nonlinear Programming). A price for
+// each group of nodes gives each measured stream a dual flow: its value plus its variance times the rise of
+// the price along it. A group whose dual flows don't balance, with net N and variance A of its border, has
+// its best price N/A below its present one: with it the group balances to the last unit, and the dual value
+// rises.
+//
+//          +12 -->( g )--> -7        N = 12 - 7 = 5, A = 2 + 3 = 5: the price goes down by 1, so the
+//          var. 2      var. 3        flows become 10 and 10
+//
+// Prices are whole numbers in units of 2^-56 per gram. The best price is one rounded quotient, moved into
+// the interval in which all adjustments stay within their limit (best.rt). Kept between steps: the dual flow
+// of each stream and the streams at the border of each group, so a step costs as much as the border is long,
+// and a sweep as much as all of them, without taking memory.
 
 ghost use Rattle.std.specs.Prelude.{◌≡◌, ◌≢◌, ℕ, suc, ◌*◌, ◌^◌, ◌<◌, ◌≤◌, Some, true, false, pos, ◌-ℤ◌, ◌*ℤ◌, ◌≤ℤ◌, length, get_or, slice_get, unsigned_abs, All, IfOk, IfSome, IsTrue};
 ghost use Rattle.pb_limits.specs.Limits.{most_nodes, most_streams};

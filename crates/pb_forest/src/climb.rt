@@ -1,4 +1,13 @@
 // Paths in the forest: from both ends up their tree, until the ends meet.
+//
+//        r            place in the order: r 0, a 1, b 2, d 3, c 4
+//       / \
+//      a   b          from d to b: d was found later, climb to a; b later than a, climb to r; a later than
+//      |   |          r, climb to r: they meet. The path is d-a, a-r, then backwards r-b.
+//      d   c
+//
+// A parent is found before its children, so the node found later is never above the other one, and climbing
+// from it never passes the meeting point. The work is the number of steps of the path.
 
 ghost use Rattle.std.specs.Prelude.{◌≡◌, ℕ, ◌<◌, [], ◌++◌, reverse, OnOk, IfOk};
 ghost use Rattle.pb_graph.specs.Path.{IsPath, open_ends};

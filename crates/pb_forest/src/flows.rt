@@ -1,4 +1,14 @@
 // The balanced flows that the forest completes: from the leaves of each tree to its root.
+//
+// Given the flows of the streams outside the forest (the chords), the others follow (Narasimhan and
+// Jordache, chapter 3: the spanning tree, solved from its leaves). The room for a held stream's flow first
+// keeps the net flow that the chords bring to the node below it. From the last node to the first, a node's
+// branch takes that net flow, and the branch of its parent is charged with it:
+//
+//     root <-- p <-- q       chords bring 5 to q, 2 to p:   branch of q takes 5, branch of p takes 2 + 5
+//
+// In this way whole grams balance exactly, whatever the chords were rounded to. One pass over nodes and
+// streams.
 
 ghost use Rattle.std.specs.Prelude.{◌≡◌, ℕ, ◌<◌, ◌≤◌, ◌^◌, ℤ, neg_ℤ, List as Seq, All, Some, length, unsigned_abs};
 ghost use Rattle.pb_limits.specs.Limits.{most_streams};

@@ -1,4 +1,9 @@
 // The trees of the held streams.
+//
+// A search from the first node of each tree, breadth first: the list of nodes found is its own queue. A
+// node comes after its parent in the order, which is all that the solution of the balances needs: from the
+// last node to the first, each node is settled before its parent (flows.rt), and two nodes meet by climbing
+// from the one found later (climb.rt).
 
 ghost use Rattle.std.specs.Prelude.{◌≡◌, ℕ, ◌+◌, ◌<◌, ◌↔◌, true, Some, length, get_or, IsTrue, IfOk, OnOk};
 ghost use Rattle.pb_graph.specs.Neighbours.{touches, touching, IsNeighbours};

@@ -1,4 +1,20 @@
 // The prices of the sweeps together with flows, and all that the next sweeps need.
+//
+// The least squares problem is solved from its dual: prices of the nodes go up in sweeps (pb_dual), and
+// after a sweep balanced flows are read off the prices. How far these flows are from the least squares is
+// known without knowing the least squares: the weighted distance between the flows and the dual flows of
+// the prices, the gap, bounds it (docs/DEFINITIONS.md, "Gap, bounds, statistic").
+//
+//     prices --sweep--> prices --sweep--> prices ...       the dual value only rises
+//       |                 |                 |
+//     dual flows        dual flows        dual flows       what each stream would carry at these prices
+//       | round, balance along the forest
+//     flows, gap met?   no                yes: stop
+//
+// Making the flows costs as much as a sweep, so it is put off: as long as the net dual flow of some group is
+// greater than a gap that is met could allow, the answer is no (nets.rt), and a group found small is not
+// looked at again. A sweep that changes no price ends the loop, since all later ones would change none. All
+// memory is taken before the first sweep.
 
 ghost use Rattle.std.specs.Prelude.{◌≡◌, ◌↔◌, ℕ, suc, ◌<◌, ◌≤◌, ◌^◌, ℤ, Bool, false, List as Seq, Some, length, slice_get, unsigned_abs, IsTrue, IfOk};
 ghost use Rattle.pb_graph.specs.Balance.{IsBalanced};

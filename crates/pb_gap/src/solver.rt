@@ -1,4 +1,7 @@
 // The solver: the prices of a graph and the flows that belong to them, with their gap.
+//
+// How it gets there is at the head of iterate.rt; this type adds what is kept between calls, the gap, and
+// says of bounds and statistic what they mean for every balanced vector.
 
 ghost use Rattle.std.specs.Prelude.{◌≡◌, ℕ, ◌<◌, ◌≤◌, ◌^◌, pos, ◌≤ℤ◌, Bool, List as Seq, Some, length, slice_get, unsigned_abs, IfOk, IfSome};
 ghost use Rattle.pb_limits.specs.Limits.{most_gap, most_sweeps};
