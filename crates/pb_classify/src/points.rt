@@ -3,11 +3,11 @@
 // Whether the measurements determine a stream depends on one thing: do other unmeasured streams join its
 // ends? A search for each stream would take the square of the plant's size. One walk answers all of them:
 //
-//       a            held unmeasured streams a-b, b-c, b-d, and a leap, c-a, outside the forest
-//       |  \
-//       b   )        below b: b, c, d. The leap leads from below b to a, outside: another way round, so
-//      / \ /         a-b is unobservable, and the cycle a-b-c-a shows it.
-//     d   c          below d: d alone, and no leap from there: without b-d nothing joins its ends, so b-d
+//       a ---        held unmeasured streams a-b, b-c, b-d, and a leap, c-a, outside the forest
+//       |    |
+//       b    |       below b: b, c, d. The leap leads from below b to a, outside: another way round, so
+//      / \   |       a-b is unobservable, and the cycle a-b-c-a shows it.
+//     d   c --       below d: d alone, and no leap from there: without b-d nothing joins its ends, so b-d
 //                    is observable, and the cut around {d} determines it.
 //
 // The nodes below a node have consecutive entry numbers. So "no leap leads out" is two comparisons: the
