@@ -21,6 +21,8 @@ from plantbal.accounts.sheet import Account, Accounts, Kind, Ownership, Rule, Sa
 from plantbal.accounts.spread import Sum, deviations
 from plantbal.accounts.stock import Opened, Why, rolled
 from plantbal.accounts.trend import Unusual, unusual
+from plantbal.book import journal
+from plantbal.book.difference import line_of_posting
 from plantbal.faults import InputFault
 from plantbal.model.ledger import Ledger
 from plantbal.report.blocks import last_blocks, blocks_of, read_rows
@@ -288,6 +290,18 @@ def test_damaged_postings(old: str, new: str, said: str) -> None:
     with pytest.raises(InputFault) as fault:
         parse_posted("p.csv", POSTED.replace(old, new, 1))
     assert said in str(fault.value)
+
+
+def test_a_posting_that_the_journal_has_not() -> None:
+    line = journal.Line(
+        1, "", "", "", journal.Act.POSTED, "m", files={"posted/m.1.csv": journal.Kept.of(b"x")}
+    )
+    assert line_of_posting([line], "m", 1) is line
+    for period, number in (("m", 2), ("n", 1)):
+        with pytest.raises(
+            InputFault, match=f"posted/{period}.{number}.csv: no line of the journal"
+        ):
+            line_of_posting([line], period, number)
 
 
 # ---- beside the months before

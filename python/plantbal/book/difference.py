@@ -30,13 +30,13 @@ from plantbal.book.accounting import (
 )
 from plantbal.book.causes import Cause, causes_of, with_causes
 from plantbal.book.forms import earlier_file, posted_file, report_file, year_file
-from plantbal.book.journal import Kept
+from plantbal.book.journal import Kept, Line
 from plantbal.book.overview import report_state
 from plantbal.book.results import ReportState
 from plantbal.book.said import behind_said
 from plantbal.book.store import Act, Action, Store
 from plantbal.book.years import Years
-from plantbal.faults import Fault
+from plantbal.faults import Fault, InputFault, Place
 
 NOW, POSTED = "now", "posted"
 
@@ -188,19 +188,30 @@ def account_by(book: Store, versions: dict[str, Version], period: str) -> MonthA
     return Rolled(months_of(book, versions), accounts_of(book)).account(period)
 
 
+def line_of_posting(journal: Sequence[Line], period: str, number: int) -> Line:
+    """Return the line of the journal by which a file of what was posted was made.
+
+    Raises
+    ------
+    InputFault
+        If there is none.
+    """
+    name = posted_file(period, number)
+    for line in reversed(journal):
+        if line.act is Act.POSTED and line.of == period and name in line.files:
+            return line
+    remedy = "put the book's folder back from a backup, or take this file out of it"
+    what = "no line of the journal says that this was posted"
+    raise InputFault(what, place=Place(file=name), remedy=remedy)
+
+
 def _posted_side(book: Store, versions: dict[str, Version], period: str) -> Side:
     """Return what was posted last, with the report that it was made of."""
     number = posted_numbers(book, period)
     if not number:
         return Side(POSTED, None, Posted())
     posted, year = last_posted(book, period), versions[period].year
-    line = next(
-        line
-        for line in reversed(book.journal())
-        if line.act is Act.POSTED
-        and line.of == period
-        and posted_file(period, number) in line.files
-    )
+    line = line_of_posting(book.journal(), period, number)
     kept, rows = line.files.get(report_file(period)), line.files.get(year_file(year))
     texts = [book.text(report_file(period))]
     texts += [book.text(earlier_file(period, at + 1)) for at in range(_earlier(book, period))]
