@@ -33,6 +33,8 @@ from plantbal.fleet.given import Given, sha256_of
 from plantbal.fleet.job import SAID, STATUS, ended
 from plantbal.fleet.sites import Site
 
+# A time after this isn't one, in seconds since 1970: some four thousand years from now.
+_LATEST = 1 << 37
 _RUN_BYTES = 1 << 20  # of what is said of a run
 # Why a folder can't get a name: another one has it, which isn't empty, or a file.
 _TAKEN = (errno.ENOTEMPTY, errno.EEXIST, errno.ENOTDIR)
@@ -96,11 +98,12 @@ class Run:
         except (RecursionError, TypeError) as error:
             raise ValueError(error) from error
         texts = (run.site, run.night, run.session, run.session_sha256, run.program)
+        times = (run.begun, run.seconds, run.session_begun)
         if not (
             all(isinstance(each, str) for each in (*texts, run.program_sha256, run.output_sha256))
             and isinstance(run.words, list)
             and type(run.status) in (int, type(None))
-            and all(type(each) in (int, float) for each in (run.begun, run.seconds))
+            and all(type(each) in (int, float) and 0 <= each < _LATEST for each in times)
         ):
             raise ValueError("it isn't of the form of a run")
         return run
@@ -196,8 +199,9 @@ class Night:
     def _first_run(self, site: Site, sha256: str) -> float:
         """Return when a session with this digest was first run; 0 if that is now."""
         try:
-            before = Run(**json.loads((self.out / site.name / "latest" / STATUS).read_bytes()))
-        except (OSError, ValueError, TypeError):
+            path = self.out / site.name / "latest" / STATUS
+            before = Run.read(read_bytes(path, _RUN_BYTES)[1])
+        except (OSError, InputFault, ValueError):
             return 0.0
         return (before.session_begun or before.begun) if before.session_sha256 == sha256 else 0.0
 
