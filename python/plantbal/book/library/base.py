@@ -1,0 +1,40 @@
+"""What each method of a book needs: the folder, who acts, and the program."""
+
+from __future__ import annotations
+
+import datetime
+from pathlib import Path
+
+from plantbal.book.naming import day_of
+from plantbal.book.store import Store
+from plantbal.program import RunSettings
+
+Day = datetime.date | str | None
+
+
+class Base:
+    """A plant's book, without what it does; the parameters are those of `plantbal.Book`."""
+
+    def __init__(
+        self,
+        folder: str | Path,
+        *,
+        who: str = "",
+        program: str | Path | None = None,
+        seconds: float = 10,
+    ) -> None:
+        self.folder = Path(folder)
+        self.who = who
+        self.program = program
+        self.seconds = seconds
+
+    def _store(self) -> Store:
+        return Store(self.folder, self.seconds)
+
+    def _settings(self, settings: RunSettings | None) -> RunSettings:
+        return settings or RunSettings(program=self.program)
+
+
+def day_or_none(day: Day, locale: str = "") -> datetime.date | None:
+    """Return a day, which may be a text."""
+    return day_of(day, locale) if isinstance(day, str) else day
