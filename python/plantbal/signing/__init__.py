@@ -1,0 +1,1 @@
+"""Signatures by keys that people have, and time stamps: by OpenSSH, minisign and OpenSSL alone."""
