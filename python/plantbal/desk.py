@@ -15,7 +15,7 @@ from plantbal.plain import plain_streams
 
 # Each is imported by the calls that need it, and is Debian's package python3-NAME.
 LIBRARIES = frozenset(
-    "babel distributed graphviz jinja2 matplotlib networkx numpy openpyxl pandas scipy tqdm".split()
+    "babel distributed django graphviz jinja2 matplotlib networkx numpy openpyxl pandas scipy tqdm".split()
 )
 
 
@@ -86,6 +86,7 @@ COMMANDS: tuple[Command, ...] = (
     Command("draw", "report.picture", "draw a report, a design, or which streams to meter"),
     Command("chart", "report.chart", "chart the periods of one or more reports"),
     Command("page", "page.command", "the month's statement: a page, a workbook, a PDF"),
+    Command("serve", "commands.serving", "the desk in the browser, for one person"),
     Command("fleet", "fleet.command", "run a folder of sessions", takes_words=True),
     Command("critical", "study.critical", "critical values as rows of a session"),
     Command("from-scipy", "study.foreign", "another program's figures in the form of a report"),

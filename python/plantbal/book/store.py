@@ -20,6 +20,7 @@ from dataclasses import dataclass, field
 from pathlib import Path
 
 from plantbal import limits
+from plantbal.book import expected as expecting
 from plantbal.book.chain import Chain, checks_of, checks_text, read_checks, state_of
 from plantbal.book.forms import (
     CHECKS,
@@ -137,6 +138,8 @@ class Store:
         The folder.
     seconds : float
         The most seconds to wait for another command that is at work in it.
+    expected : Version, optional
+        How it was when somebody decided on an action; nothing is done if it is otherwise.
 
     Attributes
     ----------
@@ -144,9 +147,15 @@ class Store:
         What an action that was stopped has yet to do, while the book is only read.
     """
 
-    def __init__(self, folder: str | Path, seconds: float = 10) -> None:
+    def __init__(
+        self,
+        folder: str | Path,
+        seconds: float = 10,
+        expected: expecting.Version | None = None,
+    ) -> None:
         self.folder = Path(folder)
         self.seconds = seconds
+        self.expected = expected
         self.waits: list[Entry] = []
         self._journal: list[Line] | None = None
         self._is_old = False
@@ -194,6 +203,8 @@ class Store:
                 raise InputFault(what, place=Place(file=str(self.folder)), remedy=_LOST)
             if tested:
                 self.test()
+            if not reading:
+                expecting.check(self.journal(), self.expected)
             yield
 
     def _check_is_there(self) -> None:

@@ -5,6 +5,7 @@ from __future__ import annotations
 import datetime
 from pathlib import Path
 
+from plantbal.book.expected import Version
 from plantbal.book.naming import day_of
 from plantbal.book.store import Store
 from plantbal.program import RunSettings
@@ -22,14 +23,16 @@ class Base:
         who: str = "",
         program: str | Path | None = None,
         seconds: float = 10,
+        expected: Version | None = None,
     ) -> None:
         self.folder = Path(folder)
         self.who = who
         self.program = program
         self.seconds = seconds
+        self.expected = expected
 
     def _store(self) -> Store:
-        return Store(self.folder, self.seconds)
+        return Store(self.folder, self.seconds, self.expected)
 
     def _settings(self, settings: RunSettings | None) -> RunSettings:
         return settings or RunSettings(program=self.program)

@@ -11,6 +11,7 @@ from plantbal.book.beginning import begin
 from plantbal.book.following import follow, retire
 from plantbal.book.library.base import Day, day_or_none
 from plantbal.book.library.facts import Facts
+from plantbal.book.library.looks import Looking
 from plantbal.book.library.reports import Reports
 from plantbal.book.results import Accepted, Begun, Status, Verified
 from plantbal.book.store import Head
@@ -18,7 +19,7 @@ from plantbal.faults import Fault
 from plantbal.workbook.options import ReadingOptions
 
 
-class Book(Facts, Reports):
+class Book(Facts, Reports, Looking):
     """A plant's book: a folder with a session for each year, its reports, and a journal.
 
     Parameters
@@ -31,6 +32,9 @@ class Book(Facts, Reports):
         The program, for what has no settings of a run; as `plantbal.find_program` takes it.
     seconds : float
         The most seconds to wait for another process that is at work in the book.
+    expected : Version, optional
+        The version of the book that was shown to whoever acts on it now: if it is another one, an
+        action isn't done, and raises `plantbal.book.expected.Moved`.
 
     Examples
     --------

@@ -1,0 +1,74 @@
+"""The version of a book that somebody was shown: who acts on an older one is told so."""
+
+from __future__ import annotations
+
+from collections.abc import Sequence
+from dataclasses import dataclass
+
+from plantbal.book.journal import Line
+from plantbal.faults import Fault
+
+# How many actions of others are said.
+_MOST = 3
+
+
+@dataclass(frozen=True)
+class Version:
+    """A state of a book, by the end of its journal.
+
+    Attributes
+    ----------
+    number : int
+        How many actions the journal has.
+    digest : str
+        The digest of the last; empty if the journal is of an older version, without digests.
+    """
+
+    number: int
+    digest: str
+
+    def __str__(self) -> str:
+        return f"{self.number} {self.digest}".strip()
+
+    @classmethod
+    def of(cls, lines: Sequence[Line]) -> Version:
+        """Return the version of a book with these lines in its journal."""
+        return cls(len(lines), lines[-1].digest if lines else "")
+
+    @classmethod
+    def read(cls, text: str) -> Version | None:
+        """Return the version that a text says, or None if it says none."""
+        number, _, digest = text.partition(" ")
+        is_one = number.isascii() and number.isdigit() and len(number) <= 9
+        return cls(int(number), digest) if is_one and len(digest) <= 64 else None
+
+
+class Moved(Fault):
+    """An action on a book that isn't any more as it was when somebody decided on it.
+
+    Attributes
+    ----------
+    since : tuple of Line
+        What was done since, as the journal has it; empty if the journal was put back.
+    """
+
+    def __init__(self, since: Sequence[Line]) -> None:
+        said = "; ".join(line.said() for line in since[:_MOST])
+        said += f"; and {len(since) - _MOST:,} more" if len(since) > _MOST else ""
+        what = "the book was changed since you were shown it, and nothing was booked"
+        super().__init__(f"{what}: {said}" if said else what, remedy="look at it again")
+        self.since = tuple(since)
+
+
+def check(lines: Sequence[Line], expected: Version | None) -> None:
+    """Raise if a book isn't as expected.
+
+    Raises
+    ------
+    Moved
+        If its journal ends otherwise.
+    """
+    if expected is None or Version.of(lines) == expected:
+        return
+    is_before = Version.of(lines[: expected.number]) == expected
+    raise Moved(lines[expected.number :] if is_before else ())

@@ -1,0 +1,341 @@
+"""What is there in a book, for whoever shows it: its plant, its months, its facts, its reports.
+
+Nothing here changes a book. Each call tests the files against the journal, as every command does.
+"""
+
+from __future__ import annotations
+
+import datetime
+from dataclasses import dataclass
+
+from plantbal.book.answers import Quiet, quieted
+from plantbal.book.expected import Version
+from plantbal.book.forms import EARLIER, report_file, window_file, year_file
+from plantbal.book.journal import Line
+from plantbal.book.ledger import Fact, Ledger
+from plantbal.book.meters import Meter, read_meters
+from plantbal.book.overview import report_state, seen_by
+from plantbal.book.reporting import rows_asking
+from plantbal.book.results import ReportState, Shown
+from plantbal.book.said import touched_by
+from plantbal.book.store import METERS, Act, Store
+from plantbal.book.years import Years
+from plantbal.faults import Fault
+from plantbal.model.periods import period_days
+from plantbal.model.plant import Service
+from plantbal.model.state import State
+
+
+@dataclass(frozen=True)
+class Flow:
+    """A stream as a book has it.
+
+    Attributes
+    ----------
+    name, kind : str
+        Its name, and ``metered``, ``batch`` or ``plain``.
+    from_, to : str
+        Its ends; a boundary by its name.
+    meter : Meter or None
+        Its meter.
+    service : Service
+        From which day to which it is in service.
+    """
+
+    name: str
+    kind: str
+    from_: str
+    to: str
+    meter: Meter | None
+    service: Service
+
+
+@dataclass(frozen=True)
+class Vessel:
+    """A tank as a book has it: its name, its gauge, its days of service."""
+
+    name: str
+    meter: Meter | None
+    service: Service
+
+
+@dataclass(frozen=True)
+class Month:
+    """A period as a book has it: its year, its days, whether it is closed, how old its report is."""
+
+    name: str
+    year: str
+    first: datetime.date
+    last: datetime.date
+    closed: bool
+    report: ReportState
+    earlier: int = 0
+
+
+@dataclass(frozen=True)
+class Contents:
+    """What a book has.
+
+    Attributes
+    ----------
+    version : Version
+        Its version.
+    months : tuple of Month
+        Its periods in the order of their days.
+    flows : dict of str to tuple of Flow
+        The streams by the years.
+    vessels : dict of str to tuple of Vessel
+        The tanks by the years.
+    windows : tuple of (str, str)
+        The windows that have a report.
+    quiets : tuple of Quiet
+        The rules that are quieted.
+    lines : tuple of Line
+        The journal.
+    """
+
+    version: Version
+    months: tuple[Month, ...]
+    flows: dict[str, tuple[Flow, ...]]
+    vessels: dict[str, tuple[Vessel, ...]]
+    windows: tuple[tuple[str, str], ...]
+    quiets: tuple[Quiet, ...]
+    lines: tuple[Line, ...]
+
+    def month(self, name: str) -> Month | None:
+        """Return a period by its name."""
+        return next((month for month in self.months if month.name == name), None)
+
+
+@dataclass(frozen=True)
+class KeptReport:
+    """A report as it is kept, with the session that asked for it.
+
+    Attributes
+    ----------
+    period : str
+        The period, or the first and the last of a window.
+    text : str
+        What the program wrote.
+    rows : str
+        The year's rows that it saw; empty of an earlier report.
+    asking : str
+        The rows that asked for it.
+    state : ReportState
+        How old it is.
+    """
+
+    period: str
+    text: str
+    rows: str
+    asking: str
+    state: ReportState
+
+    @property
+    def session(self) -> str:
+        """The session that asked for it; empty of an earlier report."""
+        return self.rows + self.asking
+
+
+@dataclass(frozen=True)
+class MonthFacts:
+    """The facts that touch a period, with the state of the session that has them.
+
+    Attributes
+    ----------
+    facts : tuple of Shown
+        The facts, with those that were struck.
+    state : State
+        The session as it is in the end.
+    """
+
+    facts: tuple[Shown, ...]
+    state: State
+
+
+def contents(book: Store) -> Contents:
+    """Return what is there in a book."""
+    with book.opened(reading=True):
+        years = Years(book)
+        meters = read_meters(book.path(METERS))
+        journal = book.journal()
+        months = [
+            _month(book, each, journal, name) for each in years.all() for name in each.periods
+        ]
+        flows = {each.name: tuple(_flows(each, meters)) for each in years.all()}
+        vessels = {each.name: tuple(_vessels(each, meters)) for each in years.all()}
+        asked = dict.fromkeys(line.of for line in journal if line.act is Act.WINDOW)
+        pairs = [(first, last) for first, _, last in (of.partition(" ") for of in asked)]
+        windows = tuple(pair for pair in pairs if book.has(window_file(*pair)))
+        months.sort(key=lambda month: (month.first, month.last))
+        quiets = tuple(quieted(journal))
+        return Contents(
+            Version.of(journal), tuple(months), flows, vessels, windows, quiets, tuple(journal)
+        )
+
+
+def _month(book: Store, ledger: Ledger, journal: list[Line], name: str) -> Month:
+    """Return a period of a year."""
+    period = ledger.periods[name]
+    state = report_state(book, ledger, journal, name)
+    earlier = 0
+    while book.has(f"{EARLIER}/{name}.{earlier + 1}.csv"):
+        earlier += 1
+    return Month(name, ledger.name, *period_days(period), period.closed, state, earlier)
+
+
+def _flows(ledger: Ledger, meters: dict[str, Meter]) -> list[Flow]:
+    """Return the streams of a year."""
+    found = []
+    for name, stream in ledger.session.state.plant.streams.items():
+        if stream.kind == "tank":
+            continue
+        ends = (stream.arc.from_, stream.arc.to)
+        from_, to = (stream.boundary or "env" if end == "env" else end for end in ends)
+        found.append(Flow(name, stream.kind, from_, to, meters.get(name), stream.service))
+    return found
+
+
+def _vessels(ledger: Ledger, meters: dict[str, Meter]) -> list[Vessel]:
+    """Return the tanks of a year."""
+    tanks = [name for name, kind in ledger.session.nodes.items() if kind == "tank"]
+    return [Vessel(name, meters.get(name), ledger.session.service(name)) for name in tanks]
+
+
+def kept(book: Store, period: str, number: int | None = None) -> KeptReport:
+    """Return a period's report as it is kept; with a number an earlier one.
+
+    Raises
+    ------
+    Fault
+        If there is no such period or no such report.
+    """
+    with book.opened(reading=True):
+        ledger = Years(book).of_period(period)
+        if number is not None:
+            text = book.text(f"{EARLIER}/{period}.{number}.csv")
+            _check_there(text, f"{period} has no earlier report {number}")
+            return KeptReport(period, text, "", "", ReportState.OLDER)
+        text = book.text(report_file(period))
+        _check_there(text, f"{period} has no report yet")
+        journal = book.journal()
+        seen = seen_by(journal, ledger, period, Act.REPORT, Act.CLOSE)
+        rows = book.text(year_file(ledger.name)).splitlines(keepends=True)
+        components = sorted({line.split(",")[1] for line in text.splitlines() if _is_balance(line)})
+        names = [name for name in ledger.session.components_in(period) if name in components]
+        state = report_state(book, ledger, journal, period)
+        seen_rows = "".join(rows[:seen] if seen else rows)
+        return KeptReport(period, text, seen_rows, rows_asking(period, names), state)
+
+
+def _is_balance(line: str) -> bool:
+    """Say whether a row of an output begins the balance of a component."""
+    return line.startswith("component,")
+
+
+def _check_there(text: str, what: str) -> None:
+    if not text:
+        raise Fault(what, remedy="make it, and look again")
+
+
+def kept_window(book: Store, first: str, last: str) -> KeptReport:
+    """Return the report of a window as it is kept.
+
+    Raises
+    ------
+    Fault
+        If there is none.
+    """
+    with book.opened(reading=True):
+        text = book.text(window_file(first, last))
+        _check_there(text, f"there is no report of a window from {first} to {last}")
+        return KeptReport(f"{first}+{last}", text, "", "", ReportState.CURRENT)
+
+
+def facts_of(book: Store, period: str) -> MonthFacts:
+    """Return the facts that touch a period, with what each was.
+
+    Raises
+    ------
+    Fault
+        If there is no such period.
+    """
+    with book.opened(reading=True):
+        ledger = Years(book).of_period(period)
+        found = [
+            Shown(fact, struck, tuple(was for _, was in ledger.edits.get(fact.id, [])))
+            for some, struck in ((ledger.facts, False), (ledger.struck, True))
+            for fact in some.values()
+            if period in touched_by(ledger, fact)
+        ]
+    found.sort(key=lambda each: (each.fact.place, each.fact.first, each.fact.id))
+    return MonthFacts(tuple(found), ledger.session.state)
+
+
+def line_of(lines: tuple[Line, ...], year: str, row: int) -> Line | None:
+    """Return the line of a journal that added a row of a year."""
+    return next((line for line in lines if row in line.added.get(year, ())), None)
+
+
+@dataclass(frozen=True)
+class FactLine:
+    """A fact, where it stands, and what the journal says of it.
+
+    Attributes
+    ----------
+    shown : Shown
+        The fact, with what it was.
+    year : str
+        The year whose file has it.
+    row : int
+        The row of that file, counted from 1.
+    periods : tuple of str
+        The periods that it touches.
+    closed : tuple of str
+        Those that are closed.
+    booked : Line or None
+        The line of the journal that booked it.
+    edits : tuple of (Line, Fact)
+        The lines that amended or struck it, each with what it was before.
+    meter : Meter or None
+        Its meter or gauge.
+    """
+
+    shown: Shown
+    year: str
+    row: int
+    periods: tuple[str, ...]
+    closed: tuple[str, ...]
+    booked: Line | None
+    edits: tuple[tuple[Line | None, Fact], ...]
+    meter: Meter | None
+
+
+def fact_line(book: Store, year: str, identity: str) -> FactLine:
+    """Return a fact of a year by its id, with its lines of the journal.
+
+    Raises
+    ------
+    Fault
+        If there is no such fact.
+    """
+    with book.opened(reading=True):
+        years = Years(book)
+        ledger = years.named(year)
+        struck = identity in ledger.struck
+        fact = ledger.struck.get(identity) or ledger.facts.get(identity)
+        if fact is None:
+            raise Fault(f"there is no fact {identity} in {year}", text=identity)
+        lines = tuple(book.journal())
+        there = ledger.session.state.facts.find(identity)
+        row = there.booked if there is not None else 0
+        edited = ledger.edits.get(identity, [])
+        edits = tuple((line_of(lines, year, number), was) for number, was in edited)
+        touched = touched_by(ledger, fact)
+        meters = read_meters(book.path(METERS))
+        shown = Shown(fact, struck, tuple(was for _, was in edited))
+        closed = tuple(name for name, each in touched.items() if each.closed)
+        booked = line_of(lines, year, row)
+        return FactLine(
+            shown, year, row, tuple(touched), closed, booked, edits, meters.get(fact.place)
+        )

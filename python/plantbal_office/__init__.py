@@ -1,0 +1,1 @@
+"""The desk in the browser: plants' books for people without a terminal, on `plantbal.Book`."""

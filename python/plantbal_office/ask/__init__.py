@@ -1,0 +1,1 @@
+"""Ask: what if, advice, windows, recovery, charts, differences, exports."""

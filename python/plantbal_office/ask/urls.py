@@ -1,0 +1,4 @@
+"""The addresses of this duty."""
+
+app_name = "ask"
+urlpatterns: list[object] = []

@@ -1,0 +1,4 @@
+"""The addresses of this duty."""
+
+app_name = "correct"
+urlpatterns: list[object] = []

@@ -1,0 +1,1 @@
+"""Deeds: what a person did once, and what a person was shown."""

@@ -1,0 +1,192 @@
+"""The files of a workbook that came by a form: where they are put, and what they may be called.
+
+They are kept in the desk's folder for files until they are booked, and for a week at most.
+"""
+
+from __future__ import annotations
+
+import shutil
+import tempfile
+from collections.abc import Iterator, Sequence
+from contextlib import contextmanager
+from datetime import timedelta
+from pathlib import Path, PurePosixPath
+
+from django.conf import settings
+from django.core.files.uploadedfile import UploadedFile
+from django.http import HttpRequest
+from django.utils import timezone
+from django.utils.translation import gettext as _
+from django.utils.translation import gettext_lazy
+
+from plantbal.faults import Fault, InputFault, Place
+from plantbal.workbook.options import ReadingOptions
+from plantbal_office.enter.models import Drop
+
+LOCALES = [
+    ("", gettext_lazy("1,234.5 and 2024-04-30")),
+    ("de", gettext_lazy("German: 1.234,5 and 30.04.2024")),
+    ("en_GB", gettext_lazy("British: 1,234.5 and 30/04/2024")),
+    ("en_US", gettext_lazy("American: 1,234.5 and 04/30/2024")),
+    ("es", gettext_lazy("Spanish: 1.234,5 and 30/04/2024")),
+    ("fr", gettext_lazy("French: 1 234,5 and 30/04/2024")),
+    ("de_CH", gettext_lazy("Swiss: 1’234.5 and 30.04.2024")),
+]
+ENDINGS = (".xlsx", ".xlsm", ".csv", ".txt", ".tsv")
+TABLES = (".csv", ".txt", ".tsv")
+MOST_FILES = 60
+LONGEST_NAME = 100
+KEPT = timedelta(days=7)
+
+
+def options_of(locale: str) -> ReadingOptions:
+    """Return how a workbook is read."""
+    return ReadingOptions(locale if locale in dict(LOCALES) else "")
+
+
+def files_in(request: HttpRequest) -> list[UploadedFile]:
+    """Return the files of a form.
+
+    Raises
+    ------
+    Fault
+        If there are too many, or one can't be a workbook.
+    """
+    found = list(request.FILES.getlist("workbook"))
+    if len(found) > MOST_FILES:
+        what = _("these are {count} files").format(count=len(found))
+        raise Fault(what, remedy=_("drop at most {most}").format(most=MOST_FILES))
+    for file in found:
+        checked_name(file.name or "")
+    return found
+
+
+def checked_name(name: str) -> str:
+    """Return the name of a file without its folders.
+
+    Raises
+    ------
+    Fault
+        If no workbook is called so.
+    """
+    name = PurePosixPath(name.replace("\\", "/")).name
+    place = Place(file=name[:40])
+    if len(name) > LONGEST_NAME or not name.isprintable() or name.startswith("."):
+        what = _("this name of a file is too long, or has signs that none has")
+        raise InputFault(what, place=place, remedy=_("rename the file"))
+    if not name.lower().endswith(ENDINGS):
+        what = _("this is no workbook that is read here")
+        remedy = _("save it as .xlsx, or its sheets as .csv")
+        raise InputFault(what, place=place, remedy=remedy)
+    return name
+
+
+def workbooks_of(files: Sequence[UploadedFile], name: str) -> list[tuple[str, list[UploadedFile]]]:
+    """Return which workbooks some files are: each xlsx is one, and so are all tables together.
+
+    Returns
+    -------
+    list of (str, list of UploadedFile)
+        The name of each, and its files; a lone table is a workbook of its own name.
+    """
+    tables = [file for file in files if file.name.lower().endswith(TABLES)]
+    found = [(checked_name(file.name), [file]) for file in files if file not in tables]
+    if len(tables) == 1:
+        found.append((checked_name(tables[0].name), tables))
+    elif tables:
+        cleaned = PurePosixPath(name.strip().replace("\\", "/")).name[:LONGEST_NAME]
+        cleaned = "".join(each for each in cleaned if each.isprintable()).lstrip(".")
+        found.append((cleaned or "workbook", tables))
+    return found
+
+
+def write(folder: Path, name: str, files: Sequence[UploadedFile]) -> Path:
+    """Write the files of a workbook into a folder, and return the workbook.
+
+    Raises
+    ------
+    Fault
+        If two of them have one name.
+    """
+    names = [checked_name(file.name) for file in files]
+    if len({each.lower() for each in names}) < len(names):
+        raise Fault(_("two of these files have the same name"), remedy=_("rename one of them"))
+    folder.mkdir(parents=True, exist_ok=True)
+    if len(files) == 1 and names[0] == name:
+        place = folder / name
+        _copy(files[0], place)
+        return place
+    inner = folder / name
+    inner.mkdir(exist_ok=True)
+    for file, each in zip(files, names):
+        _copy(file, inner / each)
+    return inner
+
+
+def _copy(file: UploadedFile, place: Path) -> None:
+    with open(place, "xb") as out:
+        for part in file.chunks():
+            out.write(part)
+
+
+@contextmanager
+def dropped(request: HttpRequest, wanted: bool = True) -> Iterator[Path | None]:
+    """Give the workbook that came by a form, in a folder that goes away in the end.
+
+    Raises
+    ------
+    Fault
+        If there is none and one is wanted, or there are several.
+    """
+    found = workbooks_of(files_in(request), request.POST.get("called", ""))
+    if not found and not wanted:
+        yield None
+        return
+    if len(found) != 1:
+        what = _("there is no workbook") if not found else _("these are several workbooks")
+        raise Fault(what, remedy=_("choose the workbook of the plant, or all CSV files of it"))
+    with tempfile.TemporaryDirectory(prefix="plantbal-drop-") as made:
+        yield write(Path(made), *found[0])
+
+
+def folder_of(drop: Drop) -> Path:
+    """Return the folder of a workbook that waits."""
+    return Path(settings.MEDIA_ROOT) / "drops" / str(drop.pk)
+
+
+def path_of(drop: Drop) -> Path:
+    """Return a workbook that waits.
+
+    Raises
+    ------
+    Fault
+        If its files are gone.
+    """
+    path = folder_of(drop) / drop.name
+    if not path.exists():
+        raise Fault(_("the files of this workbook are gone"), remedy=_("drop it again"))
+    return path
+
+
+def keep(request: HttpRequest, name: str, files: Sequence[UploadedFile], locale: str) -> Drop:
+    """Keep a workbook until it is booked."""
+    drop = Drop(person=request.user, plant=request.plant, name=name, locale=locale)
+    try:
+        write(folder_of(drop), name, files)
+    except BaseException:
+        shutil.rmtree(folder_of(drop), ignore_errors=True)
+        raise
+    drop.save(force_insert=True)
+    return drop
+
+
+def forget(drop: Drop) -> None:
+    """Forget a workbook, with its files."""
+    shutil.rmtree(folder_of(drop), ignore_errors=True)
+    drop.delete()
+
+
+def tidy() -> None:
+    """Forget what has waited for too long."""
+    for drop in Drop.objects.filter(made__lt=timezone.now() - KEPT):
+        forget(drop)

@@ -1,0 +1,1 @@
+"""Look: the statement, streams, facts, the drawing, the journal."""

@@ -1,0 +1,4 @@
+"""The addresses of this duty."""
+
+app_name = "look"
+urlpatterns: list[object] = []

@@ -1,0 +1,1 @@
+"""Notes: comments and files on a fact, a stream or a month."""

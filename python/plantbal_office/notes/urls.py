@@ -1,0 +1,4 @@
+"""The addresses of this duty."""
+
+app_name = "notes"
+urlpatterns: list[object] = []

@@ -1,0 +1,1 @@
+"""Plants and months: which books there are, and what each month waits for."""

@@ -1,0 +1,1 @@
+"""The changes of its tables."""

@@ -1,0 +1,167 @@
+"""How each month stands, as a word, and what it waits for, of whom.
+
+A month is *lacking* if readings, dips or assays are missing, *open* if nothing but a report is,
+*rejected* if its report has something to look at, and *ready* if it has nothing; once closed it is
+*closed*, or *changed* since, if something was booked of it.
+"""
+
+from __future__ import annotations
+
+from collections.abc import Sequence
+from dataclasses import dataclass
+from enum import Enum
+from pathlib import Path
+
+from django.utils.translation import gettext as _
+from django.utils.translation import gettext_lazy, ngettext
+
+from plantbal.book.looking import Month
+from plantbal.book.reporting import stops_in
+from plantbal.book.results import ReportState, Status
+from plantbal.gates import Gate, Stop
+from plantbal.report.output import Output, parse_report
+from plantbal_office.access import Role
+from plantbal_office.plants.models import Plant
+from plantbal_office.shelf import KEPT, contents_of, plain_book
+
+
+class Standing(Enum):
+    """How a month stands; the value is the class of its sign."""
+
+    OPEN = "open"
+    LACKING = "lacking"
+    REJECTED = "rejected"
+    READY = "ready"
+    CLOSED = "closed"
+    CHANGED = "changed"
+
+
+WORDS = {
+    Standing.OPEN: gettext_lazy("open"),
+    Standing.LACKING: gettext_lazy("lacking"),
+    Standing.REJECTED: gettext_lazy("rejected"),
+    Standing.READY: gettext_lazy("ready"),
+    Standing.CLOSED: gettext_lazy("closed"),
+    Standing.CHANGED: gettext_lazy("changed since"),
+}
+SIGNS = {
+    Standing.OPEN: "○",
+    Standing.LACKING: "◔",
+    Standing.REJECTED: "✗",
+    Standing.READY: "✓",
+    Standing.CLOSED: "■",
+    Standing.CHANGED: "▲",
+}
+_REJECTS = {Gate.NO_REPORT, Gate.UNCONVERGED, Gate.REJECTED, Gate.UNDECIDED, Gate.UNTESTED}
+
+
+@dataclass(frozen=True)
+class Stand:
+    """How a month stands.
+
+    Attributes
+    ----------
+    month : Month
+        The month.
+    standing : Standing
+        The word for it.
+    waits : str
+        What it waits for, as a sentence without a full stop.
+    whom : tuple of Role
+        Who can do that.
+    missing : tuple of str
+        What is missing in it.
+    stops : tuple of Stop
+        What its report has to look at.
+    output : Output or None
+        The report, if it has one.
+    """
+
+    month: Month
+    standing: Standing
+    waits: str
+    whom: tuple[Role, ...]
+    missing: tuple[str, ...] = ()
+    stops: tuple[Stop, ...] = ()
+    output: Output | None = None
+
+    @property
+    def word(self) -> str:
+        """The word for how it stands, in the person's language."""
+        return str(WORDS[self.standing])
+
+    @property
+    def sign(self) -> str:
+        """A sign for it."""
+        return SIGNS[self.standing]
+
+
+def status_of(plant: Plant) -> Status:
+    """Return how the book of a plant stands."""
+    return KEPT.of(Path(plant.folder), "status", (), plain_book(plant).status)
+
+
+def stands_of(plant: Plant) -> list[Stand]:
+    """Return how each month of a plant stands, in the order of their days."""
+    status = status_of(plant)
+    missing = {each.name: each.missing for year in status.years for each in year.periods}
+    return [
+        _stand(plant, month, missing.get(month.name, ())) for month in contents_of(plant).months
+    ]
+
+
+def stand_of(plant: Plant, month: Month) -> Stand:
+    """Return how a month stands."""
+    years = status_of(plant).years
+    missing = [each.missing for year in years for each in year.periods if each.name == month.name]
+    return _stand(plant, month, missing[0] if missing else ())
+
+
+def _stand(plant: Plant, month: Month, missing: Sequence[str]) -> Stand:
+    """Return how a month stands, by its report and by what is missing."""
+    if month.closed:
+        if month.report is ReportState.CURRENT:
+            return Stand(month, Standing.CLOSED, "", ())
+        waits = _("a new report, and then what has changed is to be handed over")
+        return Stand(month, Standing.CHANGED, waits, (Role.ENGINEER, Role.APPROVER))
+    if month.report is not ReportState.CURRENT:
+        if missing:
+            return Stand(month, Standing.LACKING, _lacks(missing), (Role.CLERK,), tuple(missing))
+        return Stand(month, Standing.OPEN, _("a report"), (Role.ENGINEER,))
+    stops, output = looked_at(plant, month.name)
+    more = tuple(missing), tuple(stops), output
+    gates = {stop.gate for stop in stops}
+    if gates & _REJECTS:
+        waits = _("what its report rejects is to be found and corrected")
+        return Stand(month, Standing.REJECTED, waits, (Role.ENGINEER,), *more)
+    if missing:
+        return Stand(month, Standing.LACKING, _lacks(missing), (Role.CLERK,), *more)
+    if stops:
+        count = len(gates)
+        waits = ngettext(
+            "an answer to %(count)d matter before the close",
+            "answers to %(count)d matters before the close",
+            count,
+        ) % {"count": count}
+        return Stand(month, Standing.READY, waits, (Role.ENGINEER, Role.APPROVER), *more)
+    return Stand(month, Standing.READY, _("the close"), (Role.APPROVER,), *more)
+
+
+def _lacks(missing: Sequence[str]) -> str:
+    """Return how much is missing."""
+    words = ngettext(
+        "%(count)d thing that is missing", "%(count)d things that are missing", len(missing)
+    )
+    return words % {"count": len(missing)}
+
+
+def looked_at(plant: Plant, period: str) -> tuple[list[Stop], Output]:
+    """Return what there is to look at in the report of a period as it is kept, and the report."""
+
+    def make() -> tuple[list[Stop], Output]:
+        kept = plain_book(plant).kept(period)
+        output = parse_report(kept.text, f"the report of {period}")
+        quiets = contents_of(plant).quiets
+        return stops_in(kept.rows, period, output, quiets), output
+
+    return KEPT.of(Path(plant.folder), "looked", (period,), make)

@@ -1,0 +1,16 @@
+"""The addresses of plants and months."""
+
+from django.urls import path
+
+from plantbal_office.plants import views
+
+app_name = "plants"
+urlpatterns = [
+    path("", views.plants, name="list"),
+    path("open", views.open_book, name="open"),
+    path("begin", views.begin, name="begin"),
+    path("p/<slug:plant>/", views.months, name="months"),
+    path("p/<slug:plant>/verify", views.verify, name="verify"),
+    path("p/<slug:plant>/next", views.next_year, name="next"),
+    path("p/<slug:plant>/retire", views.retire, name="retire"),
+]

@@ -1,0 +1,124 @@
+"""The books of the plants, for the pages: each opened as `plantbal.Book`, and what was read kept.
+
+A page of a book that hasn't changed needn't read its files again. What was made of a book is kept
+beside the *mark* of its files: name, inode, size and times of each. Every command replaces a file
+by a rename, so another file has another mark.
+"""
+
+from __future__ import annotations
+
+import threading
+from collections import OrderedDict
+from collections.abc import Callable, Iterator
+from pathlib import Path
+from typing import Any, TypeVar
+
+from django.conf import settings
+from django.http import HttpRequest
+
+from plantbal.book.expected import Version
+from plantbal.book.forms import CHECKS, PENDING, there
+from plantbal.book.library import Book
+from plantbal.book.looking import Contents, MonthFacts
+from plantbal.program import RunSettings
+from plantbal_office.plants.models import Plant
+
+Made = TypeVar("Made")
+# How much is kept of each kind: a year's facts take some 40 MB.
+_MOST = {"contents": 12, "facts": 3, "page": 12, "status": 12, "picture": 12}
+
+Mark = tuple[tuple[str, int, int, int, int], ...]
+
+
+class Kept:
+    """What was made of books, the latest of each kind."""
+
+    def __init__(self) -> None:
+        self._lock = threading.Lock()
+        self._made: dict[str, OrderedDict[tuple[object, ...], tuple[Mark, Any]]] = {}
+
+    def of(
+        self, folder: Path, kind: str, key: tuple[object, ...], make: Callable[[], Made]
+    ) -> Made:
+        """Return what is made of a book, as it was made before if no file has changed since."""
+        mark = mark_of(folder)
+        full = (str(folder), *key)
+        with self._lock:
+            shelf = self._made.setdefault(kind, OrderedDict())
+            found = shelf.get(full)
+            if found is not None and found[0] == mark:
+                shelf.move_to_end(full)
+                made: Made = found[1]
+                return made
+        made = make()
+        if mark_of(folder) == mark:
+            with self._lock:
+                shelf[full] = mark, made
+                shelf.move_to_end(full)
+                while len(shelf) > _MOST.get(kind, 8):
+                    shelf.popitem(last=False)
+        return made
+
+
+KEPT = Kept()
+
+
+def mark_of(folder: Path) -> Mark:
+    """Return the mark of a book's files."""
+    return tuple(_marks(folder))
+
+
+def _marks(folder: Path) -> Iterator[tuple[str, int, int, int, int]]:
+    for name in (*there(folder), CHECKS, PENDING):
+        try:
+            found = (folder / name).stat()
+        except OSError:
+            continue
+        yield name, found.st_ino, found.st_size, found.st_mtime_ns, found.st_ctime_ns
+
+
+def who_of(request: HttpRequest) -> str:
+    """Return whose name a journal gets for what a request does."""
+    return request.user.shown_name if settings.PLANTBAL_NAMES_PEOPLE else ""
+
+
+def book_of(request: HttpRequest, *, expected: bool = False) -> Book:
+    """Return the book of the plant that a request names.
+
+    Parameters
+    ----------
+    request : HttpRequest
+        The request.
+    expected : bool
+        Whether the book has to be as the form of the request says that it was shown.
+    """
+    version = Version.read(request.POST.get("version", "")) if expected else None
+    if expected and version is None:
+        version = Version(0, "")
+    return Book(
+        request.plant.folder,
+        who=who_of(request),
+        program=settings.PLANTBAL_PROGRAM,
+        expected=version,
+    )
+
+
+def plain_book(plant: Plant) -> Book:
+    """Return the book of a plant, to look at."""
+    return Book(plant.folder, program=settings.PLANTBAL_PROGRAM)
+
+
+def contents_of(plant: Plant) -> Contents:
+    """Return what is there in the book of a plant."""
+    return KEPT.of(Path(plant.folder), "contents", (), plain_book(plant).contents)
+
+
+def facts_of(plant: Plant, period: str) -> MonthFacts:
+    """Return the facts of a period."""
+    make = lambda: plain_book(plant).facts(period)  # noqa: E731
+    return KEPT.of(Path(plant.folder), "facts", (period,), make)
+
+
+def run_settings(eliminate: int = 0) -> RunSettings:
+    """Return how the program is run for a page."""
+    return RunSettings(eliminate=eliminate, program=settings.PLANTBAL_PROGRAM)

@@ -1,0 +1,110 @@
+"""What templates have: filters for figures and days in the person's language, and the frame."""
+
+from __future__ import annotations
+
+import datetime
+from decimal import Decimal
+from typing import Any
+
+from django import template
+from django.conf import settings
+from django.http import HttpRequest
+from django.utils import formats
+from django.utils.html import format_html
+from django.utils.safestring import SafeString
+from django.utils.translation import get_language
+
+from plantbal.amounts import tonnes_of
+from plantbal_office.access import Role, rule_of
+from plantbal_office.deeds.once import new_key
+
+register = template.Library()
+
+
+def context(request: HttpRequest) -> dict[str, Any]:
+    """Return what each page has: the plant, what the person may, the languages."""
+    return {
+        "plant": getattr(request, "plant", None),
+        "roles": getattr(request, "roles", frozenset()),
+        "languages": settings.LANGUAGES,
+        "one_person": bool(settings.PLANTBAL_KEY),
+    }
+
+
+@register.filter
+def t(grams: int | None, places: int = 3) -> str:
+    """Return grams as tonnes, in the person's language."""
+    if grams is None:
+        return ""
+    return formats.number_format(tonnes_of(grams), places, use_l10n=True, force_grouping=True)
+
+
+@register.filter
+def exact(grams: int | None) -> str:
+    """Return grams as tonnes with as many decimals as they have."""
+    if grams is None:
+        return ""
+    amount = tonnes_of(grams).normalize()
+    exponent = amount.as_tuple().exponent
+    places = max(0, -exponent if isinstance(exponent, int) else 0)
+    return formats.number_format(amount, places, use_l10n=True, force_grouping=True)
+
+
+@register.filter
+def signed(grams: int | None) -> str:
+    """Return grams as tonnes with their sign."""
+    text = t(grams)
+    return f"+{text}" if grams is not None and grams > 0 else text
+
+
+@register.filter
+def number(value: Decimal | float | int | None, places: int = 0) -> str:
+    """Return a number in the person's language."""
+    if value is None:
+        return ""
+    return formats.number_format(round(Decimal(str(value)), places), places, force_grouping=True)
+
+
+@register.filter
+def day(value: datetime.date | int | None) -> str:
+    """Return a day in the person's language, short."""
+    if value is None:
+        return ""
+    if isinstance(value, int):
+        value = datetime.date.fromordinal(value)
+    if (get_language() or "en").startswith("en"):
+        return value.isoformat()
+    return formats.date_format(value, "SHORT_DATE_FORMAT")
+
+
+@register.filter
+def moment(text: str) -> str:
+    """Return a moment of a journal in the person's language, to the minute."""
+    try:
+        found = datetime.datetime.fromisoformat(text.replace("Z", "+00:00"))
+    except ValueError:
+        return text
+    return f"{day(found.date())} {found:%H:%M}"
+
+
+@register.filter
+def get(mapping: Any, key: object) -> Any:
+    """Return what a mapping has of a key."""
+    return mapping.get(key) if mapping is not None else None
+
+
+@register.simple_tag(takes_context=True)
+def may(context: dict[str, Any], address: str, method: str = "POST") -> bool:
+    """Say whether the person may do something in the plant of the page."""
+    rule = rule_of(address, method)
+    roles: frozenset[Role] = context.get("roles") or frozenset()
+    return rule is not None and rule.allows(roles)
+
+
+@register.simple_tag
+def deed(version: object = "") -> SafeString:
+    """Return the fields that have a form carried out once, on the book as it was shown."""
+    key = format_html('<input type="hidden" name="deed" value="{}">', new_key())
+    if not version:
+        return key
+    return key + format_html('<input type="hidden" name="version" value="{}">', str(version))

@@ -1,0 +1,5 @@
+"""The application for a server such as gunicorn; DJANGO_SETTINGS_MODULE says whose desk it is."""
+
+from django.core.wsgi import get_wsgi_application
+
+application = get_wsgi_application()
