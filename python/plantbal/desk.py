@@ -81,7 +81,7 @@ COMMANDS: tuple[Command, ...] = (
     ),
     Command("balance", "balance.command", "reconcile flows and grades together, with both errors"),
     Command(
-        "recovery", "study.recovery", "where a component goes, its recovery, and a chart of it"
+        "recovery", "study.recovering", "where a component goes, its recovery, and a chart of it"
     ),
     Command("draw", "report.picture", "draw a report, a design, or which streams to meter"),
     Command("chart", "report.chart", "chart the periods of one or more reports"),

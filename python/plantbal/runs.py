@@ -10,8 +10,9 @@ from plantbal.audit.believed import judge
 from plantbal.faults import InputFault, Place, read_bytes
 from plantbal.forms import session_to_run
 from plantbal.program import call, words_of
-from plantbal.report.blocks import parse_rows
-from plantbal.report.output import Output, parse_report, verdict_frame
+from plantbal.report.parsing import parse_rows
+from plantbal.report.frames import verdict_frame
+from plantbal.report.output import Output, parse_report
 from plantbal.session import Session
 
 if TYPE_CHECKING:

@@ -25,7 +25,8 @@ from plantbal.book import journal
 from plantbal.book.difference import line_of_posting
 from plantbal.faults import InputFault
 from plantbal.model.ledger import Ledger
-from plantbal.report.blocks import last_blocks, blocks_of, read_rows
+from plantbal.report.blocks import last_blocks, blocks_of
+from plantbal.report.parsing import read_rows
 
 FIRST = datetime.date(2024, 11, 1)
 DAY = datetime.timedelta(1)

@@ -18,7 +18,8 @@ from plantbal.book.ledger import FACT_KINDS, Fact
 from plantbal.book.store import Store
 from plantbal.book.years import Years
 from plantbal.program import call
-from plantbal.report.blocks import Block, blocks_of, parse_rows
+from plantbal.report.blocks import Block, blocks_of
+from plantbal.report.parsing import parse_rows
 from plantbal.session import Session
 
 PLANT: Sheets = {

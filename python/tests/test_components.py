@@ -20,7 +20,8 @@ from pages import read
 from plantbal import Session, run, solve
 from plantbal.faults import Fault, Refusal
 from plantbal.page.command import page
-from plantbal.report.blocks import Block, parse_rows
+from plantbal.report.blocks import Block
+from plantbal.report.parsing import parse_rows
 from plantbal.report.output import read_report
 from plantbal.study.recovery import Balance, balances_of, mass_of, products_of, together
 from plantbal.workbook.cells import Reader

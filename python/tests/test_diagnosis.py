@@ -21,7 +21,8 @@ from plantbal.diagnosis.kept import session_of_days
 from plantbal.diagnosis.unseen import hidden_of, unchecked_of
 from plantbal.model.ledger import Ledger
 from plantbal.model.studies import studies_of
-from plantbal.report.blocks import blocks_of, read_rows
+from plantbal.report.blocks import blocks_of
+from plantbal.report.parsing import read_rows
 from plantbal.model.topology import Arc
 
 EXAMPLES = ["heat_exchanger_suspect", "bad_meter", "pipeline_suspect", "missed_dip"]

@@ -25,7 +25,8 @@ from plantbal.fleet.keep import checksums
 from plantbal.fleet.rows import HEADS
 from plantbal.fleet.sites import sites
 from plantbal.inert import inert
-from plantbal.report.blocks import Subject, over_of, parse_rows, subjects_of
+from plantbal.report.blocks import Subject, over_of, subjects_of
+from plantbal.report.parsing import parse_rows
 
 SITE = """unit,U
 stream,FEED,env,U,metered,1

@@ -16,7 +16,7 @@ from plantbal import limits
 from plantbal.explain import explain_bytes
 from plantbal.faults import InputFault, read_beginning, read_bytes
 from plantbal.page.command import page
-from plantbal.report.blocks import csv_of, parse_rows
+from plantbal.report.parsing import csv_of, parse_rows
 from plantbal.report.rows import Numbers, Rows
 from plantbal.session import Session
 

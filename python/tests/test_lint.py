@@ -22,7 +22,8 @@ from plantbal.lint.findings import RULES, SEVERITIES
 from plantbal.lint.plant import near_pairs, one_letter_apart
 from plantbal.model.topology import Arc, classes_of, degrees_of_freedom
 from plantbal.program import call
-from plantbal.report.blocks import Block, blocks_of, parse_rows
+from plantbal.report.blocks import Block, blocks_of
+from plantbal.report.parsing import parse_rows
 from plantbal.session import LIMITS
 
 # A unit with a tank after it, over two days.

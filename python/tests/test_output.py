@@ -17,8 +17,9 @@ from hypothesis import strategies as st
 
 from plantbal import InputFault, Output, read_report
 from plantbal.faults import Fault
-from plantbal.report.blocks import fields_of, parse_rows
-from plantbal.report.output import NotOk, parse_report, whole_numbers
+from plantbal.report.parsing import fields_of, parse_rows
+from plantbal.report.frames import whole_numbers
+from plantbal.report.output import NotOk, parse_report
 from plantbal.schema import schema
 
 TOP = Path(__file__).resolve().parents[2]

@@ -21,7 +21,8 @@ from plantbal.page.head import program_text
 from plantbal.page.render import certificate, soft, worded
 from plantbal.page.statement import Line, Worth
 from plantbal.page.verdict import plus_minus
-from plantbal.report.blocks import Values, parse_rows
+from plantbal.report.blocks import Values
+from plantbal.report.parsing import parse_rows
 from plantbal.runs import run
 
 # The machine may be busy.

@@ -12,7 +12,8 @@ from pages import PAPER, Asked, ask, ask_all, on_paper
 from test_page import page_of
 
 from plantbal.page.command import page
-from plantbal.report.blocks import Values, parse_rows
+from plantbal.report.blocks import Values
+from plantbal.report.parsing import parse_rows
 
 REFINERY = ("refinery_day.out.csv", "refinery_day.csv")
 CONCENTRATOR = ("concentrator/tested.out.csv", "concentrator/session.csv")

@@ -17,7 +17,7 @@ from plantbal.page.drawing import MOST, Draftsman, width_of
 from plantbal.page.layout import near
 from plantbal.page.statement import Line
 from plantbal.report import picture
-from plantbal.report.blocks import parse_rows
+from plantbal.report.parsing import parse_rows
 
 
 def test_width_by_tonnes() -> None:

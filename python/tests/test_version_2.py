@@ -25,7 +25,7 @@ from plantbal.model.ledger import Ledger
 from plantbal.model.studies import studies_of
 from plantbal.page.command import page
 from plantbal.program import call
-from plantbal.report.blocks import parse_rows
+from plantbal.report.parsing import parse_rows
 from plantbal.report.output import parse_report
 from plantbal.report.tables import frame, pivot, with_deviations
 from plantbal.report.trend import trend_of

@@ -14,7 +14,8 @@ from plantbal import Session, run, solve
 from plantbal.book.window import undipped
 from plantbal.faults import Refusal
 from plantbal.page.command import page
-from plantbal.report.blocks import blocks_of, last_blocks, parse_rows, reports_of
+from plantbal.report.blocks import blocks_of, last_blocks, reports_of
+from plantbal.report.parsing import parse_rows
 from plantbal.report.output import Output, read_report
 from plantbal.schema import schema
 

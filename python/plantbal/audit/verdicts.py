@@ -13,7 +13,8 @@ from plantbal.explain import Explanation, Field, Text, Told, picture, shown
 from plantbal.faults import InputFault, Place, read_bytes
 from plantbal.program import call
 from plantbal.records import Record
-from plantbal.report.blocks import Values, parse_rows
+from plantbal.report.blocks import Values
+from plantbal.report.parsing import parse_rows
 from plantbal.report.judged import judge_rows
 from plantbal.schema import Column, Row, schema
 from plantbal.session import whole_number

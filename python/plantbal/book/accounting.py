@@ -25,7 +25,8 @@ from plantbal.book.store import Action, Store
 from plantbal.book.years import Years, periods_of
 from plantbal.faults import Fault, InputFault, Place
 from plantbal.model.ledger import Ledger
-from plantbal.report.blocks import Block, blocks_of, last_blocks, parse_rows
+from plantbal.report.blocks import Block, blocks_of, last_blocks
+from plantbal.report.parsing import parse_rows
 
 _MONTHS = 13  # beside which a month is looked at, so that the same month of a year ago is one
 

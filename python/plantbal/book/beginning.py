@@ -22,7 +22,7 @@ from plantbal.book.years import calendar_year
 from plantbal.faults import Fault, InputFault, Place
 from plantbal.model.forms import FIRST_DAY, LAST_DAY
 from plantbal.program import call
-from plantbal.report.blocks import parse_rows
+from plantbal.report.parsing import parse_rows
 from plantbal.workbook.conversion import Conversion
 from plantbal.workbook.facts import Converter
 from plantbal.workbook.options import ReadingOptions

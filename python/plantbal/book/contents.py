@@ -10,7 +10,7 @@ from plantbal.book.ledger import Fact, rows_text
 from plantbal.faults import Fault
 from plantbal.program import call
 from plantbal.records import text_of
-from plantbal.report.blocks import parse_rows
+from plantbal.report.parsing import parse_rows
 from plantbal.schema import schema
 
 _DAY = datetime.timedelta(1)

@@ -21,15 +21,8 @@ from plantbal.forms import session_to_run
 from plantbal.model.ledger import Ledger
 from plantbal.program import STATUSES
 from plantbal.records import read_records
-from plantbal.report.blocks import (
-    blocks_of,
-    last_blocks,
-    over_of,
-    parse_rows,
-    refuse_other,
-    refuse_parts,
-    subjects_of,
-)
+from plantbal.report.blocks import blocks_of, last_blocks, over_of, subjects_of
+from plantbal.report.parsing import parse_rows, refuse_other, refuse_parts
 from plantbal.report.output import Output, parse_report, read_report
 from plantbal.report.rows import Numbers
 from plantbal.runs import check, run

@@ -15,7 +15,8 @@ from plantbal.faults import InputFault, Place, read_bytes
 from plantbal.files import write_text
 from plantbal.plain import plain
 from plantbal.records import read_records, without_empty_end
-from plantbal.report.blocks import Values, read_rows
+from plantbal.report.blocks import Values
+from plantbal.report.parsing import read_rows
 from plantbal.schema import schema
 
 _MOST_RECORD = (1 << 56) - 1

@@ -30,16 +30,8 @@ from plantbal.fleet.sites import Site
 from plantbal.limits import SESSION_BYTES
 from plantbal.program import STATUSES
 from plantbal.records import read_records
-from plantbal.report.blocks import (
-    Block,
-    Subject,
-    Values,
-    blocks_of,
-    csv_of,
-    over_of,
-    parse_rows,
-    subjects_of,
-)
+from plantbal.report.blocks import Block, Subject, Values, blocks_of, over_of, subjects_of
+from plantbal.report.parsing import csv_of, parse_rows
 from plantbal.schema import schema
 
 _VERDICTS = {

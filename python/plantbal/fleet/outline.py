@@ -15,7 +15,8 @@ from pathlib import Path
 
 from plantbal.faults import InputFault, Place, decoded
 from plantbal.fleet.limits import REFUSED_KNOWN, SENTENCES
-from plantbal.report.blocks import Subject, Values, parse_rows
+from plantbal.report.blocks import Subject, Values
+from plantbal.report.parsing import parse_rows
 from plantbal.report.judged import judge_fields
 
 _PIECE = 1 << 20

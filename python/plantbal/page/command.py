@@ -24,7 +24,8 @@ from plantbal.page.grades import grades_on
 from plantbal.page.head import Origin
 from plantbal.page.render import render
 from plantbal.page.statement import Prepared, Refused, Worth
-from plantbal.report.blocks import Values, blocks_of, csv_of, last_blocks, read_rows
+from plantbal.report.blocks import Values, blocks_of, last_blocks
+from plantbal.report.parsing import csv_of, read_rows
 from plantbal.report.judged import judge_rows
 from plantbal.schema import schema
 

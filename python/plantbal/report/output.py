@@ -2,38 +2,38 @@
 
 from __future__ import annotations
 
-from collections.abc import Iterable, Sequence
+from collections.abc import Sequence
 from functools import cached_property
-from itertools import chain
-from numbers import Integral
 from operator import eq
 from pathlib import Path
 from typing import TYPE_CHECKING, Any
 
 from plantbal.amounts import tonnes_of
-from plantbal.faults import Fault, ToolMissing, read_text
-from plantbal.files import replacing, write_text
-from plantbal.inert import keep_text, printable
-from plantbal.report.blocks import (
-    Block,
-    Values,
-    blocks_of,
-    csv_of,
-    last_blocks,
-    parse_rows,
-    read_rows,
+from plantbal.faults import Fault, read_text
+from plantbal.files import write_text
+from plantbal.report.blocks import Block, Values, blocks_of, last_blocks
+from plantbal.report.frames import (
+    frame_in_blocks,
+    frame_of,
+    frame_of_blocks,
+    frame_of_components,
+    frame_of_edits,
+    frame_of_tests,
+    frame_of_windows,
+    frame_under,
+    is_missing,
+    verdict_frame,
 )
 from plantbal.report.judged import judge_rows
 from plantbal.report.kept import kept_table
+from plantbal.report.parsing import csv_of, parse_rows, read_rows
 from plantbal.report.shown import html_of, json_of, output_dict, summary_of
-from plantbal.schema import Column, schema
+from plantbal.report.written import write_sqlite, write_xlsx
+from plantbal.schema import schema
 
 if TYPE_CHECKING:
     import pandas
 
-_INT64 = range(-(2**63), 2**63)
-# A spreadsheet keeps fifteen digits of a number.
-_MOST_OF_A_SHEET = 10**15
 _GRAMS = ("value", "flow", "lo", "hi", "least_lo", "least_hi")
 
 
@@ -53,55 +53,13 @@ class NotOk(Fault):
         self.output = output
 
 
-def whole_numbers(values: Sequence[int | None]) -> Any:
-    """Return whole numbers as a column: Int64 if all of them fit, else Python's own ints.
-
-    Parameters
-    ----------
-    values : sequence of int or None
-        The numbers; None is one that is missing.
-    """
-    import pandas
-
-    import numpy
-
-    there = [value for value in values if value is not None]
-    if there and not (min(there) in _INT64 and max(there) in _INT64):
-        return pandas.array(list(values), dtype=object)
-    missing = numpy.array([value is None for value in values], dtype=bool)
-    numbers = numpy.array([value or 0 for value in values], dtype=numpy.int64)
-    return pandas.arrays.IntegerArray(numbers, missing)
-
-
-def _column(column: Column, texts: list[str | None]) -> Any:
-    """Return the texts of a column by its type."""
-    import pandas
-
-    if column.type == "number":
-        return whole_numbers([int(text) if text else None for text in texts])
-    return pandas.array([text if text is not None else "" for text in texts], dtype=object)
-
-
-def _frame(
-    kind: str, rows: Sequence[Values], front: dict[str, Any], skip: Sequence[str] = ()
-) -> pandas.DataFrame:
-    """Return rows of a kind as a table, with further columns in front."""
-    import pandas
-
-    data = dict(front)
-    for column in schema().output[kind].columns:
-        if column.name not in skip:
-            data[column.name] = _column(column, [row.get(column.name) for row in rows])
-    return pandas.DataFrame(data)
-
-
 class Output:
     """What the program wrote.
 
     Parameters
     ----------
     rows : list of dict
-        Its rows in order, as `plantbal.report.blocks.parse_rows` gives them.
+        Its rows in order, as `plantbal.report.parsing.parse_rows` gives them.
     source : str
         What it is called in what is said.
     status : int or None
@@ -227,17 +185,6 @@ class Output:
 
     # ---- tables
 
-    def _in_blocks(self, kind: str, rows: list[list[Values]]) -> pandas.DataFrame:
-        """Return the rows of a kind, with the block, the period and the round of each."""
-        blocks = self.blocks_in_order
-        count = [len(some) for some in rows]
-        front = {
-            "block": _repeat([block.number for block in blocks], count),
-            "period": _repeat([block.subject for block in blocks], count),
-            "round": _repeat([block.round for block in blocks], count),
-        }
-        return _frame(kind, [row for some in rows for row in some], front)
-
     @cached_property
     def reports(self) -> list[Block]:
         """The rounds of reports of periods: no windows, and no balances of components."""
@@ -246,19 +193,21 @@ class Output:
     @kept_table
     def streams(self) -> pandas.DataFrame:
         """The streams of each block: measured values, flows and bounds in grams, certificates."""
-        return self._in_blocks("stream", [block.streams for block in self.blocks_in_order])
+        blocks = self.blocks_in_order
+        return frame_in_blocks("stream", blocks, [block.streams for block in blocks])
 
     @kept_table
     def nodes(self) -> pandas.DataFrame:
         """The nodes of each block with their prices."""
-        return self._in_blocks("node", [block.nodes for block in self.blocks_in_order])
+        blocks = self.blocks_in_order
+        return frame_in_blocks("node", blocks, [block.nodes for block in blocks])
 
     @kept_table
     def solved(self) -> pandas.DataFrame:
         """How the flows of each block were found, and how well they fit."""
-        return self._in_blocks(
-            "solved", [[block.solved] if block.solved else [] for block in self.blocks_in_order]
-        )
+        blocks = self.blocks_in_order
+        solved = [[block.solved] if block.solved else [] for block in blocks]
+        return frame_in_blocks("solved", blocks, solved)
 
     @kept_table
     def blocks(self) -> pandas.DataFrame:
@@ -268,26 +217,7 @@ class Output:
         window, and both are empty of a period's report. `last` says whether it is the last block
         of the last report of its period, component or window.
         """
-        import pandas
-
-        blocks = self.blocks_in_order
-        heads = _frame("report", [{**b.head, "period": b.subject} for b in blocks], {})
-        heads.insert(0, "block", range(len(blocks)))
-        none: Values = {}
-        solved = _frame("solved", [block.solved or none for block in blocks], {})
-        whole = _frame("global", [block.whole or none for block in blocks], {})
-        last = {block.number for block in last_blocks(blocks).values()}
-        rest = pandas.DataFrame(
-            {
-                "component": [block.component for block in blocks],
-                "window": [block.window.last if block.window else "" for block in blocks],
-                "taken": [" ".join(block.taken) for block in blocks],
-                "suspects": [" ".join(block.suspects()) for block in blocks],
-                "ended": [block.ended for block in blocks],
-                "last": [block.number in last for block in blocks],
-            }
-        )
-        return pandas.concat([heads, solved, whole, rest], axis=1)
+        return frame_of_blocks(self.blocks_in_order)
 
     @kept_table
     def tests(self) -> pandas.DataFrame:
@@ -297,33 +227,13 @@ class Output:
         `high` are the ends of the statistic in thousandths; a nodal test has `net` and `variance`
         instead.
         """
-        import pandas
-
-        blocks = self.blocks_in_order
-        rows: list[list[Values]] = []
-        for block in blocks:
-            ends = {"low": _of(block, "low"), "high": _of(block, "high")}
-            whole: list[Values] = [{**block.whole, **ends}] if block.whole else []
-            rows.append([*whole, *block.nodal, *block.measure])
-        count, flat = [len(some) for some in rows], [row for some in rows for row in some]
-        data: dict[str, Any] = {
-            "block": _repeat([block.number for block in blocks], count),
-            "period": _repeat([block.subject for block in blocks], count),
-            "round": _repeat([block.round for block in blocks], count),
-            "test": [row["row"] for row in flat],
-            "name": [row.get("stream") or row.get("node") or "" for row in flat],
-        }
-        for name in ("low", "high", "net", "variance", "critical"):
-            texts = [row.get(name) for row in flat]
-            data[name] = whole_numbers([int(text) if text else None for text in texts])
-        data["verdict"] = [row["verdict"] for row in flat]
-        return pandas.DataFrame(data)
+        return frame_of_tests(self.blocks_in_order)
 
     @kept_table
     def refused(self) -> pandas.DataFrame:
         """The refused rows of the session, with what each code means and what to do."""
         rows = self._of_kind("refused")
-        frame = _frame("refused", rows, {})
+        frame = frame_of("refused", rows, {})
         codes = [schema().refusals.get(int(row["code"])) for row in rows]
         frame["about"] = [code.about if code else "" for code in codes]
         frame["remedy"] = [code.remedy if code else "" for code in codes]
@@ -332,37 +242,27 @@ class Output:
     @kept_table
     def history(self) -> pandas.DataFrame:
         """The edits that touch periods, with the period and its state in each row."""
-        rows: list[Values] = []
-        front: dict[str, list[str]] = {"period": [], "state": []}
-        head: Values = {}
-        for row in self.rows:
-            if row["row"] == "history":
-                head = row
-            elif row["row"] == "edit":
-                rows.append(row)
-                for name, texts in front.items():
-                    texts.append(head.get(name, ""))
-        return _frame("edit", rows, dict(front))
+        return frame_of_edits(self.rows)
 
     @kept_table
     def histories(self) -> pandas.DataFrame:
         """The periods whose history was asked for: open or closed, and how many edits."""
-        return _frame("history", self._of_kind("history"), {})
+        return frame_of("history", self._of_kind("history"), {})
 
     @kept_table
     def over(self) -> pandas.DataFrame:
         """The periods without a report, since a total is beyond the limits."""
-        return _frame("over", self._of_kind("over"), {})
+        return frame_of("over", self._of_kind("over"), {})
 
     @kept_table
     def taken(self) -> pandas.DataFrame:
         """The streams that were taken between two rounds."""
-        return _frame("taken", self._of_kind("taken"), {})
+        return frame_of("taken", self._of_kind("taken"), {})
 
     @kept_table
     def stops(self) -> pandas.DataFrame:
         """Why each elimination ended."""
-        return _frame("stop", self._of_kind("stop"), {})
+        return frame_of("stop", self._of_kind("stop"), {})
 
     @kept_table
     def uncertainty(self) -> pandas.DataFrame:
@@ -377,7 +277,7 @@ class Output:
     @kept_table
     def classes(self) -> pandas.DataFrame:
         """The streams of designs; `design` is the number of the design, counted from 0."""
-        return self._under("design", "class")
+        return frame_under(self.rows, "design", "class")
 
     @kept_table
     def advice(self) -> pandas.DataFrame:
@@ -386,7 +286,7 @@ class Output:
         `advice` is the number of the row, counted from 0; `parts` is the stream and the way back
         over streams that stay without a meter, none of which costs less.
         """
-        return self._under("advise", "meter", "advice")
+        return frame_under(self.rows, "advise", "meter", "advice")
 
     @kept_table
     def components(self) -> pandas.DataFrame:
@@ -394,14 +294,7 @@ class Output:
 
         `component` and `period` say whose balance it is; the other columns are those of `streams`.
         """
-        blocks = [b for b in last_blocks(self.blocks_in_order).values() if b.component]
-        count = [len(block.streams) for block in blocks]
-        front = {
-            "component": _repeat([block.component for block in blocks], count),
-            "period": _repeat([block.period for block in blocks], count),
-            "block": _repeat([block.number for block in blocks], count),
-        }
-        return _frame("stream", [row for block in blocks for row in block.streams], front)
+        return frame_of_components(self.blocks_in_order)
 
     @kept_table
     def windows(self) -> pandas.DataFrame:
@@ -412,21 +305,7 @@ class Output:
         before the first period) or ``after`` (what it holds after its period). The other columns
         are those of `streams`.
         """
-        rows: list[Values] = []
-        front: dict[str, list[Any]] = {
-            name: [] for name in ("first", "window", "period", "declared", "what", "block")
-        }
-        for block in last_blocks(self.blocks_in_order).values():
-            for row in block.streams if block.window else ():
-                assert block.window is not None
-                spot = block.window.spots[row["name"]]
-                what = "before" if spot.is_opening else "after"
-                said = (block.window.first, block.window.last, spot.period, spot.name)
-                found = (*said, what if spot.is_content else "flow", block.number)
-                for values, value in zip(front.values(), found):
-                    values.append(value)
-                rows.append(row)
-        return _frame("stream", rows, dict(front))
+        return frame_of_windows(self.blocks_in_order)
 
     @kept_table
     def verdicts(self) -> pandas.DataFrame:
@@ -450,32 +329,21 @@ class Output:
         NotOk
             If the output isn't ok, and that isn't said to be meant.
         """
+        import pandas
+
         if not anyway:
             self.require()
         last = [block.number for block in last_blocks(self.blocks_in_order).values()]
         frame = self.streams[self.streams["block"].isin(last)].copy()
         for name in _GRAMS:
             amounts = [
-                None if _is_missing(grams) else tonnes_of(int(grams)) for grams in frame[name]
+                None if is_missing(grams) else tonnes_of(int(grams)) for grams in frame[name]
             ]
             if exact:
-                frame[name] = _objects(amounts, frame.index)
+                frame[name] = pandas.Series(amounts, index=frame.index, dtype=object)
             else:
                 frame[name] = [float("nan") if t is None else float(t) for t in amounts]
         return frame.reset_index(drop=True)
-
-    def _under(self, head: str, kind: str, name: str = "") -> pandas.DataFrame:
-        """Return the rows of a kind, each with the number of the head that it follows, from 0."""
-        rows: list[Values] = []
-        numbers: list[int] = []
-        number = -1
-        for row in self.rows:
-            if row["row"] == head:
-                number += 1
-            elif row["row"] == kind:
-                rows.append(row)
-                numbers.append(number)
-        return _frame(kind, rows, {name or head: numbers})
 
     def _booked(self) -> pandas.DataFrame:
         """Return the flows to book and what belongs to them in tonnes, with standard deviations."""
@@ -544,17 +412,7 @@ class Output:
         path : str or Path
             The database, which is written whole or not at all.
         """
-        import sqlite3
-        from contextlib import closing
-
-        with replacing(path) as made, closing(sqlite3.connect(made)) as base:
-            for name, table in self.tables().items():
-                flat = table.copy()
-                for column in flat.columns:
-                    if any(isinstance(v, int) and v not in _INT64 for v in flat[column]):
-                        flat[column] = _texts(flat[column])
-                flat.to_sql(name, base, index=False)
-            base.commit()
+        write_sqlite(self.tables(), path)
 
     def to_xlsx(self, path: str | Path) -> None:
         """Write a workbook with one table a sheet.
@@ -570,89 +428,12 @@ class Output:
         path : str or Path
             The workbook, which is written whole or not at all.
         """
-        import pandas
+        write_xlsx(self._sheets, path)
 
-        try:
-            import openpyxl  # noqa: F401
-        except ImportError as error:
-            raise ToolMissing("openpyxl", "python3-openpyxl") from error
+    def _sheets(self) -> dict[str, pandas.DataFrame]:
+        """Return the tables of a workbook: in front the flows to book, if there are any."""
         tables = self.tables()
-        if self.blocks_in_order:
-            tables = {"tonnes": self._booked(), **tables}
-        with replacing(path) as made:
-            with pandas.ExcelWriter(made, engine="openpyxl") as book:
-                for name, table in (tables or {"empty": pandas.DataFrame()}).items():
-                    flat = table.copy()
-                    for column in flat.columns:
-                        if any(
-                            isinstance(v, Integral) and abs(int(v)) >= _MOST_OF_A_SHEET
-                            for v in flat[column]
-                        ):
-                            flat[column] = _texts(flat[column])
-                        elif flat[column].dtype == object:
-                            flat[column] = [printable(value) for value in flat[column]]
-                    flat.to_excel(book, sheet_name=name, index=False, freeze_panes=(1, 0))
-                    for cell in chain.from_iterable(book.sheets[name].iter_rows()):
-                        keep_text(cell)
-                    _widen(book.sheets[name], flat)
-
-
-def _objects(values: list[Any], index: Any) -> Any:
-    import pandas
-
-    return pandas.Series(values, index=index, dtype=object)
-
-
-def _texts(column: Iterable[Any]) -> list[str | None]:
-    return [None if _is_missing(value) else str(value) for value in column]
-
-
-def _is_missing(value: Any) -> bool:
-    import pandas
-
-    return value is None or value is pandas.NA
-
-
-def _of(block: Block, name: str) -> str:
-    return block.solved[name] if block.solved else ""
-
-
-def _repeat(values: list[Any], count: list[int]) -> Any:
-    import numpy
-
-    if not values:
-        return numpy.array([], dtype=object)
-    kind = object if isinstance(values[0], str) else numpy.int64
-    return numpy.repeat(numpy.array(values, dtype=kind), count)
-
-
-def _widen(sheet: Any, table: pandas.DataFrame) -> None:
-    """Make the columns of a sheet as wide as their texts, up to a limit."""
-    from openpyxl.utils import get_column_letter
-
-    for number, name in enumerate(table.columns, 1):
-        texts = [str(name), *map(str, table[name].head(200))]
-        sheet.column_dimensions[get_column_letter(number)].width = min(40, 2 + max(map(len, texts)))
-
-
-def verdict_frame(rows: Iterable[Values]) -> pandas.DataFrame:
-    """Return the rows of a check as a table: a row a block, and one for a row that can't be
-    read."""
-    import pandas
-
-    names = ("period", "round", "at", "code", "word", "name", "stated", "found")
-    judged = [row for row in rows if row["row"] in ("yes", "no", "unreadable")]
-    data: dict[str, Any] = {"verdict": [row["row"] for row in judged]}
-    for name in names:
-        texts = [row.get(name, "") for row in judged]
-        if name in ("period", "word", "name"):
-            data[name] = texts
-        else:
-            data[name] = whole_numbers([int(text) if text else None for text in texts])
-    codes = {"no": schema().tests, "unreadable": schema().unreadable}
-    found = [codes[row["row"]].get(int(row["code"])) if "code" in row else None for row in judged]
-    data["about"] = [code.about if code else "" for code in found]
-    return pandas.DataFrame(data)
+        return {"tonnes": self._booked(), **tables} if self.blocks_in_order else tables
 
 
 def read_report(path: str | Path) -> Output:

@@ -11,7 +11,8 @@ from plantbal import limits
 from plantbal.amounts import tonnes_text
 from plantbal.faults import Fault, ToolMissing
 from plantbal.files import write_bytes
-from plantbal.report.blocks import Block, Values, advice_of, blocks_of, designs_of, read_rows
+from plantbal.report.blocks import Block, Values, advice_of, blocks_of, designs_of
+from plantbal.report.parsing import read_rows
 from plantbal.session import Session
 
 HELP = """

@@ -14,7 +14,8 @@ from plantbal.faults import Fault, ToolMissing
 from plantbal.files import write_text
 from plantbal.forms import read_session
 from plantbal.inert import csv_text, inert_frame
-from plantbal.report.blocks import Block, Values, blocks_of, last_blocks, read_rows
+from plantbal.report.blocks import Block, Values, blocks_of, last_blocks
+from plantbal.report.parsing import read_rows
 
 if TYPE_CHECKING:
     import pandas

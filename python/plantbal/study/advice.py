@@ -16,7 +16,8 @@ from plantbal.faults import Fault, InputFault, Place
 from plantbal.files import write_bytes, write_text
 from plantbal.forms import read_session
 from plantbal.program import call
-from plantbal.report.blocks import Values, advice_of, parse_rows
+from plantbal.report.blocks import Values, advice_of
+from plantbal.report.parsing import parse_rows
 from plantbal.report.picture import advised, svg
 from plantbal.schema import schema
 from plantbal.session import Session

@@ -8,7 +8,8 @@ import re
 
 from plantbal.faults import Fault
 from plantbal.files import write_text
-from plantbal.report.blocks import csv_of, read_rows, reports_of
+from plantbal.report.blocks import reports_of
+from plantbal.report.parsing import csv_of, read_rows
 from plantbal.study.certificate import solved_rows
 
 HELP = """

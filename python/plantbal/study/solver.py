@@ -14,7 +14,8 @@ from typing import TYPE_CHECKING, Any
 
 from plantbal.faults import Fault, InputFault, Place
 from plantbal.report.blocks import Block, Values
-from plantbal.report.output import Output, whole_numbers
+from plantbal.report.frames import whole_numbers
+from plantbal.report.output import Output
 from plantbal.runs import check, run, session_bytes
 from plantbal.session import Session
 from plantbal.study.certificate import Critical, critical_values, solved_rows
