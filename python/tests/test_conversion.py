@@ -24,7 +24,8 @@ from plantbal.program import call
 from plantbal.session import Session
 from plantbal.workbook.cells import Reader
 from plantbal.workbook.sheets import EPOCH, Cell, Sheet, letters, read_workbook
-from plantbal.workbook.template import KINDS, heads, template
+from plantbal.workbook.sheetkinds import SHEETS
+from plantbal.workbook.template import KINDS, template
 
 Rows = list[list[Any]]
 Book = dict[str, Rows]
@@ -929,11 +930,11 @@ def test_template(say: Desk, tmp_path: Path, kind: str) -> None:
     assert {'"metered,batch,plain"', '"global,nodal,measure"'} <= rules
     assert ("tanks!$A$2:$A$2000" in rules) == (kind != "utility")
     for sheet in read_workbook(path)[1:]:
-        assert tuple(sheet.lines[0][1]) == heads(sheet.name) and len(sheet.lines) == 1
+        assert tuple(sheet.lines[0][1]) == SHEETS[sheet.name].heads and len(sheet.lines) == 1
     for name, rows in plant().items():
         if name == "readings":
             book[name]["B1"], book[name]["C1"] = "F-1", "P-1"
-        places = {head: at for at, head in enumerate(heads(name), 1)}
+        places = {head: at for at, head in enumerate(SHEETS[name].heads, 1)}
         for line, row in enumerate(rows[1:], 2):
             for column, value in enumerate(row, 1):
                 at = column if name == "readings" else places[rows[0][column - 1]]

@@ -17,7 +17,7 @@ from hypothesis import strategies as st
 
 from plantbal import convert, limits
 from plantbal.faults import InputFault
-from plantbal.workbook.account import SheetAccount
+from plantbal.workbook.fates import SheetFates
 from plantbal.workbook.sheets import read_workbook
 
 TICKETS = text_of(example("refinery_workbook/tickets.csv")).splitlines()
@@ -214,7 +214,7 @@ def test_the_account_adds_up(
         assert transfers == tickets.read == len(TICKETS) - 1
 
 
-def _check_said(tickets: SheetAccount, notes: list[str], faults: list[Any]) -> None:
+def _check_said(tickets: SheetFates, notes: list[str], faults: list[Any]) -> None:
     """Each row that isn't read has a note or a fault that says so."""
     assert not tickets.at_fault or faults, tickets
     assert not tickets.passed or any("passed over" in note for note in notes), tickets

@@ -20,12 +20,14 @@ from plantbal.accounts.sheet import (
     SalesUnit,
 )
 from plantbal.book.meters import decimal
-from plantbal.workbook.cells import DENSITIES, GRAMS, VOLUMES, Reader
-from plantbal.workbook.plant import Plant as Workbook
+from plantbal.workbook.cells import Reader
+from plantbal.workbook.plant import PlantReader
 from plantbal.faults import InputFault, Place
 from plantbal.inert import is_computed
 from plantbal.model.plant import ENV, Plant, Stream
 from plantbal.workbook.sheets import Cell, Sheet, Value
+from plantbal.workbook.tables import Tables
+from plantbal.workbook.units import DENSITIES, GRAMS, VOLUMES
 
 HEADS = ("name", "kind", "product", "group", "owner", "unit", "density")
 SHEET = "accounts"
@@ -229,34 +231,36 @@ class SheetReader:
         return SalesUnit(unit, density)
 
 
-def read_accounts(work: Workbook, known: Iterable[str] = ()) -> Accounts:
+def read_accounts(tables: Tables, plant: PlantReader, known: Iterable[str] = ()) -> Accounts:
     """Return the accounts of a workbook; what is wrong with a row is kept as a fault.
 
     Parameters
     ----------
-    work : Workbook
-        The workbook, whose plant has been read.
+    tables : Tables
+        The tables of the workbook.
+    plant : PlantReader
+        Its plant, which has been read.
     known : iterable of str
         Streams and tanks that have an account elsewhere.
     """
-    sheet = SheetReader(work.reader, work.session.state.plant)
-    for row in work.rows(SHEET):
-        if row.text("name") not in work.bad:
-            with work.kept():
+    sheet = SheetReader(tables.reader, tables.session.state.plant)
+    for row in tables.rows(SHEET):
+        if row.text("name") not in plant.bad:
+            with tables.kept():
                 sheet.take(row.cells)
-    if work.sheets[SHEET]:
-        work.notes += _lacking(work, {*sheet.rows, *known})
+    if tables.sheets[SHEET]:
+        tables.notes += _lacking(tables, plant, {*sheet.rows, *known})
     return Accounts(sheet.rows.values())
 
 
-def _lacking(work: Workbook, known: Collection[str]) -> list[str]:
+def _lacking(tables: Tables, plant: PlantReader, known: Collection[str]) -> list[str]:
     """Return what is to be said of streams and tanks that are in no account."""
-    names = [name for name in work.session.state.plant.streams if name not in known]
+    names = [name for name in tables.session.state.plant.streams if name not in known]
     if not names:
         return []
     shown = ", ".join(names[:12]) + (f" and {len(names) - 12:,} more" if len(names) > 12 else "")
-    stream = work.streams.get(names[0])
-    place = stream.cell.place() if stream is not None else work.sheets[SHEET][0].place()
+    stream = plant.streams.get(names[0])
+    place = stream.cell.place() if stream is not None else tables.sheets[SHEET][0].place()
     are, it = ("is", "it") if len(names) == 1 else ("are", "them")
     return [f"{place} {shown} {are} in no account: write {it} into the sheet {SHEET}"]
 

@@ -11,7 +11,7 @@ from dataclasses import dataclass, field
 from enum import Enum, StrEnum
 from fractions import Fraction
 
-from plantbal.workbook.cells import GRAMS, VOLUMES
+from plantbal.workbook.units import GRAMS, VOLUMES
 
 # What a product or a group is called that no row of the sheet names.
 NO_ACCOUNT = "in no account"

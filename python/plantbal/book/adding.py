@@ -21,7 +21,7 @@ from plantbal.lint import Finding
 from plantbal.model.causes import Cause, Reason
 from plantbal.records import text_of
 from plantbal.session import Period
-from plantbal.workbook.facts import Converter
+from plantbal.workbook.converter import Converter
 from plantbal.workbook.options import ReadingOptions
 from plantbal.workbook.sheets import Cell
 
@@ -86,7 +86,7 @@ def add(
             action.add(ledger)
         if plant and into is years.last:
             action.written[PLANT] = rows_text(into.plant)
-        found = meters | {meter.name: meter for meter in meters_of(work)}
+        found = meters | {meter.name: meter for meter in meters_of(work.plant)}
         if meters_text(found.values()) != meters_text(meters.values()):
             action.written[METERS] = meters_text(found.values())
 
@@ -199,7 +199,7 @@ def put_assays(years: Years, work: Converter) -> list[Fault]:
     would be refused otherwise.
     """
     faults: list[Fault] = []
-    for row, cells in work.assays:
+    for row, cells in work.assays.found:
         try:
             _put_assay(years, row, cells)
         except Refusal as refusal:

@@ -8,7 +8,6 @@ from __future__ import annotations
 from collections.abc import Collection, Iterable
 from pathlib import Path
 
-from plantbal.accounts.reading import read_accounts
 from plantbal.accounts.sheet import Accounts
 from plantbal.audit.believed import program_digest
 from plantbal.book.accounting import put_accounts
@@ -24,9 +23,9 @@ from plantbal.model.forms import FIRST_DAY, LAST_DAY
 from plantbal.program import call
 from plantbal.report.parsing import parse_rows
 from plantbal.workbook.conversion import Conversion
-from plantbal.workbook.facts import Converter
+from plantbal.workbook.converter import Converter
 from plantbal.workbook.options import ReadingOptions
-from plantbal.workbook.tables import PLANT_SHEETS
+from plantbal.workbook.sheetkinds import PLANT_SHEETS, Stage
 
 
 def begin(
@@ -45,7 +44,7 @@ def begin(
         check_nothing_is_there(book, year)
         action = Action(Act.NEW, year, Path(workbook).name, who=who)
         action.program = program_digest(program)
-        action.written = {PLANT: rows_text(rows), METERS: meters_text(meters_of(work))}
+        action.written = {PLANT: rows_text(rows), METERS: meters_text(meters_of(work.plant))}
         action.written[year_file(year)] = rows_text(rows)
         told = put_accounts(Accounts(), work.accounts, book, action)
         action.rows = [f"{year}: 1 to {len(rows)}"]
@@ -108,10 +107,10 @@ def plant_of(
     if not work.sheets["streams"] and not work.faults:
         what, remedy = "there is no sheet streams", "plantbal-desk template writes one"
         raise InputFault(what, place=Place(file=str(workbook)), remedy=remedy)
-    work.read_plant()
-    work.accounts = read_accounts(work, accounts)
-    work.say_unread(PLANT_SHEETS)
-    work.faults += work.session.refused
+    work.known = accounts
+    work.read(Stage.PLANT)
+    work.tables.say_unread(PLANT_SHEETS)
+    work.faults.extend(work.session.refused)
     found = Conversion(work.session, work.faults, work.notes)
     check_faults(found, "nothing is made")
     return [row for row in work.session if row[0] in PLANT_KINDS], work

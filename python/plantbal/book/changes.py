@@ -10,7 +10,7 @@ from plantbal.book.years import Years
 from plantbal.estimates import is_marked
 from plantbal.faults import Fault
 from plantbal.session import Period
-from plantbal.workbook.facts import Converter
+from plantbal.workbook.converter import Converter
 
 
 @dataclass(frozen=True)
@@ -216,7 +216,7 @@ def _begins_elsewhere(ledger: Ledger, fact: Fact, scope: list[tuple[Ledger, Peri
 def _in_sheets(work: Converter, fact: Fact) -> bool:
     """Say whether a workbook has a sheet in which a fact might stand."""
     if fact.kind == "reading":
-        return bool(work.sheets["readings"]) and fact.place in work.listed
+        return bool(work.sheets["readings"]) and fact.place in work.readings.listed
     return bool(work.sheets["dips" if fact.kind == "dip" else "tickets"])
 
 

@@ -18,7 +18,7 @@ from plantbal.book.years import Years
 from plantbal.faults import Fault, Refusal
 from plantbal.workbook.base import Span, share_at
 from plantbal.workbook.cells import Reader, check_locale
-from plantbal.workbook.plant import Tank
+from plantbal.workbook.plant import TankRow
 
 
 # ---- other values
@@ -43,7 +43,7 @@ class Other:
     error: str
     locale: str
 
-    def of(self, fact: Fact, meter: Meter, tank: Tank | None, born: int = 0) -> Fact:
+    def of(self, fact: Fact, meter: Meter, tank: TankRow | None, born: int = 0) -> Fact:
         """Return a fact with these values, its variance by the error of its meter.
 
         What its day bears of a wide systematic error is added.

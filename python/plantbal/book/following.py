@@ -164,7 +164,7 @@ def begun(
     elif plant.workbook:
         accounts = accounts_of(book)
         rows, work = plant_of(plant.workbook, plant.reading, accounts)
-        kept = read_meters(book.path(METERS)) | {each.name: each for each in meters_of(work)}
+        kept = read_meters(book.path(METERS)) | {each.name: each for each in meters_of(work.plant)}
         file, text = str(plant.workbook), rows_text(rows)
         action.what = Path(plant.workbook).name
         action.written = {PLANT: text, METERS: meters_text(kept.values())}

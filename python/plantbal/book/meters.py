@@ -12,9 +12,10 @@ from dataclasses import dataclass
 from fractions import Fraction
 from pathlib import Path
 
-from plantbal.workbook.cells import AMOUNTS, DENSITIES, GRAMS, Error, Reader
-from plantbal.workbook.plant import Plant, Stream, Tank
+from plantbal.workbook.cells import Error, Reader
+from plantbal.workbook.plant import PlantReader, StreamRow, TankRow
 from plantbal.workbook.sheets import Cell, Sheet, read_csv
+from plantbal.workbook.units import AMOUNTS, DENSITIES, GRAMS
 
 HEADS = ("name", "tag", "unit", "density", "error")
 # A column more if a meter's systematic error is wider than a row of the plant bears.
@@ -55,9 +56,9 @@ class Meter:
             density = decimal(self.density / DENSITIES["kg/m3"]) + " kg/m3"
         return self.name, self.tag, self.unit, density, error_text(self.error)
 
-    def stream(self, kind: str, cell: Cell) -> Stream:
+    def stream(self, kind: str, cell: Cell) -> StreamRow:
         """Return the stream of a kind whose meter it is; the cell is for one without a row."""
-        return Stream(
+        return StreamRow(
             self.name,
             self.tag,
             kind,
@@ -95,7 +96,7 @@ def error_text(error: Error | None) -> str:
     return " or ".join(parts)
 
 
-def meters_of(plant: Plant) -> list[Meter]:
+def meters_of(plant: PlantReader) -> list[Meter]:
     """Return the rows of the streams and tanks of a workbook."""
     found = [
         Meter(each.name, each.tag, each.unit, each.density, each.error, base=each.base)
@@ -147,7 +148,7 @@ def read_meters(path: Path) -> dict[str, Meter]:
 
 def taken(
     plant: Iterable[tuple[str, ...]], meters: dict[str, Meter]
-) -> tuple[list[Stream], list[Tank]]:
+) -> tuple[list[StreamRow], list[TankRow]]:
     """Return the streams and tanks of a plant's rows, with what `meters.csv` has of them."""
     nowhere = Cell(Sheet("", "", [], is_csv=True), 0, 0, None)
     streams, tanks = [], {}
@@ -156,7 +157,7 @@ def taken(
         if kind == "stream":
             streams.append(meter.stream(rest[2], nowhere))
         elif kind == "tank":
-            tanks[name] = Tank(name, meter.error, meter.density)
+            tanks[name] = TankRow(name, meter.error, meter.density)
         elif kind == "strap":
             tanks[name].points.append((int(rest[0]), int(rest[1])))
     return streams, list(tanks.values())

@@ -5,10 +5,8 @@ from __future__ import annotations
 
 from collections.abc import Collection, Iterable, Iterator, Sequence
 from dataclasses import replace
-from itertools import islice
 from pathlib import Path
 
-from plantbal.accounts.reading import read_accounts
 from plantbal.book.meters import Meter, taken
 from plantbal.book.said import counted, listed
 from plantbal.faults import Fault, Faults, InputFault, Refusal
@@ -16,11 +14,12 @@ from plantbal.memory import uncollected
 from plantbal.session import Period
 from plantbal.workbook.base import Span
 from plantbal.workbook.conversion import Conversion
-from plantbal.workbook.facts import Converter
+from plantbal.workbook.converter import Converter
 from plantbal.workbook.options import ReadingOptions
-from plantbal.workbook.plant import Stream, Tank
+from plantbal.workbook.plant import StreamRow, TankRow
+from plantbal.workbook.sheetkinds import SHEETS
 from plantbal.workbook.sheets import Sheet, read_workbook
-from plantbal.workbook.tables import OTHER_HEADS, SHEETS, is_rows_of_critical
+from plantbal.workbook.tables import is_rows_of_critical, kind_of_heads
 
 _PLANT = ("boundaries", "units", "tanks", "straps")
 _FIRST = 12  # faults that are said; the others are counted
@@ -29,8 +28,6 @@ ANOTHER_VALUE = (
     "what is declared stays to the end of a year; another value comes with "
     "plantbal-desk book next YEAR --plant WORKBOOK"
 )
-_HEADS_WITHIN = 40  # rows of a sheet
-_HEADS_THAT_TELL = 3  # with fewer columns a sheet of readings might be meant
 
 
 def sheets_of(path: str | Path) -> list[Sheet]:
@@ -45,15 +42,7 @@ def sheets_of(path: str | Path) -> list[Sheet]:
 
 def _kind_of(sheet: Sheet) -> str:
     """Return the kind of a sheet that has the heads of one; without them it is one of readings."""
-    if is_rows_of_critical(sheet):
-        return "rows"
-    for cells in islice(sheet.rows(), _HEADS_WITHIN):
-        texts = [cell.text.casefold() for cell in cells]
-        heads = {OTHER_HEADS.get(text, text) for text in texts}
-        for kind, (needed, _) in SHEETS.items():
-            if len(needed) >= _HEADS_THAT_TELL and heads.issuperset(needed):
-                return kind
-    return "readings"
+    return "rows" if is_rows_of_critical(sheet) else kind_of_heads(sheet) or "readings"
 
 
 def check_faults(found: Conversion, then: str) -> None:
@@ -112,22 +101,23 @@ def converted(
     """
     with uncollected():
         work = Converter(sheets_of(workbook), reading.reader, reading.skip)
-        work.whole = False
-        work.spans = [Span(each.first, each.last) for each in periods]
+        work.readings.whole = False
+        work.periods.spans = [Span(each.first, each.last) for each in periods]
+        work.known = accounts
         _read_plant(work, plant, meters)
-        work.accounts = read_accounts(work, accounts)
+        work.read_accounts()
         work.read_facts()
         edits = list(_edits(work))
         if not edits:
-            work.read_rows()
+            work.rows.read()
         for sheet in work.sheets["windows"]:
-            work.pass_sheet(sheet, "plantbal-desk book window asks for a window")
+            work.tables.pass_sheet(sheet, "plantbal-desk book window asks for a window")
         if not edits:
-            work.say_unread()
+            work.tables.say_unread()
         work.say_rounded()
-    work.faults += [*work.session.refused, *edits]
+    work.faults.extend([*work.session.refused, *edits])
     if work.faults:
-        work.faults = [*_left_out(work, *taken(plant, meters)), *work.faults]
+        work.faults[:0] = _left_out(work, *taken(plant, meters))
     found = Conversion(work.session, work.faults, work.notes)
     check_faults(found, "nothing is booked")
     return work
@@ -140,33 +130,38 @@ def _read_plant(work: Converter, plant: list[tuple[str, ...]], meters: dict[str,
     """
     streams, tanks = taken(plant, meters)
     if not work.sheets["streams"]:
-        work.take_plant(plant, streams, tanks)
+        work.plant.take_plant(plant, streams, tanks)
         for sheet in [each for kind in _PLANT for each in work.sheets[kind]]:
-            work.pass_sheet(sheet, "without a sheet streams the plant is the book's")
-        work.read_critical()
+            work.tables.pass_sheet(sheet, "without a sheet streams the plant is the book's")
+        work.plant.read_critical()
         booked = {row[:-1] for row in plant if row[0] == "critical"}
         for fault in work.faults:
             if isinstance(fault, Refusal) and fault.row[:-1] in booked:
                 fault.remedy = ANOTHER_VALUE
         return
-    work.begin(plant)
+    work.plant.begin(plant)
     if not work.sheets["tanks"]:
         rows = [row for row in plant if row[0] == "tank"]
-        work.take_tanks(rows, [replace(tank, points=[]) for tank in tanks])
-    work.read_plant()
+        work.plant.take_tanks(rows, [replace(tank, points=[]) for tank in tanks])
+    work.plant.read()
     if not work.sheets["straps"]:
-        work.take_straps(row for row in plant if row[0] == "strap")
+        work.plant.take_straps(row for row in plant if row[0] == "strap")
 
 
-def _left_out(work: Converter, streams: list[Stream], tanks: list[Tank]) -> Iterator[Fault]:
+def _left_out(work: Converter, streams: list[StreamRow], tanks: list[TankRow]) -> Iterator[Fault]:
     """Give what is to be said of sheets that have a part of the plant only, such as what is new."""
-    tables = [tank.name for tank in tanks if tank.points and tank.name in work.tanks]
+    tables = [tank.name for tank in tanks if tank.points and tank.name in work.plant.tanks]
     for kind, what, booked, there in (
-        ("streams", "stream", [each.name for each in streams], list(work.streams)),
-        ("tanks", "tank", [each.name for each in tanks], list(work.tanks)),
-        ("straps", "table", tables, [tank.name for tank in work.tanks.values() if tank.points]),
+        ("streams", "stream", [each.name for each in streams], list(work.plant.streams)),
+        ("tanks", "tank", [each.name for each in tanks], list(work.plant.tanks)),
+        (
+            "straps",
+            "table",
+            tables,
+            [tank.name for tank in work.plant.tanks.values() if tank.points],
+        ),
     ):
-        names = [name for name in booked if name not in there and name not in work.bad]
+        names = [name for name in booked if name not in there and name not in work.plant.bad]
         if names and work.sheets[kind]:
             are = "isn't" if len(names) == 1 else "aren't"
             yield InputFault(

@@ -17,7 +17,8 @@ from plantbal.lint.plant import near_names
 from plantbal.lint.values import densities, deviations, magnitudes
 from plantbal.model import ledger as model
 from plantbal.session import Period, day_of_number, in_service, is_served, period_days
-from plantbal.workbook.facts import days_of, spans, tank_days
+from plantbal.workbook.base import days_of
+from plantbal.workbook.missing import spans, tank_days
 
 FIRST = 12  # things of which each is shown; the others are counted
 _NEW = {

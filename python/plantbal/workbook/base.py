@@ -1,4 +1,4 @@
-"""Systematic errors that are wider than a row bears.
+"""Days and periods, and systematic errors that are wider than a row bears.
 
 A stream's base variance counts once for each period. A row bears 10^19 squared grams, an error of
 3,162 t; a belt scale of 0.5 % that weighs a million tonnes a month has 5,000 t. What is above the
@@ -10,6 +10,7 @@ alone, it is the same whichever readings are there already.
 
 from __future__ import annotations
 
+import datetime
 import math
 from collections.abc import Iterable
 from dataclasses import dataclass
@@ -49,8 +50,13 @@ def share_at(excess: int, spans: Iterable[Span], service: Service, day: int) -> 
     return 0
 
 
-def tonnes_of(variance: int) -> str:
+def error_said(variance: int) -> str:
     """Return a variance in squared grams as an error in tonnes, such as ``4,600 t``."""
     root = Decimal(math.isqrt(variance)) / 10**6
     places = 0 if root >= 100 else 3
     return f"{round(root, places):,f} t"
+
+
+def days_of(first: datetime.date, last: datetime.date) -> list[datetime.date]:
+    """Return the days from the first to the last."""
+    return [first + datetime.timedelta(at) for at in range((last - first).days + 1)]

@@ -12,62 +12,18 @@ from functools import lru_cache
 
 from plantbal.faults import Fault, InputFault
 from plantbal.workbook.sheets import Cell, NoValue, Percent
+from plantbal.workbook.units import (
+    AMOUNTS,
+    DENSITIES,
+    GRADES,
+    GRAMS,
+    LENGTHS,
+    VOLUMES,
+    WET,
+    of_rate,
+    unit_of,
+)
 
-GRAMS = {
-    "t": Fraction(10**6),
-    "kt": Fraction(10**9),
-    "kg": Fraction(1000),
-    "g": Fraction(1),
-    "lb": Fraction("453.59237"),
-    "klb": Fraction("453592.37"),
-}
-# In grams with their water in them.
-WET = {"wmt": Fraction(10**6)}
-# In cubic metres; a barrel has 42 gallons of 231 cubic inches.
-VOLUMES = {
-    "m3": Fraction(1),
-    "L": Fraction(1, 1000),
-    "mL": Fraction(1, 10**6),
-    "bbl": Fraction("0.158987294928"),
-}
-DENSITIES = {
-    "kg/m3": Fraction(1000),
-    "g/m3": Fraction(1),
-    "g/L": Fraction(1000),
-    "t/m3": Fraction(10**6),
-    "kg/L": Fraction(10**6),
-    "g/cm3": Fraction(10**6),
-    "g/mL": Fraction(10**6),
-}
-LENGTHS = {"mm": Fraction(1), "cm": Fraction(10), "m": Fraction(1000)}
-# In parts per million.
-GRADES = {
-    "%": Fraction(10_000),
-    "ppm": Fraction(1),
-    "g/t": Fraction(1),
-    "mg/kg": Fraction(1),
-    "kg/t": Fraction(1000),
-}
-AMOUNTS = GRAMS | VOLUMES | WET
-_OTHER_WORDS = {
-    "tonne": "t",
-    "tonnes": "t",
-    "to": "t",
-    "dmt": "t",
-    "m³": "m3",
-    "cbm": "m3",
-    "ltr": "L",
-    "litre": "L",
-    "liter": "L",
-    "litres": "L",
-    "liters": "L",
-    "barrel": "bbl",
-    "barrels": "bbl",
-    "kg/m³": "kg/m3",
-    "t/m³": "t/m3",
-    "g/m³": "g/m3",
-    "g/cm³": "g/cm3",
-}
 MISSING = frozenset(
     "- -- --- – — . n/a na #n/a #n/a! #nv nv nan null none nil missing fehlt fehlend k.a. ? bad "
     "no_data nodata".split()
@@ -81,7 +37,6 @@ _DAY = re.compile(r"([0-9]{1,4})([./-])\s?([0-9]{1,2})\2\s?([0-9]{1,4})\.?")
 _TIME = re.compile(r"(.*?)[ T]+([0-9]{1,2}:[0-9]{2}(?::[0-9]{2}(?:[.,][0-9]+)?)?)")
 _NAMED = re.compile(r"([0-9]{1,2})\.?[ -]([^\W\d]+)\.?[ -]([0-9]{4})")
 _GRADE = re.compile(r"(.*?[0-9])\s*(%|[^\W\d_]+(?:/[^\W\d_]+)?)")
-_RATE = re.compile(r"[\[(]?([^\W\d_][\w³]*)/(?:hr?|hours?|d|day|min|s)[\])]?", re.IGNORECASE)
 _EXACT = Context(prec=400, traps=[Inexact])
 # Days that Excel's numbers stand for: 1954 to 2119.
 _FIRST_SERIAL, _LAST_SERIAL = 20_000, 80_000
@@ -243,8 +198,8 @@ class Reader:
                 own = f", and --locale is {self.locale}" if self.locale else ""
                 return f"{text!r} has {mark}{own}", f"say --locale {locale}, or write it otherwise"
         what = f"{text!r} is no figure"
-        if _of_rate(text.rpartition(" ")[2]):
-            return what, _of_rate(text.rpartition(" ")[2])
+        if of_rate(text.rpartition(" ")[2]):
+            return what, of_rate(text.rpartition(" ")[2])
         if text.startswith("#"):
             return f"{text} stands here: its formula fails", "correct it, or clear the cell"
         return what, f"correct it, or say --missing {text!r} if it means that there is none"
@@ -339,7 +294,7 @@ class Reader:
             return default
         found = unit_of(cell.text)
         if found not in kinds:
-            remedy = _of_rate(cell.text) or f"write one of {', '.join(kinds)}"
+            remedy = of_rate(cell.text) or f"write one of {', '.join(kinds)}"
             if cell.text.casefold() in ("ton", "tons", "short ton", "short tons", "st", "lt"):
                 remedy = "write t for 1,000 kg; 2,000 lb are 2 klb"
             elif found in WET:
@@ -488,28 +443,6 @@ class Reader:
             else:
                 grams = number * self.factor(cell, unit, density, head)
         return Error(share, grams, mm)
-
-
-def unit_of(text: str) -> str:
-    """Return a unit as it is written here."""
-    plain = text.strip().strip("[]()").strip()
-    units = (*AMOUNTS, *DENSITIES, *LENGTHS, *GRADES)
-    known = {name.casefold(): name for name in units}
-    plain = _OTHER_WORDS.get(plain.casefold(), plain)
-    return known.get(plain.casefold(), plain)
-
-
-def is_rate(text: str) -> bool:
-    """Say whether a text is a unit of what flows in a time, such as `kg/h`."""
-    return bool(_RATE.fullmatch(text))
-
-
-def _of_rate(text: str) -> str:
-    """Return what to do with a figure in such a unit, or nothing if a text is another."""
-    match = _RATE.fullmatch(text)
-    if match is None:
-        return ""
-    return f"a figure is what flowed in all of its day, not a rate: write it in {match.group(1)}"
 
 
 def _date(year: int, month: int, day: int) -> datetime.date | None:

@@ -9,39 +9,20 @@ from collections.abc import Iterable
 from dataclasses import dataclass, field
 from pathlib import Path
 
-from plantbal.accounts.reading import read_accounts
 from plantbal.commands.options import add_reading
 from plantbal.faults import Fault, InputFault, Place
 from plantbal.lint import say_brief
 from plantbal.memory import uncollected
 from plantbal.session import Session
-from plantbal.workbook.account import SheetAccount
-from plantbal.workbook.facts import Converter
+from plantbal.workbook.converter import Converter
+from plantbal.workbook.fates import SheetFates
 from plantbal.workbook.options import ReadingOptions
+from plantbal.workbook.sheetkinds import Stage, help_lines
 from plantbal.workbook.sheets import Source, read_workbook
 
-HELP = """
+HELP = f"""
 WORKBOOK is an xlsx file, or a folder of CSV files, each of which is the sheet of its name:
-  streams    tag, stream, from, to, kind, unit, density, error, base, since, until
-  units      name (without it, units are the ends of streams that aren't tanks)
-  boundaries name: other names for env, such as a jetty, a rail head, a pipeline
-  tanks      tank, error, base, density, since, until
-  straps     tank, level, volume, unit (m3 without it)
-  readings   the days down and a column for each tag; or days across; or long: day, tag, value, unit
-  dips       tank, day, level, unit, density, error
-  tickets    id, stream, first, last, amount, unit, density, error
-  estimates  tag, day, last, amount, unit, density, error: a guess for missing days
-  moistures  stream, day, moisture, error: what part of wet tonnes (wmt) is water; or with a
-             ticket's id; or first and last; of a shift with its wet tonnes in amount
-  assays     component, stream, period, grade, error, unit
-  critical   test, dof, value
-  periods    name, first, last (without it, each calendar month with a reading is a period)
-  windows    first, last: periods to reconcile together as well, from the first to the last
-  accounts   name, kind, product, group, owner, unit, density: where a book adds each stream up
-  settings   setting, value, for: tests (5 %: the critical values that reports may need), zone
-             (Europe/Berlin), day begins (06:00), stamps (begin or end), missing hours (0), counter
-             (the figure at which it begins again at 0; its tag in the column for)
-  rows       rows of a session, unchanged, such as amend, strike and close
+{help_lines()}
 
 straps and dips may have a column for each tank, and tables may be side by side; units may be in
 brackets in a head, or in a row below the heads. A stream of which no kind is written is a batch if
@@ -78,14 +59,14 @@ class Conversion:
         All that is wrong, each with its place.
     notes : list of str
         What was rounded, passed over or is missing.
-    account : list of SheetAccount
+    account : list of SheetFates
         What became of the rows of each sheet.
     """
 
     session: Session
     faults: list[Fault]
     notes: list[str]
-    account: list[SheetAccount] = field(default_factory=list)
+    account: list[SheetFates] = field(default_factory=list)
 
     @property
     def ok(self) -> bool:
@@ -153,21 +134,19 @@ def convert(
             what, remedy = "there is no sheet streams", "plantbal-desk template writes one"
             name = str(path) if isinstance(path, (str, Path)) else ""
             raise InputFault(what, place=Place(file=name), remedy=remedy)
-        work.read_plant()
-        work.accounts = read_accounts(work)
+        work.read(Stage.PLANT)
         if design:
             work.session.design()
         work.read_facts()
-        work.put_assays()
-        work.read_rows()
-        work.ask()
+        work.assays.put()
+        work.read(Stage.END)
         work.check_whole(design)
-        work.say_unread()
+        work.tables.say_unread()
         if not work.faults:  # what is missing would mostly follow from these
-            work.check_days()
+            work.say_missing()
             work.say_rounded()
-    work.faults += work.session.refused
-    return Conversion(work.session, work.faults, work.notes, work.account.of_sheets())
+    work.faults.extend(work.session.refused)
+    return Conversion(work.session, work.faults, work.notes, work.tables.fates.of_sheets())
 
 
 def add_arguments(parser: argparse.ArgumentParser) -> None:

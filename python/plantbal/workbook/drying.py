@@ -3,21 +3,21 @@
 from __future__ import annotations
 
 import datetime
-from collections.abc import Sequence
 from dataclasses import dataclass
 from fractions import Fraction
 
-from plantbal.workbook.base import Span
-from plantbal.workbook.cells import WET, Error, Reader
+from plantbal.workbook.cells import Error
 from plantbal.faults import InputFault
 from plantbal.workbook.moisture import WHOLE, Moisture, Moistures
-from plantbal.workbook.plant import Plant, Stream
-from plantbal.workbook.sheets import Cell, Sheet
-from plantbal.workbook.tables import Row
+from plantbal.workbook.periods import Periods
+from plantbal.workbook.plant import PlantReader, StreamRow
+from plantbal.workbook.sheets import Cell
+from plantbal.workbook.tables import Row, Tables
+from plantbal.workbook.units import WET
 
 
 @dataclass(frozen=True)
-class Figure:
+class Dry:
     """An amount as it is booked.
 
     Attributes
@@ -30,42 +30,45 @@ class Figure:
     variance: int
 
 
-class Drying(Plant):
+class MoistureReader:
     """Reads the sheet of moistures.
 
     Parameters
     ----------
-    sheets : list of Sheet
-        The workbook.
-    reader : Reader
-        How its cells are written.
-    skip : tuple of str
-        Heads of columns to leave out.
+    tables : Tables
+        The tables of the workbook.
+    plant : PlantReader
+        Its plant.
+    periods : Periods
+        The periods that a day may be in.
 
     Attributes
     ----------
-    moistures : Moistures
+    found : Moistures
         What was read.
     """
 
-    def __init__(self, sheets: list[Sheet], reader: Reader, skip: Sequence[str] = ()) -> None:
-        super().__init__(sheets, reader, skip)
-        self.moistures = Moistures()
+    def __init__(self, tables: Tables, plant: PlantReader, periods: Periods) -> None:
+        self.tables = tables
+        self.reader = tables.reader
+        self.plant = plant
+        self.periods = periods
+        self.found = Moistures()
 
-    def read_moistures(self) -> None:
+    def read(self) -> None:
         """Read the moistures: of a ticket, of a day, of a day's shifts, or of several days."""
-        for row in self.rows("moistures", facts=True):
-            with self.kept():
+        for row in self.tables.rows("moistures", facts=True):
+            with self.tables.kept():
                 found = self._moisture(row)
                 if not self.reader.is_missing(row["id"]):
                     name = row.text("id")
-                    if name in self.moistures.of_tickets:
+                    if name in self.found.of_tickets:
                         what = f"the ticket {name} has a moisture already"
                         raise self.reader.fault(row["id"], what, "leave one of both out", "id")
-                    self.moistures.of_tickets[name] = found
+                    self.found.of_tickets[name] = found
                     continue
                 cell = row["stream"] if self.reader.is_missing(row["tag"]) else row["tag"]
-                stream = self.named(cell, "stream")
+                stream = self.plant.named(cell, "stream")
                 if stream is not None:
                     self._keep(stream, row, found)
 
@@ -86,9 +89,9 @@ class Drying(Plant):
             raise self.reader.fault(row["last"], what, "write the first day too", "last")
         return Moisture(part / WHOLE, (error / WHOLE) ** 2, row["moisture"], first, last or first)
 
-    def _keep(self, stream: Stream, row: Row, found: Moisture) -> None:
+    def _keep(self, stream: StreamRow, row: Row, found: Moisture) -> None:
         """Keep a moisture of a stream; another one of the same days is that of another shift."""
-        own = self.moistures.of_streams.setdefault(stream.name, [])
+        own = self.found.of_streams.setdefault(stream.name, [])
         same = [each for each in own if (each.first, each.last) == (found.first, found.last)]
         tonnes = None
         if not self.reader.is_missing(row["amount"]):
@@ -107,11 +110,7 @@ class Drying(Plant):
         if not same:
             own.append(found)
 
-    def spans_at(self, day: datetime.date) -> list[Span]:
-        """Return the periods that a day may be in."""
-        raise NotImplementedError
-
-    def no_moisture(self, stream: Stream, cell: Cell, of: str) -> InputFault:
+    def no_moisture(self, stream: StreamRow, cell: Cell, of: str) -> InputFault:
         """Return the fault that nothing says how wet an amount is."""
         unit = next(iter(WET))
         what = f"{cell.text} {unit} of {stream.said} have no moisture {of}"
@@ -119,30 +118,34 @@ class Drying(Plant):
         return self.reader.fault(cell, what, remedy)
 
     def dried(
-        self, moisture: Moisture, stream: Stream, grams: int, error: Error, times: Fraction
+        self, moisture: Moisture, stream: StreamRow, grams: int, error: Error, times: Fraction
     ) -> tuple[Fraction, int]:
         """Return a dry amount in grams and its variance."""
-        self.moistures.use(stream.name, moisture)
+        self.found.use(stream.name, moisture)
         variance = moisture.dry_variance(grams, error.variance(grams), times)
         return moisture.dry(grams), variance
 
     def dried_on(
-        self, stream: Stream, day: datetime.date, grams: int, error: Error, cell: Cell
-    ) -> Figure:
+        self, stream: StreamRow, day: datetime.date, grams: int, error: Error, cell: Cell
+    ) -> Dry:
         """Return the dry figure of a day."""
-        moisture = self.moistures.on(stream.name, day)
+        moisture = self.found.on(stream.name, day)
         if moisture is None:
             raise self.no_moisture(stream, cell, f"on {day}")
-        spans = [each for each in self.spans_at(day) if each.first <= day.toordinal() <= each.last]
+        spans = [
+            each
+            for each in self.periods.spans_at(day)
+            if each.first <= day.toordinal() <= each.last
+        ]
         days = max((moisture.days_in(each.first, each.last) for each in spans), default=1)
         exact, variance = self.dried(moisture, stream, grams, error, Fraction(max(1, days)))
-        return Figure(self.reader.whole(cell, exact), variance)
+        return Dry(self.reader.whole(cell, exact), variance)
 
-    def say_moistures(self) -> None:
+    def say(self) -> None:
         """Say what was dried, and keep a fault for each moisture of a stream without wet figures."""
-        self.notes += self.moistures.notes()
-        for name, moisture in self.moistures.unused():
-            if name in self.streams and not self.faults:
+        self.tables.notes += self.found.notes()
+        for name, moisture in self.found.unused():
+            if name in self.plant.streams and not self.tables.faults:
                 what = f"no figure of {name} is in {next(iter(WET))}, so its moistures dry nothing"
                 remedy = "write wmt as the unit of its figures, or take the moistures out"
-                self.fault(moisture.cell, what, remedy, "moisture")
+                self.tables.fault(moisture.cell, what, remedy, "moisture")

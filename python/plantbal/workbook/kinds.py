@@ -17,7 +17,7 @@ _SAID = 3  # streams that a note names
 
 
 @dataclass
-class Evidence:
+class KindEvidence:
     """What the facts of a workbook say of the kinds of streams.
 
     Attributes
@@ -58,9 +58,9 @@ class Evidence:
         ]
 
 
-def evidence_of(tickets: Iterable[Sheet], readings: Iterable[Sheet]) -> Evidence:
+def evidence_of(tickets: Iterable[Sheet], readings: Iterable[Sheet]) -> KindEvidence:
     """Return what the sheets of tickets and of readings say."""
-    found = Evidence()
+    found = KindEvidence()
     for sheet in tickets:
         found.tickets |= _streams_in(sheet)
     for sheet in readings:

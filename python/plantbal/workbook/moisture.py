@@ -15,8 +15,8 @@ from collections.abc import Iterable, Sequence
 from dataclasses import dataclass, field
 from fractions import Fraction
 
-from plantbal.workbook.cells import GRADES
 from plantbal.workbook.sheets import Cell
+from plantbal.workbook.units import GRADES
 
 WHOLE = GRADES["%"] * 100
 

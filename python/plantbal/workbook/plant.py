@@ -4,25 +4,26 @@ from __future__ import annotations
 
 import difflib
 import re
-from collections.abc import Collection, Iterable, Sequence
+from collections.abc import Iterable
 from dataclasses import dataclass, field
 from fractions import Fraction
 
 from plantbal.schema import schema
 from plantbal.session import ENV, dates_of_service, most_streams
 from plantbal.study.critical import values_of
-from plantbal.workbook.base import MOST_VARIANCE, tonnes_of
-from plantbal.workbook.cells import AMOUNTS, VOLUMES, Error, Reader
-from plantbal.workbook.kinds import Evidence, evidence_of
+from plantbal.workbook.base import MOST_VARIANCE, error_said
+from plantbal.workbook.cells import Error
+from plantbal.workbook.kinds import KindEvidence, evidence_of
 from plantbal.workbook.settings import Settings, settings_of
-from plantbal.workbook.sheets import Cell, Sheet
+from plantbal.workbook.sheets import Cell
 from plantbal.workbook.tables import Row, Tables
+from plantbal.workbook.units import AMOUNTS, VOLUMES
 
 _MOST_ID = schema().limits["most_name"] - len("_2024-04-01")
 
 
 @dataclass
-class Stream:
+class StreamRow:
     """A stream as its sheet has it.
 
     Attributes
@@ -67,7 +68,7 @@ class Stream:
 
 
 @dataclass
-class Tank:
+class TankRow:
     """A tank as its sheet has it, and its table."""
 
     name: str
@@ -85,34 +86,41 @@ class Tank:
         return max(steep, default=Fraction(0)) * density / 10**6
 
 
-class Plant(Tables):
+class PlantReader:
     """Reads the sheets of the plant.
 
     Parameters
     ----------
-    sheets : list of Sheet
-        The workbook.
-    reader : Reader
-        How its cells are written.
-    skip : tuple of str
-        Heads of columns to leave out.
+    tables : Tables
+        The tables of the workbook.
+
+    Attributes
+    ----------
+    streams, tags : dict of str to StreamRow
+        The streams by their names, and by their tags.
+    tanks : dict of str to TankRow
+        The tanks.
+    bases : dict of str to Cell
+        The streams with a systematic error that is wider than a row bears, and where it stands.
+    bad : set of str
+        The names and tags whose own rows are at fault.
     """
 
-    def __init__(self, sheets: list[Sheet], reader: Reader, skip: Sequence[str] = ()) -> None:
-        super().__init__(sheets, reader, skip)
-        self.streams: dict[str, Stream] = {}
-        self.tags: dict[str, Stream] = {}
-        self.tanks: dict[str, Tank] = {}
+    def __init__(self, tables: Tables) -> None:
+        self.tables = tables
+        self.reader = tables.reader
+        self.session = tables.session
+        self.streams: dict[str, StreamRow] = {}
+        self.tags: dict[str, StreamRow] = {}
+        self.tanks: dict[str, TankRow] = {}
         self.bases: dict[str, Cell] = {}
         self.bad: set[str] = set()
         self.kinds: dict[str, str] = {}  # of the book
-        self.evidence = Evidence()
+        self.evidence = KindEvidence()
         self.settings = Settings()
         self.setting_rows: list[Row] = []
-
-    def names_across(self, kind: str) -> Collection[str]:
-        """Return the tanks if a sheet may have a column for each; those at fault too."""
-        return {*self.tanks, *self.bad} if kind in ("straps", "dips") else ()
+        self._tank_rows: list[tuple[tuple[str, ...], dict[str, Cell]]] = []
+        tables.names_across = lambda: {*self.tanks, *self.bad}  # those at fault too
 
     def begin(self, known: Iterable[tuple[str, ...]] = ()) -> None:
         """Begin the session: it is of version 2 if the workbook needs it, or what is known already.
@@ -126,14 +134,14 @@ class Plant(Tables):
         self.kinds = {row[1]: row[4] for row in rows if row[0] == "stream"}
         if ("version", "2") in rows or self._needs_version_2():
             self.session.row("version", "2")
-        if not self.sheets["boundaries"]:
+        if not self.tables.sheets["boundaries"]:
             for row in rows:
                 if row[0] == "boundary":
                     self.session.row(*row)
 
     def _needs_version_2(self) -> bool:
         """Say whether there are boundaries, columns of dates of service, or very many streams."""
-        sheets = [*self.sheets["streams"], *self.sheets["tanks"]]
+        sheets = [*self.tables.sheets["streams"], *self.tables.sheets["tanks"]]
         heads = {
             value.strip().casefold()
             for sheet in sheets
@@ -142,23 +150,30 @@ class Plant(Tables):
             if isinstance(value, str)
         }
         many = sum(len(sheet.lines) for sheet in sheets) > most_streams(1)
-        said = any(cells[0].text == "version" for s in self.sheets["rows"] for cells in s.rows())
-        return bool(self.sheets["boundaries"]) or bool({"since", "until"} & heads) or many or said
+        said = any(
+            cells[0].text == "version" for s in self.tables.sheets["rows"] for cells in s.rows()
+        )
+        return (
+            bool(self.tables.sheets["boundaries"])
+            or bool({"since", "until"} & heads)
+            or many
+            or said
+        )
 
-    def read_plant(self) -> None:
+    def read(self) -> None:
         """Read boundaries, units, tanks, tables, streams and critical values."""
         if not len(self.session):
             self.begin()
-        for row in self.rows("boundaries"):
-            if not self.put(["boundary", row.text("name")], {"name": row["name"]}):
+        for row in self.tables.rows("boundaries"):
+            if not self.tables.put(["boundary", row.text("name")], {"name": row["name"]}):
                 self.bad.add(row.text("name"))
         self._read_tanks()
-        self.evidence = evidence_of(self.sheets["tickets"], self.sheets["readings"])
-        ends = [(row, self._stream_of(row)) for row in self.rows("streams")]
-        self.notes += self.evidence.notes()
+        self.evidence = evidence_of(self.tables.sheets["tickets"], self.tables.sheets["readings"])
+        ends = [(row, self._stream_of(row)) for row in self.tables.rows("streams")]
+        self.tables.notes += self.evidence.notes()
         self._declare_units([row for row, _ in ends])
         for fields, cells in self._tank_rows:
-            if not self.put(["tank", *fields], cells):
+            if not self.tables.put(["tank", *fields], cells):
                 self.bad.add(fields[0])
         self._read_straps()
         for row, stream in ends:
@@ -169,7 +184,7 @@ class Plant(Tables):
         self._check_ends([row for row, _ in ends])
         self.read_critical()
 
-    def take_tanks(self, rows: Iterable[tuple[str, ...]], tanks: Iterable[Tank]) -> None:
+    def take_tanks(self, rows: Iterable[tuple[str, ...]], tanks: Iterable[TankRow]) -> None:
         """Take tanks and tables that are known already, as rows of a session."""
         self.tanks |= {tank.name: tank for tank in tanks}
         for row in rows:
@@ -182,7 +197,10 @@ class Plant(Tables):
                 self.tanks[tank].points.append((int(mm), int(ml)))
 
     def take_plant(
-        self, rows: Iterable[tuple[str, ...]], streams: Iterable[Stream], tanks: Iterable[Tank]
+        self,
+        rows: Iterable[tuple[str, ...]],
+        streams: Iterable[StreamRow],
+        tanks: Iterable[TankRow],
     ) -> None:
         """Take a plant that is known already, as rows of a session, in place of its sheets.
 
@@ -190,7 +208,7 @@ class Plant(Tables):
         ----------
         rows : iterable of tuple of str
             The rows.
-        streams, tanks : iterable of Stream and of Tank
+        streams, tanks : iterable of StreamRow and of TankRow
             Their streams and tanks.
         """
         self.take_tanks(rows, tanks)
@@ -222,7 +240,7 @@ class Plant(Tables):
         """
         variance = max(1, base.variance(0)) if base else 1
         if variance > MOST_VARIANCE and kind != "metered":
-            has = f"a {kind} has a systematic error of at most {tonnes_of(MOST_VARIANCE)}"
+            has = f"a {kind} has a systematic error of at most {error_said(MOST_VARIANCE)}"
             remedy = "write the rest into the column error of its "
             remedy += "tickets" if kind == "batch stream" else "dips"
             raise self.reader.fault(cell, has, remedy, "base")
@@ -237,11 +255,10 @@ class Plant(Tables):
         return dates_of_service(since, until)
 
     def _read_tanks(self) -> None:
-        self._tank_rows: list[tuple[tuple[str, ...], dict[str, Cell]]] = []
-        for row in self.rows("tanks"):
+        for row in self.tables.rows("tanks"):
             name = row.text("tank")
             self.bad.add(name)
-            with self.kept():
+            with self.tables.kept():
                 density = self.reader.density(row["density"])
                 base = self._base_variance(row["base"], self._base(row["base"], density), "tank")
                 error = None
@@ -251,14 +268,14 @@ class Plant(Tables):
                     what = "a tank's error in percent says nothing of a level"
                     raise self.reader.fault(row["error"], what, "write `3 mm` or `8 t`", "error")
                 service = self._service(row)
-                self.tanks.setdefault(name, Tank(name, error, density))
+                self.tanks.setdefault(name, TankRow(name, error, density))
                 cells = {"name": row["tank"], "base": row["base"], "since": row["since"]}
                 self._tank_rows.append(((name, str(base), *service), cells))
                 self.bad.discard(name)
 
     def _read_straps(self) -> None:
-        for row in self.rows("straps"):
-            with self.kept():
+        for row in self.tables.rows("straps"):
+            with self.tables.kept():
                 mm = self.reader.level(row["level"])
                 unit = self.reader.unit(row["unit"], VOLUMES, "m3")
                 number, own = self.reader.split(row["volume"], VOLUMES, "volume")
@@ -268,7 +285,7 @@ class Plant(Tables):
                 if name in self.bad:
                     continue
                 cells = {"tank": row["tank"], "mm": row["level"], "ml": row["volume"]}
-                if self.put(["strap", name, str(mm), str(ml)], cells):
+                if self.tables.put(["strap", name, str(mm), str(ml)], cells):
                     self.tanks[name].points.append((mm, ml))
 
     def _kind_of(self, row: Row, tag: str) -> str:
@@ -279,58 +296,64 @@ class Plant(Tables):
         found = self.evidence.kind(name, tag)
         if found is None:
             what = f"{name} has tickets and readings, and no kind: batch or metered?"
-            self.fault(row["stream"], what, "write batch or metered into a column kind", "stream")
+            self.tables.fault(
+                row["stream"], what, "write batch or metered into a column kind", "stream"
+            )
         return found or "plain"
 
-    def _stream_of(self, row: Row) -> Stream | None:
+    def _stream_of(self, row: Row) -> StreamRow | None:
         """Return a stream, or None if something of it is wrong."""
-        count = len(self.faults)
+        count = len(self.tables.faults)
         tag = "" if self.reader.is_missing(row["tag"]) else row.text("tag")
         kind = row.text("kind").casefold() or self._kind_of(row, tag)
         if kind not in ("metered", "batch", "plain"):
             remedy = "write metered, batch or plain"
-            self.fault(row["kind"], f"{row.text('kind')!r} is no kind of stream", remedy, "kind")
+            self.tables.fault(
+                row["kind"], f"{row.text('kind')!r} is no kind of stream", remedy, "kind"
+            )
         unit, density, error = "", None, None
-        with self.kept():
+        with self.tables.kept():
             unit = self.reader.unit(row["unit"], AMOUNTS, "")
-        with self.kept():
+        with self.tables.kept():
             density = self.reader.density(row["density"])
-        with self.kept():
+        with self.tables.kept():
             if not self.reader.is_missing(row["error"]):
                 error = self.reader.error(row["error"], density)
-        if kind == "metered" and tag and error is None and len(self.faults) == count:
+        if kind == "metered" and tag and error is None and len(self.tables.faults) == count:
             what = f"the meter {tag} has no error"
-            self.fault(row["error"], what, "write `1.5 %`, `0.2 t`, or both with `or`", "error")
-        if len(self.faults) > count:
+            self.tables.fault(
+                row["error"], what, "write `1.5 %`, `0.2 t`, or both with `or`", "error"
+            )
+        if len(self.tables.faults) > count:
             return None
         name = row.text("stream")
-        return Stream(name, tag, kind, unit, density, error, row["stream"])
+        return StreamRow(name, tag, kind, unit, density, error, row["stream"])
 
     def _declare_units(self, rows: list[Row]) -> None:
-        listed = [row["name"] for row in self.rows("units")]
+        listed = [row["name"] for row in self.tables.rows("units")]
         seen = {*self.tanks, *self.bad, *self.session.boundaries, ENV}
-        if not self.sheets["units"]:
+        if not self.tables.sheets["units"]:
             ends = [row[head] for row in rows for head in ("from", "to")]
             listed = list({cell.text: cell for cell in reversed(ends) if cell.text}.values())
             order = {cell.text: at for at, cell in reversed(list(enumerate(ends)))}
             listed = [cell for cell in listed if cell.text not in seen]
             listed.sort(key=lambda cell: order[cell.text])
         for cell in listed:
-            if not self.put(["unit", cell.text], {"name": cell}):
+            if not self.tables.put(["unit", cell.text], {"name": cell}):
                 self.bad.add(cell.text)
 
-    def _declare_stream(self, row: Row, stream: Stream) -> None:
+    def _declare_stream(self, row: Row, stream: StreamRow) -> None:
         """Give a stream to the session."""
         ends = row["from"], row["to"]
         tag = self.tags.get(stream.tag) if stream.tag else None
         if tag is not None:
             other = str(tag.cell.place()).rstrip(":")
-            self.fault(row["tag"], f"{stream.tag} is the tag of {tag.name} too ({other})")
+            self.tables.fault(row["tag"], f"{stream.tag} is the tag of {tag.name} too ({other})")
         if tag is not None or any(cell.text in self.bad for cell in ends):
             self.bad |= {stream.name, stream.tag} - {""} if tag is None else {stream.name}
             return
         base = 0
-        with self.kept():
+        with self.tables.kept():
             wide = self._base(row["base"], stream.density)
             kind = "metered" if stream.kind == "metered" else f"{stream.kind} stream"
             base = self._base_variance(row["base"], wide, kind) if stream.kind != "plain" else 0
@@ -345,7 +368,7 @@ class Plant(Tables):
             cells = {"name": row["stream"], "from": ends[0], "to": ends[1], "base": row["base"]}
             cells["since"] = row["since"]
             fields = [stream.name, ends[0].text, ends[1].text, stream.kind, str(base)]
-            if self.put(["stream", *fields, *self._service(row)], cells):
+            if self.tables.put(["stream", *fields, *self._service(row)], cells):
                 self.streams[stream.name] = stream
                 if stream.tag:
                     self.tags[stream.tag] = stream
@@ -369,16 +392,18 @@ class Plant(Tables):
             if near:
                 remedy = f"did you mean {near[0]}?"
             if cell is None:
-                self.notes.append(f"the unit {name} stands in no stream")
+                self.tables.notes.append(f"the unit {name} stands in no stream")
             else:
-                self.fault(cell, f"{name} has nothing {lacks}, so its flows would be 0", remedy)
+                self.tables.fault(
+                    cell, f"{name} has nothing {lacks}, so its flows would be 0", remedy
+                )
 
     def read_settings(self) -> None:
         """Read what holds for all figures."""
-        self.setting_rows = list(self.rows("settings"))
+        self.setting_rows = list(self.tables.rows("settings"))
         rows = [(row["setting"], row["value"], row["for"]) for row in self.setting_rows]
         self.settings, faults = settings_of(rows, self.reader)
-        self.faults += faults
+        self.tables.faults += faults
 
     def _make_critical(self) -> None:
         """Make the critical values of the level that the settings have, but for those there are."""
@@ -390,14 +415,14 @@ class Plant(Tables):
         made = [
             row
             for row in values_of(level, list(self.session.nodes.values()), streams)
-            if row[:-1] not in there and self.put(row, {"value": cell})
+            if row[:-1] not in there and self.tables.put(row, {"value": cell})
         ]
         if made:
             note = f"{str(cell.place()).rstrip(':')}: {len(made):,} critical values are made for "
             note += (
                 f"the level {level:g}; for tests of many nodes and streams by Šidák's correction"
             )
-            self.notes.append(note)
+            self.tables.notes.append(note)
 
     def read_critical(self) -> None:
         """Read critical values; one that the session has already is none more."""
@@ -407,8 +432,8 @@ class Plant(Tables):
 
     def _read_critical(self) -> None:
         there = set(self.session)
-        for row in self.rows("critical"):
-            with self.kept():
+        for row in self.tables.rows("critical"):
+            with self.tables.kept():
                 test = row.text("test").casefold()
                 if test not in ("global", "nodal", "measure"):
                     what = f"{row.text('test')!r} is no test"
@@ -426,9 +451,9 @@ class Plant(Tables):
                 cells = {"value": row["value"], "dof": row["dof"]}
                 fields = "critical", test, *freedom, value
                 if fields not in there:
-                    self.put(fields, cells)
+                    self.tables.put(fields, cells)
 
-    def named(self, cell: Cell, head: str) -> Stream | None:
+    def named(self, cell: Cell, head: str) -> StreamRow | None:
         """Return the stream of a tag or a name, or None if its own row is at fault."""
         found = self.tags.get(cell.text) or self.streams.get(cell.text)
         if found is None and cell.text not in self.bad:
@@ -437,5 +462,5 @@ class Plant(Tables):
             near += difflib.get_close_matches(cell.text, names, n=1)
             remedy = f"did you mean {near[0]}?" if near else "write it into the sheet streams"
             what = f"there is no tag or stream {cell.text!r}" if cell.text else "there is no tag"
-            self.fault(cell, what, remedy, head)
+            self.tables.fault(cell, what, remedy, head)
         return found

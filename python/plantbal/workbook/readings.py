@@ -2,21 +2,19 @@
 
 from __future__ import annotations
 
-import calendar
 import datetime
 import re
 
-from plantbal.estimates import estimate_id
 from plantbal.faults import Fault, InputFault
-from plantbal.session import period_days
-from plantbal.workbook.account import Fate, is_unit
-from plantbal.workbook.base import MOST_VARIANCE, Span, share_at, tonnes_of
-from plantbal.workbook.cells import AMOUNTS, Error, Reader, day_order, is_rate, unit_of
+from plantbal.workbook.bookings import Bookings
+from plantbal.workbook.cells import Error, Reader, day_order
 from plantbal.workbook.daily import long_by_day, wide_by_day
-from plantbal.workbook.drying import Drying, Figure
-from plantbal.workbook.plant import Stream
-from plantbal.workbook.sheets import Cell, Sheet
-from plantbal.workbook.tables import HEADS_WITHIN, TOTALS
+from plantbal.workbook.fates import Fate, is_unit
+from plantbal.workbook.plant import PlantReader, StreamRow
+from plantbal.workbook.shapes import HEADS_WITHIN
+from plantbal.workbook.sheets import Cell
+from plantbal.workbook.tables import TOTALS, Tables
+from plantbal.workbook.units import AMOUNTS, is_rate, unit_of
 
 _LONG = {
     "day": ("day", "date", "datum", "time", "timestamp"),
@@ -26,40 +24,37 @@ _LONG = {
 }
 
 
-class Readings(Drying):
+class Readings:
     """Reads the sheets of readings.
 
     Parameters
     ----------
-    sheets : list of Sheet
-        The workbook.
-    reader : Reader
-        How its cells are written.
-    skip : tuple of str
-        Heads of columns to leave out.
+    tables : Tables
+        The tables of the workbook.
+    plant : PlantReader
+        Its plant.
+    bookings : Bookings
+        What takes the figures.
 
     Attributes
     ----------
-    days : dict of str to dict of date to Cell
-        The days of each stream that have a figure, and where it stands.
     listed : set of str
         The streams that have a column or a row, with figures or without.
     whole : bool
         Whether each meter of the plant has to have a column.
-    spans : list of Span
-        The periods that are known already; a day in none of them is in its calendar month.
     """
 
-    def __init__(self, sheets: list[Sheet], reader: Reader, skip: tuple[str, ...] = ()) -> None:
-        super().__init__(sheets, reader, skip)
-        self.days: dict[str, dict[datetime.date, Cell]] = {}
+    def __init__(self, tables: Tables, plant: PlantReader, bookings: Bookings) -> None:
+        self.tables = tables
+        self.reader = tables.reader
+        self.plant = plant
+        self.bookings = bookings
         self.listed: set[str] = set()
         self.whole = True
-        self.spans: list[Span] = []
 
-    def reading(self, stream: Stream, cell: Cell, day: datetime.date | None, unit: str) -> None:
+    def reading(self, stream: StreamRow, cell: Cell, day: datetime.date | None, unit: str) -> None:
         """Take a reading."""
-        with self.kept():
+        with self.tables.kept():
             own = unit or stream.unit or "t"
             grams = self.reader.grams(cell, own, stream.density, stream.tag)
             if day is None:
@@ -72,90 +67,18 @@ class Readings(Drying):
                 remedy = "give its meter one in tonnes as well, such as `1.5 % or 0.2 t`"
                 what = "a reading of 0 has no error in percent"
                 raise self.reader.fault(cell, what, remedy, stream.tag)
-            self._book(stream, day, grams, error, cell, self.reader.is_wet(cell, own))
+            self.bookings.book(stream, day, grams, error, cell, self.reader.is_wet(cell, own))
 
-    def _book(
-        self,
-        stream: Stream,
-        day: datetime.date,
-        grams: int,
-        error: Error,
-        cell: Cell,
-        is_wet: bool = False,
-        guessed: int = 0,
-    ) -> None:
-        """Give a reading to the session, or a day of a guess for so many; a wet one as it is dry.
-
-        The days of a guess have one error in common, so the standard deviation of their sum is the
-        sum of theirs. Each has that many times its variance: these add up to the square.
-        """
-        days = self.days.setdefault(stream.name, {})
-        if day in days:
-            other = str(days[day].place()).rstrip(":")
-            what = f"{stream.said} has a figure of {day} already ({other})"
-            raise self.reader.fault(cell, what, "empty one of both")
-        days[day] = cell
-        figure = Figure(grams, error.variance(grams))
-        if is_wet:
-            figure = self.dried_on(stream, day, grams, error, cell)
-        name = estimate_id(stream.label, str(day)) if guessed else f"{stream.label}_{day}"
-        fields = [name, stream.name, str(day), str(figure.grams)]
-        own = figure.variance * max(1, guessed)
-        variance = self.bearable(own + self._born(stream, day), figure.grams, cell)
-        self.put(["reading", *fields, str(variance)], {"grams": cell})
-
-    def _born(self, stream: Stream, day: datetime.date) -> int:
-        """Return what a day bears of a systematic error that is wider than a row."""
-        if not stream.excess:
-            return 0
-        service = self.session.service(stream.name)
-        return share_at(stream.excess, self.spans_at(day), service, day.toordinal())
-
-    def spans_at(self, day: datetime.date) -> list[Span]:
-        """Return the periods that a day may be in; its month if no period is declared."""
-        if self.sheets["periods"]:
-            return [Span(*map(_ordinal, period_days(each))) for each in self.session.periods]
-        known = [span for span in self.spans if span.first <= day.toordinal() <= span.last]
-        last = day.replace(day=calendar.monthrange(day.year, day.month)[1])
-        return known or [Span(_ordinal(day.replace(day=1)), _ordinal(last))]
-
-    def check_bases(self) -> None:
-        """Say of each wide systematic error that readings bear it, or keep why they can't.
-
-        It can't be shared if a day is in two periods of which each would want its own shares.
-        """
-        periods = [Span(*map(_ordinal, period_days(each))) for each in self.session.periods]
-        for name, cell in self.bases.items():
-            stream = self.streams.get(name)
-            if stream is None or not stream.excess:
-                continue
-            service = self.session.service(name)
-            for span in periods:
-                days = span.days(service)
-                sums = sum(
-                    share_at(stream.excess, self.spans_at(_day(at)), service, at) for at in days
-                )
-                if days and sums != stream.excess:
-                    what = f"a base of {cell.text} is shared over the days of a period, and from "
-                    what += f"{_day(span.first)} to {_day(span.last)} days are in two periods"
-                    remedy = f"write at most {tonnes_of(MOST_VARIANCE)}, or ask for one of both"
-                    self.fault(cell, what, remedy, "base")
-                    break
-            else:
-                note = f"{str(cell.place()).rstrip(':')}: a base of {cell.text} is wider than the "
-                note += f"{tonnes_of(MOST_VARIANCE)} of a row: the readings of each period bear "
-                self.notes.append(note + "the rest, and the variance of the period is the same")
-
-    def read_readings(self) -> None:
+    def read(self) -> None:
         """Read the readings, in whatever form they stand."""
         found: set[str] = set()
         wide = False
-        for sheet in self.sheets["readings"]:
+        for sheet in self.tables.sheets["readings"]:
             lines = list(sheet.rows())
-            with self.kept():
+            with self.tables.kept():
                 at, form = self._form(lines)
                 if form:
-                    self.account.put(Fate.HEADS, lines[at])
+                    self.tables.fates.put(Fate.HEADS, lines[at])
                 if form == "long":
                     self._read_long(lines[at], self._by_day(lines[at], lines[at + 1 :], form))
                 elif form == "wide":
@@ -168,110 +91,110 @@ class Readings(Drying):
                     remedy = "write the tags of the sheet streams over the columns"
                     what = "no row has a tag of the sheet streams"
                     raise InputFault(what, place=sheet.place(lines[0][0].line), remedy=remedy)
-        for stream in self.tags.values():
+        for stream in self.plant.tags.values():
             if wide and self.whole and stream.kind == "metered" and stream.tag not in found:
-                if stream.name not in found and stream.name not in self.days:
-                    sheet = self.sheets["readings"][0]
+                if stream.name not in found and stream.name not in self.bookings.days:
+                    sheet = self.tables.sheets["readings"][0]
                     what = f"there is no column for {stream.said}"
                     remedy = "add it; its cells may be empty"
-                    self.faults.append(InputFault(what, place=sheet.place(), remedy=remedy))
+                    self.tables.faults.append(InputFault(what, place=sheet.place(), remedy=remedy))
         self._check_order()
 
     def check_counters(self) -> None:
         """Give the counters of the settings to their streams, or say that there is no such tag."""
-        counters, self.settings.counters = self.settings.counters, {}
-        for row in self.setting_rows:
-            stream = self.named(row["for"], "for") if row.text("for") in counters else None
+        counters, self.plant.settings.counters = self.plant.settings.counters, {}
+        for row in self.plant.setting_rows:
+            stream = self.plant.named(row["for"], "for") if row.text("for") in counters else None
             if stream is not None:
-                self.settings.counters[stream.name] = counters[row.text("for")]
+                self.plant.settings.counters[stream.name] = counters[row.text("for")]
 
     def _by_day(self, heads: list[Cell], lines: list[list[Cell]], form: str) -> list[list[Cell]]:
         """Return the rows below the heads with a figure a day, if they have hours or counters."""
-        names = {stream.name: stream.name for stream in self.streams.values()}
-        names |= {tag: stream.name for tag, stream in self.tags.items()}
+        names = {stream.name: stream.name for stream in self.plant.streams.values()}
+        names |= {tag: stream.name for tag, stream in self.plant.tags.items()}
         if form == "wide":
-            found = wide_by_day(self.reader, self.settings, heads, lines, names)
+            found = wide_by_day(self.reader, self.plant.settings, heads, lines, names)
         else:
             at = _long_columns(heads)
-            found = long_by_day(self.reader, self.settings, heads, lines, names, at)
+            found = long_by_day(self.reader, self.plant.settings, heads, lines, names, at)
         if found is None:
             return lines
-        self.account.put(Fate.READ, *found.taken)
-        self.faults += found.faults
-        self.notes += found.notes
+        self.tables.fates.put(Fate.READ, *found.taken)
+        self.tables.faults += found.faults
+        self.tables.notes += found.notes
         return found.lines
 
     def _form(self, lines: list[list[Cell]]) -> tuple[int, str]:
         """Return which row has the heads, and whether they are wide, long or days across."""
-        known = set(self.tags) | set(self.streams) | self.bad
+        known = set(self.plant.tags) | set(self.plant.streams) | self.plant.bad
         for at, cells in enumerate(lines[:HEADS_WITHIN]):
             texts = [cell.text.casefold() for cell in cells]
             if all(set(_LONG[head]) & set(texts) for head in ("day", "tag", "value")):
                 return at, "long"
             if any(cell.text in known for cell in cells[1:]):
-                if not any(self._maybe_day(cell) for cell in cells):
+                if not any(self.tables.maybe_day(cell) for cell in cells):
                     return at, "wide"
-            if sum(self._maybe_day(cell) for cell in cells[1:]) >= 2:
+            if sum(self.tables.maybe_day(cell) for cell in cells[1:]) >= 2:
                 return at, "across"
         return 0, ""
 
     def _read_long(self, heads: list[Cell], lines: list[list[Cell]]) -> None:
         at = _long_columns(heads)
-        self.say_columns(heads, lines, set(at.values()))
+        self.tables.say_columns(heads, lines, set(at.values()))
         for cells in lines:
             row = {
-                name: cells[column] if column < len(cells) else self._beside(cells, column)
+                name: cells[column] if column < len(cells) else self.tables.beside(cells, column)
                 for name, column in at.items()
             }
-            if self._is_total(cells) or all(self.reader.is_missing(c) for c in row.values()):
+            if self.tables.is_total(cells) or all(self.reader.is_missing(c) for c in row.values()):
                 continue
-            self.account.put(Fate.READ, cells)
-            day = self._day(row["day"])
-            stream = self.named(row["tag"], "tag")
+            self.tables.fates.put(Fate.READ, cells)
+            day = self.tables.day(row["day"])
+            stream = self.plant.named(row["tag"], "tag")
             if stream is None:
                 continue
             self.listed.add(stream.name)
             if self.reader.is_missing(row["value"]):
                 continue
-            with self.kept():
+            with self.tables.kept():
                 unit = self.reader.unit(row.get("unit"), AMOUNTS, "")
                 self.reading(stream, row["value"], day, unit)
 
     def _columns(
         self, heads: list[Cell], lines: list[list[Cell]]
-    ) -> tuple[dict[int, Stream], set[int]]:
+    ) -> tuple[dict[int, StreamRow], set[int]]:
         """Return the stream of each column of readings, and the columns that were taken for such.
 
         Columns without a figure may be others.
         """
-        found: dict[int, Stream] = {}
+        found: dict[int, StreamRow] = {}
         tried: set[int] = set()
         first: dict[str, Cell] = {}
         for column, cell in enumerate(heads[1:], 1):
-            if not cell.text or cell.text.casefold() in self.skip:
+            if not cell.text or cell.text.casefold() in self.tables.skip:
                 continue
             below = [cells[column] for cells in lines if column < len(cells)]
             figures = [each for each in below if not self.reader.is_missing(each)]
-            known = cell.text in self.tags or cell.text in self.streams
-            if not known and not found and all(map(self._maybe_day, figures)):
+            known = cell.text in self.plant.tags or cell.text in self.plant.streams
+            if not known and not found and all(map(self.tables.maybe_day, figures)):
                 continue  # the days, or nothing
             if not known and not any(re.match("[+-]?[0-9]", each.text) for each in figures):
                 continue
             tried.add(column)
-            stream = self.named(cell, "")
+            stream = self.plant.named(cell, "")
             if stream is None:
-                if not known and cell.text not in self.bad:
+                if not known and cell.text not in self.plant.bad:
                     skip = f", or say --skip {cell.text!r} to leave the column out"
-                    self.faults[-1].remedy += skip
+                    self.tables.faults[-1].remedy += skip
             elif stream.name in first:
                 other = str(first[stream.name].place()).rstrip(":")
-                self.fault(cell, f"{stream.said} has a column already ({other})")
+                self.tables.fault(cell, f"{stream.said} has a column already ({other})")
             else:
                 found[column] = stream
                 first[stream.name] = cell
         return found, tried
 
-    def _units_row(self, cells: list[Cell], columns: dict[int, Stream]) -> dict[int, str] | None:
+    def _units_row(self, cells: list[Cell], columns: dict[int, StreamRow]) -> dict[int, str] | None:
         """Return the units of a row below the heads, or None if it is none."""
         texts = {column: cells[column] for column in columns if column < len(cells)}
         units = {column: cell for column, cell in texts.items() if cell.text}
@@ -285,7 +208,7 @@ class Readings(Drying):
             return None
         found = {}
         for column, cell in units.items():
-            with self.kept():
+            with self.tables.kept():
                 found[column] = self.reader.unit(cell, known, "")
                 own = columns[column].unit
                 if own and own != found[column]:
@@ -293,10 +216,12 @@ class Readings(Drying):
                     raise self.reader.fault(cell, what, "write the same unit in both")
         return found
 
-    def _day_column(self, columns: dict[int, Stream], lines: list[list[Cell]]) -> int:
+    def _day_column(self, columns: dict[int, StreamRow], lines: list[list[Cell]]) -> int:
         """Return the column of the days: the first without a stream that looks like it."""
         for column in range(min(columns, default=0)):
-            if any(column < len(cells) and self._maybe_day(cells[column]) for cells in lines[:10]):
+            if any(
+                column < len(cells) and self.tables.maybe_day(cells[column]) for cells in lines[:10]
+            ):
                 return column
         return 0
 
@@ -304,7 +229,7 @@ class Readings(Drying):
         """Read a sheet with days down, and return the tags and streams that it has."""
         columns, tried = self._columns(heads, lines)
         at = self._day_column(columns, lines)
-        self.say_columns(heads, lines, {at, *tried, *_headless(heads, lines)})
+        self.tables.say_columns(heads, lines, {at, *tried, *_headless(heads, lines)})
         units: dict[int, str] = {}
         seen: dict[datetime.date, Cell] = {}
         for cells in lines:
@@ -313,57 +238,67 @@ class Readings(Drying):
                 for column in columns
                 if column < len(cells) and not self.reader.is_missing(cells[column])
             }
-            first = cells[at] if at < len(cells) else self._beside(cells, at)
+            first = cells[at] if at < len(cells) else self.tables.beside(cells, at)
             if not seen:
                 row = self._units_row(cells, columns)
                 if row is not None:
                     units = row
-                    self.account.put(Fate.HEADS, cells)
+                    self.tables.fates.put(Fate.HEADS, cells)
                     continue
-            if self._is_total(cells) or (first.value is None and not figures):
+            if self.tables.is_total(cells) or (first.value is None and not figures):
                 continue
-            if not figures and isinstance(first.value, str) and not self._maybe_day(first):
+            if not figures and isinstance(first.value, str) and not self.tables.maybe_day(first):
                 if not re.search(r"[0-9][./-][0-9]", first.text):
-                    self.pass_row(cells, first)
+                    self.tables.pass_row(cells, first)
                     continue
-            self.account.put(Fate.READ, cells)
-            day = self._day(first)
+            self.tables.fates.put(Fate.READ, cells)
+            day = self.tables.day(first)
             if day is not None and day in seen:
                 other = str(seen[day].place()).rstrip(":")
-                self.fault(first, f"{day} stands above too ({other})", "leave one of both out")
+                self.tables.fault(
+                    first, f"{day} stands above too ({other})", "leave one of both out"
+                )
                 continue
             if day is not None:
                 seen[day] = first
             for beside in _headless(heads, [cells]):
                 if beside > at:
-                    self.fault(cells[beside], "this column has no head", "write its tag over it")
+                    self.tables.fault(
+                        cells[beside], "this column has no head", "write its tag over it"
+                    )
             for column, cell in figures.items():
                 self.reading(columns[column], cell, day, units.get(column, ""))
         if not seen:
-            self.notes.append(f"{heads[0].sheet.place(heads[0].line)} no day stands below this row")
+            self.tables.notes.append(
+                f"{heads[0].sheet.place(heads[0].line)} no day stands below this row"
+            )
         names = {stream.name for stream in columns.values()}
         self.listed |= names
         return names | {stream.tag for stream in columns.values()}
 
     def _read_across(self, heads: list[Cell], lines: list[list[Cell]]) -> None:
         """Read a sheet with a row a tag and a column a day."""
-        first = next(at for at, cell in enumerate(heads) if self._maybe_day(cell))
+        first = next(at for at, cell in enumerate(heads) if self.tables.maybe_day(cell))
         days: dict[int, datetime.date] = {}
         for column, cell in enumerate(heads):
             if column >= first and cell.text and cell.text.casefold() not in TOTALS:
-                day = self._day(cell)
+                day = self.tables.day(cell)
                 if day is not None and day in days.values():
-                    self.fault(cell, f"{day} stands twice", "leave one of both out")
+                    self.tables.fault(cell, f"{day} stands twice", "leave one of both out")
                 elif day is not None:
                     days[column] = day
         self._say_across(heads, lines, first)
         for cells in lines:
-            known = [cell for cell in cells[:first] if cell.text in {*self.tags, *self.streams}]
+            known = [
+                cell
+                for cell in cells[:first]
+                if cell.text in {*self.plant.tags, *self.plant.streams}
+            ]
             figures = any(not self.reader.is_missing(cell) for cell in cells[first:])
-            if self._is_total(cells) or (not known and not figures):
+            if self.tables.is_total(cells) or (not known and not figures):
                 continue
-            self.account.put(Fate.READ, cells)
-            stream = self.named((known or cells)[0], "tag")
+            self.tables.fates.put(Fate.READ, cells)
+            stream = self.plant.named((known or cells)[0], "tag")
             if stream is None:
                 continue
             self.listed.add(stream.name)
@@ -378,21 +313,23 @@ class Readings(Drying):
         read = {column for column, cell in enumerate(heads) if column >= first and cell.text}
         for cells in lines:
             for column, cell in enumerate(cells[:first]):
-                if cell.text in {*self.tags, *self.streams} or is_unit(cell):
+                if cell.text in {*self.plant.tags, *self.plant.streams} or is_unit(cell):
                     read.add(column)
         for cell in heads[first:]:
             if cell.text.casefold() in TOTALS:
-                self.notes.append(f"{cell.place()} the column {cell.text!r} is passed over")
-        self.say_columns(heads, lines, read)
+                self.tables.notes.append(f"{cell.place()} the column {cell.text!r} is passed over")
+        self.tables.say_columns(heads, lines, read)
 
     def _check_order(self) -> None:
         """Say if days follow each other only when day and month are exchanged."""
-        if not self.reader.locale or not self.written:
+        if not self.reader.locale or not self.tables.written:
             return
         order = day_order(self.reader.locale)
         other = {"dmy": "en_US", "mdy": "en_GB"}.get(order)
-        texts = [cell for cell in self.written if re.search(r"[0-9][/-][0-9]{1,2}[/-]", cell.text)]
-        if other is None or len(texts) < 3 or len(texts) < len(self.written):
+        texts = [
+            cell for cell in self.tables.written if re.search(r"[0-9][/-][0-9]{1,2}[/-]", cell.text)
+        ]
+        if other is None or len(texts) < 3 or len(texts) < len(self.tables.written):
             return
         swapped = Reader(locale=other)
         try:
@@ -403,7 +340,7 @@ class Readings(Drying):
         if _run(turned) and not _run(own):
             own_locale = self.reader.locale
             what = f"read as {own_locale}, days from {texts[0].text} on don't follow each other"
-            self.fault(texts[0], what, f"read as {other} they do: say --locale {other}")
+            self.tables.fault(texts[0], what, f"read as {other} they do: say --locale {other}")
 
 
 def _long_columns(heads: list[Cell]) -> dict[str, int]:
@@ -414,16 +351,6 @@ def _long_columns(heads: list[Cell]) -> dict[str, int]:
             if cell.text.casefold() in words:
                 at.setdefault(name, column)
     return at
-
-
-def _ordinal(day: datetime.date) -> int:
-    """Return a day as a number."""
-    return day.toordinal()
-
-
-def _day(number: int) -> datetime.date:
-    """Return the day of a number."""
-    return datetime.date.fromordinal(number)
 
 
 def _headless(heads: list[Cell], lines: list[list[Cell]]) -> set[int]:

@@ -17,8 +17,9 @@ from fractions import Fraction
 from itertools import pairwise
 
 from plantbal.faults import InputFault
-from plantbal.workbook.cells import AMOUNTS, DENSITIES, GRADES, LENGTHS, VOLUMES, Reader, unit_of
+from plantbal.workbook.cells import Reader
 from plantbal.workbook.sheets import Cell, Sheet, letters
+from plantbal.workbook.units import LENGTHS, UNITS, VOLUMES, unit_of
 
 HEADS_WITHIN = 40  # rows of a sheet
 # What the columns of the levels, volumes and days are called; units name them too.
@@ -30,7 +31,6 @@ _UNIT_IN_HEAD = re.compile(r"(.*?)\s*[\[(]\s*([^\[\]()]+?)\s*[\])]")
 _BARE = re.compile("[-+\u2212]?[0-9][0-9.,' \u00a0\u2009\u202f\u2019]*(?:[eE][-+]?[0-9]+)?")
 # Columns of names: what is in one is no unit of its column.
 _NAMES = frozenset("name tank stream tag id from to component unit test kind period".split())
-_UNITS = frozenset({*AMOUNTS, *DENSITIES, *LENGTHS, *GRADES})
 # The most digits after a point that a text may be read by as thousands.
 _THOUSANDS = 3
 
@@ -76,7 +76,7 @@ class Shape:
 def split_head(cell: Cell) -> tuple[str, str]:
     """Return the head of a column in small letters, and the unit in brackets after it."""
     match = _UNIT_IN_HEAD.fullmatch(cell.text)
-    if match and unit_of(match.group(2)) in _UNITS:
+    if match and unit_of(match.group(2)) in UNITS:
         return match.group(1).casefold(), unit_of(match.group(2))
     return cell.text.casefold(), ""
 
@@ -262,7 +262,7 @@ def _pairs(lines: list[list[Cell]], at: int, columns: list[int], reader: Reader)
     units: dict[int, str] = {}
     for column in [each for pair in pairs.values() for each in pair]:
         unit = split_head(heads[column])[1] or unit_of(heads[column].text)
-        if unit in _UNITS:
+        if unit in UNITS:
             units[column] = unit
     _check_units(units, row, below)
     shape = Shape(heads=[names, heads, *([below] if row else [])], body=lines[at + 2 + bool(row) :])
@@ -356,7 +356,7 @@ def _units_of(cells: list[Cell]) -> dict[int, str]:
     texts = {column: cell for column, cell in enumerate(cells) if cell.value is not None}
     units = {column: unit_of(cell.text) for column, cell in texts.items()}
     if all(isinstance(texts[column].value, str) for column in texts):
-        if units and all(unit in _UNITS for unit in units.values()):
+        if units and all(unit in UNITS for unit in units.values()):
             return units
     return {}
 

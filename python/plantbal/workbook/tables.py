@@ -1,64 +1,27 @@
-"""The tables of a plant's workbook: its sheets by their kinds, their heads, their rows."""
+"""The tables of a plant's workbook: its sheets by their kinds, their heads, their rows.
+
+`Tables` is what all readers share: the cells, the session that they make, and what is wrong.
+"""
 
 from __future__ import annotations
 
 import datetime
 import difflib
 import re
-from collections.abc import Collection, Container, Iterator, Mapping, Sequence
+from collections.abc import Callable, Collection, Container, Iterator, Mapping, Sequence
 from contextlib import contextmanager
 from dataclasses import dataclass
 from decimal import Decimal
 
 from plantbal.faults import Fault, InputFault, Refusal
 from plantbal.session import Session
-from plantbal.workbook.account import Account, Fate, is_figure, unread_column, unread_rows
-from plantbal.workbook.base import MOST_GRAMS, MOST_VARIANCE, tonnes_of
+from plantbal.workbook.fates import Fate, Fates, is_figure, unread_column, unread_rows
+from plantbal.workbook.base import MOST_GRAMS, MOST_VARIANCE, error_said
 from plantbal.workbook.cells import Reader
-from plantbal.workbook.shapes import Shape, shape_of
+from plantbal.workbook.sheetkinds import PASSED, SHEETS, SheetKind
+from plantbal.workbook.shapes import HEADS_WITHIN, Shape, shape_of
 from plantbal.workbook.sheets import Cell, Sheet
 
-# The columns of each sheet: those that it needs, and others.
-SHEETS: dict[str, tuple[tuple[str, ...], tuple[str, ...]]] = {
-    "streams": (
-        ("stream", "from", "to"),
-        ("tag", "kind", "unit", "density", "error", "base", "since", "until"),
-    ),
-    "boundaries": (("name",), ()),
-    "units": (("name",), ()),
-    "tanks": (("tank",), ("error", "base", "density", "since", "until")),
-    "straps": (("tank", "level", "volume"), ("unit",)),
-    "readings": ((), ()),
-    "dips": (("tank", "day", "level"), ("unit", "density", "error")),
-    "tickets": (("id", "stream", "first", "amount"), ("last", "unit", "density", "error")),
-    "estimates": (("day", "amount", "error"), ("tag", "stream", "last", "unit", "density")),
-    "moistures": (
-        ("moisture", "error"),
-        ("stream", "tag", "id", "day", "first", "last", "amount", "unit"),
-    ),
-    "assays": (("component", "stream", "period", "grade", "error"), ("unit",)),
-    "critical": (("test", "value"), ("dof",)),
-    "periods": (("name", "first", "last"), ()),
-    "windows": (("first", "last"), ()),
-    "accounts": (("name",), ("kind", "product", "group", "owner", "unit", "density")),
-    "settings": (("setting", "value"), ("for",)),
-    "rows": ((), ()),
-}
-# The sheets with figures, which may be in other shapes than with a row for each figure.
-_SHAPED = ("streams", "tanks", "straps", "dips", "tickets", "estimates", "moistures", "assays")
-# The sheets that have the plant itself.
-PLANT_SHEETS = (
-    "streams",
-    "boundaries",
-    "units",
-    "tanks",
-    "straps",
-    "critical",
-    "accounts",
-    "settings",
-)
-_PASSED = ("about", "lists", "pulps")  # pulps are read by `balance --pulps`
-HEADS_WITHIN = 40  # rows of a sheet
 _HEADS_THAT_TELL = 3  # with fewer columns a sheet of another kind might be meant
 OTHER_HEADS = {"date": "day", "datum": "day", "volume (m3)": "volume", "level (mm)": "level"}
 TOTALS = frozenset(
@@ -86,9 +49,9 @@ def kind_of_heads(sheet: Sheet) -> str:
     for _, values in sheet.lines[:HEADS_WITHIN]:
         texts = {value.strip().casefold() for value in values if isinstance(value, str)}
         heads = {OTHER_HEADS.get(text, text) for text in texts}
-        for kind, (needed, _) in SHEETS.items():
-            if len(needed) >= _HEADS_THAT_TELL and heads.issuperset(needed):
-                return kind
+        for kind in SHEETS.values():
+            if len(kind.needed) >= _HEADS_THAT_TELL and heads.issuperset(kind.needed):
+                return kind.word
     return ""
 
 
@@ -111,8 +74,12 @@ class Tables:
 
     Attributes
     ----------
-    account : Account
+    fates : Fates
         What became of each row.
+    names_across : callable
+        Gives the names of tanks, which may be heads of columns.
+    written : list of Cell
+        The days that are texts.
     """
 
     def __init__(self, sheets: list[Sheet], reader: Reader, skip: Sequence[str] = ()) -> None:
@@ -122,7 +89,8 @@ class Tables:
         self.faults: list[Fault] = []
         self.notes: list[str] = []
         self.written: list[Cell] = []
-        self.account = Account(sheets)
+        self.fates = Fates(sheets)
+        self.names_across: Callable[[], Collection[str]] = tuple
         self.sheets = self._by_kind(sheets)
 
     def _by_kind(self, sheets: list[Sheet]) -> dict[str, list[Sheet]]:
@@ -137,7 +105,7 @@ class Tables:
                 if len(sheet.lines) > (0 if word in ("streams", "rows") else 1):
                     found[word].append(sheet)
                 else:
-                    self._take_heads(sheet, word)
+                    self._take_heads(sheet)
                 continue
             near = difflib.get_close_matches(word, SHEETS, n=1, cutoff=0.8)
             if near:
@@ -148,17 +116,16 @@ class Tables:
                 self._pass_over(sheet, word)
         return found
 
-    def _take_heads(self, sheet: Sheet, kind: str) -> None:
+    def _take_heads(self, sheet: Sheet) -> None:
         """Take the row of a sheet that has no other: its heads, or one that isn't read."""
-        needed, others = SHEETS[kind]
         for cells in sheet.rows():
             if not any(is_figure(self.reader, cell) for cell in cells):
-                self.account.put(Fate.HEADS, cells)
+                self.fates.put(Fate.HEADS, cells)
 
     def _pass_over(self, sheet: Sheet, word: str) -> None:
         """Say that a sheet is passed over; one with the heads of a table is a fault."""
-        self.account.put_sheet(Fate.PASSED, sheet)
-        if word in _PASSED or not sheet.lines:
+        self.fates.put_sheet(Fate.PASSED, sheet)
+        if word in PASSED or not sheet.lines:
             return
         kind = kind_of_heads(sheet)
         if kind and len(sheet.lines) > 1:
@@ -206,9 +173,9 @@ class Tables:
             If it is wider than a row bears.
         """
         if found > MOST_VARIANCE and abs(grams) <= MOST_GRAMS:  # else the figure is refused
-            what = f"the error of {cell.text} is {tonnes_of(found)}, and a row bears at most "
+            what = f"the error of {cell.text} is {error_said(found)}, and a row bears at most "
             remedy = "look at the error's unit, or enter the figure in several parts"
-            raise self.reader.fault(cell, what + tonnes_of(MOST_VARIANCE), remedy)
+            raise self.reader.fault(cell, what + error_said(MOST_VARIANCE), remedy)
         return found
 
     def rows(self, kind: str, facts: bool = False) -> Iterator[Row]:
@@ -217,48 +184,44 @@ class Tables:
             with self.kept():
                 yield from self._rows_of(sheet, kind, facts)
 
-    def names_across(self, kind: str) -> Collection[str]:
-        """Return the names that may be the heads of columns in a sheet of a kind."""
-        return ()
-
     def _rows_of(self, sheet: Sheet, kind: str, facts: bool) -> Iterator[Row]:
-        shape = Shape()
-        if kind in _SHAPED:
-            names = self.names_across(kind)
-            shape = shape_of(sheet, kind, SHEETS[kind][0], names, self.reader)
+        own, shape = SHEETS[kind], Shape()
+        if own.is_shaped:
+            names = self.names_across() if own.is_across else ()
+            shape = shape_of(sheet, kind, own.needed, names, self.reader)
         if not shape.tables:
-            yield from self._rows_in(sheet, list(sheet.rows()), kind, facts)
+            yield from self._rows_in(sheet, list(sheet.rows()), own, facts)
             return
         self.notes += shape.notes
-        self.account.put(Fate.HEADS, *shape.heads)
+        self.fates.put(Fate.HEADS, *shape.heads)
         if shape.read:
             self.say_columns(shape.heads[0], shape.body, shape.read)
         for table in shape.tables:
-            yield from self._rows_in(sheet, table.lines, kind, facts)
+            yield from self._rows_in(sheet, table.lines, own, facts)
 
     def _rows_in(
-        self, sheet: Sheet, lines: list[list[Cell]], kind: str, facts: bool
+        self, sheet: Sheet, lines: list[list[Cell]], kind: SheetKind, facts: bool
     ) -> Iterator[Row]:
-        needed, others = SHEETS[kind]
+        needed, others = kind.needed, kind.others
         at, heads = self._heads(sheet, lines, needed, others)
-        self.account.put(Fate.HEADS, lines[at])
+        self.fates.put(Fate.HEADS, lines[at])
         wrong = self._wrong_heads(lines[at], heads, others)
         self.say_columns(lines[at], lines[at + 1 :], {*heads.values(), *wrong})
         for cells in lines[at + 1 :]:
             row = {
-                head: cells[column] if column < len(cells) else self._beside(cells, column)
+                head: cells[column] if column < len(cells) else self.beside(cells, column)
                 for head, column in heads.items()
             }
             for head in (*needed, *others):
                 row.setdefault(head, Cell(sheet, cells[0].line, 0, None))
             if all(self.reader.is_missing(row[head]) for head in heads):
                 continue
-            if facts and self._is_total(cells):
+            if facts and self.is_total(cells):
                 continue
-            self.account.put(Fate.READ, cells)
+            self.fates.put(Fate.READ, cells)
             yield Row(row)
 
-    def _beside(self, cells: list[Cell], column: int) -> Cell:
+    def beside(self, cells: list[Cell], column: int) -> Cell:
         """Return the empty cell of a column that a row doesn't reach."""
         return Cell(cells[0].sheet, cells[0].line, column + 1, None)
 
@@ -316,7 +279,7 @@ class Tables:
         texts = [cell.text for cell in cells if cell.text]
         return next(iter(difflib.get_close_matches(head, texts, n=1)), "")
 
-    def _is_total(self, cells: list[Cell]) -> bool:
+    def is_total(self, cells: list[Cell]) -> bool:
         """Say whether a row is a sum or the like, and note that it is passed over."""
         first = next((cell for cell in cells if cell.value is not None), None)
         if first is None or not isinstance(first.value, str):
@@ -329,7 +292,7 @@ class Tables:
 
     def pass_row(self, cells: list[Cell], first: Cell) -> None:
         """Pass over a row, and say so by its first cell with a value."""
-        self.account.put(Fate.PASSED, cells)
+        self.fates.put(Fate.PASSED, cells)
         note = f"{first.place()} the row {first.text!r} is passed over"
         if note not in self.notes:  # a row may be of several tables
             self.notes.append(note)
@@ -338,7 +301,7 @@ class Tables:
 
     def pass_sheet(self, sheet: Sheet, why: str) -> None:
         """Pass over a sheet, and say why."""
-        self.account.put_sheet(Fate.PASSED, sheet)
+        self.fates.put_sheet(Fate.PASSED, sheet)
         self.notes.append(f"{sheet.place()} the sheet is passed over: {why}")
 
     def say_columns(self, heads: list[Cell], lines: list[list[Cell]], read: set[int]) -> None:
@@ -354,7 +317,7 @@ class Tables:
             The columns that are read, counted from 0.
         """
         for column in range(max(map(len, [heads, *lines]))):
-            head = heads[column] if column < len(heads) else self._beside(heads, column)
+            head = heads[column] if column < len(heads) else self.beside(heads, column)
             if column in read or head.text.casefold() in self.skip:
                 continue
             below = (cells[column] for cells in lines if column < len(cells))
@@ -366,13 +329,13 @@ class Tables:
 
     def say_unread(self, kinds: Container[str] = tuple(SHEETS)) -> None:
         """Say which rows of the sheets of these kinds aren't read; rows of figures are faults."""
-        self.account.put_faults(self.faults)
+        self.fates.put_faults(self.faults)
         for kind, sheets in self.sheets.items():
             for sheet in sheets if kind in kinds else ():
-                self._say_rows(self.account.left(sheet))
-        for sheet in self.account.sheets:
+                self._say_rows(self.fates.left(sheet))
+        for sheet in self.fates.sheets:
             if len(sheet.lines) == 1:
-                self._say_rows(self.account.left(sheet))
+                self._say_rows(self.fates.left(sheet))
 
     def _say_rows(self, rows: list[list[Cell]]) -> None:
         for said in unread_rows(self.reader, rows):
@@ -380,12 +343,12 @@ class Tables:
                 self.faults.append(said)
             else:
                 self.notes.append(said)
-        self.account.put_faults(self.faults)
-        self.account.put(Fate.PASSED, *rows)
+        self.fates.put_faults(self.faults)
+        self.fates.put(Fate.PASSED, *rows)
 
     # ---- days
 
-    def _maybe_day(self, cell: Cell) -> bool:
+    def maybe_day(self, cell: Cell) -> bool:
         """Say whether a cell looks like a day."""
         if isinstance(cell.value, str) and not re.search(r"[0-9]{2}", cell.value):
             return False
@@ -397,7 +360,7 @@ class Tables:
             return False
         return True
 
-    def _day(self, cell: Cell) -> datetime.date | None:
+    def day(self, cell: Cell) -> datetime.date | None:
         """Return a day, or None with a fault."""
         with self.kept():
             day = self.reader.day(cell, "day")

@@ -13,7 +13,7 @@ from plantbal.book.naming import day_of
 from plantbal.book.results import ReportState, Shown, TankApart, YearStatus
 from plantbal.book.said import behind_said, counted
 from plantbal.schema import schema
-from plantbal.workbook.cells import GRAMS, VOLUMES, WET
+from plantbal.workbook.units import GRAMS, VOLUMES, WET
 
 _FULL = 0.8  # from this share of a limit on the next year is asked for
 

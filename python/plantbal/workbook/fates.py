@@ -13,10 +13,10 @@ from collections.abc import Iterable, Iterator, Sequence
 from dataclasses import dataclass, field
 
 from plantbal.faults import Fault, InputFault, Place
-from plantbal.workbook.cells import AMOUNTS, DENSITIES, GRADES, LENGTHS, Reader, unit_of
+from plantbal.workbook.cells import Reader
 from plantbal.workbook.sheets import Cell, NoValue, Sheet
+from plantbal.workbook.units import UNITS, unit_of
 
-_UNITS = frozenset({*AMOUNTS, *DENSITIES, *LENGTHS, *GRADES})
 _CELL = re.compile(r"[A-Z]+([0-9]+)")
 # What a column of remarks, or of running numbers, is called: such a column is no figure lost.
 _REMARKS = frozenset(
@@ -36,7 +36,7 @@ class Fate(enum.Enum):
 
 
 @dataclass(frozen=True, slots=True)
-class SheetAccount:
+class SheetFates:
     """What became of the rows of a sheet.
 
     Attributes
@@ -59,7 +59,7 @@ class SheetAccount:
 
 
 @dataclass
-class Account:
+class Fates:
     """What became of the rows of a workbook.
 
     Attributes
@@ -108,13 +108,13 @@ class Account:
         fates = self.fates[self._places[id(sheet)]]
         return [cells for cells in sheet.rows() if cells[0].line not in fates]
 
-    def of_sheets(self) -> list[SheetAccount]:
+    def of_sheets(self) -> list[SheetFates]:
         """Return what became of the rows of each sheet."""
         found = []
         for sheet, fates in zip(self.sheets, self.fates):
             every = [fates.get(line) for line, _ in sheet.lines]
             count = [every.count(fate) for fate in Fate]
-            found.append(SheetAccount(sheet.file, sheet.name, len(every), *count))
+            found.append(SheetFates(sheet.file, sheet.name, len(every), *count))
         return found
 
 
@@ -141,7 +141,7 @@ def is_figure(reader: Reader, cell: Cell) -> bool:
 
 def is_unit(cell: Cell) -> bool:
     """Say whether a unit stands in a cell."""
-    return isinstance(cell.value, str) and unit_of(cell.text) in _UNITS
+    return isinstance(cell.value, str) and unit_of(cell.text) in UNITS
 
 
 def unread_column(

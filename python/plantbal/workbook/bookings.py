@@ -1,0 +1,124 @@
+"""Gives readings and guesses to the session, each with the variance that it bears."""
+
+from __future__ import annotations
+
+import datetime
+
+from plantbal.estimates import estimate_id
+from plantbal.session import period_days
+from plantbal.workbook.base import MOST_VARIANCE, Span, share_at, error_said
+from plantbal.workbook.cells import Error
+from plantbal.workbook.drying import Dry, MoistureReader
+from plantbal.workbook.periods import Periods
+from plantbal.workbook.plant import PlantReader, StreamRow
+from plantbal.workbook.sheets import Cell
+from plantbal.workbook.tables import Tables
+
+
+class Bookings:
+    """Books the figures of days.
+
+    Parameters
+    ----------
+    tables : Tables
+        The tables of the workbook.
+    plant : PlantReader
+        Its plant.
+    periods : Periods
+        The periods that a day may be in.
+    moistures : MoistureReader
+        The moistures, for what is wet.
+
+    Attributes
+    ----------
+    days : dict of str to dict of date to Cell
+        The days of each stream that have a figure, and where it stands.
+    """
+
+    def __init__(
+        self, tables: Tables, plant: PlantReader, periods: Periods, moistures: MoistureReader
+    ) -> None:
+        self.tables = tables
+        self.reader = tables.reader
+        self.session = tables.session
+        self.plant = plant
+        self.periods = periods
+        self.moistures = moistures
+        self.days: dict[str, dict[datetime.date, Cell]] = {}
+
+    def book(
+        self,
+        stream: StreamRow,
+        day: datetime.date,
+        grams: int,
+        error: Error,
+        cell: Cell,
+        is_wet: bool = False,
+        guessed: int = 0,
+    ) -> None:
+        """Give a reading to the session, or a day of a guess for so many; a wet one as it is dry.
+
+        The days of a guess have one error in common, so the standard deviation of their sum is the
+        sum of theirs. Each has that many times its variance: these add up to the square.
+        """
+        days = self.days.setdefault(stream.name, {})
+        if day in days:
+            other = str(days[day].place()).rstrip(":")
+            what = f"{stream.said} has a figure of {day} already ({other})"
+            raise self.reader.fault(cell, what, "empty one of both")
+        days[day] = cell
+        figure = Dry(grams, error.variance(grams))
+        if is_wet:
+            figure = self.moistures.dried_on(stream, day, grams, error, cell)
+        name = estimate_id(stream.label, str(day)) if guessed else f"{stream.label}_{day}"
+        fields = [name, stream.name, str(day), str(figure.grams)]
+        own = figure.variance * max(1, guessed)
+        variance = self.tables.bearable(own + self._born(stream, day), figure.grams, cell)
+        self.tables.put(["reading", *fields, str(variance)], {"grams": cell})
+
+    def _born(self, stream: StreamRow, day: datetime.date) -> int:
+        """Return what a day bears of a systematic error that is wider than a row."""
+        if not stream.excess:
+            return 0
+        service = self.session.service(stream.name)
+        return share_at(stream.excess, self.periods.spans_at(day), service, day.toordinal())
+
+    def check_bases(self) -> None:
+        """Say of each wide systematic error that readings bear it, or keep why they can't.
+
+        It can't be shared if a day is in two periods of which each would want its own shares.
+        """
+        periods = [Span(*map(_ordinal, period_days(each))) for each in self.session.periods]
+        for name, cell in self.plant.bases.items():
+            stream = self.plant.streams.get(name)
+            if stream is None or not stream.excess:
+                continue
+            service = self.session.service(name)
+            for span in periods:
+                days = span.days(service)
+                sums = sum(
+                    share_at(stream.excess, self.periods.spans_at(_day(at)), service, at)
+                    for at in days
+                )
+                if days and sums != stream.excess:
+                    what = f"a base of {cell.text} is shared over the days of a period, and from "
+                    what += f"{_day(span.first)} to {_day(span.last)} days are in two periods"
+                    remedy = f"write at most {error_said(MOST_VARIANCE)}, or ask for one of both"
+                    self.tables.fault(cell, what, remedy, "base")
+                    break
+            else:
+                note = f"{str(cell.place()).rstrip(':')}: a base of {cell.text} is wider than the "
+                note += f"{error_said(MOST_VARIANCE)} of a row: the readings of each period bear "
+                self.tables.notes.append(
+                    note + "the rest, and the variance of the period is the same"
+                )
+
+
+def _ordinal(day: datetime.date) -> int:
+    """Return a day as a number."""
+    return day.toordinal()
+
+
+def _day(number: int) -> datetime.date:
+    """Return the day of a number."""
+    return datetime.date.fromordinal(number)

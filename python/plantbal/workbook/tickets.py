@@ -1,0 +1,118 @@
+"""Reads the tickets of a workbook: batches of ships, trains and trucks."""
+
+from __future__ import annotations
+
+import datetime
+from dataclasses import dataclass
+from fractions import Fraction
+
+from plantbal.workbook.amounts import amount_of
+from plantbal.workbook.base import days_of
+from plantbal.workbook.cells import Error
+from plantbal.workbook.drying import Dry, MoistureReader
+from plantbal.workbook.moisture import Moisture
+from plantbal.workbook.plant import PlantReader, StreamRow
+from plantbal.workbook.sheets import Cell
+from plantbal.workbook.tables import Row, Tables
+
+
+@dataclass(frozen=True)
+class Ticket:
+    """A ticket of a batch: its row, stream, days, grams and error."""
+
+    row: Row
+    stream: StreamRow
+    first: datetime.date
+    last: datetime.date
+    grams: int
+    error: Error
+
+
+class Tickets:
+    """Reads the sheet of tickets.
+
+    Parameters
+    ----------
+    tables : Tables
+        The tables of the workbook.
+    plant : PlantReader
+        Its plant.
+    moistures : MoistureReader
+        The moistures, for what is wet.
+
+    Attributes
+    ----------
+    found : list of (date, date, Cell)
+        The first and the last day of each ticket, and the cell of its id.
+    """
+
+    def __init__(self, tables: Tables, plant: PlantReader, moistures: MoistureReader) -> None:
+        self.tables = tables
+        self.reader = tables.reader
+        self.plant = plant
+        self.moistures = moistures
+        self.found: list[tuple[datetime.date, datetime.date, Cell]] = []
+
+    def read(self) -> None:
+        """Read the tickets of batches."""
+        wet: list[tuple[Ticket, Moisture]] = []
+        for row in self.tables.rows("tickets", facts=True):
+            stream = self.plant.named(row["stream"], "stream")
+            first = self.tables.day(row["first"])
+            last = first if self.reader.is_missing(row["last"]) else self.tables.day(row["last"])
+            if stream is None:
+                continue
+            with self.tables.kept():
+                density, grams, is_wet = amount_of(self.reader, row, stream)
+                if not self.reader.is_missing(row["error"]):
+                    error = self.reader.error(row["error"], density)
+                elif stream.error is not None:
+                    error = stream.error
+                else:
+                    remedy = "write one here, or in the sheet streams"
+                    raise self.reader.fault(
+                        row["error"], "the ticket has no error", remedy, "error"
+                    )
+                if first is None or last is None:
+                    continue
+                ticket = Ticket(row, stream, first, last, grams, error)
+                if is_wet:
+                    wet.append((ticket, self._moisture_of(ticket)))
+                else:
+                    self._put_ticket(ticket, Dry(grams, error.variance(grams)))
+        self._put_wet(wet)
+
+    def _put_ticket(self, ticket: Ticket, figure: Dry) -> None:
+        """Give a ticket to the session."""
+        row = ticket.row
+        days = str(ticket.first), str(ticket.last)
+        fields = [row.text("id"), ticket.stream.name, *days, str(figure.grams)]
+        cells = {head: row[head] for head in ("id", "stream", "first", "last")}
+        cells |= {"grams": row["amount"], "variance": row["error"]}
+        variance = self.tables.bearable(figure.variance, figure.grams, row["amount"])
+        if self.tables.put(["transfer", *fields, str(variance)], cells):
+            self.found.append((ticket.first, ticket.last, row["id"]))
+
+    def _moisture_of(self, ticket: Ticket) -> Moisture:
+        """Return the moisture of a wet ticket: its own, or that of its days."""
+        found = self.moistures.found.of_tickets.get(ticket.row.text("id"))
+        days = days_of(ticket.first, ticket.last)
+        found = found or self.moistures.found.of_days(ticket.stream.name, days)
+        if found is None:
+            name = f"in the ticket {ticket.row.text('id')}"
+            raise self.moistures.no_moisture(ticket.stream, ticket.row["amount"], name)
+        return found
+
+    def _put_wet(self, wet: list[tuple[Ticket, Moisture]]) -> None:
+        """Give wet tickets to the session as dry ones; those of one moisture share its error."""
+        sums: dict[int, int] = {}
+        for ticket, moisture in wet:
+            sums[id(moisture)] = sums.get(id(moisture), 0) + abs(ticket.grams)
+        for ticket, moisture in wet:
+            with self.tables.kept():
+                times = Fraction(sums[id(moisture)], abs(ticket.grams) or 1)
+                exact, variance = self.moistures.dried(
+                    moisture, ticket.stream, ticket.grams, ticket.error, times
+                )
+                grams = self.reader.whole(ticket.row["amount"], exact)
+                self._put_ticket(ticket, Dry(grams, variance))
