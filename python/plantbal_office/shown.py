@@ -15,6 +15,7 @@ from django.utils.safestring import SafeString
 from django.utils.translation import get_language
 
 from plantbal.amounts import tonnes_of
+from plantbal.gates import Stop, said_of
 from plantbal_office.access import Role, rule_of
 from plantbal_office.deeds.once import new_key
 
@@ -85,6 +86,34 @@ def moment(text: str) -> str:
     except ValueError:
         return text
     return f"{day(found.date())} {found:%H:%M}"
+
+
+@register.filter
+def stop(found: Stop) -> str:
+    """Return what there is to look at before a close, as a sentence."""
+    return said_of(found)
+
+
+# How high the picture of a stream's days is, in the units of its view.
+_HIGH = 30
+
+
+@register.filter
+def bar_top(percent: float) -> str:
+    """Return where a bar begins, from above."""
+    return f"{_HIGH * (1 - percent / 100):.2f}"
+
+
+@register.filter
+def bar_height(percent: float) -> str:
+    """Return how high a bar is."""
+    return f"{_HIGH * percent / 100:.2f}"
+
+
+@register.filter
+def bar_width(count: int) -> str:
+    """Return how wide each of some bars is."""
+    return f"{82 / max(1, count):.3f}"
 
 
 @register.filter

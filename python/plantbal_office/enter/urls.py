@@ -1,4 +1,14 @@
-"""The addresses of this duty."""
+"""The addresses of entering."""
+
+from django.urls import path
+
+from plantbal_office.enter import views
 
 app_name = "enter"
-urlpatterns: list[object] = []
+urlpatterns = [
+    path("", views.drop, name="drop"),
+    path("template", views.template, name="template"),
+    path("<uuid:drop>", views.seen, name="seen"),
+    path("<uuid:drop>/book", views.book, name="book"),
+    path("<uuid:drop>/forget", views.put_aside, name="forget"),
+]

@@ -136,7 +136,7 @@ function orderOf(column, streams) {
 }
 function make(kind, attributes, inner) {
   const element = document.createElementNS(SVG, kind);
-  for (const key in attributes) element.setAttribute(key, attributes[key]);
+  for (const key in attributes) key === 'style' ? element.style.cssText = attributes.style : element.setAttribute(key, attributes[key]);
   if (inner !== undefined) element.textContent = inner;
   return element;
 }

@@ -1,0 +1,337 @@
+"""Correcting: amend, strike, undo, estimate, report and close; what each would do comes first."""
+
+from __future__ import annotations
+
+from collections.abc import Callable
+
+from django import forms
+from django.contrib import messages
+from django.http import HttpRequest, HttpResponse
+from django.shortcuts import render
+from django.urls import reverse
+from django.utils.translation import gettext as _
+from django.utils.translation import gettext_lazy
+
+from plantbal.book.closing import NotClosed
+from plantbal.book.ledger import Fact
+from plantbal.book.library import Book
+from plantbal.book.looking import Contents, FactLine
+from plantbal.book.results import Closed, Edited, Estimated
+from plantbal.commands.book.estimating import said_of as proposal_said
+from plantbal.faults import Fault
+from plantbal.gates import Gate, Stop, about, remedy_of, said_of
+from plantbal.lint.findings import RULES
+from plantbal_office.deeds.once import once
+from plantbal_office.effects import TRIED, Said, Trial, months_of, tried
+from plantbal_office.effects import said_of as report_said
+from plantbal_office.enter.drops import LOCALES
+from plantbal_office.look.views import month_of
+from plantbal_office.plants.standing import stand_of
+from plantbal_office.shelf import book_of, contents_of, plain_book, run_settings
+
+MOST_ROUNDS = 6
+REASON = 80  # letters, as a row of a session bears
+
+
+class Change(forms.Form):
+    """Another value of a fact."""
+
+    amount = forms.CharField(label=gettext_lazy("Amount with its unit"), max_length=40)
+    density = forms.CharField(
+        label=gettext_lazy("Density, if another"), max_length=40, required=False
+    )
+    error = forms.CharField(label=gettext_lazy("Error, if another"), max_length=40, required=False)
+    why = forms.CharField(label=gettext_lazy("Reason"), max_length=REASON)
+
+
+class Reason(forms.Form):
+    """A reason."""
+
+    why = forms.CharField(label=gettext_lazy("Reason"), max_length=REASON)
+
+
+# ---- single facts
+
+
+def named(found: Fact) -> tuple[str, str | None]:
+    """Return the words that name a fact: its place and its day, or of a ticket its id."""
+    return (found.id, None) if found.kind == "transfer" else (found.place, str(found.first))
+
+
+def locale_of(request: HttpRequest) -> str:
+    """Return whose numbers were typed: those of the plant's workbooks."""
+    return request.plant.locale if request.plant.locale in dict(LOCALES) else ""
+
+
+def amend(request: HttpRequest, year: str, identity: str) -> HttpResponse:
+    """Give a fact another value: the form, what it would do, and then the deed."""
+    found = plain_book(request.plant).fact(year, identity)
+    words = request.POST if request.method == "POST" else request.GET
+    form = Change(words if "amount" in words else None)
+    name, day = named(found.shown.fact)
+    locale = locale_of(request)
+
+    def act(book: Book) -> Edited:
+        given = form.cleaned_data
+        return book.amend(
+            name,
+            day,
+            given["amount"],
+            why=given["why"].strip(),
+            density=given["density"],
+            error=given["error"],
+            locale=locale,
+        )
+
+    return _changed(request, found, form, act, _("Amend"))
+
+
+def strike(request: HttpRequest, year: str, identity: str) -> HttpResponse:
+    """Take a fact out: the form, what it would do, and then the deed."""
+    found = plain_book(request.plant).fact(year, identity)
+    words = request.POST if request.method == "POST" else request.GET
+    form = Reason(words if "why" in words else None)
+    name, day = named(found.shown.fact)
+
+    def act(book: Book) -> Edited:
+        return book.strike(name, day, why=form.cleaned_data["why"].strip())
+
+    return _changed(request, found, form, act, _("Strike"))
+
+
+def _changed(
+    request: HttpRequest,
+    found: FactLine,
+    form: forms.Form,
+    act: Callable[[Book], Edited],
+    title: str,
+) -> HttpResponse:
+    """Show the form of a change, or what it would do, or do it."""
+    words = {"found": found, "fact": found.shown.fact, "form": form, "title": title}
+    words |= {"version": contents_of(request.plant).version, "section": "statement"}
+    if not form.is_bound or not form.is_valid():
+        return render(request, "correct/change.html", words, status=400 if form.errors else 200)
+    if request.method == "POST":
+
+        def deed() -> str:
+            done = act(book_of(request, expected=True))
+            messages.success(request, edited_said(done))
+            for name in done.closed:
+                what = _(
+                    "{name} is closed, and this changes it: make its report, then see the difference."
+                )
+                messages.warning(request, what.format(name=name))
+            fact = done.new or done.old
+            return reverse("look:fact", args=[request.plant.slug, found.year, fact.id])
+
+        return once(request, deed)
+    trial = tried(request.plant, act, lambda done, then: months_edited(done, then))
+    words |= {"trial": trial, "fault": trial.fault}
+    words["edited"] = trial.result if isinstance(trial.result, Edited) else None
+    return render(request, "correct/change.html", words)
+
+
+def months_edited(done: object, then: Contents) -> list[str]:
+    """Return the months that a change of a fact touches."""
+    assert isinstance(done, Edited)
+    return months_of([done.old], then)
+
+
+def edited_said(done: Edited) -> str:
+    """Return what became of a fact, as a sentence."""
+    if not done.is_booked:
+        return _("{id} was so already.").format(id=done.old.id)
+    if done.new is None:
+        return _("{id} is struck: {was}.").format(id=done.old.id, was=done.old.said())
+    what = _("{id}: {was} becomes {now}.")
+    return what.format(id=done.old.id, was=done.old.said(), now=done.new.said())
+
+
+def undo(request: HttpRequest, year: str, identity: str) -> HttpResponse:
+    """Give a fact the value back that it had, by an amendment, while its period is open."""
+    found = plain_book(request.plant).fact(year, identity)
+    form = Reason(request.POST)
+
+    def deed() -> str:
+        if found.closed:
+            what = _("{name} is closed").format(name=found.closed[0])
+            raise Fault(what, remedy=_("amend it instead: the difference is then handed over"))
+        if found.shown.struck or not found.shown.before:
+            raise Fault(_("there is nothing to undo by an amendment"), remedy=_("enter it again"))
+        if not form.is_valid():
+            raise Fault(_("a reason is wanted, of at most 80 letters"))
+        was = found.shown.before[-1]
+        name, day = named(was)
+        amount, density = texts_of(was)
+        done = book_of(request, expected=True).amend(
+            name,
+            day,
+            amount,
+            density=density,
+            error=was.error().replace(",", ""),
+            why=form.cleaned_data["why"].strip(),
+        )
+        messages.success(request, edited_said(done))
+        return reverse("look:fact", args=[request.plant.slug, found.year, found.shown.fact.id])
+
+    return once(request, deed)
+
+
+def texts_of(fact: Fact) -> tuple[str, str]:
+    """Return the amount and the density of a fact as they are typed, with decimal points."""
+    if fact.kind == "dip":
+        mm, _at, density = fact.said().partition(" at ")
+        return mm.replace(",", ""), density.replace(",", "")
+    return fact.said().replace(",", ""), ""
+
+
+# ---- estimates
+
+
+def estimate(request: HttpRequest, period: str) -> HttpResponse:
+    """Propose estimates for days without a reading, and book them."""
+    month = month_of(request, period)
+    words = request.POST if request.method == "POST" else request.GET
+    stream = words.get("stream", "")[:40]
+    if request.method == "POST":
+        form = Reason(request.POST)
+
+        def deed() -> str:
+            if not form.is_valid():
+                raise Fault(_("a reason is wanted, of at most 80 letters"))
+            why = form.cleaned_data["why"].strip()
+            done = book_of(request, expected=True).estimate(period, stream, take=True, why=why)
+            for each in done.proposals:
+                if each.is_needed:
+                    messages.success(request, _("Booked: {what}").format(what=proposal_said(each)))
+            return reverse("look:statement", args=[request.plant.slug, period])
+
+        return once(request, deed)
+    found = plain_book(request.plant).estimate(period, stream)
+    trial: Trial | None = None
+    if any(each.is_needed for each in found.proposals):
+        trial = tried(request.plant, lambda book: _taken(book, period, stream), lambda *_: [period])
+    answer = {
+        "month": month,
+        "found": found,
+        "stream": stream,
+        "lines": [(each, proposal_said(each)) for each in found.proposals],
+        "trial": trial,
+        "version": contents_of(request.plant).version,
+        "form": Reason(),
+        "section": "statement",
+    }
+    return render(request, "correct/estimate.html", answer)
+
+
+def _taken(book: Book, period: str, stream: str) -> Estimated:
+    return book.estimate(period, stream, take=True, why=TRIED)
+
+
+# ---- reports and the close
+
+
+def report(request: HttpRequest, period: str) -> HttpResponse:
+    """Make the report of a month, and show its statement."""
+    month_of(request, period)
+    rounds = request.POST.get("eliminate", "0")
+    eliminate = int(rounds) if rounds in map(str, range(MOST_ROUNDS + 1)) else 0
+
+    def deed() -> str:
+        made = book_of(request).report(period, settings=run_settings(eliminate))
+        for each in made:
+            if not each.is_new:
+                messages.info(request, _("The report of {name} is as it was.").format(name=period))
+        return reverse("look:statement", args=[request.plant.slug, period])
+
+    return once(request, deed)
+
+
+def close(request: HttpRequest, period: str) -> HttpResponse:
+    """Show what a close asks, take the answers, and close the month."""
+    month = month_of(request, period)
+    anyway = {gate: request.POST.get(f"why-{gate.value}", "").strip() for gate in Gate}
+    given = {gate: why[: REASON + 1] for gate, why in anyway.items() if why}
+    if request.method == "POST":
+        return once(request, lambda: _close(request, period, given))
+    if month.closed:
+        words = {"month": month, "section": "statement", "stand": stand_of(request.plant, month)}
+        return render(request, "correct/closed.html", words)
+    said, stops = _asked(request, period)
+    gates = list(dict.fromkeys(stop.gate for stop in stops))
+    words = {
+        "month": month,
+        "said": said,
+        "gates": [(gate, about(gate), _of(gate, stops)) for gate in gates],
+        "version": contents_of(request.plant).version,
+        "section": "statement",
+    }
+    return render(request, "correct/close.html", words)
+
+
+def _of(gate: Gate, stops: list[Stop]) -> list[tuple[str, str]]:
+    """Return what there is to look at of a gate, and what to do."""
+    return [(said_of(each), remedy_of(each)) for each in stops if each.gate is gate]
+
+
+def _asked(request: HttpRequest, period: str) -> tuple[Said, list[Stop]]:
+    """Return what the report says with which a month would be closed, and what it stops at."""
+    with plain_book(request.plant).trial() as book:
+        try:
+            done = book.close(period, settings=run_settings())
+        except NotClosed as stopped:
+            stops = list(stopped.report.stops)
+            return report_said(stopped.report.output, stops), stops
+        assert done.report is not None
+        return report_said(done.report.output), []
+
+
+def _close(request: HttpRequest, period: str, given: dict[Gate, str]) -> str:
+    """Close a month, and return where its statement is."""
+    try:
+        done: Closed = book_of(request, expected=True).close(
+            period, anyway=given, settings=run_settings()
+        )
+    except NotClosed as stopped:
+        gates = ", ".join(gate.value for gate in stopped.unanswered)
+        what = _("{name} isn't closed: there is no reason for {gates}")
+        remedy = _("put it right, or say why it is closed all the same")
+        raise Fault(what.format(name=period, gates=gates), remedy=remedy) from stopped
+    if done.head is None:
+        messages.info(request, _("{name} was closed already.").format(name=period))
+    else:
+        what = _(
+            "{name} is closed. Keep this head where nobody writes who writes to the book: {head}"
+        )
+        messages.success(request, what.format(name=period, head=done.head))
+    return reverse("look:statement", args=[request.plant.slug, period])
+
+
+# ---- rules that are quieted for good
+
+
+def quiet(request: HttpRequest) -> HttpResponse:
+    """Show which rules are quieted, and quiet one or have it speak again."""
+    if request.method == "POST":
+        form = Reason(request.POST)
+        code = request.POST.get("code", "")[:40]
+        names = request.POST.get("names", "")[:400].split()
+        off = request.POST.get("off") == "yes"
+
+        def deed() -> str:
+            if not form.is_valid():
+                raise Fault(_("a reason is wanted, of at most 80 letters"))
+            book, why = book_of(request, expected=True), form.cleaned_data["why"].strip()
+            (book.heed if off else book.quiet)(code, *names, why=why)
+            what = (
+                _("{code} speaks again for {names}.")
+                if off
+                else _("{code} is quieted for {names}.")
+            )
+            messages.success(request, what.format(code=code, names=" ".join(names)))
+            return reverse("correct:quiet", args=[request.plant.slug])
+
+        return once(request, deed)
+    contents = contents_of(request.plant)
+    words = {"quiets": contents.quiets, "codes": sorted(RULES), "version": contents.version}
+    return render(request, "correct/quiet.html", words)

@@ -1,0 +1,97 @@
+"""The statement of a month as the desk shows it: the page of `plantbal.page`, within the frame.
+
+The page is made of the report as it is kept, of the session that it saw, and of the book. What is
+between its `<main>` tags is taken over as it is, with links from streams and tanks to their
+readings. Attributes of style are moved aside, since the desk allows none; its script sets them.
+"""
+
+from __future__ import annotations
+
+import re
+from dataclasses import dataclass
+from pathlib import Path
+
+from django.urls import reverse
+from django.utils.html import escape
+
+from plantbal.page.books import booked
+from plantbal.page.command import Source, prepare
+from plantbal.page.gates import told_of
+from plantbal.page.head import Origin
+from plantbal.page.render import render
+from plantbal.page.statement import Prepared
+from plantbal.report.blocks import parse_rows
+from plantbal_office.plants.models import Plant
+from plantbal_office.shelf import KEPT, contents_of, plain_book
+
+_MAIN = re.compile(r"<main>(.*)</main>", re.DOTALL)
+_FOOT = re.compile(r"<footer>(.*)</footer>", re.DOTALL)
+_STYLE = re.compile(r' style="([^"<>]*)"')
+_ROW = re.compile(
+    r'(<tr[^>]*? data-stream="([^"]+)"[^>]*><td class="name">)(.*?)(</td>)', re.DOTALL
+)
+# How long Graphviz has for the drawing of a page.
+SECONDS = 8.0
+
+
+@dataclass(frozen=True)
+class Shown:
+    """A statement as it is shown: what is in it, its foot, and what there is to say of it."""
+
+    body: str
+    foot: str
+    has_worth: bool
+    said: tuple[str, ...]
+
+
+def prepared_of(plant: Plant, period: str, number: int | None = None) -> tuple[Prepared, Source]:
+    """Return what a statement shows, and what it is made of."""
+    kept = plain_book(plant).kept(period, number)
+    rows = parse_rows(f"the report of {period}", kept.text)
+    session = (f"{plant.name}.csv", kept.session.encode("ascii")) if kept.rows else None
+    told = told_of(plant.folder)
+    source = Source(rows, f"the report of {period}", session, told=told)
+    return prepare(source), source
+
+
+def whole_page(plant: Plant, period: str) -> str:
+    """Return the statement as a page of its own, for a file or for paper."""
+    prepared, source = prepared_of(plant, period)
+    added = booked(plant.folder, source.rows)
+    head = str(contents_of(plant).version)
+    origin = Origin(plant.name, "", None, head)
+    title = f"{plant.name} {period}"
+    return render(prepared, title=title, origin=origin, seconds=SECONDS, parts=added.parts)
+
+
+def statement_of(plant: Plant, period: str, number: int | None = None) -> Shown:
+    """Return the statement of a month as the desk shows it."""
+
+    def make() -> Shown:
+        prepared, source = prepared_of(plant, period, number)
+        added = booked(plant.folder, source.rows if number is None else ())
+        page = render(prepared, title=period, seconds=SECONDS, parts=added.parts)
+        return Shown(
+            linked(plant, period, _inner(_MAIN, page)),
+            _inner(_FOOT, page),
+            "without-worth" not in page.partition("<body")[2].partition(">")[0],
+            tuple(added.said),
+        )
+
+    return KEPT.of(Path(plant.folder), "page", (period, number), make)
+
+
+def _inner(pattern: re.Pattern[str], page: str) -> str:
+    """Return a part of a page, its styles moved aside."""
+    found = pattern.search(page)
+    return _STYLE.sub(r' data-style="\1"', found[1]) if found else ""
+
+
+def linked(plant: Plant, period: str, body: str) -> str:
+    """Return the body of a statement with a link from each stream and tank to its readings."""
+
+    def link(found: re.Match[str]) -> str:
+        address = escape(reverse("look:stream", args=[plant.slug, period, found[2]]))
+        return f'{found[1]}<a href="{address}">{found[3]}</a>{found[4]}'
+
+    return _ROW.sub(link, body)
