@@ -162,7 +162,7 @@ def flows_of(output: Output) -> dict[str, int]:
     block: Block | None = output.reports[-1] if output.reports else None
     rows = block.streams if block is not None else []
     return {
-        row["stream"]: int(row["flow"])
+        row["name"]: int(row["flow"])
         for row in rows
         if row["flow"] and row["class"] != "unobservable"
     }

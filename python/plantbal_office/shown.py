@@ -14,7 +14,8 @@ from django.utils.html import format_html
 from django.utils.safestring import SafeString
 from django.utils.translation import get_language
 
-from plantbal.amounts import tonnes_of
+from plantbal.amounts import tonnes_of, tonnes_text
+from plantbal.book.ledger import plain
 from plantbal.gates import Stop, said_of
 from plantbal_office.access import Role, rule_of
 from plantbal_office.deeds.once import new_key
@@ -32,30 +33,32 @@ def context(request: HttpRequest) -> dict[str, Any]:
     }
 
 
+def in_language(text: str) -> str:
+    """Return figures that have commas between thousands as the person's language writes them."""
+    marks = {
+        ",": formats.get_format("THOUSAND_SEPARATOR"),
+        ".": formats.get_format("DECIMAL_SEPARATOR"),
+    }
+    return "".join(marks.get(each, each) for each in text)
+
+
 @register.filter
-def t(grams: int | None, places: int = 3) -> str:
-    """Return grams as tonnes, in the person's language."""
-    if grams is None:
-        return ""
-    return formats.number_format(tonnes_of(grams), places, use_l10n=True, force_grouping=True)
+def t(grams: int | None) -> str:
+    """Return grams as tonnes, rounded as the statement has them, in the person's language."""
+    return "" if grams is None else in_language(tonnes_text(grams))
 
 
 @register.filter
 def exact(grams: int | None) -> str:
     """Return grams as tonnes with as many decimals as they have."""
-    if grams is None:
-        return ""
-    amount = tonnes_of(grams).normalize()
-    exponent = amount.as_tuple().exponent
-    places = max(0, -exponent if isinstance(exponent, int) else 0)
-    return formats.number_format(amount, places, use_l10n=True, force_grouping=True)
+    return "" if grams is None else in_language(plain(tonnes_of(grams)))
 
 
 @register.filter
 def signed(grams: int | None) -> str:
     """Return grams as tonnes with their sign."""
     text = t(grams)
-    return f"+{text}" if grams is not None and grams > 0 else text
+    return f"+{text}" if grams is not None and grams > 0 and text.strip("0.,\xa0") else text
 
 
 @register.filter

@@ -10,7 +10,7 @@ from plantbal.book.ledger import Fact
 from plantbal.book.looking import Contents, Flow, Month, MonthFacts, Vessel
 from plantbal.book.results import ReportState, Shown
 from plantbal.commands.book.showing import in_unit
-from plantbal.estimates import is_estimate
+from plantbal.estimates import is_marked
 from plantbal.faults import Fault
 from plantbal.model.plant import in_service
 from plantbal_office.effects import flows_of, kept_output
@@ -118,7 +118,7 @@ def _day(
         day,
         shown,
         is_missing=is_wanted and shown.struck,
-        is_estimate=is_estimate(fact.id),
+        is_estimate=is_marked(fact.id) and not shown.before,
         in_unit=in_unit(fact, place.meter),
         usual=usual,
     )

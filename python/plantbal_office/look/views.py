@@ -13,7 +13,7 @@ from django.utils.translation import gettext as _
 from plantbal.book.looking import Flow, Month
 from plantbal.book.results import ReportState
 from plantbal.commands.book.showing import in_unit
-from plantbal.estimates import is_estimate
+from plantbal.estimates import is_marked
 from plantbal.faults import Fault
 from plantbal_office.look.days import days_of, months_of, place_of
 from plantbal_office.look.statement import prepared_of, statement_of, whole_page
@@ -112,7 +112,7 @@ def fact(request: HttpRequest, year: str, identity: str) -> HttpResponse:
         "found": found,
         "fact": here,
         "in_unit": in_unit(here, found.meter),
-        "is_estimate": is_estimate(here.id),
+        "is_estimate": is_marked(here.id) and not found.shown.before,
         "version": contents_of(request.plant).version,
         "section": "statement",
         "about": f"fact:{year}:{identity}",
