@@ -49,6 +49,12 @@ def t(grams: int | None) -> str:
 
 
 @register.filter
+def m3(millilitres: int | None) -> str:
+    """Return a volume in cubic metres."""
+    return "" if millilitres is None else in_language(tonnes_text(millilitres))
+
+
+@register.filter
 def exact(grams: int | None) -> str:
     """Return grams as tonnes with as many decimals as they have."""
     return "" if grams is None else in_language(plain(tonnes_of(grams)))

@@ -24,7 +24,7 @@ from plantbal.lint.findings import RULES
 from plantbal_office.deeds.once import once
 from plantbal_office.effects import TRIED, Said, Trial, months_of, tried
 from plantbal_office.effects import said_of as report_said
-from plantbal_office.enter.drops import LOCALES
+from plantbal_office.enter.typed import typing_locale
 from plantbal_office.look.views import month_of
 from plantbal_office.plants.standing import stand_of
 from plantbal_office.shelf import book_of, contents_of, plain_book, run_settings
@@ -58,18 +58,13 @@ def named(found: Fact) -> tuple[str, str | None]:
     return (found.id, None) if found.kind == "transfer" else (found.place, str(found.first))
 
 
-def locale_of(request: HttpRequest) -> str:
-    """Return whose numbers were typed: those of the plant's workbooks."""
-    return request.plant.locale if request.plant.locale in dict(LOCALES) else ""
-
-
 def amend(request: HttpRequest, year: str, identity: str) -> HttpResponse:
     """Give a fact another value: the form, what it would do, and then the deed."""
     found = plain_book(request.plant).fact(year, identity)
     words = request.POST if request.method == "POST" else request.GET
     form = Change(words if "amount" in words else None)
     name, day = named(found.shown.fact)
-    locale = locale_of(request)
+    locale = typing_locale()
 
     def act(book: Book) -> Edited:
         given = form.cleaned_data

@@ -2,7 +2,7 @@
 
 from django.urls import path
 
-from plantbal_office.enter import views
+from plantbal_office.enter import grid, views
 
 app_name = "enter"
 urlpatterns = [
@@ -11,4 +11,6 @@ urlpatterns = [
     path("<uuid:drop>", views.seen, name="seen"),
     path("<uuid:drop>/book", views.book, name="book"),
     path("<uuid:drop>/forget", views.put_aside, name="forget"),
+    path("grid/<str:period>/<slug:kind>", grid.grid, name="grid"),
+    path("judge/<str:period>", grid.judged, name="judge"),
 ]

@@ -69,7 +69,7 @@ def place_of(contents: Contents, month: Month, name: str) -> Flow | Vessel:
     Fault
         If there is none.
     """
-    some = [*contents.flows[month.year], *contents.vessels[month.year]]
+    some: list[Flow | Vessel] = [*contents.flows[month.year], *contents.vessels[month.year]]
     for each in some:
         if name in (each.name, each.meter.tag if each.meter is not None else None):
             return each

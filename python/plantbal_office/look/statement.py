@@ -20,7 +20,7 @@ from plantbal.page.gates import told_of
 from plantbal.page.head import Origin
 from plantbal.page.render import render
 from plantbal.page.statement import Prepared
-from plantbal.report.blocks import parse_rows
+from plantbal.report.parsing import parse_rows
 from plantbal_office.plants.models import Plant
 from plantbal_office.shelf import KEPT, contents_of, plain_book
 

@@ -1,0 +1,169 @@
+"""Judges a cell of the grid as it is typed, by the rules that a workbook and a session have.
+
+The text is read by the reader of workbooks, in the unit of the meter; the row that would be booked
+is judged by the model of the session, as the program would; and a figure far from the meter's
+others is said to be, though it may be right.
+"""
+
+from __future__ import annotations
+
+import datetime
+from dataclasses import dataclass
+from fractions import Fraction
+
+from plantbal.book.looking import Flow, Month, MonthFacts, Vessel
+from plantbal.book.naming import cell_of
+from plantbal.faults import Fault
+from plantbal.model.causes import Reason, Refused
+from plantbal.model.state import State
+from plantbal.model.words import refusal_of
+from plantbal.workbook.cells import Error, Reader, check_locale
+from plantbal_office.look.days import place_of
+from plantbal_office.plants.models import Plant
+from plantbal_office.shelf import contents_of, facts_of
+
+# A reading beyond this many times the median of its others, or below a part of it, is told.
+FAR = 3
+FAULT, LOOK, GOOD = "fault", "look", ""
+
+
+@dataclass(frozen=True)
+class Judged:
+    """What is said of a cell.
+
+    Attributes
+    ----------
+    level : str
+        ``fault`` if it can't be booked, ``look`` if it looks wrong, empty otherwise.
+    said : str
+        What there is to say, as a sentence.
+    grams : int or None
+        What would be booked, or what the tank holds at the level.
+    ml : int or None
+        The volume at a level.
+    """
+
+    level: str
+    said: str = ""
+    grams: int | None = None
+    ml: int | None = None
+
+
+def judge(
+    plant: Plant, month: Month, name: str, day: str, words: dict[str, str], locale: str
+) -> Judged:
+    """Return what is said of a typed reading or dip."""
+    try:
+        when = datetime.date.fromisoformat(day)
+        place = place_of(contents_of(plant), month, name)
+        found = facts_of(plant, month.name)
+        reader = Reader(check_locale(locale))
+        if isinstance(place, Flow):
+            return _reading(found, place, when, words.get("amount", ""), reader)
+        return _dip(found, place, when, words, reader)
+    except (Fault, ValueError) as error:
+        said = f"{error.what}: {error.remedy}" if isinstance(error, Fault) else str(error)
+        return Judged(FAULT, said.rstrip(": "))
+
+
+def _reading(
+    found: MonthFacts, place: Flow, day: datetime.date, text: str, reader: Reader
+) -> Judged:
+    """Return what is said of a reading."""
+    meter = place.meter
+    unit = meter.unit if meter is not None and meter.unit else "t"
+    density = meter.density if meter is not None else None
+    grams = reader.grams(cell_of(text), unit, density)
+    error = meter.error if meter is not None and meter.error is not None else Error()
+    if not grams and not error.grams:
+        raise Fault(
+            "a reading of 0 has no error in percent",
+            remedy="give its meter one in tonnes as well, such as `1.5 % or 0.2 t`",
+        )
+    fields = ("reading", "typed", place.name, str(day), str(grams), str(error.variance(grams)))
+    refused = _refused(found.state, fields)
+    if refused:
+        return Judged(FAULT, refused, grams)
+    others = sorted(
+        each.fact.values[0]
+        for each in found.facts
+        if each.fact.place == place.name and not each.struck and each.fact.first != day
+    )
+    if grams < 0:
+        return Judged(LOOK, "below 0: does the stream run the other way?", grams)
+    middle = others[len(others) // 2] if len(others) >= 4 else 0
+    if middle > 0 and not middle <= FAR * grams <= FAR * FAR * middle:
+        percent = 100 * grams / middle
+        return Judged(LOOK, f"{percent:,.0f} % of the median of its other days", grams)
+    return Judged(GOOD, "", grams)
+
+
+def _dip(
+    found: MonthFacts, place: Vessel, day: datetime.date, words: dict[str, str], reader: Reader
+) -> Judged:
+    """Return what is said of a dip: the level, and what the tank holds then."""
+    points = found.state.plant.tables.get(place.name, [])
+    top = points[-1][0] if points else None
+    mm = reader.level(cell_of(words.get("level", "")), top=top)
+    density = reader.density(cell_of(words.get("density", "")))
+    density = density or (place.meter.density if place.meter is not None else None)
+    if density is None:
+        raise Fault("there is no density", remedy="write it beside the level, such as 862")
+    whole = round(density)
+    fields = ("dip", "typed", place.name, str(day), str(mm), str(whole), "1")
+    refused = _refused(found.state, fields)
+    if refused:
+        return Judged(FAULT, refused)
+    ml = volume_at(points, mm)
+    grams = round(Fraction(ml) * density / 10**6) if ml is not None else None
+    return Judged(GOOD, "", grams, ml)
+
+
+def volume_at(points: list[tuple[int, int]], mm: int) -> int | None:
+    """Return the millilitres at a level, between two points of a table."""
+    for (low, first), (high, second) in zip(points, points[1:]):
+        if low <= mm <= high:
+            return first + (second - first) * (mm - low) // (high - low)
+    return None
+
+
+def _refused(state: State, fields: tuple[str, ...]) -> str:
+    """Return why the program would refuse a row, or nothing.
+
+    That the day has a figure already isn't said: booking the grid amends it.
+    """
+    answer = state.judge(fields)
+    if not isinstance(answer, Refused) or answer.reason is Reason.DAY_TAKEN:
+        return ""
+    refusal = refusal_of(state, fields, answer)
+    return f"{refusal.said}: {refusal.remedy}" if refusal.remedy else refusal.said
+
+
+def judge_ticket(plant: Plant, month: Month, words: dict[str, str], locale: str) -> Judged:
+    """Return what is said of a typed ticket."""
+    try:
+        place = place_of(contents_of(plant), month, words.get("stream", ""))
+        if not isinstance(place, Flow) or place.kind == "metered":
+            raise Fault(
+                f"{place.name} has no tickets", remedy="name a stream that is sold or bought"
+            )
+        reader = Reader(check_locale(locale))
+        unit = words.get("unit", "") or (place.meter.unit if place.meter is not None else "") or "t"
+        density = place.meter.density if place.meter is not None else None
+        grams = reader.grams(cell_of(words.get("amount", "")), unit, density)
+        first = reader.day(cell_of(words.get("first", "")))
+        last = reader.day(cell_of(words.get("last", "") or words.get("first", "")))
+        fields = (
+            "transfer",
+            words.get("id", ""),
+            place.name,
+            str(first),
+            str(last),
+            str(grams),
+            "1",
+        )
+        refused = _refused(facts_of(plant, month.name).state, fields)
+        return Judged(FAULT if refused else GOOD, refused, grams)
+    except (Fault, ValueError) as error:
+        said = f"{error.what}: {error.remedy}" if isinstance(error, Fault) else str(error)
+        return Judged(FAULT, said.rstrip(": "))
