@@ -20,7 +20,7 @@ _plantbal_desk() {
     fi
     for ((at = 1; at < COMP_CWORD; at++)); do
         case ${COMP_WORDS[at]} in
-        run|lint|explain|check|archive|audit|report|solve|convert|book|template|from-spreadsheet|tables|uncertainty|advise|balance|recovery|draw|chart|page|fleet|critical|from-scipy|schema) word=${COMP_WORDS[at]}; break ;;
+        run|lint|explain|check|archive|audit|report|solve|convert|book|template|from-spreadsheet|tables|uncertainty|advise|balance|recovery|draw|chart|page|serve|fleet|critical|from-scipy|schema) word=${COMP_WORDS[at]}; break ;;
         esac
     done
     case $word:$before in
@@ -142,6 +142,9 @@ _plantbal_desk() {
         page:--xlsx) _plantbal_files -f; return ;;
         page:--pdf) _plantbal_files -f; return ;;
         page:--seconds) :; return ;;
+        serve:--port) :; return ;;
+        serve:--state) _plantbal_files -d; return ;;
+        serve:--program) _plantbal_files -f; return ;;
         fleet:--out) _plantbal_files -d; return ;;
         fleet:--date) :; return ;;
         fleet:--engine) _plantbal_words 'parallel dask'; return ;;
@@ -292,6 +295,8 @@ _plantbal_desk() {
             return
         fi
         _plantbal_words '-h --help --title --plant --session --run --eliminate --program --book --timeout --out --xlsx --pdf --seconds' ;;
+    serve)
+        _plantbal_words '-h --help --port --no-browser --state --program' ;;
     fleet)
         if [[ $here != -* ]]; then
             _plantbal_files -d
@@ -308,7 +313,7 @@ _plantbal_desk() {
         _plantbal_words '-h --help --period --change --without-least' ;;
     schema)
         _plantbal_words '-h --help' ;;
-    *) _plantbal_words 'run lint explain check archive audit report solve convert book template from-spreadsheet tables uncertainty advise balance recovery draw chart page fleet critical from-scipy schema -h --help --version' ;;
+    *) _plantbal_words 'run lint explain check archive audit report solve convert book template from-spreadsheet tables uncertainty advise balance recovery draw chart page serve fleet critical from-scipy schema -h --help --version' ;;
     esac
 }
 
