@@ -21,14 +21,16 @@ static Free *lists[CLASSES];
 static u64 top, end;        // where the last block ends, and the memory; both 0 before the first call
 
 #ifdef PLANTBAL_TRIED
-// For tests alone: how many allocations are still granted (0: all), whether one was refused, and how many blocks are in use.
-static u64 granted, blocks;
-static _Bool is_counted;
-void plantbal_grant(u64 n) { granted = n; is_counted = 1; }
-void plantbal_grant_all(void) { is_counted = 0; }
+// For tests alone: the allocation of a number is refused, or with 0 none; how many were asked for since; and the blocks in use.
+static u64 refused, asked, blocks;
+void plantbal_refuse(u64 n) {
+    refused = n;
+    asked = 0;
+}
+u64 plantbal_asked(void) { return asked; }
 u64 plantbal_blocks(void) { return blocks; }
-static _Bool is_refused(void) { return is_counted && (granted == 0 || granted-- == 0); }
-#define COUNT(change) (blocks += (change))
+static _Bool is_refused(void) { return ++asked == refused; }
+#define COUNT(change) (blocks += (u64)(change))
 #else
 static _Bool is_refused(void) { return 0; }
 #define COUNT(change) ((void)0)
@@ -124,6 +126,10 @@ static void *resized(void *p, u64 n) {
     plantbal_dealloc(p);
     return q;
 }
+
+#ifdef PLANTBAL_TRIED
+void *plantbal_resize(void *p, u64 n) { return resized(p, n); }
+#endif
 
 // The three functions that the proved code calls: a pointer that may be used, and whether there was memory. Alignments are at most 16.
 typedef struct { u64 ok; void *p; } Tried;

@@ -56,6 +56,7 @@ export type Input = Uint8Array | ArrayBuffer | string;
 
 /** What goes wrong without being an answer of the core. */
 export declare class PlantbalError extends Error {
+  constructor(reason: PlantbalError["reason"], message: string);
   readonly reason: "stopped" | "failed" | "freed" | "memory" | "full" | "usage";
   /** Of `Session.rows`: the codes of the rows that were taken before. */
   codes?: Uint8Array;
