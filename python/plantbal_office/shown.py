@@ -14,19 +14,27 @@ from django.utils.html import format_html
 from django.utils.safestring import SafeString
 from django.utils.translation import get_language
 
+from plantbal.accounts.posting import Change
+from plantbal.book.causes import change_row
 from plantbal.amounts import tonnes_of, tonnes_text
 from plantbal.book.ledger import plain
+from plantbal.book.results import ReportState
+from plantbal.faults import Fault
 from plantbal.gates import Stop, said_of
 from plantbal_office.access import Role, rule_of
 from plantbal_office.deeds.once import new_key
+from plantbal_office.plants.models import Plant
+from plantbal_office.shelf import contents_of
 
 register = template.Library()
 
 
 def context(request: HttpRequest) -> dict[str, Any]:
     """Return what each page has: the plant, what the person may, the languages."""
+    plant = getattr(request, "plant", None)
     return {
-        "plant": getattr(request, "plant", None),
+        "plant": plant,
+        "latest_month": latest_month(plant) if plant is not None else "",
         "roles": getattr(request, "roles", frozenset()),
         "languages": settings.LANGUAGES,
         "one_person": bool(settings.PLANTBAL_KEY),
@@ -40,6 +48,16 @@ def in_language(text: str) -> str:
         ".": formats.get_format("DECIMAL_SEPARATOR"),
     }
     return "".join(marks.get(each, each) for each in text)
+
+
+def latest_month(plant: Plant) -> str:
+    """Return the month whose statement is wanted most: the last one that has a report, or the last."""
+    try:
+        months = contents_of(plant).months
+    except Fault:
+        return ""
+    reported = [each.name for each in months if each.report is not ReportState.MISSING]
+    return reported[-1] if reported else months[-1].name if months else ""
 
 
 @register.filter
@@ -123,6 +141,19 @@ def bar_height(percent: float) -> str:
 def bar_width(count: int) -> str:
     """Return how wide each of some bars is."""
     return f"{82 / max(1, count):.3f}"
+
+
+@register.filter
+def figures(text: str) -> str:
+    """Return figures as the package writes them, in the person's language."""
+    return in_language(text)
+
+
+@register.filter
+def change_cells(change: Change) -> list[str]:
+    """Return the cells of a change between two reports."""
+    cells = change_row(change)
+    return [*cells[:3], *(in_language(cell) for cell in cells[3:6])]
 
 
 @register.filter

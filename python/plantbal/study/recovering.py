@@ -63,7 +63,7 @@ examples:
 """
 
 
-def _lines(shares: Iterable[Share]) -> list[dict[str, str]]:
+def lines_of_shares(shares: Iterable[Share]) -> list[dict[str, str]]:
     """Return rows as a person reads them."""
     lines = []
     for each in shares:
@@ -205,7 +205,7 @@ def run(options: argparse.Namespace) -> int:
             text = inert_frame(pandas.DataFrame(_data(rows))).to_csv(index=False)
         else:
             left = {"component", "period", "stream", "way"}
-            text = text_of(pandas.DataFrame(_lines(rows)), left)
+            text = text_of(pandas.DataFrame(lines_of_shares(rows)), left)
     sys.stdout.write(text)
     strange = [line for balance in balances for line in strange_gains(balance)]
     for line in [*_not_known(balances), *_exact(balances), *output.impossible, *strange]:

@@ -87,6 +87,11 @@ def _inner(pattern: re.Pattern[str], page: str) -> str:
     return _STYLE.sub(r' data-style="\1"', found[1]) if found else ""
 
 
+def inner_main(page: str) -> str:
+    """Return what is between the main tags of a page, its styles moved aside."""
+    return _inner(_MAIN, page)
+
+
 def linked(plant: Plant, period: str, body: str) -> str:
     """Return the body of a statement with a link from each stream and tank to its readings."""
 

@@ -1,0 +1,275 @@
+"""Asking: differences, windows, what if, advice with costs, recovery, and charts."""
+
+from __future__ import annotations
+
+import io
+from dataclasses import dataclass
+
+from django import forms
+from django.contrib import messages
+from django.http import Http404, HttpRequest, HttpResponse
+from django.shortcuts import render
+from django.urls import reverse
+from django.utils.translation import gettext as _
+from django.utils.translation import gettext_lazy
+
+from plantbal.accounts.posting import postings_of
+from plantbal.balance.known import Class
+from plantbal.balance.planning import named, state_of
+from plantbal.balance.worth import Change, Instrument, State, changed, changes_of
+from plantbal.book.looking import Month
+from plantbal.book.results import ReportState
+from plantbal.faults import Fault
+from plantbal.report.output import Output, parse_report
+from plantbal.session import Session
+from plantbal.study.advice import Advice, advise
+from plantbal_office.ask.window import window_shown
+from plantbal_office.deeds.once import once
+from plantbal_office.look.views import month_of
+from plantbal_office.plants.models import Plant
+from plantbal_office.shelf import KEPT, book_of, contents_of, plain_book, run_settings
+
+MOST_CHARTED = 36
+MOST_STREAMS = 24
+
+
+class WhatIf(forms.Form):
+    """A meter or an assay more, and one fewer."""
+
+    add = forms.CharField(
+        label=gettext_lazy("With: stream and error"), max_length=120, required=False
+    )
+    lose = forms.CharField(label=gettext_lazy("Without: stream"), max_length=120, required=False)
+
+
+def menu(request: HttpRequest) -> HttpResponse:
+    """Show what can be asked."""
+    contents = contents_of(request.plant)
+    reported = [each for each in contents.months if each.report is not ReportState.MISSING]
+    words = {
+        "section": "ask",
+        "months": list(reversed(contents.months)),
+        "reported": list(reversed(reported)),
+        "windows": contents.windows,
+    }
+    return render(request, "ask/menu.html", words)
+
+
+# ---- differences and what is handed over
+
+
+def difference(request: HttpRequest, period: str) -> HttpResponse:
+    """Show what two states of a month have otherwise, and why."""
+    month = month_of(request, period)
+    words = request.GET.get("between", "")
+    states = tuple(words.split(" ")) if words else ()
+    if len(states) not in (0, 2) or any(len(each) > 12 for each in states):
+        raise Fault(_("these are no two states"), remedy=_("choose them from the list"))
+    found = plain_book(request.plant).difference(period, *states)
+    choices = [f"{number} now" for number in range(1, month.earlier + 1)]
+    choices += [f"{n} {n + 1}" for n in range(1, month.earlier)] + ["posted now"]
+    answer = {
+        "month": month,
+        "found": found,
+        "postings": postings_of(found.changes),
+        "causes": list(dict.fromkeys(str(each) for each in found.causes)),
+        "between": words,
+        "choices": choices,
+        "version": contents_of(request.plant).version,
+        "section": "ask",
+        "is_old": month.report is ReportState.OLDER,
+    }
+    return render(request, "ask/difference.html", answer)
+
+
+def posted(request: HttpRequest, period: str) -> HttpResponse:
+    """Record what is handed over of a month."""
+    month_of(request, period)
+
+    def act() -> str:
+        why = request.POST.get("why", "").strip()[:80]
+        done = book_of(request, expected=True).post(period, why=why)
+        what = _("{name} is posted as {id}: {count} postings.")
+        count = len(postings_of(done.changes))
+        messages.success(request, what.format(name=period, id=done.id, count=count))
+        return reverse("ask:difference", args=[request.plant.slug, period])
+
+    return once(request, act)
+
+
+# ---- windows
+
+
+def window(request: HttpRequest) -> HttpResponse:
+    """Reconcile several months at once, over a dip that nobody took, and show what came of it."""
+    words = request.POST if request.method == "POST" else request.GET
+    first, last = words.get("first", ""), words.get("last", "")
+    if request.method == "POST":
+
+        def act() -> str:
+            done = book_of(request).window(first, last, settings=run_settings())
+            if not done.is_new:
+                messages.info(request, _("The report of this window is as it was."))
+            return f"{reverse('ask:window', args=[request.plant.slug])}?first={first}&last={last}"
+
+        return once(request, act)
+    shown = window_shown(request.plant, first, last)
+    words = {"shown": shown, "first": first, "last": last, "section": "ask"}
+    return render(request, "ask/window.html", words)
+
+
+# ---- what if, and which meters to buy
+
+
+@dataclass(frozen=True)
+class Asked:
+    """A line of a what-if: a flow or a grade, and its ± now and then; None if nothing knows it."""
+
+    name: str
+    before: float | None
+    after: float | None
+    unit: str
+
+    @property
+    def is_changed(self) -> bool:
+        """Whether it changes by more than a thousandth."""
+        if self.before is None or self.after is None:
+            return self.before is not self.after
+        return abs(self.after - self.before) > 0.001 * max(self.before, 1e-9)
+
+
+def asked_of(change: Change) -> Asked:
+    """Return a line of a what-if."""
+    factor, unit = (100.0, "%") if change.component else (1.0, "t")
+    name = f"{change.component} in {change.stream}" if change.component else change.stream
+    known = [kind is not Class.UNOBSERVABLE for kind in (change.kind_before, change.kind_after)]
+    return Asked(
+        name,
+        factor * change.before if known[0] else None,
+        factor * change.after if known[1] else None,
+        unit,
+    )
+
+
+def plan_of(plant: Plant, month: Month) -> State:
+    """Return the flows and errors of a month, on which others are put."""
+
+    def make() -> State:
+        session = plain_book(plant).session_asking(month.name)
+        return state_of(session.encode("ascii"), month.name, month.name, run_settings().program)
+
+    from pathlib import Path
+
+    return KEPT.of(Path(plant.folder), "plan", (month.name,), make)
+
+
+def whatif(request: HttpRequest, period: str) -> HttpResponse:
+    """Show the ± of all flows with a meter or an assay more, or one fewer."""
+    month = month_of(request, period)
+    form = WhatIf(request.GET or None)
+    state = plan_of(request.plant, month)
+    words = {"month": month, "form": form, "section": "ask"}
+    words["streams"] = [flow.name for flow in state.problem.flows]
+    words["there"] = sorted(each.said for each in state.here)
+    if form.is_bound and form.is_valid():
+        try:
+            words["rows"] = _whatif(state, form.cleaned_data["add"], form.cleaned_data["lose"])
+        except Fault as fault:
+            words["fault"] = fault
+    return render(request, "ask/whatif.html", words)
+
+
+def _whatif(state: State, add: str, lose: str) -> list[Asked]:
+    """Return the ± of flows and grades before and after."""
+    more: list[Instrument] = []
+    for text in filter(None, (each.strip() for each in add.split(";"))):
+        name, _equals, error = (part.strip() for part in text.partition("="))
+        if not error:
+            name, _space, error = text.partition(" ")
+        found = named(f"{name}={error.strip()}", state)
+        if not found.deviation:
+            raise Fault(_("there is no error of {name}").format(name=name), remedy="FI-7 = 1.5 %")
+        more.append(found)
+    fewer = [named(each.strip(), state) for each in lose.split(";") if each.strip()]
+    before, after = state.with_(state.here), changed(state, more, fewer)
+    return [asked_of(each) for each in changes_of(state, before, after)]
+
+
+def advice(request: HttpRequest) -> HttpResponse:
+    """Show which streams to meter so that every one is observable, at least cost."""
+    plant: Plant = request.plant
+    contents = contents_of(plant)
+    year = max(contents.flows, default="")
+    plain = [each.name for each in contents.flows.get(year, ()) if each.kind == "plain"]
+    costs: dict[str, int] = {}
+    for name in plain:
+        text = request.GET.get(f"cost-{name}", "")
+        if text.isascii() and text.isdigit() and len(text) <= 9:
+            costs[name] = int(text)
+    words = {"plain": [(each, costs.get(each, "")) for each in plain], "section": "ask"}
+    words["year"] = year
+    if "ask" in request.GET or not plain:
+        words["found"] = _advised(plant, year, costs)
+    return render(request, "ask/advice.html", words)
+
+
+def _advised(plant: Plant, year: str, costs: dict[str, int]) -> Advice | None:
+    """Return the advice on the plant of a year; None if it has no month yet."""
+    months = [each.name for each in contents_of(plant).months if each.year == year]
+    if not months:
+        return None
+    session = Session(strict=False)
+    rows = plain_book(plant).session_asking(months[-1]).encode("ascii")
+    session.take(plant.name, rows)
+    return advise(session, costs, program=run_settings().program)
+
+
+# ---- components, recovery, charts
+
+
+def recovery(request: HttpRequest, period: str) -> HttpResponse:
+    """Show where each component goes."""
+    month = month_of(request, period)
+    output = parse_report(plain_book(request.plant).kept(period).text, f"the report of {period}")
+    words = {"month": month, "balances": shares_of(output), "section": "ask"}
+    return render(request, "ask/recovery.html", words)
+
+
+def shares_of(output: Output) -> list[tuple[str, list[dict[str, object]]]]:
+    """Return what each stream carries of each component."""
+    from plantbal_office.ask.components import rows_of
+
+    return rows_of(output)
+
+
+def chart(request: HttpRequest) -> HttpResponse:
+    """Show the months in a chart: the statistic, and what is adjusted most."""
+    reported = [
+        each for each in contents_of(request.plant).months if each.report is not ReportState.MISSING
+    ]
+    streams = request.GET.getlist("stream")[:MOST_STREAMS]
+    year = max(contents_of(request.plant).flows, default="")
+    names = [each.name for each in contents_of(request.plant).flows.get(year, ())]
+    words = {"months": reported, "streams": streams, "names": names, "section": "ask"}
+    words["query"] = request.GET.urlencode()
+    return render(request, "ask/chart.html", words)
+
+
+def picture(request: HttpRequest) -> HttpResponse:
+    """Give the chart as a picture."""
+    from plantbal.report.chart import chosen, write_chart
+    from plantbal.report.trend import trend_of
+
+    contents = contents_of(request.plant)
+    names = [m.name for m in contents.months if m.report is not ReportState.MISSING][-MOST_CHARTED:]
+    if not names:
+        raise Http404
+    text = "".join(plain_book(request.plant).kept(name).text for name in names)
+    days = "".join(f"period,{m.name},{m.first},{m.last}\n" for m in contents.months)
+    trend = trend_of(parse_report(text, "the reports"), days.encode("ascii"))
+    streams = [each[:40] for each in request.GET.getlist("stream")[:MOST_STREAMS]]
+    out = io.BytesIO()
+    write_chart(trend, chosen(trend, 0 if streams else 8, streams), out, "svg")
+    answer = HttpResponse(out.getvalue(), content_type="image/svg+xml")
+    answer["Content-Security-Policy"] = "default-src 'none'; style-src 'unsafe-inline'"
+    return answer

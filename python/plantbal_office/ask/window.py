@@ -1,0 +1,44 @@
+"""The report of a window as the desk shows it: the page of it, and what tanks held in between."""
+
+from __future__ import annotations
+
+from dataclasses import dataclass
+from pathlib import Path
+
+from plantbal.book.window import undipped
+from plantbal.faults import Fault
+from plantbal.page.command import Source, prepare
+from plantbal.page.render import render
+from plantbal.report.output import parse_report
+from plantbal.report.parsing import parse_rows
+from plantbal_office.look.statement import inner_main
+from plantbal_office.plants.models import Plant
+from plantbal_office.shelf import KEPT, plain_book
+
+_SECONDS = 8.0
+
+
+@dataclass(frozen=True)
+class Shown:
+    """A window: the body of its page, and what tanks held at dips that nobody took."""
+
+    body: str
+    held: tuple[str, ...]
+
+
+def window_shown(plant: Plant, first: str, last: str) -> Shown | None:
+    """Return the report of a window as it is kept, or None if there is none."""
+
+    def make() -> Shown | None:
+        try:
+            kept = plain_book(plant).kept_window(first, last)
+        except Fault:
+            return None
+        name = f"the report of {first} to {last}"
+        prepared = prepare(Source(parse_rows(name, kept.text), name))
+        page = render(prepared, title=kept.period, seconds=_SECONDS)
+        blocks = [each for each in parse_report(kept.text, name).blocks_in_order if each.window]
+        held = tuple(undipped(blocks[-1])) if blocks else ()
+        return Shown(inner_main(page), held)
+
+    return KEPT.of(Path(plant.folder), "page", ("window", first, last), make)
