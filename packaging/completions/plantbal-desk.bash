@@ -66,6 +66,7 @@ _plantbal_desk() {
         book:--skip) :; return ;;
         book:--book) _plantbal_files -d; return ;;
         book:--who) :; return ;;
+        book:--key) _plantbal_files -f; return ;;
         book:--why) :; return ;;
         book:--year) :; return ;;
         book:--density) :; return ;;
@@ -74,6 +75,13 @@ _plantbal_desk() {
         book:--gap) :; return ;;
         book:--sweeps) :; return ;;
         book:--eliminate) :; return ;;
+        book:--report) _plantbal_files -f; return ;;
+        book:--head) :; return ;;
+        book:--text) _plantbal_files -f; return ;;
+        book:--signed) _plantbal_files -f; return ;;
+        book:--signers) _plantbal_files -f; return ;;
+        book:--revoked) _plantbal_files -f; return ;;
+        book:--stamps) _plantbal_files -f; return ;;
         book:--xlsx) _plantbal_files -f; return ;;
         book:--postings) _plantbal_files -f; return ;;
         book:--by) _plantbal_words 'plant group product owner'; return ;;
@@ -82,7 +90,6 @@ _plantbal_desk() {
         book:--title) :; return ;;
         book:--plant) _plantbal_files -f; return ;;
         book:--first) :; return ;;
-        book:--head) :; return ;;
         from-spreadsheet:--decimal) _plantbal_words 'point comma'; return ;;
         from-spreadsheet:--date) :; return ;;
         from-spreadsheet:--missing) :; return ;;
@@ -219,14 +226,14 @@ _plantbal_desk() {
         _plantbal_words '-h --help --out --locale --missing --skip --limits --design' ;;
     book)
         if [[ $here != -* ]]; then
-            if [[ ! " ${COMP_WORDS[*]:at + 1:COMP_CWORD - at - 1} " =~ ' '(new|add|show|amend|strike|estimate|report|window|close|quiet|difference|posted|account|status|next|retire|verify|head|accept)' ' ]]; then
-                _plantbal_words 'new add show amend strike estimate report window close quiet difference posted account status next retire verify head accept'
+            if [[ ! " ${COMP_WORDS[*]:at + 1:COMP_CWORD - at - 1} " =~ ' '(new|add|show|amend|strike|estimate|report|window|close|submit|submitted|approve|reject|rules|signed|quiet|difference|posted|account|status|next|retire|verify|head|accept)' ' ]]; then
+                _plantbal_words 'new add show amend strike estimate report window close submit submitted approve reject rules signed quiet difference posted account status next retire verify head accept'
                 return
             fi
             _plantbal_files -f
             return
         fi
-        _plantbal_words '-h --help --program --locale --missing --skip --limits --book --who --why --strike --anyway --year --dry-run --density --error --take --session --gap --sweeps --no-tests --eliminate --off --csv --xlsx --postings --by --owner --tanks --page --title --all --plant --first --head' ;;
+        _plantbal_words '-h --help --program --locale --missing --skip --limits --book --who --key --why --strike --anyway --year --dry-run --density --error --take --session --gap --sweeps --no-tests --eliminate --report --head --text --signed --signers --revoked --stamps --off --csv --xlsx --postings --by --owner --tanks --page --title --all --plant --first' ;;
     template)
         if [[ $here != -* ]]; then
             if [[ ! " ${COMP_WORDS[*]:at + 1:COMP_CWORD - at - 1} " =~ ' '(refinery|concentrator|utility)' ' ]]; then

@@ -12,6 +12,11 @@ SESSION_BYTES = 1 << 26
 WORKBOOK_BYTES = 1 << 26
 # An output, and whatever has no limit of its own.
 INPUT_BYTES = 1 << 30
+# A signature, and the answer of a server of time stamps.
+SIGNATURE_BYTES = 1 << 16
+STAMP_BYTES = 1 << 18
+# The rules of a book, and who may sign in it.
+RULES_BYTES = 1 << 20
 # What a stopped command on a book has left to do: the rows of a year at most, quoted.
 PENDING_BYTES = 1 << 28
 

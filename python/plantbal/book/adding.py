@@ -82,6 +82,7 @@ def add(
         raise_all(put_assays(years, work))
 
         action = Action(Act.ADD, what=name, why=reasons.said(), who=who)
+        action.anyway = strike and anyway
         for ledger in years.used:
             action.add(ledger)
         if plant and into is years.last:

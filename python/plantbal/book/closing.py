@@ -3,8 +3,14 @@
 from __future__ import annotations
 
 from collections.abc import Mapping, Sequence
+from dataclasses import dataclass
+from fractions import Fraction
 
 from plantbal.audit.believed import program_digest
+from plantbal.book.approval import submitting as submission
+from plantbal.book.approval.guard import wants_of
+from plantbal.book.approval.rules import Rules, Want
+from plantbal.book.approval.state import rules_of
 from plantbal.book.answers import checked, quieted, what_of
 from plantbal.book.forms import report_file
 from plantbal.book.meters import read_meters
@@ -55,30 +61,109 @@ def close(
 ) -> Closed:
     """Close a period; the parameters are those of `plantbal.Book.close`."""
     with book.opened():
-        ledger = Years(book).of_period(name)
-        if ledger.periods[name].closed:
+        found = prepared(book, name, anyway=anyway, settings=settings, who=who)
+        if found is None:
             return Closed(name, None)
-        missing = lacks(ledger, ledger.periods[name], read_meters(book.path(METERS)))
-        owed = unassayed(ledger, ledger.periods[name])
-        ledger.put("close", name)
-        text = book.text(f"{ledger.name}.csv") + ledger.added_text()
-        components = ledger.session.components_in(name)
-        written, output = report_of(settings, text, name, components)
-        stops = stops_in(text, name, output, quieted(book.journal()))
-        stops += [Stop(Gate.UNASSAYED, name, subject=line) for line in owed]
-        path = book.path(report_file(name))
-        report = Reported(name, output, path, True, tuple(missing), tuple(stops))
-        gates = sorted({stop.gate for stop in stops}, key=list(Gate).index)
-        unanswered = [gate for gate in gates if gate not in anyway]
-        if unanswered:
-            raise NotClosed(report, unanswered)
-        reasons = {gate: checked(anyway[gate]) for gate in gates}
-        what, why = what_of(reasons)
-        action = Action(Act.CLOSE, name, what, why, who, program_digest(settings.program))
-        action.add(ledger)
-        keep(book, action, ledger, name, written, closed=False)
-        book.do(action)
-        return Closed(name, report, book.head, reasons)
+        book.do(found.action)
+        return Closed(name, found.report, book.head, found.reasons)
+
+
+def submit(
+    book: Store,
+    name: str,
+    *,
+    anyway: Mapping[Gate, str],
+    settings: RunSettings = RunSettings(),
+    who: str = "",
+) -> Closed:
+    """Submit the close of a period; the parameters are those of `plantbal.Book.submit`."""
+    with book.opened():
+        found = prepared(book, name, anyway=anyway, settings=settings, who=who)
+        if found is None:
+            return Closed(name, None)
+        found.action.written[report_file(name)] = found.text
+        wants = list(wants_of(book, found.action, rules_of(book) or Rules())) or [Want.CLOSE]
+        done = submission.submit(
+            book,
+            found.action,
+            wants,
+            periods=[name],
+            reasons=found.reasons,
+            settings=settings,
+        )
+        return Closed(name, found.report, done.head, found.reasons)
+
+
+@dataclass(frozen=True)
+class Prepared:
+    """A close that has yet to be done.
+
+    Attributes
+    ----------
+    action : Action
+        The action.
+    report : Reported
+        The report with which the period is closed.
+    reasons : mapping of Gate to str
+        The reason for each gate.
+    text : str
+        The report as the program writes it.
+    """
+
+    action: Action
+    report: Reported
+    reasons: Mapping[Gate, str]
+    text: str
+
+
+def prepared(
+    book: Store, name: str, *, anyway: Mapping[Gate, str], settings: RunSettings, who: str
+) -> Prepared | None:
+    """Return the close of a period, which isn't done; None if it is closed.
+
+    Raises
+    ------
+    NotClosed
+        If there is no reason for a gate.
+    """
+    ledger = Years(book).of_period(name)
+    if ledger.periods[name].closed:
+        return None
+    missing = lacks(ledger, ledger.periods[name], read_meters(book.path(METERS)))
+    owed = unassayed(ledger, ledger.periods[name])
+    ledger.put("close", name)
+    text = book.text(f"{ledger.name}.csv") + ledger.added_text()
+    components = ledger.session.components_in(name)
+    written, output = report_of(settings, text, name, components)
+    stops = stops_in(text, name, output, quieted(book.journal()))
+    stops += [Stop(Gate.UNASSAYED, name, subject=line) for line in owed]
+    path = book.path(report_file(name))
+    report = Reported(name, output, path, True, tuple(missing), tuple(stops))
+    gates = sorted({stop.gate for stop in stops}, key=list(Gate).index)
+    unanswered = [gate for gate in gates if gate not in anyway]
+    if unanswered:
+        raise NotClosed(report, unanswered)
+    reasons = {gate: checked(anyway[gate]) for gate in gates}
+    what, why = what_of(reasons)
+    action = Action(Act.CLOSE, name, what, why, who, program_digest(settings.program))
+    action.anyway = any(gate is not Gate.ESTIMATED for gate in gates)
+    action.estimated = estimated_part(report)
+    action.add(ledger)
+    keep(book, action, ledger, name, written, closed=False)
+    return Prepared(action, report, reasons, written)
+
+
+def estimated_part(report: Reported) -> Fraction:
+    """Return the greatest part of a stream's flow that is estimated; a flow of 0 is all of it."""
+    blocks = report.output.reports
+    rows = blocks[-1].streams if blocks else []
+    flows = {row["name"]: abs(int(row["flow"])) for row in rows}
+    parts = [Fraction(0)]
+    for stop in report.stops:
+        if stop.gate is Gate.ESTIMATED:
+            grams, flow = abs(stop.values["grams"]), flows.get(stop.names[0], 0)
+            parts.append(Fraction(grams, flow) if flow else Fraction(1))
+    return max(parts)
 
 
 def unneeded(given: Mapping[Gate, str], found: Closed) -> list[str]:

@@ -255,6 +255,7 @@ def post(book: Store, period: str, *, anyway: bool, why: str, who: str) -> Diffe
         number = posted_numbers(book, period) + 1
         account = account_by(book, versions_of(book), period)
         action = Action(Act.POSTED, period, found.id, why, who)
+        action.anyway = not ledger.periods[period].closed
         text = posted_text(found.id, period, state_of(account))
         action.written[posted_file(period, number)] = text
         action.seen = [year_file(ledger.name), report_file(period)]

@@ -18,6 +18,10 @@ JOURNAL = "journal.csv"
 REPORTS = "reports"
 EARLIER = f"{REPORTS}/earlier"
 POSTED = "posted"
+RULES = "rules.toml"
+SIGNERS = "allowed_signers"
+REVOKED = "revoked_keys"
+APPROVALS = "approvals"
 CHECKS = ".checks"
 PENDING = ".pending"
 LOCK = ".lock"
@@ -27,6 +31,7 @@ _NAME = r"[A-Za-z0-9_.-]{1,32}"
 _OWN = re.compile(
     rf"(?:plant|meters|accounts|journal|{_YEAR})\.csv|{POSTED}/{_NAME}\.[0-9]+\.csv"
     rf"|{REPORTS}/{_NAME}(?:\+{_NAME})?\.csv|{EARLIER}/{_NAME}\.[0-9]+\.csv"
+    rf"|rules\.toml|{SIGNERS}|{REVOKED}|{APPROVALS}/[1-9][0-9]{{0,8}}\.(?:txt|sig|tsr|json)"
 )
 # Windows were called `may2_to_may3.csv` once, and an earlier report `2024-04.1.csv`.
 _OLD_REPORT = re.compile(rf"{REPORTS}/(?:{_NAME}_to_{_NAME}|{_NAME}\.[0-9]+)\.csv")
@@ -84,6 +89,20 @@ def posted_file(period: str, number: int) -> str:
     return f"{POSTED}/{period}.{number}.csv"
 
 
+def approval_file(number: int, kind: str) -> str:
+    """Return the name of what an action of a number has of approvals.
+
+    Parameters
+    ----------
+    number : int
+        The action's place in the journal.
+    kind : str
+        ``txt`` its record, ``sig`` the signature of that, ``tsr`` the time stamp of the signature,
+        ``json`` the action that it submits.
+    """
+    return f"{APPROVALS}/{number}.{kind}"
+
+
 def begun_file(path: Path) -> Path:
     """Return where a file is written before it takes the place of another."""
     return path.with_name(f".{path.name}~")
@@ -107,8 +126,8 @@ def is_begun(inner: str, name: str) -> bool:
 
 def there(folder: Path) -> Iterable[str]:
     """Give the names of the files in a folder that are of the forms of a book's."""
-    for inner in ("", REPORTS, EARLIER, POSTED):
-        for path in sorted((folder / inner).glob("*.csv")):
+    for inner in ("", REPORTS, EARLIER, POSTED, APPROVALS):
+        for path in sorted((folder / inner).glob("*")):
             name = f"{inner}/{path.name}" if inner else path.name
             if is_own(name):
                 yield name

@@ -65,6 +65,10 @@ class Act(StrEnum):
     NEXT = "next"
     ACCEPT = "accept"
     BEGIN = "begin"
+    RULES = "rules"
+    SUBMIT = "submit"
+    APPROVE = "approve"
+    REJECT = "reject"
 
 
 _ACTS = {act.value: act for act in Act}

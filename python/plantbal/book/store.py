@@ -16,13 +16,14 @@ from __future__ import annotations
 
 from collections.abc import Iterator
 from contextlib import contextmanager
-from dataclasses import dataclass, field
 from pathlib import Path
 
 from plantbal import limits
 from plantbal.book import expected as expecting
+from plantbal.book.actions import Action, Head
 from plantbal.book.chain import Chain, checks_of, checks_text, read_checks, state_of
 from plantbal.book.forms import (
+    APPROVALS,
     CHECKS,
     EARLIER,
     JOURNAL,
@@ -35,7 +36,6 @@ from plantbal.book.forms import (
     is_begun,
     is_year_file,
     there,
-    year_file,
 )
 from plantbal.book.journal import (
     HEAD_TEXT,
@@ -47,7 +47,6 @@ from plantbal.book.journal import (
     printable,
     read_journal,
 )
-from plantbal.book.ledger import Ledger
 from plantbal.book.lock import locked
 from plantbal.book.owners import check_folder, check_links, link_in, user_said
 from plantbal.book.pending import Entry, pending_text, read_pending
@@ -61,74 +60,6 @@ _MOST_FILES = 500  # that one line of the journal names
 _LOST = "its journal is lost: put back journal.csv, from a backup"
 
 
-@dataclass
-class Action:
-    """What a command does to a book.
-
-    Attributes
-    ----------
-    act : Act
-        What it is.
-    of : str
-        What it is done to: a year, a period, the two periods of a window, a fact, a file.
-    what : str
-        What else there is to say of it: the workbook, the new value.
-    why : str
-        The reason, if there is one.
-    who : str
-        Who does it, as the words of the command say it.
-    program : str
-        The SHA-256 of the program that it ran, if it ran one.
-    appended : dict of str to str
-        What comes after the present end of files.
-    written : dict of str to str
-        Files that are written as a whole.
-    rows : list of str
-        Which rows of which year it adds, as the journal says it.
-    seen : list of str
-        Files that it has read and leaves as they are, such as the year of a report.
-    gone : list of str
-        Files that aren't there any more, which it accepts.
-    """
-
-    act: Act
-    of: str = ""
-    what: str = ""
-    why: str = ""
-    who: str = ""
-    program: str = ""
-    appended: dict[str, str] = field(default_factory=dict)
-    written: dict[str, str] = field(default_factory=dict)
-    rows: list[str] = field(default_factory=list)
-    seen: list[str] = field(default_factory=list)
-    gone: list[str] = field(default_factory=list)
-
-    def add(self, ledger: Ledger) -> None:
-        """Take the rows that were added to a ledger."""
-        if ledger.added:
-            self.appended[year_file(ledger.name)] = ledger.added_text()
-            self.rows.append(ledger.added_said())
-
-
-@dataclass(frozen=True)
-class Head:
-    """The end of a book's chain: how many actions there were, and the digest of the last.
-
-    Attributes
-    ----------
-    number : int
-        How many actions the journal has.
-    digest : str
-        The digest of the last.
-    """
-
-    number: int
-    digest: str
-
-    def __str__(self) -> str:
-        return f"{self.number} {self.digest}"
-
-
 class Store:
     """The folder of a book.
 
@@ -140,6 +71,10 @@ class Store:
         The most seconds to wait for another command that is at work in it.
     expected : Version, optional
         How it was when somebody decided on an action; nothing is done if it is otherwise.
+    key : str or Path, optional
+        The key with which submissions and approvals are signed.
+    given : tuple of str, optional
+        A record that was signed elsewhere, and its signature.
 
     Attributes
     ----------
@@ -152,10 +87,15 @@ class Store:
         folder: str | Path,
         seconds: float = 10,
         expected: expecting.Version | None = None,
+        *,
+        key: str | Path | None = None,
+        given: tuple[str, str] | None = None,
     ) -> None:
         self.folder = Path(folder)
         self.seconds = seconds
         self.expected = expected
+        self.key = key
+        self.given = given
         self.waits: list[Entry] = []
         self._journal: list[Line] | None = None
         self._is_old = False
@@ -234,7 +174,7 @@ class Store:
 
     def _tidy(self) -> None:
         """Remove files that were begun and never got their names."""
-        for inner in ("", REPORTS, EARLIER, POSTED):
+        for inner in ("", REPORTS, EARLIER, POSTED, APPROVALS):
             if inner and link_in(self.folder, inner) is not None:
                 continue  # nothing is removed elsewhere
             for path in (self.folder / inner).glob(".*"):
@@ -303,6 +243,10 @@ class Store:
         """Say whether a file is there."""
         return self._bytes(name) is not None
 
+    def kept(self, name: str) -> Kept:
+        """Return what is kept of a file: its lines, bytes and digest."""
+        return Kept.of(self._bytes(name))
+
     def journal(self) -> list[Line]:
         """Return the lines of the journal.
 
@@ -346,9 +290,15 @@ class Store:
 
         Raises
         ------
+        Submitted
+            If it wants an approval by the rules of the book, and waits for it now.
         Fault
             If it can't be done. The fault says whether it is going to be.
         """
+        if self.journal():
+            from plantbal.book.approval.guard import check
+
+            check(self, action)
         entries = self._entries_of(action)
         check_links(self.folder, [entry.file for entry in entries])
         self._check_known(entries)

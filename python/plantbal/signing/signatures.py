@@ -16,12 +16,13 @@ from enum import StrEnum
 from pathlib import Path
 
 from plantbal.faults import Fault, InputFault, Place, read_bytes
+from plantbal.limits import SIGNATURE_BYTES
 from plantbal.signing.signers import Scheme, Signer, fingerprint, signers_text
 from plantbal.signing.tools import called, said_last
 
 # What a signature may be for: one of a record of a book isn't one of a bundle.
 BOOK, BUNDLE = "plantbal-book", "plantbal-bundle"
-MOST_BYTES = 1 << 16  # of a signature
+
 _SSH = "-----BEGIN SSH SIGNATURE-----"
 _SSH_END = "-----END SSH SIGNATURE-----"
 _MINISIGN = "untrusted comment:"
@@ -124,7 +125,7 @@ def sign(data: bytes, key: str | Path, use: str) -> str:
     Fault
         If there is no such key, or it isn't opened.
     """
-    source, there = read_bytes(key, MOST_BYTES)
+    source, there = read_bytes(key, SIGNATURE_BYTES)
     with tempfile.TemporaryDirectory() as room:
         path = Path(room) / "signed"
         path.write_bytes(data)
@@ -292,7 +293,7 @@ def read_signature(path: str | Path) -> str:
     InputFault
         If it can't be read, or is no text.
     """
-    source, data = read_bytes(path, MOST_BYTES)
+    source, data = read_bytes(path, SIGNATURE_BYTES)
     try:
         return data.decode("ascii")
     except UnicodeDecodeError as error:

@@ -17,10 +17,11 @@ from dataclasses import dataclass
 from pathlib import Path
 
 from plantbal.faults import Fault
+from plantbal.limits import STAMP_BYTES
 from plantbal.signing.tools import called, said_last
 
 _SECONDS = 30.0
-_MOST_BYTES = 1 << 18
+
 _TIME = re.compile(
     r"^Time stamp: ([A-Z][a-z]{2}) +([0-9]+) ([0-9:]{8})(?:\.[0-9]+)? ([0-9]{4}) GMT$", re.MULTILINE
 )
@@ -75,13 +76,13 @@ def stamp(data: bytes, server: str) -> str:
     request = urllib.request.Request(server, data=asked.stdout, headers=head)
     try:
         with urllib.request.urlopen(request, timeout=_SECONDS) as answer:
-            token: bytes = answer.read(_MOST_BYTES + 1)
+            token: bytes = answer.read(STAMP_BYTES + 1)
     except (OSError, ValueError) as error:
         what = f"the time stamp server {server} doesn't answer: {error}"
         raise Fault(
             what, text=server, remedy="try again later, or leave the time stamp out"
         ) from error
-    if len(token) > _MOST_BYTES:
+    if len(token) > STAMP_BYTES:
         raise Fault(f"the time stamp server {server} answers more than a time stamp", text=server)
     text = base64.encodebytes(token).decode("ascii")
     if _time_in(token) is None:

@@ -24,15 +24,17 @@ class Base:
         program: str | Path | None = None,
         seconds: float = 10,
         expected: Version | None = None,
+        key: str | Path | None = None,
     ) -> None:
         self.folder = Path(folder)
         self.who = who
         self.program = program
         self.seconds = seconds
         self.expected = expected
+        self.key = key
 
-    def _store(self) -> Store:
-        return Store(self.folder, self.seconds, self.expected)
+    def _store(self, given: tuple[str, str] | None = None) -> Store:
+        return Store(self.folder, self.seconds, self.expected, key=self.key, given=given)
 
     def _settings(self, settings: RunSettings | None) -> RunSettings:
         return settings or RunSettings(program=self.program)

@@ -9,6 +9,7 @@ from plantbal.book import overview, quieting, verifying
 from plantbal.book.answers import Quiet
 from plantbal.book.beginning import begin
 from plantbal.book.following import follow, retire
+from plantbal.book.library.approvals import Approvals
 from plantbal.book.library.base import Day, day_or_none
 from plantbal.book.library.facts import Facts
 from plantbal.book.library.looks import Looking
@@ -19,7 +20,7 @@ from plantbal.faults import Fault
 from plantbal.workbook.options import ReadingOptions
 
 
-class Book(Facts, Reports, Looking):
+class Book(Facts, Reports, Looking, Approvals):
     """A plant's book: a folder with a session for each year, its reports, and a journal.
 
     Parameters
@@ -35,6 +36,8 @@ class Book(Facts, Reports, Looking):
     expected : Version, optional
         The version of the book that was shown to whoever acts on it now: if it is another one, an
         action isn't done, and raises `plantbal.book.expected.Moved`.
+    key : str or Path, optional
+        The key with which submissions and approvals are signed.
 
     Examples
     --------

@@ -196,7 +196,7 @@ def _add_posted(parser: argparse.ArgumentParser) -> None:
 
 def _posted(options: argparse.Namespace) -> int:
     """Record what is handed over."""
-    book, period = Book(options.book, who=options.who), options.period
+    book, period = Book(options.book, who=options.who, key=options.key), options.period
     found = book.post(period, anyway=options.anyway, why=options.why)
     if options.postings:
         write_text(options.postings, _postings_text(found))

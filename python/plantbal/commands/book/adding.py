@@ -32,7 +32,7 @@ def run(options: argparse.Namespace) -> int:
     """Add a workbook, and say what that was."""
     asks = not options.why and _may_ask()
     try:
-        found = Book(options.book, who=options.who).add(
+        found = Book(options.book, who=options.who, key=options.key).add(
             options.workbook,
             why=Asked() if asks else options.why or "",
             strike=options.strike,

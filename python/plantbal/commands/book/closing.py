@@ -16,6 +16,12 @@ from plantbal.gates import line_of, unsaid
 
 def _add_close(parser: argparse.ArgumentParser) -> None:
     parser.add_argument("period", metavar="PERIOD", help="the period")
+    add_anyway(parser)
+    add_run(parser)
+
+
+def add_anyway(parser: argparse.ArgumentParser) -> None:
+    """Add the word that has the reasons of a close although a gate stops it."""
     parser.add_argument(
         "--anyway",
         metavar="GATE=REASON",
@@ -23,22 +29,21 @@ def _add_close(parser: argparse.ArgumentParser) -> None:
         default=[],
         help="also if a gate stops it, with the reason; once for each such gate",
     )
-    add_run(parser)
 
 
 def _close(options: argparse.Namespace) -> int:
     """Close a period with its report."""
-    book = Book(options.book, who=options.who)
+    book = Book(options.book, who=options.who, key=options.key)
     try:
         given = reasons_of(options.anyway)
         found = book.close(options.period, anyway=given, settings=settings_of(options))
     except NotClosed as fault:
-        _say(fault.report)
+        say_report(fault.report)
         raise
     if found.report is None:
         print(f"{found.period} is closed already")
         return 0
-    _say(found.report)
+    say_report(found.report)
     for gate, reason in found.reasons.items():
         print(f"{found.period}: {gate}: {reason}")
     for line in unneeded(given, found):
@@ -48,7 +53,7 @@ def _close(options: argparse.Namespace) -> int:
     return 0
 
 
-def _say(report: Reported) -> None:
+def say_report(report: Reported) -> None:
     """Say what the report says as a whole, and what is missing."""
     output = report.output
     said = [state_of(output, report.period), *suspects_of(output), *balances_said(output)]

@@ -4,6 +4,7 @@ from __future__ import annotations
 
 import argparse
 import importlib
+import os
 import sys
 from collections.abc import Sequence
 from dataclasses import dataclass
@@ -18,6 +19,8 @@ The book is the current folder, or that of --book. It has
   reports/      the last report of each period, with its history, and of each window; those that
                 went out before are in reports/earlier/
   posted/       what was handed over of each period
+  rules.toml    what wants an approval, by whom; allowed_signers and revoked_keys: who may sign
+  approvals/    what was submitted and approved, with signatures
   journal.csv   a line for each action: when, who, what, why, which rows it added, and the digests
                 of the line before it and of each file that it left
 
@@ -38,6 +41,9 @@ examples:
   plantbal-desk book close 2024-04
   plantbal-desk book next 2025
 """
+
+# The variable that names the key with which a user signs.
+KEY = "PLANTBAL_KEY"
 
 
 class Handler(Protocol):
@@ -83,6 +89,12 @@ COMMANDS: Sequence[Inner] = (
         "reconcile several periods at once, over a dip that is missing",
     ),
     Inner("close", "closing:CLOSE", "close a period with its report"),
+    Inner("submit", "approving:SUBMIT", "submit the close of a period, to be approved"),
+    Inner("submitted", "approving:SUBMITTED", "say what waits for an approval"),
+    Inner("approve", "approving:APPROVE", "approve what was submitted, by the head that was shown"),
+    Inner("reject", "approving:REJECT", "reject what was submitted, or take it back"),
+    Inner("rules", "approving:RULES", "say what wants an approval, by whom, and who may sign"),
+    Inner("signed", "approving:SIGNED", "say who has signed and approved what"),
     Inner("quiet", "quieting:QUIET", "quiet a rule of lint for good, with a reason"),
     Inner("difference", "accounting:DIFFERENCE", "say what two reports have otherwise, and why"),
     Inner("posted", "accounting:POST", "record what is handed over of a period, once"),
@@ -113,6 +125,8 @@ def add_arguments(parser: argparse.ArgumentParser) -> None:
         made.add_argument(
             "--who", metavar="NAME", default="", help="who does it, beside the user's own name"
         )
+        key = "the key with which submissions and approvals are signed (default: PLANTBAL_KEY)"
+        made.add_argument("--key", metavar="FILE", default=os.environ.get(KEY) or None, help=key)
         made.set_defaults(inner=handler.run)
 
 

@@ -28,7 +28,7 @@ def _add_amend(parser: argparse.ArgumentParser) -> None:
 
 def _amend(options: argparse.Namespace) -> int:
     """Give a fact other values."""
-    found = Book(options.book, who=options.who).amend(
+    found = Book(options.book, who=options.who, key=options.key).amend(
         options.name,
         day_of(options.day, options.locale),
         options.amount,
@@ -66,7 +66,9 @@ def _add_strike(parser: argparse.ArgumentParser) -> None:
 def _strike(options: argparse.Namespace) -> int:
     """Take a fact out."""
     day = day_of(options.day, options.locale)
-    found = Book(options.book, who=options.who).strike(options.name, day, why=options.why)
+    found = Book(options.book, who=options.who, key=options.key).strike(
+        options.name, day, why=options.why
+    )
     if not found.is_booked:
         print(f"{found.old.id} is struck already")
     else:

@@ -26,7 +26,7 @@ def _estimate(options: argparse.Namespace) -> int:
     """Propose estimates, or book them."""
     if options.take and not options.why:
         raise Fault("a reason is wanted, and none came", remedy="say --why TEXT")
-    book = Book(options.book, who=options.who)
+    book = Book(options.book, who=options.who, key=options.key)
     period, stream = options.period, options.stream
     found = book.estimate(period, stream, take=options.take, why=options.why)
     for each in found.proposals:

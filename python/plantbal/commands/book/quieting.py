@@ -19,7 +19,7 @@ def _add_quiet(parser: argparse.ArgumentParser) -> None:
 
 def _quiet(options: argparse.Namespace) -> int:
     """Quiet a rule, let it speak again, or list what is quieted."""
-    book = Book(options.book, who=options.who)
+    book = Book(options.book, who=options.who, key=options.key)
     rule, names = options.rule, options.names
     if rule is None:
         for each in book.quieted():

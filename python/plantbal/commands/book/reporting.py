@@ -32,7 +32,7 @@ def _add_report(parser: argparse.ArgumentParser) -> None:
 
 def _report(options: argparse.Namespace) -> int:
     """Write the reports."""
-    book = Book(options.book, who=options.who)
+    book = Book(options.book, who=options.who, key=options.key)
     status = 0
     for found in book.reports(*options.periods, settings=settings_of(options)):
         output, name = found.output, found.period
@@ -59,7 +59,7 @@ def _add_window(parser: argparse.ArgumentParser) -> None:
 
 def _window(options: argparse.Namespace) -> int:
     """Write the report of a window."""
-    book = Book(options.book, who=options.who)
+    book = Book(options.book, who=options.who, key=options.key)
     found = book.window(options.first, options.last, settings=settings_of(options))
     for block in found.output.blocks_in_order[-1:]:
         for line in (state_of_block(block), *suspects_of_block(block), *undipped(block)):

@@ -58,7 +58,9 @@ def _add_accept(parser: argparse.ArgumentParser) -> None:
 
 def _accept(options: argparse.Namespace) -> int:
     """Take a file as it is."""
-    found = Book(options.book, who=options.who).accept(options.file, why=options.why)
+    found = Book(options.book, who=options.who, key=options.key).accept(
+        options.file, why=options.why
+    )
     if found.said:
         print(f"{found.file} is taken as it is: {found.said}")
     else:

@@ -1,0 +1,1 @@
+"""Four eyes: what a book wants to be approved, by whom, and who has signed it."""

@@ -1,0 +1,99 @@
+"""Holds an action back that wants an approval by the rules of its book.
+
+`Store.do` asks here before it does anything, so that no command can forget it. What changes closed
+periods, quiets a rule, strikes most of a workbook's facts or takes a file as it is becomes a
+submission by itself; a close is submitted by `plantbal-desk book submit`.
+"""
+
+from __future__ import annotations
+
+from collections.abc import Iterator
+from typing import TYPE_CHECKING
+
+from plantbal.book.approval.changers import reopened
+from plantbal.book.approval.rules import Rules, Want
+from plantbal.book.approval.state import rules_of
+from plantbal.book.approval.submitting import Submitted, submit
+from plantbal.book.chain import state_of
+from plantbal.book.forms import ACCOUNTS, APPROVALS, JOURNAL, RULES, SIGNERS, REVOKED
+from plantbal.book.journal import Act
+from plantbal.faults import Fault
+
+if TYPE_CHECKING:
+    from plantbal.book.store import Action, Store
+
+_OWN = (Act.SUBMIT, Act.APPROVE, Act.REJECT)
+
+
+def check(book: Store, action: Action) -> None:
+    """Let an action pass, or submit it and say so.
+
+    Raises
+    ------
+    Submitted
+        If it wants an approval, and was submitted.
+    Fault
+        If it wants one and can't be submitted so.
+    """
+    if action.act is Act.ACCEPT and RULES in state_of(book.journal()):
+        _check_acceptable(action.of)
+    rules = rules_of(book)
+    if rules is None or action.cleared or action.act in _OWN:
+        return
+    wants = list(wants_of(book, action, rules))
+    if not wants:
+        return
+    if action.act is Act.CLOSE:
+        said = ", ".join(wants)
+        raise Fault(
+            f"by the rules of this book, closing {action.of} wants an approval ({said})",
+            remedy=f"plantbal-desk book submit {action.of}",
+        )
+    if action.act is Act.POSTED:
+        remedy = "close it first: what is open isn't handed over"
+        raise Fault(f"by the rules of this book {action.of} isn't posted yet", remedy=remedy)
+    periods = [name for ledger in action.ledgers for name in reopened(ledger)]
+    raise Submitted(submit(book, action, wants, periods=periods))
+
+
+def wants_of(book: Store, action: Action, rules: Rules) -> Iterator[Want]:
+    """Give why an action wants an approval by the rules of its book."""
+    if action.act is Act.RULES:
+        yield Want.RULES
+    if action.act is Act.ACCEPT:
+        yield Want.ACCEPT
+    if Want.CLOSE in rules.wants and (action.act is Act.CLOSE or _is_early(action)):
+        yield Want.CLOSE
+    if Want.AMEND in rules.wants and _changes_closed(book, action):
+        yield Want.AMEND
+    if Want.ANYWAY in rules.wants and (action.anyway or action.act is Act.QUIET):
+        yield Want.ANYWAY
+    if rules.estimates is not None and action.estimated > rules.estimates:
+        yield Want.ESTIMATES
+
+
+def _is_early(action: Action) -> bool:
+    """Say whether an action hands over what is open."""
+    return action.act is Act.POSTED and action.anyway
+
+
+def _changes_closed(book: Store, action: Action) -> bool:
+    """Say whether an action changes the figures of a closed period, or the accounts of one."""
+    if any(reopened(ledger) for ledger in action.ledgers):
+        return True
+    return ACCOUNTS in action.written and any(line.act is Act.CLOSE for line in book.journal())
+
+
+def _check_acceptable(name: str) -> None:
+    """Refuse to take a file as it is on which the approvals themselves rest.
+
+    Raises
+    ------
+    Fault
+        If it is one.
+    """
+    if name in (JOURNAL, RULES, SIGNERS, REVOKED) or name.startswith(f"{APPROVALS}/"):
+        raise Fault(
+            f"{name} isn't taken as it is in a book with rules: approvals rest on it",
+            remedy="put it back as it was, from a backup",
+        )
