@@ -210,7 +210,7 @@ function aboutFile(file, bytes, digest, found) {
   const parts = [
     ["file", h("b", {}, file.name)], ["size", say("bytes", { n: whole(bytes.length) })],
     ["digest", h("span", { class: "hash", id: "sum" }, digest ?? say("no_digest"))],
-    ["took", say("took_value", { ms: whole(Math.ceil(found.milliseconds)), mib: whole(Math.ceil(found.memory / MIB)) })],
+    ["took", h("span", { id: "took", "data-ms": Math.ceil(found.milliseconds) }, say("took_value", { ms: whole(Math.ceil(found.milliseconds)), mib: whole(Math.ceil(found.memory / MIB)) }))],
   ];
   return h("div", {},
     h("dl", { class: "head" }, parts.flatMap(([key, value]) => [h("dt", {}, say(key)), h("dd", {}, value)])),
