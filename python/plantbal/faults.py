@@ -12,6 +12,7 @@ from pathlib import Path
 from typing import TYPE_CHECKING, Any, BinaryIO, ClassVar
 
 from plantbal import limits
+from plantbal.statuses import ExitStatus
 
 if TYPE_CHECKING:
     from plantbal.model.causes import Refused
@@ -97,6 +98,8 @@ class Fault(Exception):
 
     # What `as_dict` has of a class beside what every fault has.
     _SAID: ClassVar[tuple[str, ...]] = ()
+    # How a command ends that it stops.
+    ends: ExitStatus = ExitStatus.LOOK
 
     def __init__(
         self, what: str, *, place: Place | None = None, text: str = "", remedy: str = ""
@@ -145,6 +148,24 @@ class InputFault(Fault):
     """An input that can't be read: a file, a sheet, a report."""
 
 
+class FileFault(InputFault):
+    """A file that the system doesn't let be read or written, whatever stands in it."""
+
+    ends = ExitStatus.FAILED
+
+
+class WordsFault(Fault):
+    """Words of a command that don't go together, or that none of them is for."""
+
+    ends = ExitStatus.USAGE
+
+
+class Hindered(Fault):
+    """What keeps a command from its work is neither its input nor its words."""
+
+    ends = ExitStatus.FAILED
+
+
 class Faults(Fault):
     """Several faults, each said by itself before what comes of them.
 
@@ -160,6 +181,8 @@ class Faults(Fault):
         super().__init__(f"{len(faults):,} fault{'' if len(faults) == 1 else 's'}, and {then}")
         self.faults = tuple(faults)
         self.lines = tuple(lines)
+        if faults and all(fault.ends is faults[0].ends for fault in faults):
+            self.ends = faults[0].ends
 
 
 class ToolMissing(Fault):
@@ -174,6 +197,7 @@ class ToolMissing(Fault):
     """
 
     _SAID = ("tool", "package")
+    ends = ExitStatus.FAILED
 
     def __init__(self, tool: str, package: str) -> None:
         remedy = f"install {package}"
@@ -196,6 +220,7 @@ class ProgramFault(Fault):
     """
 
     _SAID = ("status", "name")
+    ends = ExitStatus.FAILED
 
     def __init__(self, what: str, *, status: int, name: str, remedy: str = "") -> None:
         super().__init__(what, remedy=remedy)
@@ -291,7 +316,7 @@ def read_beginning(path: str | Path, count: int) -> tuple[str, bytes]:
             if stat.S_ISDIR(found.st_mode):
                 raise IsADirectoryError(errno.EISDIR, os.strerror(errno.EISDIR))
             if not stat.S_ISREG(found.st_mode):
-                raise InputFault(
+                raise FileFault(
                     "it is a pipe or a device, and no file",
                     place=Place(file=str(path)),
                     remedy="name a file, or `-` for standard input",
@@ -318,11 +343,11 @@ def too_large(source: str, most: int) -> InputFault:
     )
 
 
-def unread(path: str | Path, error: OSError | ValueError) -> InputFault:
+def unread(path: str | Path, error: OSError | ValueError) -> FileFault:
     """Return the fault of a file that can't be read."""
     if isinstance(error, ValueError):
         error = OSError(errno.ENOENT, "there is no file of this name")
-    return InputFault(
+    return FileFault(
         error.strerror or "it can't be read",
         place=Place(file=str(path)),
         remedy=_UNREAD.get(error.errno or 0, ""),

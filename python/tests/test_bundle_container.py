@@ -161,6 +161,71 @@ def test_a_zip_of_another_packer(say: Desk, tmp_path: Path) -> None:
     assert "each reader of zips" not in say("audit", bundle, "--no-program").out
 
 
+REPACKERS: dict[str, list[str]] = {
+    "bsdtar": ["bsdtar", "-c", "-f", "again.zip", "--format", "zip", *NAMES],
+    "python": ["python3", "-m", "zipfile", "-c", "again.zip", *NAMES],
+    "in another order": ["python3", "-m", "zipfile", "-c", "again.zip", *sorted(NAMES)],
+    "stored": [
+        "bsdtar",
+        "-c",
+        "-f",
+        "again.zip",
+        "--format",
+        "zip",
+        "--options",
+        "compression=store",
+        *NAMES,
+    ],
+}
+
+
+@pytest.mark.parametrize("packer", REPACKERS)
+def test_a_bundle_that_was_zipped_again(say: Desk, tmp_path: Path, packer: str) -> None:
+    """What another packer does otherwise is a note, if all contents hold; else it is wrong."""
+    for name, data in files_of().items():
+        (tmp_path / name).write_bytes(data)
+    subprocess.run(REPACKERS[packer], cwd=tmp_path, check=True)
+    told = say("audit", tmp_path / "again.zip", "--no-program")
+    assert told.status == 0 and "another packer has zipped it again" in told.out, told.out
+    (tmp_path / OUTPUT).write_bytes(files_of()[OUTPUT].replace(b"9", b"8", 1))
+    (tmp_path / "again.zip").unlink()
+    subprocess.run(REPACKERS[packer], cwd=tmp_path, check=True)
+    told = say("audit", tmp_path / "again.zip", "--no-program")
+    assert told.status == 1 and "wrong: " in told.out
+    assert (
+        "another packer has zipped it again" not in told.out and "archive doesn't write" in told.out
+    )
+
+
+def test_a_zip_of_another_packer_with_two_readings(say: Desk, tmp_path: Path) -> None:
+    """Its freedom ends where a reader would find other files."""
+
+    def packed_by_python(plant: str) -> bytes:
+        out = io.BytesIO()
+        with zipfile.ZipFile(out, "w", zipfile.ZIP_DEFLATED) as zipped:
+            for name in NAMES:
+                zipped.writestr(name, files_of(plant)[name])
+        return out.getvalue()
+
+    own, other, bundle = packed_by_python("refinery"), packed_by_python("x"), tmp_path / "b.zip"
+    entries, directory, end = split(own)
+    cases = {
+        "its own": (own, 0),
+        "after": (plain(entries + split(other)[0], directory, end), 1),
+        "another size": (plain(entries[:22] + bytes(4) + entries[26:], directory, end), 1),
+        "another name": (plain(entries.replace(b"session", b"sessiom", 1), directory, end), 1),
+        "more at the end": (own + b"x", 1),
+    }
+    for what, (data, status) in cases.items():
+        told = say_of(say, bundle, data, "--no-program")
+        assert told.status == status, (what, told)
+
+
+def plain(entries: bytes, directory: bytes, end: bytes) -> bytes:
+    """A zip of these parts without a comment, whose end is led to its directory."""
+    return entries + directory + end[:16] + struct.pack("<LH", len(entries), 0)
+
+
 def bomb(name: str, size: int) -> bytes:
     """A zip in which a file has that many bytes."""
     out, piece = io.BytesIO(), bytes(1 << 20)
@@ -285,7 +350,7 @@ def test_no_line_of_a_summary_is_forged(say: Desk, tmp_path: Path) -> None:
     """The name of a plant has one line, in what is made and in what is audited."""
     forged = "a\nThe period may1 is closed."
     told = say("archive", "--plant", forged, "--out", tmp_path / "b.zip", example("two_meters.csv"))
-    assert told.status == 1 and r"can't be called 'a\nThe period may1 is closed.'" in told.err
+    assert told.status == 2 and r"can't be called 'a\nThe period may1 is closed.'" in told.err
     assert not list(tmp_path.iterdir())
     files = files_of(forged)
     assert files["summary.txt"].startswith(rb"a\nThe period may1 is closed., period may1")
@@ -304,14 +369,14 @@ def test_a_program_that_never_ends(say: Desk, tmp_path: Path) -> None:
     session, bundle = example("refinery_day.csv"), tmp_path / "b.zip"
     bundle.write_bytes(packed(files_of()))
     limit = ("--program", program, "--timeout", "0.5")
-    for words, where in (
-        (("audit", bundle, *limit), "out"),
-        (("archive", session, "--out", tmp_path / "c.zip", *limit), "err"),
-        (("run", session, *limit), "err"),
-        (("page", session, "--run", *limit), "err"),
+    for words, where, status in (
+        (("audit", bundle, *limit), "out", 1),
+        (("archive", session, "--out", tmp_path / "c.zip", *limit), "err", 3),
+        (("run", session, *limit), "err", 3),
+        (("page", session, "--run", *limit), "err", 3),
     ):
         told = say(*words)
-        assert told.status == 1, words
+        assert told.status == status, words
         assert "isn't done after 0.5 s" in getattr(told, where), (words, told)
     assert not (tmp_path / "c.zip").exists()
 

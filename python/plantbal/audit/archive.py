@@ -29,13 +29,14 @@ from plantbal.audit.summary import summary_text
 from plantbal.build import build_of
 from plantbal.commands.options import add_run, add_timeout
 from plantbal.commands.progress import Progress
-from plantbal.faults import Fault, Place, ProgramFault, read_bytes
+from plantbal.faults import Fault, Place, ProgramFault, WordsFault, read_bytes
 from plantbal.limits import SESSION_BYTES
 from plantbal.model.forms import day_text
 from plantbal.model.ledger import Ledger
 from plantbal.newfile import write_new
-from plantbal.program import STATUSES, call, find_program, words_of
+from plantbal.program import call, find_program, words_of
 from plantbal.report.output import Output, parse_report
+from plantbal.statuses import looks
 
 HELP = """
 SESSION is a file; `-` is standard input. The program is run, and the bundle is written by rename:
@@ -55,7 +56,7 @@ The same session, words, program and time give the same bytes. The time is that 
 that of the variable SOURCE_DATE_EPOCH, or else now. An existing bundle isn't overwritten.
 
 The status is 1 if somebody has to look (a row is refused, a report hasn't converged, a global test
-rejects), and a status of 2 to 6 is the program's. If there is a report, the bundle is written all
+rejects), and 3 if the program can't do its work. If there is a report, the bundle is written all
 the same.
 
 examples:
@@ -87,7 +88,7 @@ def time_of(text: str | None) -> str:
     if text is None:
         epoch = os.environ.get("SOURCE_DATE_EPOCH")
         if epoch is not None and not epoch.isdecimal():
-            raise Fault(f"SOURCE_DATE_EPOCH is {epoch!r}", remedy="it is a number of seconds")
+            raise WordsFault(f"SOURCE_DATE_EPOCH is {epoch!r}", remedy="it is a number of seconds")
         zone = datetime.timezone.utc
         now = datetime.datetime.fromtimestamp(int(epoch), zone) if epoch else None
         return (now or datetime.datetime.now(zone)).strftime(_TIME)
@@ -95,7 +96,7 @@ def time_of(text: str | None) -> str:
         return datetime.datetime.strptime(text, _TIME).strftime(_TIME)
     except ValueError as error:
         remedy = "write it as 2024-05-02T06:00:00Z, in UTC"
-        raise Fault(f"--time is {text!r}", text=text, remedy=remedy) from error
+        raise WordsFault(f"--time is {text!r}", text=text, remedy=remedy) from error
 
 
 def manifest_of(
@@ -192,7 +193,7 @@ def plant_of(options: argparse.Namespace) -> str:
     plant: str = options.plant or stem
     if not plant.isprintable():
         remedy = "say --plant NAME, in one line of letters, digits, signs and spaces"
-        raise Fault(f"the plant can't be called {plant!r}", text=plant, remedy=remedy)
+        raise WordsFault(f"the plant can't be called {plant!r}", text=plant, remedy=remedy)
     return plant
 
 
@@ -234,7 +235,7 @@ def run(options: argparse.Namespace) -> int:
             )
     except ProgramFault as fault:
         print(f"{options.prog}: {source}: {fault}", file=sys.stderr)
-        return fault.status if fault.status in STATUSES else 1
+        return fault.ends
     judge(written, f"the output of {source}", program)
     output = parse_report(written.decode("utf-8"), f"the output of {source}", status)
     period = period_of(output, options.period)
@@ -260,4 +261,4 @@ def run(options: argparse.Namespace) -> int:
     for line in output.why:
         print(f"{options.prog}: {line}", file=sys.stderr)
     print(f"{options.prog}: {period} is archived in {path}{state}", file=sys.stderr)
-    return 0 if output.ok else 1
+    return looks(not output.ok)

@@ -13,7 +13,7 @@ from pathlib import Path
 from typing import Any
 
 from plantbal.audit.changed import digest
-from plantbal.audit.container import layout_fault
+from plantbal.audit.container import layout_fault, other_reading
 from plantbal.faults import InputFault, Place, read_bytes
 from plantbal.limits import SESSION_BYTES
 
@@ -255,6 +255,8 @@ class Unpacked:
         The files.
     wrong : list of str
         What is wrong with the zip.
+    other : list of str
+        How another packer has packed it, which changes nothing of what any reader finds.
     note : str
         What may be looked at in a zip that is packed otherwise than here.
     is_sealed : bool
@@ -263,6 +265,7 @@ class Unpacked:
 
     files: dict[str, bytes]
     wrong: list[str]
+    other: list[str] = field(default_factory=list)
     note: str = ""
     is_sealed: bool = False
 
@@ -280,19 +283,21 @@ def unpacked(path: str | Path) -> Unpacked:
         with zipfile.ZipFile(BytesIO(data)) as bundle:
             entries = bundle.infolist()
             names = tuple(entry.filename for entry in entries)
-            if names != NAMES:
+            if sorted(names) != sorted(NAMES):
                 raise InputFault(
                     f"this zip has {', '.join(names) or 'no file'}",
                     place=Place(file=source),
-                    remedy=f"a bundle has {', '.join(NAMES)}, in this order",
+                    remedy=f"a bundle has {', '.join(NAMES)}",
                 )
             comment = bundle.comment
             wrong = _comment_faults(comment, data)
+            other = [] if names == NAMES else ["its files are in another order"]
             files = {}
             for entry in entries:
-                wrong += [f"{entry.filename}: its entry's {what}" for what in _entry_faults(entry)]
+                other += [f"{entry.filename}: its entry's {what}" for what in _entry_faults(entry)]
                 files[entry.filename] = _read(bundle, entry, source)
-            if not wrong and (fault := layout_fault(entries, bundle.start_dir, data)):
+            reads = other_reading if other else layout_fault
+            if not wrong and (fault := reads(entries, bundle.start_dir, data)):
                 wrong.append(f"{fault}: some unpackers may find other files in it")
     except _BROKEN as error:
         raise InputFault(
@@ -300,11 +305,11 @@ def unpacked(path: str | Path) -> Unpacked:
             place=Place(file=source),
             remedy="it was cut or changed: ask for it again",
         ) from error
-    if wrong or packed(files, sealed=bool(comment)) == data:
-        return Unpacked(files, wrong, is_sealed=bool(comment))
+    if wrong or other or packed(files, sealed=bool(comment)) == data:
+        return Unpacked(files, wrong, other, is_sealed=bool(comment))
     note = "the zip's own bytes aren't those that are packed here, but its files are the same for"
     rest = "each reader of zips: nothing stands before, between or after them"
-    return Unpacked(files, wrong, f"{note} {rest}", is_sealed=bool(comment))
+    return Unpacked(files, wrong, note=f"{note} {rest}", is_sealed=bool(comment))
 
 
 def _comment_faults(comment: bytes, data: bytes) -> list[str]:

@@ -5,6 +5,9 @@ A reader that streams a zip goes by the headers, and one that opens it goes by t
 zip can be made that has one month for the first and another month for the second. Here a zip is
 walked from its first byte to its last one. Nothing in it may be free but the compressed bytes of
 each file, and these have to be one stream of DEFLATE that ends where its entry ends.
+
+A bundle that somebody unpacked and zipped again, as a mail gateway does, has other times, methods and
+extra fields. It is walked too, and only these may differ: what each reader finds is the same.
 """
 
 from __future__ import annotations
@@ -53,7 +56,7 @@ def layout_fault(entries: Sequence[zipfile.ZipInfo], directory: int, data: bytes
 
 def _local_header(entry: zipfile.ZipInfo) -> bytes:
     """Return the header that stands before a file."""
-    return struct.pack("<4s", b"PK\3\4") + _told(entry) + entry.filename.encode("utf-8")
+    return struct.pack("<4s", b"PK\x03\x04") + _told(entry) + entry.filename.encode("utf-8")
 
 
 def _told(entry: zipfile.ZipInfo) -> bytes:
@@ -88,3 +91,102 @@ def _is_one_stream(packed: bytes, size: int) -> bool:
         if not (piece or rest):
             return False  # it is cut off
     return reader.eof and not (reader.unused_data or rest) and found == size
+
+
+# ---- a zip of another packer
+
+_DESCRIBED, _ALLOWED_FLAGS = 0x0008, 0x080E  # sizes after the data; speed of packing, UTF-8
+_STORED, _DEFLATED = zipfile.ZIP_STORED, zipfile.ZIP_DEFLATED
+_RENAMING = {
+    0x0001,
+    0x7075,
+    0x6375,
+}  # extra fields that give an entry another size, name or comment
+_LOCAL, _DIRECTORY = struct.Struct("<4s5H3L2H"), struct.Struct("<4s6H3L5H2L")
+
+
+def other_reading(entries: Sequence[zipfile.ZipInfo], directory: int, data: bytes) -> str:
+    """Return why a reader may find other files than the directory has in a zip of another packer.
+
+    Parameters
+    ----------
+    entries : sequence of ZipInfo
+        What the directory has.
+    directory : int
+        Where the directory begins.
+    data : bytes
+        The zip.
+    """
+    at = 0
+    for entry in entries:
+        if entry.header_offset != at:
+            return f"{entry.filename} doesn't begin where the file before it ends"
+        end = _entry_end(entry, data, at)
+        if end is None:
+            return f"the header before {entry.filename} isn't that of the directory"
+        at = end
+    if directory != at:
+        return "there are bytes between its last file and its directory"
+    for entry in entries:
+        at += _DIRECTORY.size
+        at += len(entry.orig_filename.encode("utf-8")) + len(entry.extra) + len(entry.comment)
+    comment = data[at + 22 :]
+    if data[at:] != _end(len(entries), at - directory, directory, comment):
+        return "its directory isn't followed by its end, and by nothing else"
+    return ""
+
+
+def _entry_end(entry: zipfile.ZipInfo, data: bytes, at: int) -> int | None:
+    """Return where a file ends whose header begins at a place; None if readers may differ on it."""
+    head, name = data[at : at + _LOCAL.size], entry.filename.encode("utf-8")
+    if len(head) < _LOCAL.size:
+        return None
+    mark, _, flags, method, _, _, *sizes, length, extra = _LOCAL.unpack(head)
+    begin = at + _LOCAL.size + length + extra
+    end: int = begin + entry.compress_size
+    wanted = [entry.CRC, entry.compress_size, entry.file_size]
+    is_described = bool(flags & _DESCRIBED)
+    fits = (
+        mark == b"PK\x03\x04"
+        and data[begin - extra - length : begin - extra] == name
+        and method == entry.compress_type in (_STORED, _DEFLATED)
+        and flags == entry.flag_bits
+        and not flags & ~_ALLOWED_FLAGS
+        and (sizes == wanted or (is_described and _is_put_off(sizes, wanted)))
+        and _renames_nothing(data[begin - extra : begin])
+        and _renames_nothing(entry.extra)
+    )
+    if not fits or not _body_fits(entry, data[begin:end], sizes[1]):
+        return None
+    if not is_described:
+        return end
+    described = struct.pack("<3L", *wanted)
+    for mark in (b"PK\x07\x08", b""):
+        if data[end : end + len(mark) + 12] == mark + described:
+            return end + len(mark) + 12
+    return None
+
+
+def _is_put_off(sizes: Sequence[int], wanted: Sequence[int]) -> bool:
+    """Return whether a header leaves numbers out that stand after the data, and says no other."""
+    return all(size in (0, known) for size, known in zip(sizes, wanted))
+
+
+def _body_fits(entry: zipfile.ZipInfo, packed: bytes, size_before: int) -> bool:
+    """Return whether a file's bytes end where its entry does, for each reader.
+
+    Deflated bytes end by themselves. Of stored ones a reader has to know the size before them.
+    """
+    if entry.compress_type == _DEFLATED:
+        return _is_one_stream(packed, entry.file_size)
+    return len(packed) == entry.file_size == size_before
+
+
+def _renames_nothing(extra: bytes) -> bool:
+    """Return whether extra fields are whole, and none gives another size or name."""
+    while len(extra) >= 4:
+        kind, size = struct.unpack("<2H", extra[:4])
+        if kind in _RENAMING or len(extra) < 4 + size:
+            return False
+        extra = extra[4 + size :]
+    return not extra

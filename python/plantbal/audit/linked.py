@@ -12,6 +12,7 @@ from dataclasses import dataclass
 
 from plantbal.audit.bundle import MANIFEST, Manifest, unpacked
 from plantbal.audit.changed import digest
+from plantbal.audit.said import Kind
 from plantbal.faults import InputFault, Place, read_bytes
 
 
@@ -91,7 +92,7 @@ class Linked:
     manifest: Manifest
     session: bytes
 
-    def held(self, book: str | None, before: str | None) -> Iterator[tuple[str, str]]:
+    def held(self, book: str | None, before: str | None) -> Iterator[tuple[Kind, str]]:
         """Give whether what it names is there: ``good``, ``note`` or ``wrong``, and a sentence.
 
         Parameters
@@ -106,14 +107,14 @@ class Linked:
             (self.manifest.before, before, "bundle before it", self._before, "--before BUNDLE"),
         ):
             if given is not None and not named:
-                yield "wrong", f"{self.path}: it names no {what}, and {given} is given"
+                yield Kind.WRONG, f"{self.path}: it names no {what}, and {given} is given"
             elif given is not None:
                 yield from compare(given)
             elif named:
                 digest_ = named.get("sha256") or f"of action {named['number']} {named['head']}"
-                yield "note", f"{self.path}: it names the {what} {digest_}: {word} compares it"
+                yield Kind.NOTE, f"{self.path}: it names the {what} {digest_}: {word} compares it"
 
-    def _book(self, folder: str) -> Iterator[tuple[str, str]]:
+    def _book(self, folder: str) -> Iterator[tuple[Kind, str]]:
         """Give whether a book has the head, and whether it had the session's rows by then."""
         from plantbal.book.chain import state_of
         from plantbal.book.forms import is_year_file
@@ -125,7 +126,7 @@ class Linked:
             wrong = missing_head(book, self.path, f"{named['number']} {named['head']}")
             lines = book.journal()[: int(named["number"])] if not wrong else []
         for each in wrong:
-            yield "wrong", each
+            yield Kind.WRONG, each
         years = [
             name
             for name, kept in state_of(lines).items()
@@ -134,22 +135,22 @@ class Linked:
         if years:
             what = f"{folder} has the head of action {named['number']} that it names"
             rest = f"its session begins with the rows of {years[0]} as they were by then"
-            yield "good", f"{self.path}: {what}, and {rest}"
+            yield Kind.GOOD, f"{self.path}: {what}, and {rest}"
         elif not wrong:
             what = f"its session doesn't begin with the rows that a year of {folder} had by action"
-            yield "wrong", f"{self.path}: {what} {named['number']}"
+            yield Kind.WRONG, f"{self.path}: {what} {named['number']}"
 
     def _begins(self, size: int | None, digest_: str) -> bool:
         """Say whether the session begins with a file that was left with this digest."""
         return size is not None and hashlib.sha256(self.session[:size]).hexdigest() == digest_
 
-    def _before(self, path: str) -> Iterator[tuple[str, str]]:
+    def _before(self, path: str) -> Iterator[tuple[Kind, str]]:
         """Give whether a bundle is the one before, with the head that is named of it."""
         there = named_bundle(path)
         if there == self.manifest.before:
-            yield "good", f"{self.path}: {path} is the bundle before it that it names"
+            yield Kind.GOOD, f"{self.path}: {path} is the bundle before it that it names"
             return
         stated = self.manifest.before
         what = f"it names the bundle {stated['sha256']} of action {stated['number'] or 'none'}"
         rest = f"{there['sha256']} of action {there['number'] or 'none'}"
-        yield "wrong", f"{self.path}: {what} as the one before it, and {path} is {rest}"
+        yield Kind.WRONG, f"{self.path}: {what} as the one before it, and {path} is {rest}"

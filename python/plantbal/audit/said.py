@@ -1,0 +1,92 @@
+"""What an audit says, sentence by sentence, and what it is about."""
+
+from __future__ import annotations
+
+from dataclasses import dataclass, field
+from enum import StrEnum
+from itertools import zip_longest
+from os.path import commonprefix
+
+SHORT = 120  # characters of a line that are quoted
+
+
+class Kind(StrEnum):
+    """What a sentence says: that something holds, that it may be looked at, or that it doesn't hold."""
+
+    GOOD = "good"
+    NOTE = "note"
+    WRONG = "wrong"
+
+
+@dataclass
+class Audit:
+    """What an audit says, sentence by sentence.
+
+    Attributes
+    ----------
+    said : list of (Kind, str)
+        The sentences.
+    is_shown : bool
+        Whether each is shown at once, since an audit may take a while.
+    """
+
+    said: list[tuple[Kind, str]] = field(default_factory=list)
+    is_shown: bool = True
+
+    def add(self, kind: Kind, text: str) -> None:
+        """Say a sentence."""
+        self.said.append((kind, text))
+        if self.is_shown:
+            print(f"{kind}: {text}", flush=True)
+
+    def count(self, kind: Kind) -> int:
+        """Return how many sentences of a kind there are."""
+        return sum(each is kind for each, _ in self.said)
+
+
+@dataclass(frozen=True)
+class Given:
+    """What is audited: how it is called, its session, its report, and the words of the run."""
+
+    source: str
+    report: str
+    session: str
+    output: bytes
+    data: bytes
+    words: list[str]
+    program: str = ""
+    sum: str = ""
+
+
+@dataclass(frozen=True, slots=True)
+class Difference:
+    """Where two texts differ first: the line, the character, and both texts about it."""
+
+    line: int
+    character: int
+    one: str
+    other: str
+
+    @property
+    def place(self) -> str:
+        """The place in words."""
+        return f"line {self.line}, character {self.character}"
+
+
+def differs_at(one: bytes, other: bytes) -> Difference:
+    """Return where two texts differ first."""
+    for number, pair in enumerate(zip_longest(one.split(b"\n"), other.split(b"\n")), 1):
+        if pair[0] != pair[1]:
+            lines = [(line or b"").decode("utf-8", "backslashreplace") for line in pair]
+            begin = len(commonprefix(lines))
+            return Difference(number, begin + 1, *(_shown(line, begin) for line in lines))
+    return Difference(0, 0, "", "")
+
+
+def _shown(line: str, at: int) -> str:
+    """Return a line as it is quoted: a long one about a place."""
+    if not line:
+        return "nothing"
+    begin = max(0, at - SHORT // 2) if len(line) > SHORT else 0
+    end = begin + SHORT
+    return f"'{'..' if begin else ''}{line[begin:end]}{'..' if len(line) > end else ''}'"
