@@ -20,7 +20,7 @@ _plantbal_desk() {
     fi
     for ((at = 1; at < COMP_CWORD; at++)); do
         case ${COMP_WORDS[at]} in
-        run|lint|explain|check|archive|audit|report|solve|convert|book|template|from-spreadsheet|tables|uncertainty|advise|balance|recovery|draw|chart|page|serve|fleet|critical|from-scipy|schema) word=${COMP_WORDS[at]}; break ;;
+        run|lint|explain|check|archive|audit|report|solve|convert|book|template|from-spreadsheet|tables|uncertainty|advise|balance|recovery|draw|chart|page|serve|fleet|tell|critical|from-scipy|schema) word=${COMP_WORDS[at]}; break ;;
         esac
     done
     case $word:$before in
@@ -164,6 +164,17 @@ _plantbal_desk() {
         fleet:--level) :; return ;;
         fleet:--forget) :; return ;;
         fleet:--keep) :; return ;;
+        tell:--to) :; return ;;
+        tell:--from) :; return ;;
+        tell:--smtp) :; return ;;
+        tell:--security) _plantbal_words 'none starttls tls'; return ;;
+        tell:--user) :; return ;;
+        tell:--password-file) _plantbal_files -f; return ;;
+        tell:--sendmail) _plantbal_files -f; return ;;
+        tell:--tries) :; return ;;
+        tell:--pause) :; return ;;
+        tell:--age) :; return ;;
+        tell:--status) :; return ;;
         critical:--nodal) :; return ;;
         critical:--measure) :; return ;;
         from-scipy:--period) :; return ;;
@@ -310,6 +321,8 @@ _plantbal_desk() {
             return
         fi
         _plantbal_words '-h --help --out --date --again --recursive --engine --jobs --timeout --retries --scheduler --send --program --lint --stale --level --forget --keep' ;;
+    tell)
+        _plantbal_words '-h --help --to --from --smtp --security --user --password-file --sendmail --tries --pause --age --status --always' ;;
     critical)
         _plantbal_words '-h --help --nodal --measure' ;;
     from-scipy)
@@ -320,7 +333,7 @@ _plantbal_desk() {
         _plantbal_words '-h --help --period --change --without-least' ;;
     schema)
         _plantbal_words '-h --help' ;;
-    *) _plantbal_words 'run lint explain check archive audit report solve convert book template from-spreadsheet tables uncertainty advise balance recovery draw chart page serve fleet critical from-scipy schema -h --help --version' ;;
+    *) _plantbal_words 'run lint explain check archive audit report solve convert book template from-spreadsheet tables uncertainty advise balance recovery draw chart page serve fleet tell critical from-scipy schema -h --help --version' ;;
     esac
 }
 

@@ -6,12 +6,14 @@ import argparse
 import importlib
 import os
 import sys
+import traceback
 from collections.abc import Sequence
 from dataclasses import dataclass
 from typing import Any, NoReturn, Protocol, cast
 
 from plantbal.faults import Fault, Faults, ToolMissing
 from plantbal.plain import plain_streams
+from plantbal.statuses import ExitStatus, said
 
 # Each is imported by the calls that need it, and is Debian's package python3-NAME.
 LIBRARIES = frozenset(
@@ -88,15 +90,16 @@ COMMANDS: tuple[Command, ...] = (
     Command("page", "page.command", "the month's statement: a page, a workbook, a PDF"),
     Command("serve", "commands.serving", "the desk in the browser, for one person"),
     Command("fleet", "fleet.command", "run a folder of sessions", takes_words=True),
+    Command("tell", "fleet.tell", "send a mail about a night that needs a person"),
     Command("critical", "study.critical", "critical values as rows of a session"),
     Command("from-scipy", "study.foreign", "another program's figures in the form of a report"),
     Command("schema", "commands.running:SCHEMA", "the rows of sessions and outputs as data"),
 )
 
-EPILOG = """
-Statuses: 0 done, 1 the input or a tool is at fault, or a check found something; 2 the words are
-none of its own.
+EPILOG = f"""
+Each subcommand ends with one of these statuses:
 
+{said()}
 examples:
   plantbal-desk run day.csv --out day.xlsx
   plantbal run --tests < month.csv | plantbal-desk page --title May > may.html
@@ -201,35 +204,48 @@ def _called(options: argparse.Namespace) -> int:
         sys.stdout.flush()
         return status
     except Fault as fault:
-        for said in [*(fault.lines if isinstance(fault, Faults) else ()), fault]:
-            print(f"{options.prog}: {said}", file=sys.stderr)
-        return 1
+        for line in [*(fault.lines if isinstance(fault, Faults) else ()), fault]:
+            print(f"{options.prog}: {line}", file=sys.stderr)
+        return fault.ends
     except ModuleNotFoundError as error:
         library = (error.name or "").partition(".")[0]
         if library not in LIBRARIES:
             raise
         missing = ToolMissing(library, f"python3-{library}")
         print(f"{options.prog}: {missing}", file=sys.stderr)
-        return 1
+        return missing.ends
     except BrokenPipeError:
         # The reader has gone: nothing more can be written, not even at the end of the process.
         os.dup2(os.open(os.devnull, os.O_WRONLY), sys.stdout.fileno())
-        return 1
+        return ExitStatus.FAILED
     except OSError as error:  # a full disk, mostly: what reads and writes files has its own faults
         os.dup2(os.open(os.devnull, os.O_WRONLY), sys.stdout.fileno())
-        said = f"{error.filename or 'standard output'}: {error.strerror or error}"
-        print(f"{options.prog}: {said}: make room, or write elsewhere", file=sys.stderr)
-        return 1
+        what = f"{error.filename or 'standard output'}: {error.strerror or error}"
+        print(f"{options.prog}: {what}: make room, or write elsewhere", file=sys.stderr)
+        return ExitStatus.FAILED
+    except MemoryError:
+        print(f"{options.prog}: out of memory: give it more, or less to read", file=sys.stderr)
+        return ExitStatus.FAILED
     except KeyboardInterrupt:
         print(f"{options.prog}: stopped", file=sys.stderr)
-        return 130
+        return ExitStatus.STOPPED
 
 
 def script(word: str) -> NoReturn:
     """Run a subcommand as a command of its own: the thin files in examples/ call it."""
     command = next(command for command in COMMANDS if command.word == word)
     prog = os.path.basename(sys.argv[0])
-    sys.exit(call(parser_of(command, prog), sys.argv[1:]))
+    _exit(parser_of(command, prog), sys.argv[1:])
+
+
+def _exit(parser: argparse.ArgumentParser, words: Sequence[str]) -> NoReturn:
+    """Run a command, and end with its status: a mistake of our own is none that a person looks at."""
+    try:
+        status = call(parser, words)
+    except Exception:
+        traceback.print_exc()
+        status = ExitStatus.FAILED
+    sys.exit(int(status))
 
 
 def main() -> NoReturn:
@@ -237,8 +253,8 @@ def main() -> NoReturn:
     words = sys.argv[1:]
     for command in COMMANDS:
         if words[:1] == [command.word]:  # the others needn't be loaded
-            sys.exit(call(parser_of(command, f"plantbal-desk {command.word}"), words[1:]))
-    sys.exit(call(desk_parser(), words))
+            _exit(parser_of(command, f"plantbal-desk {command.word}"), words[1:])
+    _exit(desk_parser(), words)
 
 
 if __name__ == "__main__":

@@ -10,7 +10,7 @@ from collections.abc import Iterator
 from contextlib import contextmanager
 from pathlib import Path
 
-from plantbal.faults import InputFault, Place
+from plantbal.faults import FileFault, Place
 from plantbal.plain import named
 
 # What to do about a file that can't be written, by the system's number of the fault.
@@ -24,9 +24,9 @@ _UNWRITTEN = {
 }
 
 
-def unwritten(path: str | Path, error: OSError) -> InputFault:
+def unwritten(path: str | Path, error: OSError) -> FileFault:
     """Return the fault of a file that can't be written."""
-    return InputFault(
+    return FileFault(
         f"it can't be written: {error.strerror or error}",
         place=Place(file=str(path)),
         remedy=_UNWRITTEN.get(error.errno or 0, ""),

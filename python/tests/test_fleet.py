@@ -620,7 +620,7 @@ def test_alone(forty: tuple[Path, Path, list[object]], say: Desk) -> None:
         wait_for(lambda: subprocess.run(["flock", "-n", out / ".lock", "true"]).returncode != 0)
         found = say("fleet", *words)
         other.kill()
-    assert found.status == 1 and "a fleet is writing to" in found.err and "wait until" in found.err
+    assert found.status == 3 and "a fleet is writing to" in found.err and "wait until" in found.err
 
 
 def test_which_files(tmp_path: Path) -> None:
@@ -708,7 +708,7 @@ def test_the_night_cannot_be_kept(
 
     monkeypatch.setattr("plantbal.fleet.keep._insert", full)
     found = say("fleet", "--program", program, "--out", tmp_path / "out", folder)
-    assert (found.status, row_of(found.out, "a")["state"]) == (1, "none")
+    assert (found.status, row_of(found.out, "a")["state"]) == (3, "none")
     assert "1 plant, of which 1 needs a person\n" in found.err
     assert "database or disk is full: make room, and run the fleet again" in found.err
 
@@ -728,7 +728,7 @@ def test_a_session_that_has_gone(tmp_path: Path, program: Path, say: Desk) -> No
     assert (found.status, row_of(found.out, "b")["state"]) == (1, "nosession")
     assert "fleet: b: its session has gone; it was run on 2026-11-27; --forget b ends" in found.err
     found = say(*words, "--date", "2026-11-30", "--forget", "a")
-    assert found.status == 1 and "the session of a has not gone: those that have: b" in found.err
+    assert found.status == 2 and "the session of a has not gone: those that have: b" in found.err
     for night, more in (("2026-11-30", ["--forget", "b"]), ("2026-12-01", [])):
         found = say(*words, "--date", night, *more)
         assert (found.status, [row["site"] for row in rows_of(found.out)]) == (0, ["a"])
@@ -774,14 +774,14 @@ def test_words(program: Path, tmp_path: Path, say: Desk) -> None:
 
 
 WRONG = {
-    "no folder": ({"folder": "nowhere"}, 1, "nowhere: No such file or directory"),
-    "no session": ({"folder": "none"}, 1, "there is no session, no file that ends with .csv"),
-    "a file": ({"folder": "file"}, 1, "file: Not a directory"),
-    "no program": ({"--program": "nowhere"}, 1, "there is no program"),
-    "no parallel": ({"PATH": "none"}, 1, "there is no `parallel`: install GNU parallel"),
-    "out is a file": ({"--out": "file"}, 1, "file: "),
-    "no database": ({"--out": "kept"}, 1, "fleet.sqlite: the nights can't be kept there: file is"),
-    "no cluster": ({"--scheduler": "tcp://127.0.0.1:9"}, 1, "tcp://127.0.0.1:9 doesn't answer"),
+    "no folder": ({"folder": "nowhere"}, 3, "nowhere: No such file or directory"),
+    "no session": ({"folder": "none"}, 3, "there is no session, no file that ends with .csv"),
+    "a file": ({"folder": "file"}, 3, "file: Not a directory"),
+    "no program": ({"--program": "nowhere"}, 3, "there is no program"),
+    "no parallel": ({"PATH": "none"}, 3, "there is no `parallel`: install GNU parallel"),
+    "out is a file": ({"--out": "file"}, 3, "file: "),
+    "no database": ({"--out": "kept"}, 3, "fleet.sqlite: the nights can't be kept there: file is"),
+    "no cluster": ({"--scheduler": "tcp://127.0.0.1:9"}, 3, "tcp://127.0.0.1:9 doesn't answer"),
     "jobs": ({"--jobs": "0"}, 2, "'0' is no number from 1 on"),
     "date": ({"--date": "yesterday"}, 2, "'yesterday' is no night: write 2026-11-29"),
     "timeout": ({"--timeout": "soon"}, 2, "'soon' isn't a number of seconds: write 600"),

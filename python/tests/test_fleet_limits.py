@@ -331,7 +331,7 @@ def test_a_disk_that_fails(program: Path, tmp_path: Path, say: Desk) -> None:
         patch.setenv("PATH", f"{sync.parent}:{os.environ['PATH']}")
         words = ("--program", program, "--out", tmp_path / "out", "--date", NIGHT)
         said = say("fleet", *words, tmp_path / "sessions")
-    assert said.status == 1 and "the night may not be on the disk: sync: error" in said.err
+    assert said.status == 3 and "the night may not be on the disk: sync: error" in said.err
     assert not (tmp_path / "out" / "latest").is_symlink()
 
 

@@ -17,13 +17,14 @@ from plantbal.balance.solve import solve
 from plantbal.balance.stock import Held, held_of, lines_of_stocks, stocks_of, unknown_stocks
 from plantbal.balance.table import SOLIDS, Line, Unit, lines_of, recoveries_of, said_of
 from plantbal.commands.options import add_program
-from plantbal.faults import Fault, read_bytes
+from plantbal.faults import Fault, read_bytes, WordsFault
 from plantbal.files import replacing, write_text
 from plantbal.limits import SESSION_BYTES
 from plantbal.report.blocks import last_blocks
 from plantbal.report.chart import ENDINGS
 from plantbal.report.output import Output
 from plantbal.runs import check, run as run_program
+from plantbal.statuses import looks
 from plantbal.study.advice import plant_of
 
 HELP = """
@@ -130,7 +131,7 @@ def _asked(options: argparse.Namespace) -> Asked:
 
 
 def run(options: argparse.Namespace) -> int:
-    """Write the flows and grades, and return 1 if one of them isn't certified."""
+    """Write the flows and grades; somebody has to look if one of them isn't certified."""
     asked = _asked(options)
     found = solve(asked.problem)
     known = Known(found)
@@ -152,7 +153,7 @@ def run(options: argparse.Namespace) -> int:
     notes = list(notes_of(asked, known, lines, held))
     for note in [*notes, *([f"not certified: {why_not}"] if why_not else [])]:
         print(f"{options.prog}: {note}", file=sys.stderr)
-    return int(bool(why_not))
+    return looks(why_not)
 
 
 def _chart(path: str, known: Known) -> None:
@@ -162,7 +163,7 @@ def _chart(path: str, known: Known) -> None:
 
     form = Path(path).suffix[1:].lower()
     if form not in ENDINGS:
-        raise Fault(f"{path} ends with {form!r}", text=path, remedy="say .svg, .png or .pdf")
+        raise WordsFault(f"{path} ends with {form!r}", text=path, remedy="say .svg, .png or .pdf")
     with replacing(path) as made:
         write_chart(of_known(known), made, form)
 

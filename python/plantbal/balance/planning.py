@@ -14,9 +14,10 @@ from plantbal.balance.reading import GRAMS, MILLION, asked_of
 from plantbal.balance.solve import solve
 from plantbal.balance.table import lines_of
 from plantbal.balance.worth import Change, Instrument, State, changed, changes_of
-from plantbal.faults import Fault, InputFault, Place
+from plantbal.faults import Fault, InputFault, Place, WordsFault
 from plantbal.files import replacing, write_text
 from plantbal.report.chart import ENDINGS
+from plantbal.statuses import ExitStatus
 from plantbal.workbook.cells import Reader, check_locale
 from plantbal.workbook.sheets import Cell, Sheet, read_workbook
 
@@ -153,7 +154,9 @@ def run(options: argparse.Namespace, source: str, data: bytes) -> int:
     lose = [named(text, state) for text in options.lose]
     if options.want or options.redundant or options.budget is not None:
         if add or lose:
-            raise Fault("--add and --lose are of a what-if", remedy="ask for one thing at a time")
+            raise WordsFault(
+                "--add and --lose are of a what-if", remedy="ask for one thing at a time"
+            )
         choice, said = _bought(options, state, offers)
         lines += list(_choice_lines(choice, said))
         add = list(choice.instruments)
@@ -168,7 +171,7 @@ def run(options: argparse.Namespace, source: str, data: bytes) -> int:
         _draw(options.draw, changes)
     if any(line.kind.value == "unobservable" for line in lines_of(after) if not line.component):
         print(f"{options.prog}: some flows stay unknown: they have no ±", file=sys.stderr)
-    return 0
+    return ExitStatus.GOOD
 
 
 def _with_error(text: str, state: State) -> Instrument:
@@ -186,10 +189,12 @@ def _bought(
     """Return what is bought for the aim, and the aim in words."""
     if not offers:
         remedy = "name a table with the columns stream, component, cost and error"
-        raise Fault("nothing is offered", remedy=remedy)
+        raise WordsFault("nothing is offered", remedy=remedy)
     aims = [bool(options.want), bool(options.redundant), options.budget is not None]
     if sum(aims) > 1:
-        raise Fault("there are several aims", remedy="say one of --want, --redundant and --budget")
+        raise WordsFault(
+            "there are several aims", remedy="say one of --want, --redundant and --budget"
+        )
     streams = [flow.name for flow in state.problem.flows]
     if options.redundant:
         aim = redundant(state, streams)
@@ -261,6 +266,6 @@ def _draw(path: str, changes: Sequence[Change]) -> None:
 
     form = Path(path).suffix[1:].lower()
     if form not in ENDINGS:
-        raise Fault(f"{path} ends with {form!r}", text=path, remedy="say .svg, .png or .pdf")
+        raise WordsFault(f"{path} ends with {form!r}", text=path, remedy="say .svg, .png or .pdf")
     with replacing(path) as made:
         write_worth(changes, made, form)

@@ -36,7 +36,7 @@ from plantbal.book.results import ReportState
 from plantbal.book.said import behind_said
 from plantbal.book.store import Act, Action, Store
 from plantbal.book.years import Years
-from plantbal.faults import Fault, InputFault, Place
+from plantbal.faults import Fault, InputFault, Place, WordsFault
 
 NOW, POSTED = "now", "posted"
 
@@ -125,7 +125,7 @@ def difference_of(book: Store, period: str, words: Sequence[str]) -> Difference:
         remedy = f"plantbal-desk book report {period}"
         raise Fault(f"{period} has no report yet", remedy=remedy)
     if len(words) == 1:
-        raise Fault("FROM is there, and TO is missing", remedy="say both, or none")
+        raise WordsFault("FROM is there, and TO is missing", remedy="say both, or none")
     one, other = words or (_default(book, period), NOW)
     sides = [_side(book, versions, period, word) for word in (one, other)]
     before, after = sides

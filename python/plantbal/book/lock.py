@@ -15,7 +15,7 @@ from contextlib import contextmanager
 from pathlib import Path
 from typing import IO
 
-from plantbal.faults import Fault, InputFault, Place, unread
+from plantbal.faults import Hindered, InputFault, Place, unread
 from plantbal.files import unwritten
 
 _PAUSE = 0.05
@@ -95,7 +95,7 @@ def locked(path: Path, seconds: float, shared: bool = False) -> Iterator[None]:
         end = time.monotonic() + seconds
         while not _taken(file, shared):
             if time.monotonic() > end:
-                raise Fault(
+                raise Hindered(
                     f"another command is at work in the book {path.parent}",
                     remedy="wait until it has ended, and type this again",
                 )

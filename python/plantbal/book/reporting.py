@@ -267,12 +267,33 @@ def session_asking(book: Store, names: Sequence[str]) -> str:
     Fault
         If they are of several years.
     """
+    found = _asking(book, names)
+    if len(found) > 1:
+        raise Fault("these periods are of several years", remedy="name those of one year")
+    return next(iter(found.values()))
+
+
+def sessions_asking(book: Store) -> dict[str, str]:
+    """Return of each year with open periods the session that asks for the reports of these.
+
+    Parameters
+    ----------
+    book : Store
+        The book, which is tested first.
+    """
+    return _asking(book, ())
+
+
+def _asking(book: Store, names: Sequence[str]) -> dict[str, str]:
+    """Return the sessions that ask for periods, or for all open ones, by their years."""
     with book.opened(reading=True):
         years = Years(book)
-        periods = list(names) or years.open_periods()
-        ledgers = {ledger.name: ledger for ledger in map(years.of_period, periods)}
-        if len(ledgers) > 1:
-            raise Fault("these periods are of several years", remedy="name those of one year")
-        text = "".join(book.text(year_file(name)) for name in ledgers)
-        session = years.of_period(periods[0]).session
-    return text + "".join(rows_asking(name, session.components_in(name)) for name in periods)
+        asked: dict[str, list[str]] = {}
+        for name in list(names) or years.open_periods():
+            asked.setdefault(years.of_period(name).name, []).append(name)
+        found = {}
+        for year, periods in asked.items():
+            session = years.of_period(periods[0]).session
+            rows = (rows_asking(name, session.components_in(name)) for name in periods)
+            found[year] = book.text(year_file(year)) + "".join(rows)
+    return found

@@ -51,7 +51,7 @@ from plantbal.book.lock import locked
 from plantbal.book.owners import check_folder, check_links, link_in, user_said
 from plantbal.book.pending import Entry, pending_text, read_pending
 from plantbal.book.writing import Writing, sync
-from plantbal.faults import Fault, InputFault, Place, decoded, read_bytes
+from plantbal.faults import decoded, Fault, FileFault, InputFault, Place, read_bytes
 from plantbal.files import unwritten
 
 __all__ = ["METERS", "PLANT", "REPORTS", "Act", "Action", "Head", "Line", "Store"]
@@ -161,7 +161,7 @@ class Store:
         if found:
             what = f"{found[0]} is of a book, and there is no journal.csv"
             raise InputFault(what, place=Place(file=str(self.folder)), remedy=_LOST)
-        raise Fault(
+        raise FileFault(
             f"there is no book in {self.folder.resolve()}",
             remedy="go to its folder or name it by --book, "
             "or make one: plantbal-desk book new 2024 WORKBOOK",

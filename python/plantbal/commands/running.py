@@ -14,18 +14,18 @@ from types import SimpleNamespace
 from plantbal import schema
 from plantbal.commands.options import add_program, add_run, add_sweeps, add_timeout
 from plantbal.commands.progress import Progress
-from plantbal.faults import Fault, InputFault, ProgramFault, decoded, read_bytes
+from plantbal.faults import InputFault, ProgramFault, WordsFault, decoded, read_bytes
 from plantbal.files import unwritten, write_text
 from plantbal.gates import by_session, line_of, unsaid
 from plantbal.forms import session_to_run
 from plantbal.model.ledger import Ledger
-from plantbal.program import STATUSES
 from plantbal.records import read_records
 from plantbal.report.blocks import blocks_of, last_blocks, over_of, subjects_of
 from plantbal.report.parsing import parse_rows, refuse_other, refuse_parts
 from plantbal.report.output import Output, parse_report, read_report
 from plantbal.report.rows import Numbers
 from plantbal.runs import check, run
+from plantbal.statuses import ExitStatus, looks
 
 OUTPUT_HELP = """
 The report goes to standard output, or to the file of --out by its ending: .csv, .sqlite or .xlsx.
@@ -36,8 +36,8 @@ the status is 1. It also says which streams carry more of a component than there
 RUN_HELP = """
 Standard error says how many rows are refused, with the first five in sentences with their lines.
 For each period it says whether there is a report, whether it converged, and what its global test
-says; then where the output is. On a terminal a long run shows its progress. A status of 2 to 6 is
-the program's.
+says; then where the output is. On a terminal a long run shows its progress. If the program itself
+couldn't do its work, the status is 3, and standard error has the program's own.
 """
 FIRST = 5
 
@@ -46,7 +46,7 @@ def say(options: argparse.Namespace, output: Output) -> int:
     """Say why an output isn't ok, and what in it can't be, and return the status."""
     for line in [*output.why, *output.impossible]:
         print(f"{options.prog}: {line}", file=sys.stderr)
-    return 0 if output.ok else 1
+    return looks(not output.ok)
 
 
 def writer_of(path: str) -> Callable[[Output], object]:
@@ -54,7 +54,7 @@ def writer_of(path: str) -> Callable[[Output], object]:
 
     Raises
     ------
-    Fault
+    WordsFault
         If the ending is none of these, or the file can't be written.
     """
     ending = Path(path).suffix.lower()
@@ -67,7 +67,9 @@ def writer_of(path: str) -> Callable[[Output], object]:
     if path == "-":
         return writers[".csv"]
     if ending not in writers:
-        raise Fault(f"{path} ends with {ending!r}", text=path, remedy="say .csv, .sqlite or .xlsx")
+        raise WordsFault(
+            f"{path} ends with {ending!r}", text=path, remedy="say .csv, .sqlite or .xlsx"
+        )
     if not Path(path).parent.is_dir():
         raise unwritten(path, OSError(errno.ENOENT, os.strerror(errno.ENOENT)))
     if Path(path).is_dir():
@@ -105,7 +107,7 @@ def _run(options: argparse.Namespace) -> int:
             )
     except ProgramFault as fault:
         print(f"{options.prog}: {source}: {fault}", file=sys.stderr)
-        return fault.status if fault.status in STATUSES else 1
+        return fault.ends
     write(output)
     status = say(options, output)
     say_rows(options, source, data, output)
@@ -243,11 +245,11 @@ def _check(options: argparse.Namespace) -> int:
     for line in _impossible(source, text):
         print(f"{options.prog}: {line}", file=sys.stderr)
     if (verdicts["verdict"] == "yes").all():
-        return 0
+        return ExitStatus.GOOD
     named = "FILE" if source == "standard input" else source
     hint = f"plantbal-desk explain {named} shows the rows"
     print(f"{options.prog}: {source}: not all of it passes: {hint}", file=sys.stderr)
-    return 1
+    return ExitStatus.LOOK
 
 
 def _add_report(parser: argparse.ArgumentParser) -> None:
@@ -261,7 +263,7 @@ def _report(options: argparse.Namespace) -> int:
     output = read_report(options.report)
     refuse_parts(output.source, output.rows, checks=True)
     write(output)
-    return 0
+    return ExitStatus.GOOD
 
 
 def _add_schema(parser: argparse.ArgumentParser) -> None:
@@ -272,7 +274,7 @@ def _schema(options: argparse.Namespace) -> int:
     del options
     text = schema.FILE.read_text(encoding="utf-8")
     write_text("-", text)
-    return 0
+    return ExitStatus.GOOD
 
 
 RUN = SimpleNamespace(

@@ -5,6 +5,8 @@ from __future__ import annotations
 import argparse
 from typing import Any
 
+from plantbal.statuses import ExitStatus
+
 HELP = """
 Each BOOK is the folder of a plant's book; what was opened before is there again. The desk answers on
 127.0.0.1 alone, and only to who has the key that is in the printed address. It needs python3-django.
@@ -48,4 +50,4 @@ def run(options: argparse.Namespace) -> int:
     desk: Any = serving.Desk.made(options.state, options.program)
     desk.open(options.books)
     desk.serve(options.port, browser=not options.no_browser)
-    return 0
+    return ExitStatus.GOOD

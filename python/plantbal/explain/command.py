@@ -18,6 +18,7 @@ from plantbal.records import read_records, without_empty_end
 from plantbal.report.blocks import Values
 from plantbal.report.parsing import read_rows
 from plantbal.schema import schema
+from plantbal.statuses import ExitStatus
 
 _MOST_RECORD = (1 << 56) - 1
 
@@ -109,6 +110,6 @@ def run(options: argparse.Namespace) -> int:
             same_refusals(said, read_rows(options.output), options.output, source)
     if not said.whole and not said.rows:
         print(f"{options.prog}: {source}: nothing to explain", file=sys.stderr)
-        return 0
+        return ExitStatus.GOOD
     write_text("-", plain(f"{said}\n"))
-    return 1
+    return ExitStatus.LOOK

@@ -11,7 +11,7 @@ from collections.abc import Callable, Generator, Iterator, Sequence
 from contextlib import ExitStack, nullcontext, suppress
 from typing import Any
 
-from plantbal.faults import Fault, InputFault, ToolMissing, read_bytes
+from plantbal.faults import Hindered, InputFault, read_bytes, ToolMissing
 from plantbal.fleet import job as calls
 from plantbal.fleet.engines import Asked, Begin, Ended, Job
 from plantbal.fleet.limits import JOB_MEMORY, OUTPUT_BYTES, SENT_BYTES
@@ -80,12 +80,12 @@ def _client(dask: Any, asked: Asked, open_things: ExitStack) -> Any:
     try:
         client = dask.Client(asked.scheduler, timeout=_ANSWERS)
     except (OSError, ValueError) as error:
-        raise Fault(f"{said} doesn't answer", remedy="start `dask-scheduler` there") from error
+        raise Hindered(f"{said} doesn't answer", remedy="start `dask-scheduler` there") from error
     try:
         client.wait_for_workers(1, timeout=_ANSWERS)
     except Exception as error:
         client.close()
-        raise Fault(f"{said} has no machine", remedy="start `dask-worker` on some") from error
+        raise Hindered(f"{said} has no machine", remedy="start `dask-worker` on some") from error
     return client
 
 

@@ -15,7 +15,7 @@ from contextlib import suppress
 from pathlib import Path
 from typing import IO
 
-from plantbal.faults import Fault, ToolMissing
+from plantbal.faults import Hindered, ToolMissing
 from plantbal.fleet.engines import Asked, Begin, Came, Ended, Job
 from plantbal.fleet.job import JOB, SAID, ended, limits, times
 from plantbal.fleet.limits import JOB_MEMORY, OUTPUT_BYTES
@@ -84,7 +84,9 @@ def run(
         if process.wait() == _TROUBLE:
             said.seek(0)
             text = said.read().decode("utf-8", "replace").strip()
-            raise Fault(f"parallel ended with the status {_TROUBLE}: {text or 'it says no more'}")
+            raise Hindered(
+                f"parallel ended with the status {_TROUBLE}: {text or 'it says no more'}"
+            )
     for number, some in enumerate(handed[len(done) :], len(done) + 1):
         if number not in logged:
             for job in some:

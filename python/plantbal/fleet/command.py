@@ -17,7 +17,7 @@ from dataclasses import dataclass, field, replace
 from pathlib import Path
 
 from plantbal.commands.options import seconds_of
-from plantbal.faults import Fault, InputFault
+from plantbal.faults import Fault, InputFault, WordsFault
 from plantbal.files import write_text
 from plantbal.fleet.alarms import age_of, level_of
 from plantbal.fleet.engines import WHY, Asked, Ended, Engine, Job
@@ -418,7 +418,9 @@ def _take_gone(fleet: Fleet, folder: Path, forgotten: Sequence[str]) -> None:
     unknown = [name for name in forgotten if name not in found]
     if unknown:
         names = ", ".join(sorted(found)) or "none"
-        raise Fault(f"the session of {unknown[0]} has not gone", remedy=f"those that have: {names}")
+        raise WordsFault(
+            f"the session of {unknown[0]} has not gone", remedy=f"those that have: {names}"
+        )
     for name, before in found.items():
         if name not in forgotten:
             site = Site(name, folder / f"{name}.csv")
@@ -442,7 +444,9 @@ def _program(named: str | None, elsewhere: bool) -> Path:
     if not elsewhere:
         return find_program(named).absolute()
     if named is None:
-        raise Fault("no program is named", remedy="say --program PATH, where each machine has it")
+        raise WordsFault(
+            "no program is named", remedy="say --program PATH, where each machine has it"
+        )
     return Path(named)
 
 

@@ -14,7 +14,7 @@ from itertools import chain, islice
 from pathlib import Path
 from typing import BinaryIO
 
-from plantbal.faults import InputFault, Place
+from plantbal.faults import FileFault, InputFault, Place
 from plantbal.limits import SESSION_BYTES
 from plantbal.records import read_records
 
@@ -139,8 +139,8 @@ def sha256_of(path: Path) -> str:
         raise _unread(path, error) from error
 
 
-def _unread(path: Path, error: OSError) -> InputFault:
-    return InputFault(error.strerror or "it can't be read", place=Place(file=str(path)))
+def _unread(path: Path, error: OSError) -> FileFault:
+    return FileFault(error.strerror or "it can't be read", place=Place(file=str(path)))
 
 
 def _rows(data: bytes, kind: str, refused: Collection[int]) -> Iterable[tuple[str, ...]]:

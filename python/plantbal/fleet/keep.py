@@ -12,7 +12,7 @@ from contextlib import closing, contextmanager, suppress
 from dataclasses import dataclass
 from pathlib import Path
 
-from plantbal.faults import InputFault, Place
+from plantbal.faults import FileFault, Place
 from plantbal.files import write_text
 from plantbal.fleet.given import sha256_of
 from plantbal.fleet.night import Night, Run, link
@@ -110,7 +110,7 @@ def _flush(folder: Path) -> None:
     )
     if done.returncode:
         said = done.stderr.strip() or f"sync ended with status {done.returncode}"
-        raise InputFault(
+        raise FileFault(
             f"the night may not be on the disk: {said}",
             place=Place(file=str(folder)),
             remedy="see whether the disk is full or failing, and run the fleet again",
@@ -162,7 +162,7 @@ def database(path: Path) -> Iterator[sqlite3.Connection]:
     except sqlite3.Error as error:
         code = getattr(error, "sqlite_errorcode", 0) & 0xFF
         remedy = _REMEDIES.get(code, "move the file away")
-        raise InputFault(
+        raise FileFault(
             f"the nights can't be kept there: {error}",
             place=Place(file=str(path)),
             remedy=f"{remedy}, and run the fleet again: no session runs twice",

@@ -27,7 +27,7 @@ from contextlib import contextmanager, suppress
 from dataclasses import dataclass, fields, replace
 from pathlib import Path
 
-from plantbal.faults import Fault, InputFault, Place, read_bytes
+from plantbal.faults import FileFault, Hindered, InputFault, Place, read_bytes
 from plantbal.fleet.engines import Came
 from plantbal.fleet.given import Given, sha256_of
 from plantbal.fleet.job import SAID, STATUS, ended
@@ -238,7 +238,7 @@ class Night:
                 _clear(part.parent)
             part.mkdir()
         except OSError as error:
-            raise InputFault(
+            raise FileFault(
                 error.strerror or "it can't be written", place=Place(file=str(part))
             ) from error
 
@@ -386,7 +386,7 @@ def alone(out: Path) -> Iterator[int]:
         out.mkdir(parents=True, exist_ok=True)
         handle = os.open(lock, os.O_RDWR | os.O_CREAT, 0o666)
     except OSError as error:
-        raise InputFault(
+        raise FileFault(
             error.strerror or "it can't be written", place=Place(file=str(error.filename or out))
         ) from error
     try:
@@ -394,7 +394,7 @@ def alone(out: Path) -> Iterator[int]:
     except OSError as error:
         os.close(handle)
         said = f"a fleet is writing to {out}"
-        raise Fault(said, remedy="wait until it has ended, or stop it") from error
+        raise Hindered(said, remedy="wait until it has ended, or stop it") from error
     try:
         yield handle
     finally:

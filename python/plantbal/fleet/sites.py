@@ -9,7 +9,7 @@ from collections.abc import Iterator
 from dataclasses import dataclass, field
 from pathlib import Path
 
-from plantbal.faults import InputFault, Place
+from plantbal.faults import FileFault, InputFault, Place
 from plantbal.fleet.limits import DEPTH, FOLDERS, NOTES
 
 # What the folder of the nights has beside the sites.
@@ -169,9 +169,9 @@ def sites(folder: Path, *, recursive: bool = False, out: Path | None = None) -> 
     try:
         paths = list(walk.sessions(folder))
     except OSError as error:
-        raise InputFault(error.strerror or "it can't be read", place=place) from error
+        raise FileFault(error.strerror or "it can't be read", place=place) from error
     if not paths and not walk.unread:
-        raise InputFault(
+        raise FileFault(
             "there is no session, no file that ends with .csv",
             place=place,
             remedy="; ".join(walk.left) or "put each plant's session there as SITE.csv",

@@ -30,7 +30,7 @@ from pathlib import Path
 from threading import Condition, Lock, Thread
 from typing import Any
 
-from plantbal.faults import Fault
+from plantbal.faults import Fault, Hindered
 from plantbal.fleet.given import Given
 from plantbal.fleet.limits import (
     MIB,
@@ -251,7 +251,7 @@ class Taker:
             self._changed.wait_for(lambda: self._lost() or not self._waits(), seconds)
             if self._lost():
                 what = "the process that takes in what came of the plants has ended"
-                raise Fault(what, remedy="run the fleet again: no session runs twice")
+                raise Hindered(what, remedy="run the fleet again: no session runs twice")
 
     def stop(self) -> None:
         """Wait for a moment, since the fleet is stopped."""

@@ -8,6 +8,7 @@ import sys
 
 from plantbal.lint.findings import RULES
 from plantbal.lint.sessions import lint_session, summary
+from plantbal.statuses import looks
 
 HELP = (
     """
@@ -70,4 +71,4 @@ def run(options: argparse.Namespace) -> int:
     if quiet:
         print(f"{options.prog}: {quiet} quieted by the book, see book quiet", file=sys.stderr)
     worst = {each.severity for each in findings}
-    return 1 if "error" in worst or (options.strict and "warning" in worst) else 0
+    return looks("error" in worst or (options.strict and "warning" in worst))

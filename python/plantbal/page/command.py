@@ -13,7 +13,7 @@ from typing import TYPE_CHECKING
 from plantbal import limits
 from plantbal.audit.linked import named_book
 from plantbal.commands.options import add_timeout
-from plantbal.faults import Fault, InputFault, Place
+from plantbal.faults import Fault, InputFault, Place, WordsFault
 from plantbal.files import write_text
 from plantbal.forms import read_session, session_to_run
 from plantbal.model.ledger import Ledger
@@ -28,6 +28,7 @@ from plantbal.report.blocks import Values, blocks_of, last_blocks
 from plantbal.report.parsing import csv_of, read_rows
 from plantbal.report.judged import judge_rows
 from plantbal.schema import schema
+from plantbal.statuses import looks
 
 if TYPE_CHECKING:
     from plantbal.explain import Told
@@ -278,7 +279,9 @@ def _source(options: argparse.Namespace) -> tuple[Source, Output | None, Path | 
     if not options.runs:
         if options.eliminate or options.program:
             word = "--eliminate" if options.eliminate else "--program"
-            raise Fault(f"{word} is of a run", remedy="say --run too, and the session as the file")
+            raise WordsFault(
+                f"{word} is of a run", remedy="say --run too, and the session as the file"
+            )
         name = "standard input" if options.output == "-" else options.output
         rows = read_rows(options.output)
         session = None if options.session is None else read_session(options.session)
@@ -338,4 +341,4 @@ def run(options: argparse.Namespace) -> int:
         why = [f"{source.name}: there is no report"]
     for line in [*added.said, *why]:
         print(f"{options.prog}: {line}", file=sys.stderr)
-    return 1 if why else 0
+    return looks(why)

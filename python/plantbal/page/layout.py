@@ -7,7 +7,7 @@ import subprocess
 from collections.abc import Iterable, Mapping, Sequence
 from dataclasses import dataclass
 
-from plantbal.faults import Fault, ToolMissing
+from plantbal.faults import Fault, Hindered, ToolMissing
 from plantbal.model.topology import Arc
 
 # Points a letter takes, of the fonts that browsers have.
@@ -166,7 +166,7 @@ def layout_of(plan: Plan, seconds: float) -> Layout:
     except subprocess.TimeoutExpired as error:
         raise TooLong(f"the layout of the drawing took more than {seconds:g} s") from error
     except subprocess.CalledProcessError as error:
-        raise Fault(f"dot ended with the status {error.returncode}") from error
+        raise Hindered(f"dot ended with the status {error.returncode}") from error
     return _read(plan, json.loads(done.stdout))
 
 

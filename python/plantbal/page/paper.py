@@ -10,7 +10,7 @@ import tempfile
 from contextlib import suppress
 from pathlib import Path
 
-from plantbal.faults import Fault, ToolMissing
+from plantbal.faults import Hindered, ToolMissing
 from plantbal.files import replacing
 
 BROWSERS = ("chromium", "chromium-browser", "google-chrome")
@@ -82,11 +82,11 @@ def _written_by(command: list[str], seconds: float) -> bytes:
                 os.killpg(process.pid, signal.SIGKILL)
             if not isinstance(error, subprocess.TimeoutExpired):
                 raise
-            raise Fault(f"the browser isn't done after {seconds:g} s") from error
+            raise Hindered(f"the browser isn't done after {seconds:g} s") from error
     if process.returncode:
         remedy = "" if not os.geteuid() else "its sandbox needs user namespaces: ask for them"
         what = f"the browser ended with the status {process.returncode}"
-        raise Fault(what, remedy=remedy)
+        raise Hindered(what, remedy=remedy)
     return written
 
 
@@ -98,5 +98,5 @@ def print_pdf(text: str, path: str | Path) -> None:
         printed = Path(folder) / "page.pdf"
         in_browser(page, f"--print-to-pdf={printed}", "--no-pdf-header-footer")
         if not printed.is_file():
-            raise Fault("the browser wrote no PDF")
+            raise Hindered("the browser wrote no PDF")
         made.write_bytes(printed.read_bytes())

@@ -8,11 +8,12 @@ from collections.abc import Callable
 from pathlib import Path
 from typing import Any, BinaryIO
 
-from plantbal.faults import Fault, ToolMissing
+from plantbal.faults import Fault, ToolMissing, WordsFault
 from plantbal.files import replacing
 from plantbal.forms import read_session
 from plantbal.report.output import read_all
 from plantbal.report.trend import Line, Trend, trend_of
+from plantbal.statuses import ExitStatus
 
 HELP = """
 OUTPUT is what plantbal wrote, as CSV or as JSON lines; without it standard input is read. Several
@@ -376,7 +377,7 @@ def run(options: argparse.Namespace) -> int:
     """Write the chart."""
     form = Path(options.out).suffix[1:].lower() if options.out else "svg"
     if form not in ENDINGS:
-        raise Fault(
+        raise WordsFault(
             f"{options.out} ends with {form!r}", text=options.out, remedy="say .svg, .png or .pdf"
         )
     session = b"\n".join(read_session(path)[1] for path in options.session)
@@ -388,4 +389,4 @@ def run(options: argparse.Namespace) -> int:
             write_chart(trend, lines, made, form)
     else:
         write_chart(trend, lines, sys.stdout.buffer, form)
-    return 0
+    return ExitStatus.GOOD

@@ -9,11 +9,12 @@ from collections.abc import Callable, Iterable, Mapping, Sequence
 
 from plantbal import limits
 from plantbal.amounts import tonnes_text
-from plantbal.faults import Fault, ToolMissing
+from plantbal.faults import Fault, Hindered, ToolMissing, WordsFault
 from plantbal.files import write_bytes
 from plantbal.report.blocks import Block, Values, advice_of, blocks_of, designs_of
 from plantbal.report.parsing import read_rows
 from plantbal.session import Session
+from plantbal.statuses import ExitStatus
 
 HELP = """
 OUTPUT is what plantbal wrote, as CSV or as JSON lines; without it standard input is read. The last
@@ -337,9 +338,9 @@ def svg(dot: str) -> bytes:
         raise ToolMissing("`dot`", "graphviz") from error
     except subprocess.TimeoutExpired as error:
         remedy = "draw a smaller part, or say --dot and have the text drawn by another program"
-        raise Fault(f"dot isn't done after {seconds:g} seconds", remedy=remedy) from error
+        raise Hindered(f"dot isn't done after {seconds:g} seconds", remedy=remedy) from error
     except subprocess.CalledProcessError as error:
-        raise Fault(f"dot ended with the status {error.returncode}") from error
+        raise Hindered(f"dot ended with the status {error.returncode}") from error
 
 
 def add_arguments(parser: argparse.ArgumentParser) -> None:
@@ -368,11 +369,11 @@ def run(options: argparse.Namespace) -> int:
     """Write the picture."""
     rows = read_rows(options.output, "report", "design")
     if options.component and options.window:
-        raise Fault("a balance of a component is of one period", remedy="leave --window out")
+        raise WordsFault("a balance of a component is of one period", remedy="leave --window out")
     of_report = options.period is not None or options.round is not None
     if options.advice and (of_report or options.component or options.window):
         what = "--advice is of a plant, not of a report"
-        raise Fault(what, remedy="leave the words that choose a report out")
+        raise WordsFault(what, remedy="leave the words that choose a report out")
     asked = options.period, options.round, options.component, options.window
     picture = advised(rows) if options.advice else chosen(rows, *asked)
     if options.session is not None:
@@ -381,4 +382,4 @@ def run(options: argparse.Namespace) -> int:
         picture.mark(options.mark)
     dot = picture.dot()
     write_bytes(options.out, dot.encode() if options.dot else svg(dot))
-    return 0
+    return ExitStatus.GOOD

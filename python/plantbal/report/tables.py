@@ -10,12 +10,13 @@ from decimal import Decimal
 from typing import TYPE_CHECKING
 
 from plantbal.amounts import tonnes_of
-from plantbal.faults import Fault, ToolMissing
+from plantbal.faults import Fault, ToolMissing, WordsFault
 from plantbal.files import write_text
 from plantbal.forms import read_session
 from plantbal.inert import csv_text, inert_frame
 from plantbal.report.blocks import Block, Values, blocks_of, last_blocks
 from plantbal.report.parsing import read_rows
+from plantbal.statuses import ExitStatus
 
 if TYPE_CHECKING:
     import pandas
@@ -259,7 +260,7 @@ def _write_diagnosed(options: argparse.Namespace, blocks: list[Block]) -> None:
     from plantbal.model.ledger import Ledger
 
     if options.keep and not options.session:
-        raise Fault("--keep is of a session", remedy="say --session FILE too")
+        raise WordsFault("--keep is of a session", remedy="say --session FILE too")
     ledger = Ledger(*read_session(options.session)) if options.session else None
     sys.stdout.write(csv_text(rows_of(options.what, blocks, ledger)))
     if options.keep and ledger is not None:
@@ -272,9 +273,9 @@ def _write_grades(options: argparse.Namespace, blocks: list[Block]) -> None:
     from plantbal.model.ledger import Ledger
 
     if not options.session:
-        raise Fault("grades need the assays", remedy="say --session FILE")
+        raise WordsFault("grades need the assays", remedy="say --session FILE")
     if options.window:
-        raise Fault("grades are those of reports", remedy="leave --window out")
+        raise WordsFault("grades are those of reports", remedy="leave --window out")
     found = by_period(blocks, Ledger(*read_session(options.session)))
     name = options.component
     if name and not any(name in each.by_component for each in found.values()):
@@ -296,16 +297,16 @@ def run(options: argparse.Namespace) -> int:
     rows = read_rows(options.output, "report")
     choice = Choice(options.component, options.window)
     if options.session and options.what not in ("holes", "grades"):
-        raise Fault("--session is of the tables holes and grades", remedy="leave it out")
+        raise WordsFault("--session is of the tables holes and grades", remedy="leave it out")
     if options.keep and options.what != "holes":
-        raise Fault("--keep is of the table holes", remedy="leave it out")
+        raise WordsFault("--keep is of the table holes", remedy="leave it out")
     if options.what in DIAGNOSED:
         _write_diagnosed(options, choice.of(rows))
     elif options.what == "grades":
         _write_grades(options, Choice().latest(rows))
     elif options.what == "contents":
         if options.component:
-            raise Fault("contents are those of a window", remedy="leave --component out")
+            raise WordsFault("contents are those of a window", remedy="leave --component out")
         sys.stdout.write(inert_frame(contents(rows)).to_csv())
     elif options.what in ("suspects", "imbalance"):
         blocks = choice.of(rows)
@@ -316,4 +317,4 @@ def run(options: argparse.Namespace) -> int:
         if options.what == "flows":
             table = with_deviations(table, rows, choice)
         sys.stdout.write(inert_frame(table).to_csv())
-    return 0
+    return ExitStatus.GOOD

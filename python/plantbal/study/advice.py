@@ -21,6 +21,7 @@ from plantbal.report.parsing import parse_rows
 from plantbal.report.picture import advised, svg
 from plantbal.schema import schema
 from plantbal.session import Session
+from plantbal.statuses import ExitStatus
 from plantbal.workbook.cells import Reader, check_locale
 from plantbal.workbook.sheets import Cell, read_workbook
 
@@ -249,4 +250,4 @@ def run(options: argparse.Namespace) -> int:
     write_text("-", "".join(f"{line}\n" for line in lines))
     if options.draw:
         write_bytes(options.draw, svg(advised(found.rows, plant.crossings()).dot()))
-    return 0
+    return ExitStatus.GOOD

@@ -7,6 +7,7 @@ from collections.abc import Iterator, Sequence
 
 from plantbal.faults import ToolMissing
 from plantbal.schema import schema
+from plantbal.statuses import ExitStatus
 
 HELP = """
 LEVEL is the chance that plants without a fault are rejected, such as 0.05.
@@ -126,4 +127,4 @@ def run(options: argparse.Namespace) -> int:
         count = getattr(options, kind)
         if count:
             print(f"critical,{kind},{thousandths(of_each(options.level, count), 1)}")
-    return 0
+    return ExitStatus.GOOD

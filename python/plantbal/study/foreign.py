@@ -10,6 +10,7 @@ from plantbal.faults import Fault
 from plantbal.files import write_text
 from plantbal.report.blocks import reports_of
 from plantbal.report.parsing import csv_of, read_rows
+from plantbal.statuses import ExitStatus
 from plantbal.study.certificate import solved_rows
 
 HELP = """
@@ -61,4 +62,4 @@ def run(options: argparse.Namespace) -> int:
             raise Fault(f"{grams!r} is no whole number of grams", remedy="write 1500000")
         change = name, int(grams)
     write_text("-", csv_of(solved_rows(block, least=not options.without_least, change=change)))
-    return 0
+    return ExitStatus.GOOD

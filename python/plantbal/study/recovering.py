@@ -10,13 +10,14 @@ from pathlib import Path
 from typing import Any
 
 from plantbal.amounts import tonnes_text
-from plantbal.faults import Fault
+from plantbal.faults import Fault, WordsFault
 from plantbal.files import replacing
 from plantbal.forms import read_session
 from plantbal.inert import inert_frame
 from plantbal.report.blocks import Block
 from plantbal.report.chart import ENDINGS
 from plantbal.report.output import Output, read_whole
+from plantbal.statuses import ExitStatus
 from plantbal.study.recovery import (
     Balance,
     Share,
@@ -167,7 +168,7 @@ def _chart(options: argparse.Namespace, output: Output, shares: Sequence[Share])
     form = Path(options.chart).suffix[1:].lower()
     if form not in ENDINGS:
         what, remedy = f"{options.chart} ends with {form!r}", "say .svg, .png or .pdf"
-        raise Fault(what, text=options.chart, remedy=remedy)
+        raise WordsFault(what, text=options.chart, remedy=remedy)
     components = list(dict.fromkeys(each.component for each in shares))
     if len(components) > 1:
         what = f"there are balances of {', '.join(components)}"
@@ -210,4 +211,4 @@ def run(options: argparse.Namespace) -> int:
     strange = [line for balance in balances for line in strange_gains(balance)]
     for line in [*_not_known(balances), *_exact(balances), *output.impossible, *strange]:
         print(f"{options.prog}: {line}", file=sys.stderr)
-    return 0
+    return ExitStatus.GOOD

@@ -16,6 +16,7 @@ from plantbal.faults import InputFault, ToolMissing
 from plantbal.inert import inert_frame
 from plantbal.report.blocks import Block, Values, last_blocks
 from plantbal.report.output import Output, read_whole
+from plantbal.statuses import ExitStatus
 from plantbal.study.plant import Labels, Plant, plant_of
 
 if TYPE_CHECKING:
@@ -402,4 +403,4 @@ def run(options: argparse.Namespace) -> int:
     else:
         text = text_of(in_tonnes(output, table))
     sys.stdout.write(text)
-    return 0
+    return ExitStatus.GOOD

@@ -14,6 +14,7 @@ from plantbal.faults import Fault, InputFault, Place
 from plantbal.lint import say_brief
 from plantbal.memory import uncollected
 from plantbal.session import Session
+from plantbal.statuses import ExitStatus
 from plantbal.workbook.converter import Converter
 from plantbal.workbook.fates import SheetFates
 from plantbal.workbook.options import ReadingOptions
@@ -174,7 +175,7 @@ def run(options: argparse.Namespace) -> int:
     if found.ok:
         found.session.to_csv(options.out)
         say_brief(options.prog, found.session)
-        return 0
+        return ExitStatus.GOOD
     for line in found.said():
         print(f"{options.prog}: {line}", file=sys.stderr)
     count = len(found.faults)
@@ -182,4 +183,4 @@ def run(options: argparse.Namespace) -> int:
         f"{options.prog}: {count:,} fault{'s' if count > 1 else ''}, and no session is written",
         file=sys.stderr,
     )
-    return 1
+    return ExitStatus.LOOK

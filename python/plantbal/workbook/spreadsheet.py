@@ -15,6 +15,7 @@ from plantbal.faults import InputFault, Place, read_text
 from plantbal.files import write_text
 from plantbal.lint import brief, lint_session
 from plantbal.session import rows_of_kind
+from plantbal.statuses import ExitStatus
 from plantbal.workbook.sheets import csv_rows
 from plantbal.workbook.tagsheets import (
     MARKS,
@@ -210,4 +211,4 @@ def run(options: argparse.Namespace) -> int:
         said = f"lint of the session: {looks_wrong} (plantbal-desk lint SESSION says more)"
         print(f"{options.prog}: {said}", file=sys.stderr)
     write_text("-", text)
-    return 0
+    return ExitStatus.GOOD

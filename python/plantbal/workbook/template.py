@@ -7,8 +7,9 @@ from collections.abc import Collection
 from pathlib import Path
 from typing import Any
 
-from plantbal.faults import Fault, ToolMissing
+from plantbal.faults import ToolMissing, WordsFault
 from plantbal.files import replacing
+from plantbal.statuses import ExitStatus
 from plantbal.workbook.sheetkinds import ALL, SHEETS, Column, SheetKind
 from plantbal.workbook.sheets import letters
 
@@ -53,9 +54,9 @@ def template(kind: str, path: str | Path) -> None:
         An xlsx file, which is written whole or not at all.
     """
     if kind not in KINDS:
-        raise Fault(f"there is no template {kind!r}", remedy=f"say {', '.join(KINDS)}")
+        raise WordsFault(f"there is no template {kind!r}", remedy=f"say {', '.join(KINDS)}")
     if Path(path).suffix.lower() != ".xlsx":
-        raise Fault(f"{path} doesn't end with .xlsx", remedy="say a name such as plant.xlsx")
+        raise WordsFault(f"{path} doesn't end with .xlsx", remedy="say a name such as plant.xlsx")
     try:
         import openpyxl
     except ImportError as error:
@@ -121,4 +122,4 @@ def add_arguments(parser: argparse.ArgumentParser) -> None:
 def run(options: argparse.Namespace) -> int:
     """Write the workbook."""
     template(options.kind, options.out)
-    return 0
+    return ExitStatus.GOOD

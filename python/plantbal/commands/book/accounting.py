@@ -16,9 +16,10 @@ from plantbal.book.causes import change_row
 from plantbal.book.difference import Difference
 from plantbal.book.library import Book
 from plantbal.book.said import behind_said, counted
-from plantbal.faults import Fault
+from plantbal.faults import Fault, WordsFault
 from plantbal.files import write_text
 from plantbal.inert import csv_text
+from plantbal.statuses import ExitStatus
 
 CHANGE_HEADS = (
     "stream or tank",
@@ -66,7 +67,7 @@ def _account(options: argparse.Namespace) -> int:
     said = [*account.said, *map(unusual_said, found.unusual), *([behind] if behind else [])]
     if not options.csv:
         print("".join(f"{account.month.name}: {line}\n" for line in said), end="")
-    return 0
+    return ExitStatus.GOOD
 
 
 def unusual_said(odd: Unusual) -> str:
@@ -134,7 +135,7 @@ def _add_difference(parser: argparse.ArgumentParser) -> None:
 def _difference(options: argparse.Namespace) -> int:
     """Say what is otherwise."""
     if len(options.states) > 2:
-        raise Fault("there are more than two states", remedy="say FROM and TO")
+        raise WordsFault("there are more than two states", remedy="say FROM and TO")
     found = Book(options.book).difference(options.period, *options.states)
     for line in said(found):
         print(line)
@@ -142,7 +143,7 @@ def _difference(options: argparse.Namespace) -> int:
     if behind:
         print(f"{options.period}: {behind}")
     _write(options, found)
-    return 0
+    return ExitStatus.GOOD
 
 
 def said(found: Difference) -> list[str]:
@@ -202,7 +203,7 @@ def _posted(options: argparse.Namespace) -> int:
         write_text(options.postings, _postings_text(found))
     count = counted(len(postings_of(found.changes)), "posting")
     print(f"{period}: posted as {found.id}, {count}")
-    return 0
+    return ExitStatus.GOOD
 
 
 ACCOUNT = SimpleNamespace(

@@ -10,7 +10,8 @@ from plantbal.book.library import Book
 from plantbal.book.results import Added
 from plantbal.book.said import FIRST, added, changed, reopened_said
 from plantbal.commands.options import add_reading, reading_of
-from plantbal.faults import Fault
+from plantbal.faults import WordsFault
+from plantbal.statuses import ExitStatus
 
 
 def add_arguments(parser: argparse.ArgumentParser) -> None:
@@ -47,7 +48,7 @@ def run(options: argparse.Namespace) -> int:
     print("\n".join(lines_of(found)))
     if options.dry_run:
         print("nothing is booked, as --dry-run says")
-    return 0
+    return ExitStatus.GOOD
 
 
 def lines_of(found: Added) -> list[str]:
@@ -80,6 +81,8 @@ class Asked:
             try:
                 typed = input(f"{said}. Why?{offer} ").strip() or self._before
             except EOFError:
-                raise Fault("a reason is wanted, and none came", remedy="say --why TEXT") from None
+                raise WordsFault(
+                    "a reason is wanted, and none came", remedy="say --why TEXT"
+                ) from None
         self._before = typed
         return typed

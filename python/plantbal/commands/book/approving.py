@@ -17,6 +17,7 @@ from plantbal.commands.options import add_program, add_run, settings_of
 from plantbal.faults import Fault
 from plantbal.files import write_text
 from plantbal.signing.signatures import read_signature
+from plantbal.statuses import ExitStatus
 
 _MOST = 12  # rows of a submission that are shown
 
@@ -49,19 +50,19 @@ def _rules(options: argparse.Namespace) -> int:
         rules = book.rules()
         if rules is None:
             print("this book has no rules: nobody has to approve anything")
-            return 0
+            return ExitStatus.GOOD
         wants = [*rules.wants, *(["estimates"] if rules.estimates is not None else [])]
         print(f"wants an approval: {', '.join(sorted(wants)) or 'the rules alone'}")
         print(f"by {counted(rules.approvers, 'person')}{', signed' if rules.keys else ''}")
         for person in rules.people.values():
             print(f"{person.name}: may {', '.join(sorted(person.may)) or 'do neither'}")
-        return 0
+        return ExitStatus.GOOD
     head = book.set_rules(
         options.rules, signers=options.signers, revoked=options.revoked, why=options.why
     )
     print("the book has these rules from now on; who changes them wants an approval")
     print(f"head {head}")
-    return 0
+    return ExitStatus.GOOD
 
 
 # ---- submit
@@ -83,7 +84,7 @@ def _submit(options: argparse.Namespace) -> int:
         raise
     if found.report is None or found.head is None:
         print(f"{found.period} is closed already")
-        return 0
+        return ExitStatus.GOOD
     say_report(found.report)
     for gate, reason in found.reasons.items():
         print(f"{found.period}: {gate}: {reason}")
@@ -91,7 +92,7 @@ def _submit(options: argparse.Namespace) -> int:
         print(line)
     print(f"{found.period} is submitted as action {found.head.number}, and waits for an approval")
     print(f"head {found.head}")
-    return 0
+    return ExitStatus.GOOD
 
 
 # ---- submitted
@@ -118,7 +119,7 @@ def _submitted(options: argparse.Namespace) -> int:
             print(line)
         if options.report is not None:
             _write_report(each, options.report)
-    return 0
+    return ExitStatus.GOOD
 
 
 def _shown(waiting: Waiting) -> list[str]:
@@ -167,7 +168,7 @@ def _approve(options: argparse.Namespace) -> int:
     if options.text is not None:
         write_text(options.text, book.to_sign(options.head))
         print(f"sign it: ssh-keygen -Y sign -n plantbal-book -f KEY {options.text}")
-        return 0
+        return ExitStatus.GOOD
     record = signature = ""
     if options.signed is not None:
         record = read_signature(options.signed)
@@ -179,7 +180,7 @@ def _approve(options: argparse.Namespace) -> int:
     else:
         print(f"{said} is approved by {found.by}, and done")
     print(f"head {found.head}")
-    return 0
+    return ExitStatus.GOOD
 
 
 def _add_reject(parser: argparse.ArgumentParser) -> None:
@@ -192,7 +193,7 @@ def _reject(options: argparse.Namespace) -> int:
     head = _book(options).reject(options.head, why=options.why)
     print("it is rejected, and nothing of it is done")
     print(f"head {head}")
-    return 0
+    return ExitStatus.GOOD
 
 
 # ---- signed
@@ -212,7 +213,7 @@ def _signed(options: argparse.Namespace) -> int:
     wrong = sum(each.sort is Sort.WRONG for each in found)
     if wrong:
         raise Fault(f"{counted(wrong, 'thing')} isn't as the rules of the book want it")
-    return 0
+    return ExitStatus.GOOD
 
 
 RULES = SimpleNamespace(

@@ -12,6 +12,7 @@ from plantbal.book.reporting import balances_said, state_of, suspects_of
 from plantbal.book.results import Reported
 from plantbal.commands.options import add_run, settings_of
 from plantbal.gates import line_of, unsaid
+from plantbal.statuses import ExitStatus
 
 
 def _add_close(parser: argparse.ArgumentParser) -> None:
@@ -42,7 +43,7 @@ def _close(options: argparse.Namespace) -> int:
         raise
     if found.report is None:
         print(f"{found.period} is closed already")
-        return 0
+        return ExitStatus.GOOD
     say_report(found.report)
     for gate, reason in found.reasons.items():
         print(f"{found.period}: {gate}: {reason}")
@@ -50,7 +51,7 @@ def _close(options: argparse.Namespace) -> int:
         print(line)
     print(f"{found.period} is closed, with the report {found.report.path}")
     print(f"head {found.head}")
-    return 0
+    return ExitStatus.GOOD
 
 
 def say_report(report: Reported) -> None:

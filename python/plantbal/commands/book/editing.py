@@ -9,6 +9,7 @@ from plantbal.book.library import Book
 from plantbal.book.naming import day_of
 from plantbal.book.results import Edited
 from plantbal.book.said import reopened_said
+from plantbal.statuses import ExitStatus
 
 
 def _add_fact(parser: argparse.ArgumentParser) -> None:
@@ -44,7 +45,7 @@ def _amend(options: argparse.Namespace) -> int:
     else:
         print(f"{old.id}: {old.said()} becomes {new.said()}, with an error of {new.error()}")
         _say_older(found)
-    return 0
+    return ExitStatus.GOOD
 
 
 def _say_older(found: Edited) -> None:
@@ -74,7 +75,7 @@ def _strike(options: argparse.Namespace) -> int:
     else:
         print(f"{found.old.id}: {found.old.said()} is struck")
         _say_older(found)
-    return 0
+    return ExitStatus.GOOD
 
 
 AMEND = SimpleNamespace(

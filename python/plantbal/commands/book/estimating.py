@@ -9,9 +9,10 @@ from plantbal.book.library import Book
 from plantbal.book.said import reopened_said
 from plantbal.diagnosis.proposal import Basis, Proposal
 from plantbal.diagnosis.words import tonnes
-from plantbal.faults import Fault
+from plantbal.faults import WordsFault
 from plantbal.gates.words import days_said
 from plantbal.lint.findings import some_of
+from plantbal.statuses import ExitStatus
 
 
 def _add(parser: argparse.ArgumentParser) -> None:
@@ -25,7 +26,7 @@ def _add(parser: argparse.ArgumentParser) -> None:
 def _estimate(options: argparse.Namespace) -> int:
     """Propose estimates, or book them."""
     if options.take and not options.why:
-        raise Fault("a reason is wanted, and none came", remedy="say --why TEXT")
+        raise WordsFault("a reason is wanted, and none came", remedy="say --why TEXT")
     book = Book(options.book, who=options.who, key=options.key)
     period, stream = options.period, options.stream
     found = book.estimate(period, stream, take=options.take, why=options.why)
@@ -55,7 +56,7 @@ def _estimate(options: argparse.Namespace) -> int:
         )
     elif not found.missing:
         print(f"{period}: no day of {stream or 'a meter'} is without a reading")
-    return 0
+    return ExitStatus.GOOD
 
 
 def said_of(proposal: Proposal) -> str:

@@ -6,7 +6,8 @@ import argparse
 from types import SimpleNamespace
 
 from plantbal.book.library import Book
-from plantbal.faults import Fault
+from plantbal.faults import WordsFault
+from plantbal.statuses import ExitStatus
 
 
 def _add_quiet(parser: argparse.ArgumentParser) -> None:
@@ -24,15 +25,15 @@ def _quiet(options: argparse.Namespace) -> int:
     if rule is None:
         for each in book.quieted():
             print(f"{each.code} {' '.join(each.names)}: {each.why} ({each.who}, {each.when})")
-        return 0
+        return ExitStatus.GOOD
     if not options.why:
-        raise Fault("a reason is wanted, and none came", remedy="say --why TEXT")
+        raise WordsFault("a reason is wanted, and none came", remedy="say --why TEXT")
     if options.off:
         book.heed(rule, *names, why=options.why)
     else:
         book.quiet(rule, *names, why=options.why)
     print(f"{rule} {'speaks again' if options.off else 'is quieted'} for {' '.join(names)}")
-    return 0
+    return ExitStatus.GOOD
 
 
 QUIET = SimpleNamespace(

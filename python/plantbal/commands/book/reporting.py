@@ -18,6 +18,7 @@ from plantbal.book.window import undipped
 from plantbal.commands.options import add_run, settings_of
 from plantbal.files import write_text
 from plantbal.gates import line_of, unsaid
+from plantbal.statuses import looks
 
 
 def _add_report(parser: argparse.ArgumentParser) -> None:
@@ -33,7 +34,7 @@ def _add_report(parser: argparse.ArgumentParser) -> None:
 def _report(options: argparse.Namespace) -> int:
     """Write the reports."""
     book = Book(options.book, who=options.who, key=options.key)
-    status = 0
+    wants = False
     for found in book.reports(*options.periods, settings=settings_of(options)):
         output, name = found.output, found.period
         print(state_of(output, name))
@@ -42,10 +43,10 @@ def _report(options: argparse.Namespace) -> int:
             print(line)
         history = f", with {counted(found.edits, 'edit')}" if found.edits else ""
         print(f"{name}: {found.path}{history}" + ("" if found.is_new else ", as it was"))
-        status = status if output.ok else 1
+        wants = wants or not output.ok
     if options.session:
         write_text(options.session, book.session_asking(*options.periods))
-    return status
+    return looks(wants)
 
 
 def _add_window(parser: argparse.ArgumentParser) -> None:
@@ -67,7 +68,7 @@ def _window(options: argparse.Namespace) -> int:
     print(f"{found.first} to {found.last}: {found.path}" + ("" if found.is_new else ", as it was"))
     if options.session:
         write_text(options.session, found.session)
-    return 0 if found.output.ok else 1
+    return looks(not found.output.ok)
 
 
 REPORT = SimpleNamespace(

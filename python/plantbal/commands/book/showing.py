@@ -13,6 +13,7 @@ from plantbal.book.naming import day_of
 from plantbal.book.results import ReportState, Shown, TankApart, YearStatus
 from plantbal.book.said import behind_said, counted
 from plantbal.schema import schema
+from plantbal.statuses import ExitStatus
 from plantbal.workbook.units import GRAMS, VOLUMES, WET
 
 _FULL = 0.8  # from this share of a limit on the next year is asked for
@@ -34,7 +35,7 @@ def _show(options: argparse.Namespace) -> int:
     found, meter, waiting = Book(options.book).show(options.name, first, last)
     for line in [*waiting, *(line_of(shown, meter) for shown in found)]:
         print(line)
-    return 0
+    return ExitStatus.GOOD
 
 
 def line_of(shown: Shown, meter: Meter | None = None) -> str:
@@ -76,7 +77,7 @@ def _status(options: argparse.Namespace) -> int:
         lines += year_lines(year, options.all)
     lines += [_apart(each) for each in found.apart]
     print("\n".join(lines))
-    return 0
+    return ExitStatus.GOOD
 
 
 def year_lines(year: YearStatus, every: bool) -> list[str]:

@@ -8,6 +8,7 @@ from types import SimpleNamespace
 from plantbal.book.library import Book
 from plantbal.book.said import counted
 from plantbal.faults import Fault
+from plantbal.statuses import ExitStatus
 
 # ---- verify
 
@@ -32,7 +33,7 @@ def _verify(options: argparse.Namespace) -> int:
     files = counted(found.files, "file")
     print(f"{files} as {counted(found.head.number, 'action')} left them")
     print(f"head {found.head}")
-    return 0
+    return ExitStatus.GOOD
 
 
 # ---- head
@@ -45,7 +46,7 @@ def _add_head(parser: argparse.ArgumentParser) -> None:
 def _head(options: argparse.Namespace) -> int:
     """Print the head."""
     print(Book(options.book).head)
-    return 0
+    return ExitStatus.GOOD
 
 
 # ---- accept
@@ -65,7 +66,7 @@ def _accept(options: argparse.Namespace) -> int:
         print(f"{found.file} is taken as it is: {found.said}")
     else:
         print(f"{found.file} is as the journal says")
-    return 0
+    return ExitStatus.GOOD
 
 
 VERIFY = SimpleNamespace(

@@ -14,6 +14,7 @@ from plantbal.book.naming import day_of
 from plantbal.book.results import Begun
 from plantbal.book.said import counted, listed
 from plantbal.commands.options import add_program, add_reading, reading_of
+from plantbal.statuses import ExitStatus
 
 _DAY = datetime.timedelta(1)
 
@@ -36,7 +37,7 @@ def _new(options: argparse.Namespace) -> int:
     found = book.begin(options.year, options.workbook, reading=reading_of(options))
     first = f"{found.year}.csv: {counted(found.rows, 'row')} of the plant"
     print("\n".join([first, *_classes(found.classes), *found.notes]))
-    return 0
+    return ExitStatus.GOOD
 
 
 def _add_next(parser: argparse.ArgumentParser) -> None:
@@ -78,7 +79,7 @@ def _say_begun(found: Begun) -> int:
     """Say how a next year begins."""
     if not found.is_begun:
         print(f"{found.year}.csv is there already")
-        return 0
+        return ExitStatus.GOOD
     assert found.first is not None and found.contents is not None
     rows = counted(found.rows, "row")
     lines = [f"{found.year}.csv: from {found.first} on; {rows} of the plant"]
@@ -90,7 +91,7 @@ def _say_begun(found: Begun) -> int:
     ]
     lines += [f"{name}: no dip of {eve}, so it has no opening yet" for name in found.unopened]
     print("\n".join([*lines, *found.notes]))
-    return 0
+    return ExitStatus.GOOD
 
 
 NEW = SimpleNamespace(
