@@ -39,9 +39,11 @@ READING: dict[str, tuple[str, ...]] = {
     "chart": ("FILE",),
     "page": ("FILE",),
     "fleet": ("--out", "OUT", "FILE"),
+    "tell": ("FILE",),
     "from-scipy": ("FILE",),
 }
-READS_NOTHING = ("critical", "schema", "template")
+# `serve` opens its books when it is called from a browser: it has tests of its own.
+READS_NOTHING = ("critical", "schema", "serve", "template")
 BOOK: dict[str, tuple[str, ...]] = {
     "new": ("2024", "none.xlsx"),
     "add": ("none.xlsx",),
@@ -145,8 +147,6 @@ def test_good_and_look(say: Desk, tmp_path: Path) -> None:
 
 def test_words_that_do_not_go_together(say: Desk, tmp_path: Path) -> None:
     for words in (
-        ("audit", SESSION, SESSION, "--words", "run", "--book", tmp_path),
-        ("audit", SESSION),
         ("run", SESSION, "--out", tmp_path / "x.pdf"),
         ("archive", SESSION, "--time", "yesterday"),
         ("page", SESSION, "--eliminate", "2"),
