@@ -54,6 +54,12 @@ BOOK: dict[str, tuple[str, ...]] = {
     "report": (),
     "window": ("2024-04", "2024-05"),
     "close": ("2024-04",),
+    "submit": ("2024-04",),
+    "submitted": (),
+    "approve": ("--head", "1 " + "0" * 64),
+    "reject": ("--head", "1 " + "0" * 64, "--why", "x"),
+    "rules": (),
+    "signed": (),
     "quiet": ("unused-dip", "A", "--why", "x"),
     "difference": ("2024-04",),
     "posted": ("2024-04",),
@@ -68,6 +74,7 @@ BOOK: dict[str, tuple[str, ...]] = {
 
 
 def test_every_subcommand_is_here() -> None:
+    """A new one is tried with the words that it has at least."""
     assert {each.word for each in desk.COMMANDS} == {*READING, *READS_NOTHING}
     assert {each.word for each in book_command.COMMANDS} == set(BOOK)
 
