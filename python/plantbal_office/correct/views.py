@@ -328,5 +328,15 @@ def quiet(request: HttpRequest) -> HttpResponse:
 
         return once(request, deed)
     contents = contents_of(request.plant)
-    words = {"quiets": contents.quiets, "codes": sorted(RULES), "version": contents.version}
+    words = {
+        "quiets": contents.quiets,
+        "codes": sorted(filter(_may_be_quiet, RULES)),
+        "version": contents.version,
+    }
     return render(request, "correct/quiet.html", words)
+
+
+def _may_be_quiet(code: str) -> bool:
+    """Say whether a rule can be quieted for names."""
+    is_of_month = code in list(Gate) and not Gate(code).is_of_names
+    return RULES[code].severity != "error" and not is_of_month

@@ -17,6 +17,7 @@ from plantbal.estimates import is_marked
 from plantbal.faults import Fault
 from plantbal_office.look.days import days_of, months_of, place_of
 from plantbal_office.look.statement import prepared_of, statement_of, whole_page
+from plantbal_office.notes.models import Note
 from plantbal_office.plants.models import Plant
 from plantbal_office.plants.standing import stand_of
 from plantbal_office.shelf import contents_of, plain_book
@@ -49,10 +50,18 @@ def statement(request: HttpRequest, period: str) -> HttpResponse:
         "after": names[at + 1] if at + 1 < len(names) else "",
         "is_old": month.report is ReportState.OLDER,
         "earlier": range(1, month.earlier + 1),
+        "about": f"month:{period}",
+        "notes": Note.objects.filter(plant=request.plant, period=period).select_related("person"),
     }
     if month.report is not ReportState.MISSING:
         words["shown"] = statement_of(request.plant, period)
     return render(request, "look/statement.html", words)
+
+
+def notes_on(request: HttpRequest, about: str) -> dict[str, object]:
+    """Return the comments on something, for its page."""
+    found = Note.objects.filter(plant=request.plant, about=about).select_related("person")
+    return {"about": about, "notes": found}
 
 
 def earlier(request: HttpRequest, period: str, number: int) -> HttpResponse:
@@ -89,8 +98,7 @@ def stream(request: HttpRequest, period: str, name: str) -> HttpResponse:
         "version": contents.version,
         "section": "statement",
         "missing": sum(each.is_missing for each in days),
-        "about": f"stream:{place.name}",
-    }
+    } | notes_on(request, f"stream:{place.name}")
     return render(request, "look/stream.html", words)
 
 
@@ -115,8 +123,7 @@ def fact(request: HttpRequest, year: str, identity: str) -> HttpResponse:
         "is_estimate": is_marked(here.id) and not found.shown.before,
         "version": contents_of(request.plant).version,
         "section": "statement",
-        "about": f"fact:{year}:{identity}",
-    }
+    } | notes_on(request, f"fact:{year}:{identity}")
     return render(request, "look/fact.html", words)
 
 
