@@ -4,8 +4,10 @@ from __future__ import annotations
 
 import io
 from dataclasses import dataclass
+from pathlib import Path
 
 from django import forms
+from django.conf import settings
 from django.contrib import messages
 from django.http import Http404, HttpRequest, HttpResponse
 from django.shortcuts import render
@@ -156,9 +158,7 @@ def plan_of(plant: Plant, month: Month) -> State:
 
     def make() -> State:
         session = plain_book(plant).session_asking(month.name)
-        return state_of(session.encode("ascii"), month.name, month.name, run_settings().program)
-
-    from pathlib import Path
+        return state_of(session.encode("ascii"), month.name, month.name, settings.PLANTBAL_PROGRAM)
 
     return KEPT.of(Path(plant.folder), "plan", (month.name,), make)
 
@@ -206,8 +206,8 @@ def advice(request: HttpRequest) -> HttpResponse:
         text = request.GET.get(f"cost-{name}", "")
         if text.isascii() and text.isdigit() and len(text) <= 9:
             costs[name] = int(text)
-    words = {"plain": [(each, costs.get(each, "")) for each in plain], "section": "ask"}
-    words["year"] = year
+    words: dict[str, object] = {"year": year, "section": "ask"}
+    words["plain"] = [(each, costs.get(each, "")) for each in plain]
     if "ask" in request.GET or not plain:
         words["found"] = _advised(plant, year, costs)
     return render(request, "ask/advice.html", words)
@@ -221,7 +221,7 @@ def _advised(plant: Plant, year: str, costs: dict[str, int]) -> Advice | None:
     session = Session(strict=False)
     rows = plain_book(plant).session_asking(months[-1]).encode("ascii")
     session.take(plant.name, rows)
-    return advise(session, costs, program=run_settings().program)
+    return advise(session, costs, program=settings.PLANTBAL_PROGRAM)
 
 
 # ---- components, recovery, charts

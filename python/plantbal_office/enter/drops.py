@@ -87,15 +87,16 @@ def workbooks_of(files: Sequence[UploadedFile], name: str) -> list[tuple[str, li
     Returns
     -------
     list of (str, list of UploadedFile)
-        The name of each, and its files; a lone table is a workbook of its own name.
+        The name of each, and its files; a lone table has its own name unless it is called
+        otherwise.
     """
     tables = [file for file in files if file.name.lower().endswith(TABLES)]
     found = [(checked_name(file.name), [file]) for file in files if file not in tables]
-    if len(tables) == 1:
+    cleaned = PurePosixPath(name.strip().replace("\\", "/")).name[:LONGEST_NAME]
+    cleaned = "".join(each for each in cleaned if each.isprintable()).lstrip(".")
+    if len(tables) == 1 and not cleaned:
         found.append((checked_name(tables[0].name), tables))
     elif tables:
-        cleaned = PurePosixPath(name.strip().replace("\\", "/")).name[:LONGEST_NAME]
-        cleaned = "".join(each for each in cleaned if each.isprintable()).lstrip(".")
         found.append((cleaned or "workbook", tables))
     return found
 

@@ -19,7 +19,7 @@ from plantbal.book.results import Shown
 from plantbal.estimates import is_marked
 from plantbal.faults import Fault
 from plantbal.model.plant import in_service
-from plantbal.workbook.cells import GRAMS, VOLUMES, WET
+from plantbal.workbook.units import GRAMS, VOLUMES, WET
 from plantbal_office.deeds.once import once
 from plantbal_office.enter.drops import write, folder_of
 from plantbal_office.enter.judging import Judged, judge, judge_ticket
@@ -170,8 +170,8 @@ def _dip(state: object, tank: Vessel, day: datetime.date, shown: Shown | None, i
     assert isinstance(state, State)
     if shown is None:
         mark = "missing" if is_end else ""
-        density = tank.meter.density if tank.meter is not None else None
-        text = in_language(plain(Decimal(round(density)) / 1000)) if density else ""
+        usual = tank.meter.density if tank.meter is not None else None
+        text = in_language(plain(Decimal(round(usual)) / 1000)) if usual else ""
         level, dense = Cell(tank.name, day, "", mark, "level"), Cell(
             tank.name, day, text, "", "density"
         )

@@ -153,7 +153,7 @@ class Browser:
         """Choose the files of a workbook."""
         files = files_of(workbook)
         self.one("#workbook").send_keys("\n".join(map(str, files)))
-        if len(files) > 1:
+        if workbook.is_dir():
             self.fill("called", workbook.name)
 
     # ---- the same calls

@@ -20,7 +20,7 @@ for (const box of document.querySelectorAll('[data-drop]')) {
   const tables = () => [...input.files].filter(file => /\.(csv|txt|tsv)$/i.test(file.name));
   const show = folder => {
     if (input.files.length) said.textContent = [...input.files].map(file => file.name).join(', ');
-    if (called) called.hidden = tables().length < 2;
+    if (called) called.hidden = !tables().length;
     const field = called && called.querySelector('input');
     if (field && folder && !field.value) field.value = folder;
   };
@@ -37,7 +37,7 @@ for (const box of document.querySelectorAll('[data-drop]')) {
     input.files = kept.files;
     show(folder ? folder.name : '');
   });
-  if (called) called.hidden = tables().length < 2 && !called.querySelector('input').value;
+  if (called) called.hidden = !tables().length && !called.querySelector('input').value;
 }
 function filesOf(folder) {
   const reader = folder.createReader(), found = [];
