@@ -8,6 +8,7 @@
 #   make install-verify VERIFY=..             plantbal-verify and its manual page, from coq/ (`make -C coq` proves and builds it)
 #   make fuzz SECONDS=3600 SEED=1             changed inputs to all subcommands; failures are kept in KEEP
 #   make install-library install-library-dev  what C calls, once ./build library has made it
+#   make page                                 the core in a web page: page/out/plantbal.html, and its module for other pages
 #   make book-tries KILLS=400 PAIRS=200       commands on a book killed, failing and in pairs, at each system call that writes
 VERSION := $(shell cat VERSION)
 PREFIX = /usr/local
@@ -34,7 +35,7 @@ LIBRARY = lib/$(PYTHON_FOLDER)/dist-packages
 # zsh looks into /usr/share/zsh/vendor-completions and, for what no package has, into /usr/local/share/zsh/site-functions.
 ZSH = $(SHARE)/zsh/$(if $(filter /usr,$(PREFIX)),vendor-completions,site-functions)
 
-PROGRAM_DOCUMENTS = README.md CHANGELOG.md docs/GUIDE.md docs/REFERENCE.md docs/AUDIT.md docs/FORMAT.md docs/DEFINITIONS.md docs/STATEMENT.md docs/ASSURANCE.md docs/DECISIONS.md
+PROGRAM_DOCUMENTS = README.md CHANGELOG.md docs/GUIDE.md docs/REFERENCE.md docs/AUDIT.md docs/FORMAT.md docs/DEFINITIONS.md docs/STATEMENT.md docs/ASSURANCE.md docs/DECISIONS.md docs/PAGE.md
 VERIFY_DOCUMENTS = coq/README.md coq/Certified.v coq/Sound.v docs/ASSURANCE.md
 DESK_DOCUMENTS = docs/MONTH_END.md docs/PYTHON.md docs/OPERATIONS.md
 WORKBOOKS = examples/month_end examples/refinery_workbook examples/terminal_workbook examples/tank_farm_workbook
@@ -43,7 +44,7 @@ SECONDS = 600
 SEED = 0
 KEEP = /tmp/plantbal-fuzz
 
-.PHONY: install install-program install-desk install-verify install-library install-library-dev deb wheel release check-packages book-tries fuzz clean
+.PHONY: install install-program install-desk install-verify install-library install-library-dev deb wheel release check-packages book-tries fuzz page clean
 
 install: install-program install-desk
 
@@ -124,6 +125,9 @@ release: $(PROGRAM)
 
 check-packages: $(PROGRAM)
 	.ci/packages $(PROGRAM)
+
+page:
+	page/build page/out
 
 fuzz:
 	.ci/fuzz --seconds $(SECONDS) --seed $(SEED) --keep $(KEEP)

@@ -78,8 +78,6 @@ export interface Core {
   check(input: Input, choices?: Stopping): Promise<Answer>;
   /** Answers the rows of a session as `plantbal run` does. */
   run(input: Input, options?: Options & Stopping): Promise<Answer>;
-  /** Makes a session of a number as `plantbal make` does, for trials. */
-  make(number: number, streams: number, choices?: Stopping): Promise<Answer>;
   /** A session that takes rows block by block. */
   session(options?: Options): Promise<Session>;
 }

@@ -108,7 +108,6 @@ function inWorker(port) {
     run: ({ input, options }) => once((lend) =>
       core.plantbal_run(asked(lend, options), written(lend, input), BigInt(input.length), handle)),
     check: ({ input }) => once((lend) => core.plantbal_check(written(lend, input), BigInt(input.length), handle)),
-    make: ({ number, streams }) => once(() => core.plantbal_make(number, streams, 0, 10, 5000, handle)),
     open: ({ options }) => open()
       ? lending((lend) => ({ status: core.plantbal_session_new(asked(lend, options), handle) }))
       : { status: NO_MEMORY },
@@ -231,11 +230,6 @@ class Core {
     if (words === null) return Promise.resolve(nothing(STATUS.USAGE));
     if (data.length > MOST_BYTES) return Promise.resolve(tooLarge());
     return this.#once({ what: "run", input: data, options: words }, options.signal);
-  }
-
-  /** Makes a session of a number as `plantbal make` does, for trials. */
-  make(number, streams, { signal } = {}) {
-    return this.#once({ what: "make", number, streams }, signal);
   }
 
   /** A session that takes rows block by block. */

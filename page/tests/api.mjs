@@ -1,14 +1,16 @@
 /**
  * The module as others call it, with real workers: its answers, its limits, what stops a call, and what a freed session says.
  *
- *     node api.mjs FOLDER SESSION
+ *     node api.mjs FOLDER SESSION LARGE
+ *
+ * LARGE is a session of 2,000 streams.
  */
 import { readFileSync } from "node:fs";
 import { load, MOST_BYTES, PlantbalError, STATUS, workerSource } from "../plantbal.mjs";
 import { end, holds } from "./core.mjs";
 
-const [folder, path] = process.argv.slice(2);
-const bytes = readFileSync(`${folder}/plantbal.wasm`), session = readFileSync(path);
+const [folder, path, largest] = process.argv.slice(2);
+const bytes = readFileSync(`${folder}/plantbal.wasm`), session = readFileSync(path), large = readFileSync(largest);
 const core = await load(bytes);
 const textOf = (text) => new TextDecoder().decode(text);
 
@@ -76,14 +78,13 @@ holds("the limit itself is read", edge.status === STATUS.DONE && edge.text.lengt
 const small = await load(limited(bytes, 64));
 const tight = await small.run(session);
 holds("a day in 4 MiB: the same, or no memory", tight.status === STATUS.NO_MEMORY || Buffer.compare(Buffer.from(tight.text), Buffer.from(report.text)) === 0);
-const large = await core.make(1, 2000);
-const none = await small.run(large.text);
+const none = await small.run(large);
 holds("2,000 streams in 4 MiB: no memory is said, and there is no trap", none.status === STATUS.NO_MEMORY && none.memory <= 64 * 65536, `status ${none.status}`);
 holds("a file of 8 MiB in 4 MiB: the same", (await small.check(new Uint8Array(8 << 20).fill(97))).status === STATUS.NO_MEMORY);
 
 const stopping = new AbortController(), began = performance.now();
 setTimeout(() => stopping.abort(), 200);
-const reason = await reasonOf(core.run(large.text, { tests: true, signal: stopping.signal }));
+const reason = await reasonOf(core.run(large, { tests: true, signal: stopping.signal }));
 holds("a run that would take minutes is stopped", reason === "stopped" && performance.now() - began < 60000, reason);
 const gone = new AbortController();
 gone.abort();
@@ -93,6 +94,6 @@ holds("the worker's text stands alone", typeof workerSource === "string" && !wor
 const compiled = new WebAssembly.Module(bytes);
 holds("the module imports nothing", WebAssembly.Module.imports(compiled).length === 0);
 const exported = WebAssembly.Module.exports(compiled).map(({ name }) => name).sort().join(" ");
-holds("and exports what is called", exported === "memory plantbal_alloc plantbal_check plantbal_dealloc plantbal_make plantbal_run plantbal_session_free "
+holds("and exports what is called", exported === "memory plantbal_alloc plantbal_check plantbal_dealloc plantbal_run plantbal_session_free "
   + "plantbal_session_new plantbal_session_output plantbal_session_rows", exported);
 end();

@@ -8,6 +8,7 @@
  */
 import { spawnSync } from "node:child_process";
 import { readFileSync } from "node:fs";
+import { records, textOf } from "../src/records.mjs";
 import { asker, end, holds, moduleOf, optionsOf } from "./core.mjs";
 
 const [folder, program, file, count, seed] = process.argv.slice(2);
@@ -31,17 +32,21 @@ function same(name, want, { status, text = [] }) {
 // A session in blocks: of all rows, or of as many bytes as end with a row.
 async function inBlocks(options, data, size) {
   await ask({ what: "open", options });
-  let refused = 0;
+  let refused = 0, codes = 0;
   const texts = [];
   for (let at = 0; at < data.length;) {
     let to = Math.min(data.length, at + size);
     while (to < data.length && data[to - 1] !== 10) to += 1;
     const { status, parts } = await ask({ what: "rows", input: data.subarray(at, to) }, false);
     if (status !== 0) return { status };
+    codes += parts.reduce((sum, part) => sum + part.length, 0);
     refused |= parts.some((part) => part.some((code) => code !== 0));
     texts.push((await ask({ what: "output" }, false)).text);
     at = to;
   }
+  // The page counts the records of a text as the core does.
+  const counted = [...records(textOf(data))].length;
+  if (size >= data.length && counted !== codes) holds(`${data.length} bytes have ${codes} records`, false, `the page counts ${counted}`);
   return { status: refused ? 1 : 0, text: Buffer.concat(texts) };
 }
 

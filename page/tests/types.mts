@@ -8,9 +8,8 @@ export async function uses(bytes: Uint8Array, stop: AbortSignal): Promise<number
   const input: Input = "unit,A\n";
   const ran: Answer = await core.run(input, { ...options, signal: stop });
   const checked: Answer = await core.check(ran.text, { signal: stop });
-  const made: Answer = await core.make(1, 3);
   const session: Session = await core.session(options);
-  const codes: Uint8Array = await session.rows(made.text);
+  const codes: Uint8Array = await session.rows(ran.text);
   const text: Uint8Array = await session.output();
   session.free();
   const status: Status = checked.status;
