@@ -41,6 +41,8 @@ _plantbal_desk() {
         archive:--time) :; return ;;
         archive:--book) _plantbal_files -d; return ;;
         archive:--before) :; return ;;
+        archive:--key) _plantbal_files -f; return ;;
+        archive:--stamps) :; return ;;
         archive:--timeout) :; return ;;
         archive:--program) _plantbal_files -f; return ;;
         archive:--gap) :; return ;;
@@ -49,6 +51,12 @@ _plantbal_desk() {
         audit:--words) :; return ;;
         audit:--book) _plantbal_files -d; return ;;
         audit:--before) :; return ;;
+        audit:--signers) _plantbal_files -f; return ;;
+        audit:--signed-by) :; return ;;
+        audit:--revoked) _plantbal_files -f; return ;;
+        audit:--signature) _plantbal_files -f; return ;;
+        audit:--authority) _plantbal_files -f; return ;;
+        audit:--after) :; return ;;
         audit:--timeout) :; return ;;
         audit:--program) _plantbal_files -f; return ;;
         report:--out) _plantbal_files -f; return ;;
@@ -210,13 +218,13 @@ _plantbal_desk() {
             _plantbal_files -f
             return
         fi
-        _plantbal_words '-h --help --period --plant --out --time --book --before --timeout --program --gap --sweeps --no-tests --eliminate' ;;
+        _plantbal_words '-h --help --period --plant --out --time --book --before --key --stamps --timeout --program --gap --sweeps --no-tests --eliminate' ;;
     audit)
         if [[ $here != -* ]]; then
             _plantbal_files -f
             return
         fi
-        _plantbal_words '-h --help --words --no-program --strict --book --before --timeout --program' ;;
+        _plantbal_words '-h --help --words --no-program --strict --book --before --signers --signed-by --revoked --signature --authority --after --timeout --program' ;;
     report)
         if [[ $here != -* ]]; then
             _plantbal_files -f

@@ -559,7 +559,7 @@ def test_the_guide_shows_what_comes(say: Desk, tmp_path: Path) -> None:
     session = files[SESSION].replace(b"2741000000", b"2741000001")
     bundle.write_bytes(packed({**files, SESSION: session}))
     lines += [line for line in say("audit", bundle).out.splitlines() if "DIESEL" in line]
-    assert len(lines) == 7
+    assert len(lines) == 8
     for line in lines:
         shown = line.replace(f"{tmp_path}/", "").partition("; its SHA-256 is ")[0]
         assert f"    {shown}" in guide, shown

@@ -15,7 +15,7 @@ from conftest import Desk, Said, text_of
 
 from plantbal import Book
 from plantbal.book.approval.approving import SamePerson, Void, Voided
-from plantbal.book.approval.history import Sort
+from plantbal.audit.said import Kind
 from plantbal.book.approval.proposal import Proposal
 from plantbal.book.approval.record import Record
 from plantbal.book.approval.rules import Want, read_rules
@@ -80,7 +80,7 @@ def submit(mill: Path) -> str:
 
 def wrong(mill: Path) -> list[str]:
     """What a look at the whole book finds wrong."""
-    return [each.said for each in Book(mill).signed() if each.sort is Sort.WRONG]
+    return [each.said for each in Book(mill).signed() if each.kind is Kind.WRONG]
 
 
 def test_a_close_by_two(mill: Path, user: As, tmp_path: Path) -> None:
@@ -346,11 +346,11 @@ def test_signed(keys: Path, user: As, tmp_path: Path) -> None:
     shutil.copytree(mill, tmp_path / "copy")
     Book(mill, key=keys / "paul").approve(head)
     assert wrong(mill) == []
-    said = [each.said for each in Book(mill).signed() if each.sort is Sort.GOOD]
+    said = [each.said for each in Book(mill).signed() if each.kind is Kind.GOOD]
     assert any("signed by anna with the key SHA256:" in each for each in said)
     assert any("signed by paul with the key SHA256:" in each for each in said)
     assert any("submitted by anna as action 4, approved by" in each for each in said)
-    notes = [each.said for each in Book(mill).signed() if each.sort is Sort.NOTE]
+    notes = [each.said for each in Book(mill).signed() if each.kind is Kind.NOTE]
     assert any("no server has stamped its time" in each for each in notes)
     # signed elsewhere, as a browser's user does
     other = tmp_path / "copy"
@@ -403,8 +403,8 @@ def test_time_stamps(book: Type, user: As, tmp_path: Path) -> None:
         head = Book(mill, key=room / "anna").submit("2024-04", anyway=given).head  # type: ignore[arg-type]
         user(PAUL)
         Book(mill, key=room / "paul").approve(str(head))
-    said = [(each.sort, each.said) for each in Book(mill).signed(own) if "stamp" in each.said]
-    assert len(said) == 2 and all(sort is Sort.GOOD for sort, _ in said), said
+    said = [(each.kind, each.said) for each in Book(mill).signed(own) if "stamp" in each.said]
+    assert len(said) == 2 and all(kind is Kind.GOOD for kind, _ in said), said
     assert any("isn't believed" in each.said for each in Book(mill).signed(other))
 
 

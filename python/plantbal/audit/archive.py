@@ -25,6 +25,7 @@ from plantbal.audit.bundle import (
 )
 from plantbal.audit.changed import digest, digests_of_parts
 from plantbal.audit.linked import named_book, named_bundle
+from plantbal.audit.signed import add_signing, sign_bundle
 from plantbal.audit.summary import summary_text
 from plantbal.build import build_of
 from plantbal.commands.options import add_run, add_timeout
@@ -51,6 +52,9 @@ SESSION is a file; `-` is standard input. The program is run, and the bundle is 
   SHA256SUMS     the digests of all these, for `sha256sum --check`
 
 The zip ends with a comment that has the digest of all bytes before it.
+
+With --key the bundle is signed, by `ssh-keygen -Y sign` or minisign, and with --stamps a server
+stamps the time of that; both stand beside it.
 
 The same session, words, program and time give the same bytes. The time is that of --time, or else
 that of the variable SOURCE_DATE_EPOCH, or else now. An existing bundle isn't overwritten.
@@ -160,6 +164,7 @@ def add_arguments(parser: argparse.ArgumentParser) -> None:
     parser.add_argument("--book", metavar="FOLDER", help=book)
     before = "the plant's bundle before this one, which it names by its digest"
     parser.add_argument("--before", metavar="BUNDLE", help=before)
+    add_signing(parser)
     add_timeout(parser)
     add_run(parser)
 
@@ -258,6 +263,8 @@ def run(options: argparse.Namespace) -> int:
     files = _fits(bundle_files(session, written, stated))
     path = options.out or f"{re.sub('[^A-Za-z0-9_.-]', '_', plant)}_{period}.zip"
     state = "" if _write(path, packed(files)) else ", as it was before"
+    for made_too in sign_bundle(path, options.key, options.stamps):
+        print(f"{options.prog}: its signature: {made_too}", file=sys.stderr)
     for line in output.why:
         print(f"{options.prog}: {line}", file=sys.stderr)
     print(f"{options.prog}: {period} is archived in {path}{state}", file=sys.stderr)

@@ -8,6 +8,7 @@ from plantbal.audit.contents import given_of_bundle, session_held
 from plantbal.audit.holding import check_twice, hold, run_again
 from plantbal.audit.runwords import words_read, words_shown
 from plantbal.audit.said import Audit, Given, Kind
+from plantbal.audit.signed import add_signers
 from plantbal.commands.options import add_program, add_timeout
 from plantbal.faults import Fault, InputFault, Place, read_bytes, ToolMissing, WordsFault
 from plantbal.limits import SESSION_BYTES
@@ -26,6 +27,9 @@ the same, or its beginning. In this order:
   the report is checked by `plantbal check`, and by the checker in plain Python
   the report is compared with the session: its plant, the value and the variance of each stream,
   critical values, refused rows, and which block is the last of its period
+
+With --signers the bundle has to be signed by one of them, in BUNDLE.sig; --signed-by says by whom. If
+nothing beside the bundle is compared, a note says that anybody could have written it.
 
 Each sentence begins with `good:`, `note:` (you may want to know it) or `wrong:` (it doesn't hold).
 Without a bundle the words are those of --words, or else those that the report shows.
@@ -58,6 +62,7 @@ def add_arguments(parser: argparse.ArgumentParser) -> None:
     parser.add_argument("--book", metavar="FOLDER", help=book)
     before = "the bundle that this one names as the one before it: it has to be the same"
     parser.add_argument("--before", metavar="BUNDLE", help=before)
+    add_signers(parser)
     add_timeout(parser)
     add_program(parser)
 
@@ -73,7 +78,7 @@ def given_of(audit: Audit, options: argparse.Namespace) -> Given:
         if options.session is not None:
             session_held(audit, given, options.session)
         return given
-    if options.session is None or options.book or options.before:
+    if options.session is None or options.book or options.before or options.signers:
         raise Fault(  # it may have been one
             f"{options.report} is no bundle",
             text=options.report,

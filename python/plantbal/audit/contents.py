@@ -21,6 +21,7 @@ from plantbal.audit.bundle import (
 from plantbal.audit.changed import digest, where
 from plantbal.audit.linked import Linked
 from plantbal.audit.runwords import words_read, words_shown
+from plantbal.audit.signed import ANYBODY, Beside
 from plantbal.audit.said import SHORT, Audit, Given, Kind, differs_at
 from plantbal.faults import Fault, read_bytes
 from plantbal.limits import SESSION_BYTES
@@ -62,6 +63,11 @@ def given_of_bundle(audit: Audit, path: str, options: argparse.Namespace) -> Giv
         audit.add(Kind.GOOD, f"{path}: {what}, and {rest}")
     for kind, said in Linked(path, manifest, files[SESSION]).held(options.book, options.before):
         audit.add(kind, said)
+    beside = Beside(path, options.signature or f"{path}.sig")
+    for kind, said in beside.held(options, manifest.made):
+        audit.add(kind, said)
+    if not any((options.signers, options.book, options.after, options.session)):
+        audit.add(Kind.NOTE, f"{path}: {ANYBODY}")
     words = words_read(manifest.words)
     return _given(path, files, words, manifest.program.get("sha256", ""))
 

@@ -9,11 +9,15 @@ from __future__ import annotations
 import hashlib
 from collections.abc import Iterator
 from dataclasses import dataclass
+from typing import TYPE_CHECKING
 
 from plantbal.audit.bundle import MANIFEST, Manifest, unpacked
 from plantbal.audit.changed import digest
 from plantbal.audit.said import Kind
 from plantbal.faults import InputFault, Place, read_bytes
+
+if TYPE_CHECKING:
+    from plantbal.book.store import Store
 
 
 def manifest_of(path: str) -> Manifest:
@@ -136,9 +140,27 @@ class Linked:
             what = f"{folder} has the head of action {named['number']} that it names"
             rest = f"its session begins with the rows of {years[0]} as they were by then"
             yield Kind.GOOD, f"{self.path}: {what}, and {rest}"
+            yield from self._approved(book)
         elif not wrong:
             what = f"its session doesn't begin with the rows that a year of {folder} had by action"
             yield Kind.WRONG, f"{self.path}: {what} {named['number']}"
+
+    def _approved(self, book: Store) -> Iterator[tuple[Kind, str]]:
+        """Give who has submitted, approved and signed the close of its period, by the book."""
+        from plantbal.book.approval.history import looked
+        from plantbal.book.journal import Act
+
+        with book.opened(reading=True):
+            lines, found = book.journal(), list(looked(book))
+        period = self.manifest.period
+        of = {
+            line.number
+            for line in lines
+            if line.of == period and line.act in (Act.CLOSE, Act.SUBMIT)
+        }
+        for each in found:
+            if each.number in of:
+                yield each.kind, f"{self.path}: {each.said}"
 
     def _begins(self, size: int | None, digest_: str) -> bool:
         """Say whether the session begins with a file that was left with this digest."""

@@ -10,8 +10,8 @@ from __future__ import annotations
 import csv
 from collections.abc import Iterator
 from dataclasses import dataclass
-from enum import StrEnum
 
+from plantbal.audit.said import Kind
 from plantbal.book.answers import ANYWAY
 from plantbal.book.approval.changers import changers, marks_of_doer
 from plantbal.book.approval.identity import marks_of_line
@@ -20,7 +20,7 @@ from plantbal.book.approval.record import Deed, Record
 from plantbal.book.approval.rules import May, Rules, Want, read_rules
 from plantbal.book.approval.state import keys_of, proposal_of, record_of, rules_of, signed_of
 from plantbal.book.forms import ACCOUNTS, APPROVALS, RULES, approval_file, year_file
-from plantbal.book.journal import Act, Kept, Line
+from plantbal.book.journal import Act, Kept, Line, printable
 from plantbal.book.ledger import Fact
 from plantbal.book.said import touched_by
 from plantbal.book.store import Store
@@ -30,21 +30,13 @@ from plantbal.gates import Gate
 from plantbal.signing.stamps import stamped
 
 
-class Sort(StrEnum):
-    """How a thing that was looked at is: in order, to be known, or not as it should be."""
-
-    GOOD = "good"
-    NOTE = "note"
-    WRONG = "wrong"
-
-
 @dataclass(frozen=True)
 class Looked:
     """What was found of an action.
 
     Attributes
     ----------
-    sort : Sort
+    kind : Kind
         How it is.
     number : int
         The action; 0 if it is about the whole book.
@@ -52,7 +44,7 @@ class Looked:
         What was found, in a sentence.
     """
 
-    sort: Sort
+    kind: Kind
     number: int
     said: str
 
@@ -84,17 +76,17 @@ class _Look:
         try:
             record = record_of(self.book, line)
         except Fault as fault:
-            yield Looked(Sort.WRONG, line.number, f"{line.said()}: {fault}")
+            yield Looked(Kind.WRONG, line.number, f"{line.said()}: {fault}")
             return
         if record is not None:
             yield from self._record(line, record)
         elif any(name.startswith(f"{APPROVALS}/") for name in line.files):
             what = f"{line.said()}: its record is of another action"
-            yield Looked(Sort.WRONG, line.number, what)
+            yield Looked(Kind.WRONG, line.number, what)
         if self.rules is not None:
             yield from self._approvals(line, record, self.rules)
         elif line.act is Act.CLOSE:
-            yield Looked(Sort.NOTE, line.number, f"{line.said()}: nobody has signed or approved it")
+            yield Looked(Kind.NOTE, line.number, f"{line.said()}: nobody has signed or approved it")
         if line.act is Act.RULES:
             self._take_rules(line, record)
 
@@ -113,21 +105,21 @@ class _Look:
         place = (before.number, before.digest)
         if (record.number, record.after, record.book) != (line.number, place, self.lines[0].digest):
             what = f"{line.said()}: its record is of another place or another book"
-            yield Looked(Sort.WRONG, line.number, what)
+            yield Looked(Kind.WRONG, line.number, what)
         if record.user != line.user:
             what = f"{line.said()}: its record is of another user, {record.user}"
-            yield Looked(Sort.WRONG, line.number, what)
+            yield Looked(Kind.WRONG, line.number, what)
         if not before.when <= record.when <= line.when:
             what = f"{line.said()}: its record says {record.when}, which isn't between the actions"
-            yield Looked(Sort.WRONG, line.number, what)
+            yield Looked(Kind.WRONG, line.number, what)
         signed = signed_of(self.book, record, self.keys)
         if signed is None:
             is_wanted = self.rules is not None and self.rules.keys
-            sort = Sort.WRONG if is_wanted else Sort.NOTE
-            yield Looked(sort, line.number, f"{line.said()}: nobody has signed it")
+            kind = Kind.WRONG if is_wanted else Kind.NOTE
+            yield Looked(kind, line.number, f"{line.said()}: nobody has signed it")
             return
-        sort = Sort.GOOD if signed.name else Sort.WRONG
-        yield Looked(sort, line.number, f"{line.said()}: {signed.said()}")
+        kind = Kind.GOOD if signed.name else Kind.WRONG
+        yield Looked(kind, line.number, f"{line.said()}: {signed.said()}")
         yield from self._stamp(line)
 
     def _stamp(self, line: Line) -> Iterator[Looked]:
@@ -135,7 +127,7 @@ class _Look:
         name = approval_file(line.number, "tsr")
         if not self.book.has(name):
             what = f"{line.said()}: no server has stamped its time: it is what this machine said"
-            yield Looked(Sort.NOTE, line.number, what)
+            yield Looked(Kind.NOTE, line.number, what)
 
     def stamps(self, authority: str) -> Iterator[Looked]:
         """Give whether the time stamps are of an authority, and what they say."""
@@ -144,8 +136,8 @@ class _Look:
             if self.book.has(token):
                 data = self.book.text(name).encode("utf-8")
                 found = stamped(data, self.book.text(token), authority)
-                sort = Sort.GOOD if found.when is not None else Sort.WRONG
-                yield Looked(sort, line.number, f"{line.said()}: {found.said()}")
+                kind = Kind.GOOD if found.when is not None else Kind.WRONG
+                yield Looked(kind, line.number, f"{line.said()}: {found.said()}")
 
     # ---- approvals
 
@@ -157,20 +149,20 @@ class _Look:
             return
         said = f"{line.said()}: it wants an approval ({', '.join(wants)})"
         if record is None or record.deed is not Deed.APPROVE or record.submission is None:
-            yield Looked(Sort.WRONG, line.number, f"{said}, and nobody has approved it")
+            yield Looked(Kind.WRONG, line.number, f"{said}, and nobody has approved it")
             return
         try:
             found = self._approval(line, record)
         except Fault as fault:
-            yield Looked(Sort.WRONG, line.number, f"{line.said()}: {fault}")
+            yield Looked(Kind.WRONG, line.number, f"{line.said()}: {fault}")
             return
         why = list(self._against(found, rules))
         for each in why:
-            yield Looked(Sort.WRONG, line.number, f"{line.said()}: {each}")
+            yield Looked(Kind.WRONG, line.number, f"{line.said()}: {each}")
         if not why:
             by, of = record.who or record.user, found.submission
             what = f"{line.said()}: submitted by {self._who(of)} as action {of.number}"
-            yield Looked(Sort.GOOD, line.number, f"{what}, approved by {by}")
+            yield Looked(Kind.GOOD, line.number, f"{what}, approved by {by}")
 
     def _who(self, line: Line) -> str:
         record = record_of(self.book, line)
@@ -200,6 +192,8 @@ class _Look:
         line, proposal = found.line, found.proposal
         if (proposal.act, proposal.of) != (line.act.value, line.of):
             yield f"{proposal.act} {proposal.of} was submitted"
+        if (printable(proposal.what), printable(proposal.why)) != (line.what, line.why):
+            yield "it says something else, or another reason, than was submitted"
         yield from self._other_rows(found)
         some = [each for each in self.lines if self._approves(each, found.submission)]
         if len(some) + 1 < rules.approvers:
@@ -301,7 +295,7 @@ def looked(book: Store, authority: str = "") -> Iterator[Looked]:
         yield from look.stamps(authority)
     if look.rules is None:
         what = "the book has no rules: nobody had to approve anything"
-        yield Looked(Sort.NOTE, 0, what)
+        yield Looked(Kind.NOTE, 0, what)
 
 
 def _changes_of_closed(book: Store, years: Years) -> Iterator[tuple[int, tuple[str, ...]]]:

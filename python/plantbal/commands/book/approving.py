@@ -6,7 +6,7 @@ import argparse
 from types import SimpleNamespace
 
 from plantbal.book.answers import reasons_of
-from plantbal.book.approval.history import Sort
+from plantbal.audit.said import Kind
 from plantbal.book.approval.state import Waiting
 from plantbal.book.closing import NotClosed, unneeded
 from plantbal.book.forms import report_file
@@ -209,8 +209,8 @@ def _signed(options: argparse.Namespace) -> int:
     authority = read_signature(options.stamps) if options.stamps else ""
     found = _book(options).signed(authority)
     for each in found:
-        print(f"{each.sort}: {each.said}")
-    wrong = sum(each.sort is Sort.WRONG for each in found)
+        print(f"{each.kind}: {each.said}")
+    wrong = sum(each.kind is Kind.WRONG for each in found)
     if wrong:
         raise Fault(f"{counted(wrong, 'thing')} isn't as the rules of the book want it")
     return ExitStatus.GOOD

@@ -1,0 +1,247 @@
+"""Whoever can write to everything: a bundle or a book is made anew, and what tells it is named.
+
+Each attack is made with the package's own means, so that all digests and the chain fit. It is told
+by what stands beside its name, and by nothing else of these: ASSURANCE has the same as a table.
+"""
+
+from __future__ import annotations
+
+import os
+import shutil
+from collections.abc import Callable, Sequence
+from dataclasses import dataclass, replace
+from pathlib import Path
+
+import keyring
+import pytest
+from books import ANYWAY, Type, fixture_book, folder, month
+from conftest import Desk, text_of
+
+from plantbal import Book
+from plantbal.audit.archive import bundle_files
+from plantbal.audit.bundle import MANIFEST, OUTPUT, SESSION, Manifest, packed, unpacked
+from plantbal.audit.said import Kind
+from plantbal.book.journal import HEAD_TEXT, Line, chained, read_journal
+from plantbal.faults import Fault
+from plantbal.gates import Gate
+from plantbal.program import call
+from plantbal.signing.signatures import BUNDLE, sign
+
+__all__ = ["fixture_book"]
+
+REASONS = {gate: "as it is" for gate in Gate}
+
+
+@dataclass(frozen=True)
+class Room:
+    """A book with April closed by two, its bundles of April and May, and keys."""
+
+    path: Path
+
+    @property
+    def mill(self) -> Path:
+        return self.path / "mill"
+
+    def key(self, name: str) -> Path:
+        return self.path / "keys" / name
+
+
+@pytest.fixture(name="room")
+def fixture_room(book: Type, say: Desk, tmp_path: Path, monkeypatch: pytest.MonkeyPatch) -> Room:
+    """Anna submits, Paul approves, Eva has left; both bundles are signed by Anna."""
+    room, mill = Room(tmp_path), tmp_path / "mill"
+    monkeypatch.setenv("PLANTBAL_TRUST", f"{mill}:{tmp_path / 'copy'}")
+    ends = {"eva": 'valid-before="20240101"'}
+    lines = [
+        keyring.line(name, keyring.key(tmp_path / "keys", name), ends.get(name, ""))
+        for name in ("anna", "paul", "eva")
+    ]
+    keyring.key(tmp_path / "keys", "stranger")
+    (tmp_path / "signers").write_text("".join(lines), "ascii")
+    (tmp_path / "rules").write_text("[wants]\nclose = true\namend = true\n[sign]\nkeys = true\n")
+    Book(mill).set_rules(tmp_path / "rules", signers=tmp_path / "signers")
+    _as(monkeypatch, 1001)
+    head = Book(mill, key=room.key("anna")).submit("2024-04", anyway=REASONS).head
+    _as(monkeypatch, 1002)
+    Book(mill, key=room.key("paul")).approve(str(head))
+    (tmp_path / "head").write_text(str(Book(mill).head), "ascii")
+    before: list[object] = []
+    assert book("add", folder(tmp_path / "may", month(month="05"))).status == 0
+    for period in ("2024-04", "2024-05"):
+        session, out = tmp_path / f"{period}.csv", tmp_path / f"{period}.zip"
+        session.write_text(Book(mill).session_asking(period), "ascii")
+        words = ("--period", period, "--out", out, "--book", mill, "--key", room.key("anna"))
+        assert say("archive", session, *words, *before).status in (0, 1)
+        before = ["--before", out]
+    return room
+
+
+def _as(monkeypatch: pytest.MonkeyPatch, number: int) -> None:
+    monkeypatch.setattr(os, "getuid", lambda: number)
+
+
+# ---- bundles
+
+Forge = Callable[[dict[str, bytes]], dict[str, bytes]]
+
+
+def made_of(session: bytes, manifest: Manifest) -> dict[str, bytes]:
+    """A bundle of another session, consistent in itself."""
+    output = call(manifest.words.split(" "), session)[1]
+    return bundle_files(session, output, manifest)
+
+
+def of_session(old: bytes, new: bytes) -> Forge:
+    """A bundle made anew of a session with another row."""
+
+    def forge(files: dict[str, bytes]) -> dict[str, bytes]:
+        assert old in files[SESSION], old
+        return made_of(files[SESSION].replace(old, new), Manifest.read(files[MANIFEST]))
+
+    return forge
+
+
+def of_manifest(**values: object) -> Forge:
+    """A bundle made anew that states something else."""
+
+    def forge(files: dict[str, bytes]) -> dict[str, bytes]:
+        stated = replace(Manifest.read(files[MANIFEST]), **values)  # type: ignore[arg-type]
+        return bundle_files(files[SESSION], files[OUTPUT], stated)
+
+    return forge
+
+
+# Twelve ways to make a bundle anew, and whether the book's chain tells it as well as a signature.
+BUNDLES: dict[str, tuple[Forge, bool]] = {
+    "a reading": (of_session(b"FEED,2024-04-02,1200", b"FEED,2024-04-02,1300"), True),
+    "a ticket": (of_session(b"2024-04-01,800000000", b"2024-04-01,900000000"), True),
+    "a dip": (of_session(b",9500,", b",9400,"), True),
+    "an error": (of_session(b"global,2,5990", b"global,2,9990"), True),
+    "the plant": (of_session(b"MILL,SILO", b"SILO,MILL"), True),
+    "a row less": (of_session(b"close,2024-04\n", b""), True),
+    "the time": (of_manifest(made="2020-01-01T00:00:00Z"), False),
+    "the plant's name": (of_manifest(plant="other"), False),
+    "the version": (of_manifest(desk="99.9"), False),
+    "the program": (
+        of_manifest(program={"sha256": "0" * 64, "version": "1", "commit": "x", "from": "y"}),
+        False,
+    ),
+    "another head": (of_manifest(book={"number": "3", "head": "0" * 64}), True),
+    "the bundle before": (
+        of_manifest(before={"sha256": "0" * 64, "number": "", "head": ""}),
+        False,
+    ),
+}
+
+
+def test_bundles_made_anew(room: Room, say: Desk) -> None:
+    """A signature tells each; the book each that changes figures; nothing beside it none."""
+    bundle = room.path / "2024-04.zip"
+    genuine, signature = bundle.read_bytes(), Path(f"{bundle}.sig").read_text("ascii")
+    signers = ("--signers", room.path / "signers")
+    said = say("audit", bundle, *signers, "--book", room.mill, "--after", room.path / "2024-05.zip")
+    assert said.status == 0, said.out
+    assert "signed by anna with the key SHA256:" in said.out
+    assert "submitted by anna as action 4, approved by" in said.out
+    for name, (forge, is_told) in BUNDLES.items():
+        files = forge(dict(unpacked(bundle).files))
+        bundle.write_bytes(packed(files))
+        alone = say("audit", bundle)
+        assert alone.status == 0 and "anybody could have written all of it" in alone.out, name
+        said = say("audit", bundle, *signers)
+        assert said.status == 1 and "it doesn't fit what is signed" in said.out, (name, said.out)
+        assert say("audit", bundle, "--after", room.path / "2024-05.zip").status == 1, name
+        assert (say("audit", bundle, "--book", room.mill).status == 1) == is_told, name
+        bundle.write_bytes(genuine)
+    for name, made, what in (
+        ("stranger", sign(genuine, room.key("stranger"), BUNDLE), "its key is nobody's"),
+        ("ended", sign(genuine, room.key("eva"), BUNDLE), "not allowed any more"),
+        ("of another use", sign(genuine, room.key("anna"), "plantbal-book"), "doesn't fit"),
+        ("another's", sign(genuine, room.key("paul"), BUNDLE), "anna has to have signed it"),
+        ("none", "", "nobody has signed it"),
+        ("garbage", "x", "it is no signature"),
+    ):
+        path = Path(f"{bundle}.sig")
+        path.unlink(missing_ok=True)
+        if made:
+            path.write_text(made, "ascii")
+        said = say("audit", bundle, *signers, "--signed-by", "anna")
+        assert said.status == 1 and what in said.out, (name, said.out)
+    Path(f"{bundle}.sig").write_text(signature, "ascii")
+    assert say("audit", bundle, *signers, "--signed-by", "anna").status == 0
+
+
+# ---- books
+
+Anew = Callable[[list[Line], Path], Sequence[Line]]
+
+
+def _cut(lines: list[Line], copy: Path) -> Sequence[Line]:
+    return lines[:2]
+
+
+def _other_reason(lines: list[Line], copy: Path) -> Sequence[Line]:
+    return [replace(each, why="fine") if each.act == "close" else each for each in lines]
+
+
+def _other_approver(lines: list[Line], copy: Path) -> Sequence[Line]:
+    return [replace(each, user="otto (1003)") if each.act == "close" else each for each in lines]
+
+
+def _no_rules(lines: list[Line], copy: Path) -> Sequence[Line]:
+    return [each for each in lines if each.act != "rules"]
+
+
+def _no_submission(lines: list[Line], copy: Path) -> Sequence[Line]:
+    return [each for each in lines if each.act != "submit"]
+
+
+def _earlier(lines: list[Line], copy: Path) -> Sequence[Line]:
+    return [replace(each, when="2024-05-01T00:00:00Z") for each in lines]
+
+
+def _moved(lines: list[Line], copy: Path) -> Sequence[Line]:
+    return [*lines[:3], replace(lines[1], rows=""), *lines[3:]]
+
+
+# What is done to the journal, and whether a look at the approvals tells it (a head always does).
+BOOKS: dict[str, tuple[Anew, bool]] = {
+    "cut to before the rules": (_cut, False),
+    "another reason": (_other_reason, True),
+    "another approver": (_other_approver, True),
+    "without the rules": (_no_rules, True),
+    "without the submission": (_no_submission, True),
+    "other times": (_earlier, True),
+    "an action put in": (_moved, True),
+}
+
+
+def test_books_made_anew(room: Room) -> None:
+    """A head that was kept tells each; the signatures those that touch what was signed."""
+    copy, head = room.path / "copy", (room.path / "head").read_text("ascii")
+    assert not [each for each in Book(room.mill).signed() if each.kind is Kind.WRONG]
+    for name, (change, is_told) in BOOKS.items():
+        shutil.rmtree(copy, ignore_errors=True)
+        shutil.copytree(room.mill, copy)
+        lines, _ = read_journal("x", text_of(copy / "journal.csv"))
+        made = chained(change(lines, copy))
+        (copy / "journal.csv").write_text(HEAD_TEXT + "".join(each.text for each in made), "utf-8")
+        (copy / ".checks").unlink()
+        assert not Book(copy).verify(heads=[head]).ok, name
+        try:
+            told = any(each.kind is Kind.WRONG for each in Book(copy).signed())
+        except Fault:
+            told = True
+        assert told == is_told, name
+
+
+def test_an_older_copy(room: Room, book: Type) -> None:
+    """Its chain and its signatures are in order: a newer head alone tells it."""
+    older = room.path / "copy"
+    shutil.copytree(room.mill, older)
+    newer = str(Book(room.mill).head)
+    assert book("add", folder(room.path / "more", month(month="05", last=9))).status == 0
+    assert book("close", "2024-05", *ANYWAY).status == 1, "it wants an approval"
+    now = str(Book(room.mill).head)
+    assert Book(older).verify(heads=[newer]).ok
+    assert not Book(older).verify(heads=[now]).ok
