@@ -1,6 +1,7 @@
 /**
  * The files of a bundle, unpacked by the browser. Only a zip that every reader of zips reads alike is taken: walked from its first byte
- * to its last one, the heads before its files say what its directory says, and nothing stands before, between or after them.
+ * to its last one, the heads before its files say what its directory says, and nothing stands before, between or after them. It may be
+ * packed by another packer, as mail gateways do: in another order, with other times, with sizes that stand after the bytes of a file.
  */
 
 /** The files of a bundle, in order, and the most bytes that each may have. */
@@ -20,6 +21,8 @@ export class ZipFault extends Error {
 
 const NAMES = Object.keys(FILES);
 const HEAD = 30, ENTRY = 46, END = 22;
+const STORED = 0, DEFLATED = 8, DESCRIBED = 0x0008, ALLOWED_FLAGS = 0x080e; // sizes after the bytes; speed of packing, UTF-8
+const RENAMING = [0x0001, 0x7075, 0x6375]; // extra fields that give a file another size, name or comment
 
 /**
  * Returns the files of a bundle, its comment, and what some readers may take for something else.
@@ -32,19 +35,18 @@ export async function unpacked(bytes) {
   const count = view.getUint16(end + 10, true), begin = view.getUint32(end + 16, true);
   const entries = directory(view, bytes, begin, end, count);
   const names = entries.map(({ name }) => name);
-  if (names.join() !== NAMES.join()) throw new ZipFault("zip_other", { names: names.join(", ") || "—" });
+  if ([...names].sort().join() !== [...NAMES].sort().join()) throw new ZipFault("zip_other", { names: names.join(", ") || "—" });
   const files = new Map();
   let at = 0, loose = "";
   for (const entry of entries) {
-    if (entry.offset !== at || !sameHead(view, bytes, entry)) loose ||= entry.name;
-    const from = entry.offset + HEAD + view.getUint16(entry.offset + 26, true) + view.getUint16(entry.offset + 28, true);
-    if (from + entry.packed > bytes.length) throw new ZipFault("zip_cut", { name: entry.name });
-    files.set(entry.name, await content(bytes.subarray(from, from + entry.packed), entry));
-    at = from + entry.packed;
+    const found = local(view, bytes, entry);
+    if (entry.offset !== at || !found.fits) loose ||= entry.name;
+    files.set(entry.name, await content(bytes.subarray(found.from, found.from + entry.packed), entry));
+    at = found.end;
   }
-  if (at !== begin) loose ||= NAMES.at(-1);
+  if (at !== begin) loose ||= names.at(-1);
   const comment = new TextDecoder("latin1").decode(bytes.subarray(end + END));
-  return { files, comment, sealedBytes: end + END, loose };
+  return { files: new Map(NAMES.map((name) => [name, files.get(name)])), comment, sealedBytes: end + END, loose };
 }
 
 // The end of the directory: the last place whose comment reaches to the end of the file.
@@ -66,6 +68,7 @@ function directory(view, bytes, begin, end, count) {
       name: new TextDecoder().decode(bytes.subarray(at + ENTRY, at + ENTRY + length)),
       flags: view.getUint16(at + 8, true), method: view.getUint16(at + 10, true), sum: view.getUint32(at + 16, true),
       packed: view.getUint32(at + 20, true), size: view.getUint32(at + 24, true), offset: view.getUint32(at + 42, true),
+      extra: bytes.subarray(at + ENTRY + length, at + ENTRY + length + view.getUint16(at + 30, true)),
     });
     at += ENTRY + length + view.getUint16(at + 30, true) + view.getUint16(at + 32, true);
   }
@@ -73,24 +76,42 @@ function directory(view, bytes, begin, end, count) {
   return entries;
 }
 
-// Whether the head before a file says what the directory says.
-function sameHead(view, bytes, entry) {
+// Where a file's bytes begin and where its entry ends, and whether its head says what the directory says.
+function local(view, bytes, entry) {
   const at = entry.offset;
   if (at + HEAD > bytes.length || view.getUint32(at, true) !== 0x04034b50) throw new ZipFault("zip_cut", { name: entry.name });
-  const length = view.getUint16(at + 26, true);
+  const length = view.getUint16(at + 26, true), extra = view.getUint16(at + 28, true), from = at + HEAD + length + extra;
+  if (from + entry.packed > bytes.length) throw new ZipFault("zip_cut", { name: entry.name });
+  const flags = view.getUint16(at + 6, true), isDescribed = (flags & DESCRIBED) !== 0, wanted = [entry.sum, entry.packed, entry.size];
+  const sizes = [14, 18, 22].map((place) => view.getUint32(at + place, true));
   const name = new TextDecoder().decode(bytes.subarray(at + HEAD, at + HEAD + length));
-  return name === entry.name && entry.flags === 0 && view.getUint16(at + 6, true) === 0
-    && view.getUint16(at + 8, true) === entry.method && view.getUint32(at + 14, true) === entry.sum
-    && view.getUint32(at + 18, true) === entry.packed && view.getUint32(at + 22, true) === entry.size
-    && view.getUint16(at + 28, true) === 0;
+  const fits = name === entry.name && view.getUint16(at + 8, true) === entry.method && flags === entry.flags && (flags & ~ALLOWED_FLAGS) === 0
+    && sizes.every((size, i) => size === wanted[i] || (isDescribed && size === 0))
+    && (entry.method === DEFLATED || sizes[1] === entry.packed) // of stored bytes a reader has to know the size before them
+    && renamesNothing(bytes.subarray(from - extra, from)) && renamesNothing(entry.extra);
+  const end = from + entry.packed;
+  if (!isDescribed) return { from, end, fits };
+  const marked = end + 16 <= bytes.length && view.getUint32(end, true) === 0x08074b50 ? 4 : 0;
+  const described = end + marked + 12 <= bytes.length && wanted.every((each, i) => view.getUint32(end + marked + 4 * i, true) === each);
+  return { from, end: end + marked + 12, fits: fits && described };
+}
+
+// Whether extra fields are whole, and none gives another size or name.
+function renamesNothing(extra) {
+  let at = 0;
+  while (at + 4 <= extra.length) {
+    if (RENAMING.includes(extra[at] + 256 * extra[at + 1])) return false;
+    at += 4 + extra[at + 2] + 256 * extra[at + 3];
+  }
+  return at === extra.length;
 }
 
 async function content(packed, entry) {
   const most = FILES[entry.name];
   if (entry.size > most) throw new ZipFault("zip_large", { name: entry.name, most });
   let found;
-  if (entry.method === 0) found = packed.slice();
-  else if (entry.method === 8) found = await inflated(packed, entry);
+  if (entry.method === STORED) found = packed.slice();
+  else if (entry.method === DEFLATED) found = await inflated(packed, entry);
   else throw new ZipFault("zip_cut", { name: entry.name });
   if (found.length !== entry.size || crc32(found) !== entry.sum) throw new ZipFault("zip_sum", { name: entry.name });
   return found;
