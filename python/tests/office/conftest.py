@@ -3,6 +3,7 @@
 from __future__ import annotations
 
 import os
+import secrets
 import signal
 import subprocess
 import sys
@@ -10,6 +11,7 @@ from collections.abc import Iterator
 from pathlib import Path
 
 import pytest
+import site_of
 from hands import Browser
 from selenium import webdriver
 from selenium.webdriver.chrome.options import Options
@@ -73,3 +75,17 @@ def fixture_desk(served: Served, tmp_path: Path, chromium: webdriver.Chrome) -> 
     chromium.get(served.address)
     chromium.get_log("browser")
     return Browser(chromium, served.root, tmp_path)
+
+
+@pytest.fixture(name="made", scope="session")
+def fixture_made(tmp_path_factory: pytest.TempPathFactory) -> Path:
+    """Django ready, and a book to copy."""
+    site_of.begun(tmp_path_factory.mktemp("state"))
+    return site_of.mill(tmp_path_factory.mktemp("made") / "mill")
+
+
+@pytest.fixture(name="site")
+def fixture_site(made: Path, tmp_path: Path) -> site_of.Site:
+    """A person with all roles that act, in a plant with a book of its own."""
+    name = "s" + secrets.token_hex(4)
+    return site_of.Site(tmp_path, name, ("clerk", "engineer", "approver"), made)

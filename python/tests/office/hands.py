@@ -51,6 +51,9 @@ class Commands:
     def amend(self, name: str, day: str, amount: str, why: str) -> None:
         self._call("amend", name, day, amount, "--why", why)
 
+    def amend_ticket(self, identity: str, amount: str, why: str) -> None:
+        self._call("amend", identity, amount, "--why", why)
+
     def close(self, period: str, reasons: Mapping[str, str] | None = None) -> None:
         words = [f"{gate}={why}" for gate, why in (reasons or {}).items()]
         self._call("close", period, *[w for word in words for w in ("--anyway", word)])
@@ -200,6 +203,23 @@ class Browser:
         self.press("Look what it would do")
         assert self.has(".effect"), self.text()
         self.press("Book it")
+
+    def amend_ticket(self, year: str, identity: str, amount: str, why: str, period: str) -> None:
+        """Amend a ticket, from its stream."""
+        self.open(f"look/{period}/stream/{identity.rpartition('-')[2]}")
+        self.link(identity)
+        self.link("Amend")
+        self.fill("amount", amount)
+        self.fill("why", why)
+        self.press("Look what it would do")
+        self.press("Book it")
+        assert f"/fact/{year}/" in self.driver.current_url, self.text()
+
+    def gates_of(self, period: str) -> dict[str, str]:
+        """A reason for each gate that a close asks for."""
+        self.open(f"correct/{period}/close")
+        words = [each.get_attribute("name") or "" for each in self.all("main [name^=why-]")]
+        return {word.removeprefix("why-"): "looked at, and right" for word in words}
 
     def month_of(self, day: str) -> str:
         """The month of a day: its name, or that of the story."""

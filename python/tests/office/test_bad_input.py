@@ -1,0 +1,237 @@
+"""What people do: twice, late, in two tabs, with files that are none; a sentence, and nothing lost."""
+
+from __future__ import annotations
+
+import errno
+import io
+import zipfile
+from typing import Any
+
+import pytest
+from site_of import Site
+
+AMEND = "correct/fact/2023-24/FI-302_2024-04-18/amend"
+WORDS = {"amount": "12188 t", "why": "typed a digit short"}
+
+
+def sentence(answer: Any) -> str:
+    """What an answer says, as a person reads it; it is no page of an error."""
+    assert answer.status_code < 500, answer.content[:500]
+    return answer.content.decode()
+
+
+def workbook(name: str, data: bytes) -> io.BytesIO:
+    """A file as a browser sends it."""
+    file = io.BytesIO(data)
+    file.name = name
+    return file
+
+
+def drop(site: Site, *files: io.BytesIO, **words: str) -> Any:
+    """Drop files, and follow to what is said of them."""
+    data = {**site.fields("enter/"), "locale": "de", "workbook": list(files), **words}
+    return site.client.post(f"/p/{site.plant.slug}/enter/", data, follow=True)
+
+
+def readings(*rows: str) -> io.BytesIO:
+    """A sheet of readings."""
+    return workbook("readings.csv", "\n".join(["day,FI-302", *rows]).encode())
+
+
+def test_double_click(site: Site) -> None:
+    """The same form sent twice is done once, and both are shown what came of it."""
+    form = site.fields(f"{AMEND}?amount=12188+t&why=x") | WORDS
+    first, second = site.post(AMEND, form), site.post(AMEND, form)
+    assert (first.status_code, second.status_code) == (302, 302)
+    assert first["Location"] == second["Location"], "the back button leads to the same"
+    assert site.head() == 4, "one action was booked"
+
+
+def test_two_tabs(site: Site) -> None:
+    """Who acts on an old version is told what was done since, and nothing is written over."""
+    one = site.fields(f"{AMEND}?amount=12188+t&why=x") | WORDS
+    other = site.fields(f"{AMEND}?amount=12188+t&why=x") | WORDS | {"amount": "11000 t"}
+    assert site.post(AMEND, one).status_code == 302
+    said = site.post(AMEND, other)
+    assert said.status_code == 409 and "amend FI-302_2024-04-18" in sentence(said)
+    assert site.head() == 4
+
+
+def test_command_meanwhile(site: Site) -> None:
+    """A command at work in the book is seen, and a form from before it is refused."""
+    from plantbal import Book
+
+    form = site.fields(f"{AMEND}?amount=12188+t&why=x") | WORDS
+    Book(site.book).amend("FI-302", "2024-04-18", "12000 t", why="by a command")
+    assert site.post(AMEND, form).status_code == 409
+    assert "12,000 t" in sentence(site.get("look/fact/2023-24/FI-302_2024-04-18"))
+
+
+def test_session_ended(site: Site) -> None:
+    """After the sign-in has ended a form is answered by the way to sign in, and books nothing."""
+    form = site.fields(f"{AMEND}?amount=12188+t&why=x") | WORDS
+    site.client.logout()
+    answer = site.post(AMEND, form)
+    assert answer.status_code == 302 and "sign-in" in answer["Location"]
+    assert site.head() == 3
+
+
+@pytest.mark.parametrize(
+    ("field", "text"),
+    [
+        ("amount", "x" * 10_000),
+        ("amount", "zwölf"),
+        ("amount", "=1+1"),
+        ("amount", "1e999 t"),
+        ("why", ""),
+        ("why", "y" * 10_000),
+        ("version", "0 none"),
+        ("version", "z" * 10_000),
+        ("deed", "k"),
+        ("deed", "k" * 10_000),
+    ],
+)
+def test_words(site: Site, field: str, text: str) -> None:
+    """Each text that is none is answered by a sentence, and nothing is booked."""
+    form = site.fields(f"{AMEND}?amount=12188+t&why=x") | WORDS | {field: text}
+    answer = site.post(AMEND, form)
+    assert answer.status_code in (200, 400, 409), answer
+    assert site.head() == 3
+
+
+def bomb() -> bytes:
+    """A workbook of some kilobytes with a sheet of a gigabyte."""
+    out = io.BytesIO()
+    with zipfile.ZipFile(out, "w", zipfile.ZIP_DEFLATED) as zipped:
+        zipped.writestr("[Content_Types].xml", "<Types/>")
+        zipped.writestr("xl/workbook.xml", b" " * (1 << 29))
+    return out.getvalue()
+
+
+@pytest.mark.parametrize(
+    ("name", "data"),
+    [
+        ("a.xlsx", b"no workbook at all"),
+        ("a.xlsx", b""),
+        ("readings.csv", b"day;FI-302\n2024-04-18;\0\n"),
+        ("readings.csv", b'day,FI-302\n2024-04-18,"12\n'),
+        ("readings.csv", b"\xff\xfe\x00"),
+        ("photo.png", b"\x89PNG"),
+        ("n" * 10_000 + ".xlsx", b"x"),
+        ("..\\..\\etc\\passwd", b"x"),
+        (".hidden.csv", b"x"),
+    ],
+    ids=["no-zip", "empty", "nul", "quote", "utf-16", "picture", "long", "outside", "hidden"],
+)
+def test_no_workbook(site: Site, name: str, data: bytes) -> None:
+    """What is no workbook is answered by a sentence, and isn't booked."""
+    said = sentence(drop(site, workbook(name, data)))
+    assert "verdict bad" in said or "faults" in said
+    assert site.head() == 3
+
+
+def test_bomb(site: Site) -> None:
+    """A workbook that unpacks to more than any has is refused before it is unpacked."""
+    said = sentence(drop(site, workbook("bomb.xlsx", bomb())))
+    assert "verdict bad" in said
+    assert site.head() == 3
+
+
+def test_too_long(site: Site) -> None:
+    """What is longer than any workbook isn't read."""
+    from django.conf import settings
+
+    length = settings.PLANTBAL_UPLOAD + (2 << 20)
+    answer = site.client.generic(
+        "POST", f"/p/{site.plant.slug}/enter/", b"", CONTENT_LENGTH=str(length)
+    )
+    assert answer.status_code == 413 and b"67,108,864" in answer.content
+
+
+def test_faults_at_cells(site: Site) -> None:
+    """A fault stands at its cell in a picture of the sheet, with what to do."""
+    said = sentence(drop(site, readings("2024-04-18,12188", "2024-04-19,12x"), called="april"))
+    assert said.count('class="wrong"') == 1 and "12x" in said and "readings.csv" in said
+
+
+def test_change_wants_a_reason(site: Site) -> None:
+    """What a workbook changes is shown with its effect, and is booked with a reason alone."""
+    page = drop(site, readings("2024-04-18,12188"), called="april")
+    said = sentence(page)
+    assert "1,218 t becomes 12,188 t" in said and "accepted by the global test" in said
+    path = page.redirect_chain[-1][0]
+    form = site.fields(path.partition(f"/p/{site.plant.slug}/")[2])
+    assert site.client.post(f"{path}/book", form).status_code == 302 and site.head() == 3
+    form = site.fields(path.partition(f"/p/{site.plant.slug}/")[2]) | {"why": "typed wrong"}
+    assert site.client.post(f"{path}/book", form).status_code == 302 and site.head() == 4
+
+
+def test_disk_full(site: Site, monkeypatch: pytest.MonkeyPatch) -> None:
+    """A full disk is a sentence, and nothing is booked; once there is room the same form goes."""
+    from plantbal.book import writing
+
+    form = site.fields(f"{AMEND}?amount=12188+t&why=x") | WORDS
+    full = OSError(errno.ENOSPC, "No space left on device")
+
+    def no_room(*_: object, **__: object) -> None:
+        raise full
+
+    with monkeypatch.context() as patch:
+        patch.setattr(writing.os, "fsync", no_room)
+        said = sentence(site.post(AMEND, form))
+    assert "nothing was booked" in said
+    assert site.head() == 3
+    assert site.post(AMEND, form).status_code == 302 and site.head() == 4
+
+
+@pytest.mark.parametrize(
+    "cells", ["", "[", "{}", "[[]]", "[" * 5_000, '[{"name": 1}]', '[{"a": "' + "x" * 100 + '"}]']
+)
+def test_grid_of_nonsense(site: Site, cells: str) -> None:
+    """A grid that is none is answered by a sentence."""
+    form = site.fields("enter/grid/2024-04/readings") | {"cells": cells}
+    answer = site.post("enter/grid/2024-04/readings", form)
+    assert answer.status_code == 400 and b"faults" in answer.content
+    assert site.post("enter/judge/2024-04", {"cells": cells}).status_code in (200, 400)
+
+
+def test_comment(site: Site) -> None:
+    """A comment and a file are kept, given back as they were, and go into the month's bundle."""
+    form = site.fields("look/2024-04/") | {
+        "about": "month:2024-04",
+        "then": "/",
+        "text": "<b>seen</b>",
+    }
+    photo = workbook("ticket 1.png", b"\x89PNG of a ticket")
+    assert site.post("notes/add", form | {"file": photo}).status_code == 302
+    page = sentence(site.get("look/2024-04/"))
+    assert "&lt;b&gt;seen" in page and "ticket 1.png" in page
+    zipped = zipfile.ZipFile(io.BytesIO(site.get("notes/bundle/2024-04").content))
+    names = zipped.namelist()
+    assert {"comments.json", "SHA256SUMS"} <= set(names)
+    inside = [zipped.read(name) for name in names if name.startswith("files/")]
+    assert inside == [b"\x89PNG of a ticket"]
+
+
+@pytest.mark.parametrize(
+    ("about", "name"),
+    [("month:none", "a.png"), ("fact:2023-24:none", "a.png"), ("x" * 500, "a.png")]
+    + [("month:2024-04", name) for name in ("a.html", "a.svg", "a.exe", "n" * 300 + ".png")],
+)
+def test_comment_on_nothing(site: Site, about: str, name: str) -> None:
+    """A comment on nothing, and a file that a browser might run, aren't kept."""
+    form = site.fields("look/2024-04/") | {"about": about, "then": "/", "text": "x"}
+    assert site.post("notes/add", form | {"file": workbook(name, b"x")}).status_code == 400
+
+
+def test_undo(site: Site) -> None:
+    """An amendment is undone by another, with a reason; the journal has both."""
+    fact = "look/fact/2023-24/FI-302_2024-04-18"
+    site.post(AMEND, site.fields(f"{AMEND}?amount=12188+t&why=x") | WORDS)
+    undo = "correct/fact/2023-24/FI-302_2024-04-18/undo"
+    assert site.post(undo, site.fields(fact) | {"why": "it was right"}).status_code == 302
+    from plantbal import Book
+
+    found = Book(site.book).fact("2023-24", "FI-302_2024-04-18")
+    assert (found.shown.fact.said(), len(found.edits)) == ("1,218 t", 2)
+    assert found.shown.fact.variance == found.shown.before[0].variance, "its error too"
