@@ -82,7 +82,7 @@ export interface Core {
   session(options?: Options): Promise<Session>;
 }
 
-/** The text of the worker, for a site whose policy allows no worker from a blob. */
+/** The text of the worker, for a site whose policy allows no worker from a blob; `plantbal.worker.js` has it as a file. */
 export declare const workerSource: string;
 
 /**

@@ -90,6 +90,7 @@ const gone = new AbortController();
 gone.abort();
 holds("one that was stopped before doesn't begin", await reasonOf(core.run(session, { signal: gone.signal })) === "stopped");
 holds("bytes that are no module aren't loaded", (await reasonOf(load(new Uint8Array(8)))).includes("CompileError"));
+holds("the worker's text as a file is that of the module", readFileSync(`${folder}/plantbal.worker.js`, "utf8") === workerSource);
 holds("the worker's text stands alone", typeof workerSource === "string" && !workerSource.includes("import"));
 const compiled = new WebAssembly.Module(bytes);
 holds("the module imports nothing", WebAssembly.Module.imports(compiled).length === 0);
