@@ -8,8 +8,11 @@
  */
 
 export const ENV = "env";
-const ROUNDS = 8, NODE_HEIGHT = 34, POINT_HEIGHT = 28, GAP = 18, LETTER = 7.4, LAYER_GAP = 64, LABEL_LETTER = 6.4;
-const ALONG = 0.7; // how far along its first part a stream has its label, if others begin beside it
+const ROUNDS = 8, NODE_HEIGHT = 34, POINT_HEIGHT = 28, LETTER = 7.4, LAYER_GAP = 64, LABEL_LETTER = 6.4;
+// The gap between two items of a column: wide in a small plant, where there is room for labels.
+const LEAST_GAP = 18, WIDEST_GAP = 58;
+// How far along its first part a stream may have its label, and how far beside it: the first choice, if others begin beside it, and the rest.
+const ALONG = 0.7, ALONG_TOO = [0.5, 0.62, 0.38, 0.78, 0.28], BESIDE = [0, -13, 13], LABEL_HEIGHT = 30;
 
 /** Returns the streams near a chosen one: those within two steps, or within one if these are too many. */
 export function near(streams, chosen, most) {
@@ -147,28 +150,29 @@ function order(columns) {
 const heightOf = (item) => (item.isPoint ? POINT_HEIGHT : NODE_HEIGHT);
 
 // Moves the items of a column to where they would like to be, in their order and without touching.
-function spread(column, wish) {
+function spread(column, gap, wish) {
   const wished = column.map(wish);
   let low = -Infinity;
   column.forEach((item, i) => {
     item.y = Math.max(wished[i], low + heightOf(item) / 2);
-    low = item.y + heightOf(item) / 2 + GAP;
+    low = item.y + heightOf(item) / 2 + gap;
   });
   let high = Infinity;
   for (let i = column.length - 1; i >= 0; i -= 1) {
-    const item = column[i], lowest = i > 0 ? column[i - 1].y + heightOf(column[i - 1]) / 2 + GAP + heightOf(item) / 2 : -Infinity;
+    const item = column[i], lowest = i > 0 ? column[i - 1].y + heightOf(column[i - 1]) / 2 + gap + heightOf(item) / 2 : -Infinity;
     const shift = (wished[i] - item.y) / 2;
     item.y = Math.max(lowest, Math.min(item.y + Math.min(shift, 0), high - heightOf(item) / 2));
-    high = item.y - heightOf(item) / 2 - GAP;
+    high = item.y - heightOf(item) / 2 - gap;
   }
 }
 
 function placed({ nodes, edges }, columns) {
-  columns.forEach((column) => column.forEach((item, i) => { item.y = i * (NODE_HEIGHT + GAP); }));
+  const gap = Math.max(LEAST_GAP, WIDEST_GAP - 8 * Math.max(...columns.map(({ length }) => length - 2)));
+  columns.forEach((column) => column.forEach((item, i) => { item.y = i * (NODE_HEIGHT + gap); }));
   const middle = (items, own) => (items.length ? items.reduce((sum, { y }) => sum + y, 0) / items.length : own);
   for (let round = 0; round < ROUNDS; round += 1) {
-    for (const column of columns) spread(column, (item) => middle(item.before, middle(item.next, item.y)));
-    for (const column of [...columns].reverse()) spread(column, (item) => middle([...item.next, ...item.before], item.y));
+    for (const column of columns) spread(column, gap, (item) => middle(item.before, middle(item.next, item.y)));
+    for (const column of [...columns].reverse()) spread(column, gap, (item) => middle([...item.next, ...item.before], item.y));
   }
   const widths = columns.map((column) => Math.max(12, ...column.map(({ width: own }) => own)));
   // Between two columns the labels of the streams that begin there have to find room.
@@ -184,7 +188,7 @@ function placed({ nodes, edges }, columns) {
   const boxes = nodes.filter(({ isPoint }) => !isPoint).map(({ name, x, y, width }) => ({ name, x, y, width, height: NODE_HEIGHT - 6 }));
   const width = Math.max(120, ...columns.flat().map(({ x, width: own }) => x + own / 2)) + 12;
   const height = Math.max(60, ...columns.flat().map((item) => item.y + heightOf(item) / 2)) + 10;
-  return { width, height, boxes, routes: routes(edges) };
+  return { width, height, boxes, routes: labelled(routes(edges), boxes) };
 }
 
 // A stream's way: from the side of its first box through its points to the side of its last one. Streams that share a side are spread.
@@ -199,9 +203,28 @@ function routes(edges) {
   };
   return edges.map((edge) => {
     const points = [port(edge.left, "out", edge), ...edge.chain.slice(1, -1).map(({ x, y }) => [x, y]), port(edge.right, "into", edge)];
-    const label = onCurve(points[0], points[1], edge.left.out.length > 1 ? ALONG : 0.5);
+    const first = edge.left.out.length > 1 ? ALONG : 0.5, [from, to] = points;
+    const places = [first, ...ALONG_TOO].flatMap((t) => BESIDE.map((y) => { const [x, at] = onCurve(from, to, t); return [x, at + y]; }));
     if (edge.turned) points.reverse();
-    return { name: edge.stream.name, points, label };
+    return { name: edge.stream.name, points, places, width: LABEL_LETTER * edge.stream.letters };
+  });
+}
+
+// Gives each stream the first place for its label where it hides no other, or hides the least.
+function labelled(found, boxes) {
+  const taken = boxes.map(({ x, y, width, height }) => [x, y, width, height]);
+  const hidden = ([x, y], width) => taken.reduce((sum, [x0, y0, w, h]) => {
+    const across = (width + w) / 2 - Math.abs(x - x0), down = (LABEL_HEIGHT + h) / 2 - Math.abs(y - y0);
+    return across > 0 && down > 0 ? sum + across * down : sum;
+  }, 0);
+  return found.map(({ name, points, places, width }) => {
+    let label = places[0], least = Infinity;
+    for (const place of places) {
+      const size = hidden(place, width);
+      if (size < least) [label, least] = [place, size];
+    }
+    taken.push([...label, width, LABEL_HEIGHT]);
+    return { name, points, label };
   });
 }
 

@@ -119,11 +119,15 @@ function refusedRows(session, codes, text) {
 
 function sessionBanner({ output, codes, checkedWell }) {
   const n = codes.size, blocks = output.blocks.length, said = [];
+  // Of several reports of a period the last one counts.
+  const last = [...new Map(output.blocks.map((block) => [block.period, block])).values()];
+  const look = last.filter((block) => ["look", "bad"].includes(headline(block).level)).map(({ period }) => period);
   if (n > 0) said.push(say("run_refused_said"));
   if (blocks === 0 && n === 0) said.push(say("run_nothing_said"));
+  if (look.length > 0) said.push(say("run_look", { names: look.slice(0, 12).join(", ") + (look.length > 12 ? " …" : "") }));
   if (blocks > 0 && checkedWell !== null) said.push(say(checkedWell ? "run_checked" : "run_checked_wrong"));
   const head = n === 1 ? say("run_refused_1") : n > 1 ? say("run_refused", { n: whole(n) }) : say(blocks > 0 ? "run_done" : "run_nothing");
-  return banner(n > 0 || checkedWell === false ? "bad" : blocks > 0 ? "good" : "plain", head, said);
+  return banner(n > 0 || checkedWell === false ? "bad" : look.length > 0 ? "look" : blocks > 0 ? "good" : "plain", head, said);
 }
 
 function statementOf(block, open) {
