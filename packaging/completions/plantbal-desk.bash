@@ -20,7 +20,7 @@ _plantbal_desk() {
     fi
     for ((at = 1; at < COMP_CWORD; at++)); do
         case ${COMP_WORDS[at]} in
-        run|lint|explain|check|archive|audit|report|solve|convert|book|template|from-spreadsheet|tables|uncertainty|advise|balance|recovery|draw|chart|page|serve|fleet|tell|critical|from-scipy|schema) word=${COMP_WORDS[at]}; break ;;
+        run|lint|explain|check|archive|audit|report|solve|map|convert|book|template|from-spreadsheet|tables|uncertainty|advise|balance|recovery|draw|chart|page|serve|fleet|tell|critical|from-scipy|schema) word=${COMP_WORDS[at]}; break ;;
         esac
     done
     case $word:$before in
@@ -64,14 +64,19 @@ _plantbal_desk() {
         solve:--program) _plantbal_files -f; return ;;
         solve:--gap) :; return ;;
         solve:--sweeps) :; return ;;
+        map:--out) _plantbal_files -f; return ;;
+        map:--plant) :; return ;;
+        map:--book) _plantbal_files -d; return ;;
         convert:--out) _plantbal_files -f; return ;;
         convert:--locale) :; return ;;
         convert:--missing) :; return ;;
         convert:--skip) :; return ;;
+        convert:--mapping) _plantbal_files -f; return ;;
         book:--program) _plantbal_files -f; return ;;
         book:--locale) :; return ;;
         book:--missing) :; return ;;
         book:--skip) :; return ;;
+        book:--mapping) _plantbal_files -f; return ;;
         book:--book) _plantbal_files -d; return ;;
         book:--who) :; return ;;
         book:--key) _plantbal_files -f; return ;;
@@ -237,12 +242,18 @@ _plantbal_desk() {
             return
         fi
         _plantbal_words '-h --help --out --program --gap --sweeps' ;;
+    map)
+        if [[ $here != -* ]]; then
+            _plantbal_files -f
+            return
+        fi
+        _plantbal_words '-h --help --out --plant --book' ;;
     convert)
         if [[ $here != -* ]]; then
             _plantbal_files -f
             return
         fi
-        _plantbal_words '-h --help --out --locale --missing --skip --limits --design' ;;
+        _plantbal_words '-h --help --out --locale --missing --skip --limits --mapping --design' ;;
     book)
         if [[ $here != -* ]]; then
             if [[ ! " ${COMP_WORDS[*]:at + 1:COMP_CWORD - at - 1} " =~ ' '(new|add|show|amend|strike|estimate|report|window|close|submit|submitted|approve|reject|rules|signed|quiet|difference|posted|account|status|next|retire|verify|head|accept)' ' ]]; then
@@ -252,7 +263,7 @@ _plantbal_desk() {
             _plantbal_files -f
             return
         fi
-        _plantbal_words '-h --help --program --locale --missing --skip --limits --book --who --key --why --strike --anyway --year --dry-run --density --error --take --session --gap --sweeps --no-tests --eliminate --report --head --text --signed --signers --revoked --stamps --off --csv --xlsx --postings --by --owner --tanks --page --title --all --plant --first' ;;
+        _plantbal_words '-h --help --program --locale --missing --skip --limits --mapping --book --who --key --why --strike --anyway --year --dry-run --density --error --take --session --gap --sweeps --no-tests --eliminate --report --head --text --signed --signers --revoked --stamps --off --csv --xlsx --postings --by --owner --tanks --page --title --all --plant --first' ;;
     template)
         if [[ $here != -* ]]; then
             if [[ ! " ${COMP_WORDS[*]:at + 1:COMP_CWORD - at - 1} " =~ ' '(refinery|concentrator|utility)' ' ]]; then
@@ -341,7 +352,7 @@ _plantbal_desk() {
         _plantbal_words '-h --help --period --change --without-least' ;;
     schema)
         _plantbal_words '-h --help' ;;
-    *) _plantbal_words 'run lint explain check archive audit report solve convert book template from-spreadsheet tables uncertainty advise balance recovery draw chart page serve fleet tell critical from-scipy schema -h --help --version' ;;
+    *) _plantbal_words 'run lint explain check archive audit report solve map convert book template from-spreadsheet tables uncertainty advise balance recovery draw chart page serve fleet tell critical from-scipy schema -h --help --version' ;;
     esac
 }
 

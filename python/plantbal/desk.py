@@ -70,6 +70,7 @@ COMMANDS: tuple[Command, ...] = (
     Command("audit", "audit.command", "say whether a bundle, or a report and its session, holds"),
     Command("report", "commands.running:REPORT", "turn a report into CSV, SQLite or a workbook"),
     Command("solve", "commands.running:SOLVE", "reconcile with scipy if sweeps don't come near"),
+    Command("map", "workbook.mapping.command", "propose how a plant's own workbook is read"),
     Command("convert", "workbook.conversion", "a session from a plant's workbook"),
     Command("book", "commands.book.command", "keep a plant's book, a session for each year"),
     Command("template", "workbook.template", "an empty workbook for convert"),

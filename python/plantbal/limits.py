@@ -43,3 +43,5 @@ FAULTS_KEPT = 10_000
 
 # Seconds that graphviz has for a drawing.
 DRAWING_SECONDS = 60.0
+# A mapping of a workbook.
+MAPPING_BYTES = 1 << 20

@@ -848,8 +848,12 @@ def test_units_of_volume(tmp_path: Path, amount: str, unit: str, density: str, g
             "this is a workbook of the old form: save it as xlsx",
         ),
         ("plant.xlsx", b"PKnot", "this workbook can't be read"),
-        ("plant.xlsx", b"text", "this is no xlsx workbook"),
-        ("none/streams.csv", b"", "there is no sheet streams: plantbal-desk template writes one"),
+        ("plant.xlsx", b"text", "this is no xlsx or ods workbook"),
+        (
+            "none/streams.csv",
+            b"",
+            "there is no sheet streams: plantbal-desk map proposes how it is read",
+        ),
     ],
 )
 def test_other_files(say: Desk, tmp_path: Path, name: str, data: bytes, said: str) -> None:

@@ -78,7 +78,7 @@ def test_open_file(tmp_path: Path) -> None:
         (3, "a int is no workbook: give a path, an open xlsx file, or DataFrames"),
         ({"streams": 3}, "streams is of type int: give a pandas.DataFrame"),
         ({}, "there is no sheet streams"),
-        (io.BytesIO(b"x"), "the workbook: this is no xlsx workbook"),
+        (io.BytesIO(b"x"), "the workbook: this is no xlsx or ods workbook"),
         ({"streams": STREAMS, "readings": WIDE * 1e308 * 10}, r"column 2 \(F1\): it is inf"),
         ({"streams": STREAMS.assign(error=[[], 1])}, r"streams: line 2, column 5 \(error\): it is"),
     ],

@@ -55,7 +55,7 @@ def test_what_is_no_file(
             continue
         found = say(*word.split(), path)
         assert (found.status, found.out) == (1, ""), word
-        assert said in found.err or "no xlsx workbook" in found.err, found.err
+        assert said in found.err or "no xlsx or ods workbook" in found.err, found.err
 
 
 def test_bytes_up_to_a_limit(tmp_path: Path) -> None:

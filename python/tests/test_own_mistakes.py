@@ -184,7 +184,7 @@ OF_COSTS = {
     "below 0": (b"stream,cost\nRES,-1\n", "-1 is no cost: write a whole number from 0 to"),
     "no cost": (b"stream,cost\nRES,\n", "'' is no figure"),
 }
-NO_SHEET = "there is no sheet streams: plantbal-desk template writes one"
+NO_SHEET = "there is no sheet streams: plantbal-desk map proposes how it is read"
 OF_WORKBOOKS = {
     "not there": ABSENT["not there"],
     "folder": (FOLDER, "there is no CSV file in this folder: write streams.csv"),
@@ -192,7 +192,7 @@ OF_WORKBOOKS = {
     "garbage": (GARBAGE, 'this is no text: save it as "CSV UTF-8" or as xlsx'),
     "workbook": (
         WORKBOOK,
-        "this is no xlsx workbook|this workbook can't be read|there is no sheet",
+        "this is no xlsx or ods workbook|this workbook can't be read|there is no sheet",
     ),
     "a session": (SESSION, NO_SHEET),
     "a report": (REPORT, NO_SHEET),
@@ -446,6 +446,7 @@ def test_names(program: Path, say: Desk, words: list[object], said: str) -> None
 # Those with mistakes in tests of their own.
 ELSEWHERE = {
     "fleet": "test_fleet.py",
+    "map": "test_map.py",
     "book": "test_book.py",
     "archive": "test_audit.py",
     "audit": "test_audit.py",

@@ -3,7 +3,6 @@
 from __future__ import annotations
 
 import datetime
-import zipfile
 from pathlib import Path
 from typing import Any
 
@@ -11,7 +10,7 @@ import openpyxl
 import pytest
 
 from plantbal import convert
-from plantbal.faults import Fault
+
 from plantbal.workbook.conversion import Conversion
 
 Rows = list[list[Any]]
@@ -293,11 +292,3 @@ def test_what_can_be_read_in_two_ways_is_a_fault(case: str, tmp_path: Path) -> N
     found = convert(saved(tmp_path, farm() | sheets))
     assert any(place in said and what in said for said in found.said()), found.said()
     adds_up(found)
-
-
-def test_an_ods_is_to_be_saved_as_xlsx(tmp_path: Path) -> None:
-    path = tmp_path / "plant.ods"
-    with zipfile.ZipFile(path, "w") as made:
-        made.writestr("mimetype", "application/vnd.oasis.opendocument.spreadsheet")
-    with pytest.raises(Fault, match="OpenDocument .*save it as xlsx"):
-        convert(path)

@@ -12,6 +12,7 @@ from plantbal.book.changes import Changes, compare, gone, strayed
 from plantbal.book.ledger import FACT_KINDS, PLANT_KINDS, Fact, Ledger, rows_text
 from plantbal.book.meters import Meter, meters_of, meters_text, read_meters
 from plantbal.book.reading import ANOTHER_VALUE, converted, raise_all
+from plantbal.book.mapping import mapping_of, put_reading
 from plantbal.book.results import Added, YearAdded
 from plantbal.book.said import closed_in, counted, doubts, lacking, odd
 from plantbal.book.store import METERS, PLANT, Act, Action, Store
@@ -68,7 +69,8 @@ def add(
         of_years = years.all() if wide else [into]  # periods are asked only for what they share
         periods = [each for ledger in of_years for each in ledger.periods.values()]
         accounts = accounts_of(book)
-        work = converted(workbook, reading, into.plant, meters, periods, accounts)
+        kept = reading.kept(mapping_of(book))
+        work = converted(workbook, kept, into.plant, meters, periods, accounts)
         facts = [Fact.of(row) for row in work.session if row[0] in (*FACT_KINDS, "late")]
         raise_all(years.outside(facts))
         plant = put_plant(into, work)
@@ -92,6 +94,8 @@ def add(
             action.written[METERS] = meters_text(found.values())
 
         told = put_accounts(accounts, work.accounts, book, action)
+        if reading.mapping is not None and put_reading(book, kept, action):
+            told.append("mapping.toml: later workbooks are read by it")
         parts = tuple(_year_added(before, ledger, facts, found) for ledger in years.used)
         is_booked = not dry_run and bool(action.appended or action.written)
         if is_booked:

@@ -15,6 +15,7 @@ from plantbal.book.forms import JOURNAL, is_year, is_year_file, year_file
 from plantbal.book.ledger import PLANT_KINDS, rows_text
 from plantbal.book.meters import meters_of, meters_text
 from plantbal.book.reading import check_faults, sheets_of
+from plantbal.book.mapping import put_reading
 from plantbal.book.results import Begun
 from plantbal.book.store import METERS, PLANT, Act, Action, Store
 from plantbal.book.years import calendar_year
@@ -22,7 +23,7 @@ from plantbal.faults import Fault, InputFault, Place
 from plantbal.model.forms import FIRST_DAY, LAST_DAY
 from plantbal.program import call
 from plantbal.report.parsing import parse_rows
-from plantbal.workbook.conversion import Conversion
+from plantbal.workbook.conversion import NO_STREAMS, Conversion
 from plantbal.workbook.converter import Converter
 from plantbal.workbook.options import ReadingOptions
 from plantbal.workbook.sheetkinds import PLANT_SHEETS, Stage
@@ -39,6 +40,7 @@ def begin(
 ) -> Begun:
     """Make the book; the parameters are those of `plantbal.Book.begin`."""
     check_year(year)
+    reading = reading.kept(None)
     rows, work = plant_of(workbook, reading)
     with book.opened(new=True):
         check_nothing_is_there(book, year)
@@ -47,6 +49,7 @@ def begin(
         action.written = {PLANT: rows_text(rows), METERS: meters_text(meters_of(work.plant))}
         action.written[year_file(year)] = rows_text(rows)
         told = put_accounts(Accounts(), work.accounts, book, action)
+        put_reading(book, reading, action)
         action.rows = [f"{year}: 1 to {len(rows)}"]
         classes = classes_of(rows, program)
         book.do(action)
@@ -103,9 +106,9 @@ def plant_of(
     Fault
         If something is wrong with it.
     """
-    work = Converter(sheets_of(workbook), reading.reader)
+    work = Converter(sheets_of(workbook, reading), reading.reader, reading.skip)
     if not work.sheets["streams"] and not work.faults:
-        what, remedy = "there is no sheet streams", "plantbal-desk template writes one"
+        what, remedy = "there is no sheet streams", NO_STREAMS
         raise InputFault(what, place=Place(file=str(workbook)), remedy=remedy)
     work.known = accounts
     work.read(Stage.PLANT)

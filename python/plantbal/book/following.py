@@ -17,6 +17,7 @@ from plantbal.book.accounting import accounts_of, put_accounts
 from plantbal.book.beginning import check_year, classes_of, plant_of
 from plantbal.book.contents import contents_of
 from plantbal.book.ledger import Fact, Ledger, plain, rows_text
+from plantbal.book.mapping import mapping_of, put_reading
 from plantbal.book.meters import meters_of, meters_text, read_meters
 from plantbal.book.results import Begun
 from plantbal.book.store import METERS, PLANT, Act, Action, Store
@@ -163,11 +164,14 @@ def begun(
         action.written = {PLANT: text}
     elif plant.workbook:
         accounts = accounts_of(book)
-        rows, work = plant_of(plant.workbook, plant.reading, accounts)
+        reading = plant.reading.kept(mapping_of(book))
+        rows, work = plant_of(plant.workbook, reading, accounts)
+        if plant.reading.mapping is not None:
+            put_reading(book, reading, action)
         kept = read_meters(book.path(METERS)) | {each.name: each for each in meters_of(work.plant)}
         file, text = str(plant.workbook), rows_text(rows)
         action.what = Path(plant.workbook).name
-        action.written = {PLANT: text, METERS: meters_text(kept.values())}
+        action.written |= {PLANT: text, METERS: meters_text(kept.values())}
         notes = [*put_accounts(accounts, work.accounts, book, action), *work.notes]
     new = Ledger.read(year, file, text, first, datetime.date.max)
     for record in read_records(text.encode("utf-8")):

@@ -14,6 +14,7 @@ from pathlib import Path
 PLANT = "plant.csv"
 METERS = "meters.csv"
 ACCOUNTS = "accounts.csv"
+MAPPING = "mapping.toml"
 JOURNAL = "journal.csv"
 REPORTS = "reports"
 EARLIER = f"{REPORTS}/earlier"
@@ -29,7 +30,7 @@ LOCK = ".lock"
 _YEAR = r"[0-9]{4}[A-Za-z0-9_-]{0,28}"
 _NAME = r"[A-Za-z0-9_.-]{1,32}"
 _OWN = re.compile(
-    rf"(?:plant|meters|accounts|journal|{_YEAR})\.csv|{POSTED}/{_NAME}\.[0-9]+\.csv"
+    rf"(?:plant|meters|accounts|journal|{_YEAR})\.csv|mapping\.toml|{POSTED}/{_NAME}\.[0-9]+\.csv"
     rf"|{REPORTS}/{_NAME}(?:\+{_NAME})?\.csv|{EARLIER}/{_NAME}\.[0-9]+\.csv"
     rf"|rules\.toml|{SIGNERS}|{REVOKED}|{APPROVALS}/[1-9][0-9]{{0,8}}\.(?:txt|sig|tsr|json)"
 )

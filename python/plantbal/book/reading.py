@@ -30,14 +30,17 @@ ANOTHER_VALUE = (
 )
 
 
-def sheets_of(path: str | Path) -> list[Sheet]:
-    """Return the sheets of a workbook; a CSV file of another name is what its heads say."""
+def sheets_of(path: str | Path, reading: ReadingOptions) -> list[Sheet]:
+    """Return the sheets of a workbook, as its mapping says.
+
+    A CSV file of another name, of which the mapping says nothing, is what its heads say.
+    """
     sheets = read_workbook(path)
     if len(sheets) == 1 and sheets[0].is_csv and not Path(path).is_dir():
         name = sheets[0].name.strip().casefold()
-        if not any(name.startswith(kind) for kind in SHEETS):
+        if not any(name.startswith(kind) for kind in SHEETS) and not reading.names(sheets[0]):
             sheets[0].name = _kind_of(sheets[0])
-    return sheets
+    return reading.sheets(sheets)
 
 
 def _kind_of(sheet: Sheet) -> str:
@@ -100,7 +103,7 @@ def converted(
         If something is wrong with it.
     """
     with uncollected():
-        work = Converter(sheets_of(workbook), reading.reader, reading.skip)
+        work = Converter(sheets_of(workbook, reading), reading.reader, reading.skip)
         work.readings.whole = False
         work.periods.spans = [Span(each.first, each.last) for each in periods]
         work.known = accounts

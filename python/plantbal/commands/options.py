@@ -8,6 +8,7 @@ from collections.abc import Callable
 from plantbal.schema import schema
 
 from plantbal.program import RunSettings
+from plantbal.workbook.mapping.form import read_mapping
 from plantbal.workbook.options import ReadingOptions
 
 
@@ -104,12 +105,16 @@ def add_reading(parser: argparse.ArgumentParser) -> None:
         action="store_true",
         help="errors are limits that hold 95 times in 100: half of each is taken",
     )
+    form = "which sheet and column is what, as plantbal-desk map proposes it"
+    parser.add_argument("--mapping", metavar="FILE", help=form)
 
 
 def reading_of(options: argparse.Namespace) -> ReadingOptions:
     """Return how a workbook is read by the words of `add_reading`."""
     skip = tuple(options.skip)
-    return ReadingOptions(options.locale, tuple(options.missing), skip, options.limits)
+    mapping = read_mapping(options.mapping) if options.mapping else None
+    missing = tuple(options.missing)
+    return ReadingOptions(options.locale, missing, skip, options.limits, mapping)
 
 
 def settings_of(options: argparse.Namespace) -> RunSettings:

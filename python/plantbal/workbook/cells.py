@@ -177,25 +177,32 @@ class Reader:
         exponent = _EXPONENT.fullmatch(plain)
         if exponent:
             plain = exponent.group(1)
-        number = plain_number(plain, *self.marks)
-        if number is None or (not self.locale and not exponent and _EITHER.fullmatch(plain)):
-            raise self.fault(cell, *self._why_not(text, plain), head)
+        number = plain_number(plain, *self.marks_of(cell))
+        if number is None or (
+            not self.locale_of(cell) and not exponent and _EITHER.fullmatch(plain)
+        ):
+            raise self.fault(cell, *self._why_not(cell, text, plain), head)
         return number.scaleb(int(exponent.group(2)), _EXACT) if exponent else number
 
-    @property
-    def marks(self) -> tuple[str, str]:
-        """The decimal mark, and what is between thousands."""
-        return symbols(self.locale) if self.locale else (".", "")
+    def locale_of(self, cell: Cell) -> str:
+        """Return whose numbers and days a cell has: its sheet's own, or the workbook's."""
+        return cell.sheet.locale or self.locale
 
-    def _why_not(self, text: str, plain: str) -> tuple[str, str]:
+    def marks_of(self, cell: Cell) -> tuple[str, str]:
+        """Return the decimal mark of a cell's figures, and what is between thousands."""
+        locale = self.locale_of(cell)
+        return symbols(locale) if locale else (".", "")
+
+    def _why_not(self, cell: Cell, text: str, plain: str) -> tuple[str, str]:
         """Return what is wrong with a text that is no number, and what to do."""
-        if not self.locale and _EITHER.fullmatch(plain):
+        own_locale = self.locale_of(cell)
+        if not own_locale and _EITHER.fullmatch(plain):
             what = f"{text!r} is a decimal number in one country, and thousands in another"
             return what, "say --locale en, --locale de or another"
         for locale in ("en", "de"):
             if plain_number(plain, *symbols(locale)) is not None:
                 mark = "a decimal point" if locale == "en" else "a decimal comma"
-                own = f", and --locale is {self.locale}" if self.locale else ""
+                own = f", and --locale is {own_locale}" if own_locale else ""
                 return f"{text!r} has {mark}{own}", f"say --locale {locale}, or write it otherwise"
         what = f"{text!r} is no figure"
         if of_rate(text.rpartition(" ")[2]):
@@ -221,7 +228,7 @@ class Reader:
             time = split.group(2) if split else None
             found = self._day_of(cell, split.group(1) if split else value, head)
         if found is None:
-            remedy = self._of_order(cell.text)
+            remedy = self._of_order(cell)
             if isinstance(value, NoValue):
                 remedy = "open the workbook and save it"
             what = f"{cell.text!r} is no day" if cell.text else "there is no day"
@@ -231,18 +238,18 @@ class Reader:
             raise self.fault(cell, f"{cell.text} has a time of the day, {time}", remedy, head)
         return found
 
-    def _of_order(self, text: str) -> str:
+    def _of_order(self, cell: Cell) -> str:
         """Return what to do if a text is a day once its day and month are exchanged."""
-        match = _DAY.fullmatch(text)
-        if not self.locale or match is None or match.group(2) == "." or len(match.group(1)) == 4:
+        locale, match = self.locale_of(cell), _DAY.fullmatch(cell.text)
+        if not locale or match is None or match.group(2) == "." or len(match.group(1)) == 4:
             return ""
-        order = day_order(self.locale)
+        order = day_order(locale)
         months = [part for part in match.group(1, 3) if int(part) <= 12]
         if order == "ymd" or len(months) != 1:
             return ""
         first = "month" if order == "mdy" else "day"
         remedy = "say --locale en_GB" if order == "mdy" else "write it as 2024-06-30"
-        return f"--locale {self.locale} has the {first} first: {remedy}"
+        return f"--locale {locale} has the {first} first: {remedy}"
 
     def _serial(self, cell: Cell, number: Decimal) -> datetime.date | None:
         """Return the day of one of Excel's numbers."""
@@ -256,7 +263,7 @@ class Reader:
             return self._serial(cell, Decimal(text))
         named = _NAMED.fullmatch(text)
         if named:
-            month = month_names(self.locale).get(named.group(2).casefold())
+            month = month_names(self.locale_of(cell)).get(named.group(2).casefold())
             return _date(int(named.group(3)), month or 0, int(named.group(1)))
         match = _DAY.fullmatch(text)
         if not match:
@@ -264,6 +271,11 @@ class Reader:
         first, part, second, third = match.groups()
         if len(first) == 4:
             return _date(int(first), int(second), int(third))
+        if part != "." and len(first) == len(third) == 2 and not self.locale_of(cell):
+            if _date(2000 + int(first), int(second), int(third)):
+                remedy = "write the year with four digits, or say --locale"
+                what = f"{text!r} may have its year first or last"
+                raise self.fault(cell, what, remedy, head)
         order = self._order(cell, text, part, int(first), int(second), head)
         numbers = dict(zip(order, (first, second, third)))
         if len(numbers["y"]) not in (2, 4):
@@ -277,8 +289,8 @@ class Reader:
         """Return the order of a day's parts, of which the year is not the first."""
         if part == ".":
             return "dmy"
-        if self.locale:
-            order = day_order(self.locale)
+        if self.locale_of(cell):
+            order = day_order(self.locale_of(cell))
             if order != "ymd":
                 return order
         elif max(first, second) > 12:

@@ -9,7 +9,7 @@ from collections.abc import Iterable
 from dataclasses import dataclass, field
 from pathlib import Path
 
-from plantbal.commands.options import add_reading
+from plantbal.commands.options import add_reading, reading_of
 from plantbal.faults import Fault, InputFault, Place
 from plantbal.lint import say_brief
 from plantbal.memory import uncollected
@@ -17,6 +17,7 @@ from plantbal.session import Session
 from plantbal.statuses import ExitStatus
 from plantbal.workbook.converter import Converter
 from plantbal.workbook.fates import SheetFates
+from plantbal.workbook.mapping.form import WorkbookMapping
 from plantbal.workbook.options import ReadingOptions
 from plantbal.workbook.sheetkinds import Stage, help_lines
 from plantbal.workbook.sheets import Source, read_workbook
@@ -45,6 +46,7 @@ examples:
   plantbal-desk convert april.xlsx --out april.csv
   plantbal-desk convert --locale de_DE april_folder --out april.csv
 """
+NO_STREAMS = "plantbal-desk map proposes how it is read, and template writes an empty one"
 _SAID = 3  # faults of one sort in a sheet whose places are said; the others are counted
 
 
@@ -103,6 +105,7 @@ def convert(
     skip: Iterable[str] = (),
     limits: bool = False,
     design: bool = False,
+    mapping: WorkbookMapping | None = None,
 ) -> Conversion:
     """Return the session of a workbook, all that is wrong in it and all that has to be said.
 
@@ -121,18 +124,20 @@ def convert(
         Whether errors are limits that hold 95 times in 100, of which half is taken.
     design : bool
         Whether the design is asked for before the reports.
+    mapping : WorkbookMapping, optional
+        Which sheet and column is what, as `plantbal.read_mapping` returns it.
 
     Raises
     ------
     Fault
         If the workbook itself can't be read, or there is no such locale.
     """
-    how = ReadingOptions(locale, tuple(missing), tuple(skip), limits)
+    how = ReadingOptions(locale, tuple(missing), tuple(skip), limits, mapping).kept(None)
     reader = how.reader
     with uncollected():
-        work = Converter(read_workbook(path), reader, how.skip)
+        work = Converter(how.sheets(read_workbook(path)), reader, how.skip)
         if not work.sheets["streams"] and not work.sheets["rows"] and not work.faults:
-            what, remedy = "there is no sheet streams", "plantbal-desk template writes one"
+            what, remedy = "there is no sheet streams", NO_STREAMS
             name = str(path) if isinstance(path, (str, Path)) else ""
             raise InputFault(what, place=Place(file=name), remedy=remedy)
         work.read(Stage.PLANT)
@@ -169,6 +174,7 @@ def run(options: argparse.Namespace) -> int:
         skip=options.skip,
         limits=options.limits,
         design=options.design,
+        mapping=reading_of(options).mapping,
     )
     for line in found.notes:
         print(f"{options.prog}: {line}", file=sys.stderr)

@@ -76,6 +76,8 @@ class Fates:
     def __post_init__(self) -> None:
         self.fates = [{} for _ in self.sheets]
         self._places = {id(sheet): at for at, sheet in enumerate(self.sheets)}
+        for sheet, fates in zip(self.sheets, self.fates):  # what a mapping has taken already
+            fates |= {n: Fate.HEADS if heads else Fate.PASSED for n, heads in sheet.taken.items()}
 
     def put(self, fate: Fate, *rows: Sequence[Cell]) -> None:
         """Say what became of rows."""
@@ -112,7 +114,8 @@ class Fates:
         """Return what became of the rows of each sheet."""
         found = []
         for sheet, fates in zip(self.sheets, self.fates):
-            every = [fates.get(line) for line, _ in sheet.lines]
+            lines = dict.fromkeys([*sheet.taken, *(line for line, _ in sheet.lines)])
+            every = [fates.get(line) for line in lines]
             count = [every.count(fate) for fate in Fate]
             found.append(SheetFates(sheet.file, sheet.name, len(every), *count))
         return found

@@ -82,7 +82,7 @@ def stamp_of(reader: Reader, cell: Cell) -> datetime.datetime | None:
         return (value + datetime.timedelta(milliseconds=500)).replace(microsecond=0)
     if not isinstance(value, str) or not re.match(r"[0-9]", value):
         return None
-    return _stamp_of(reader.locale, value)
+    return _stamp_of(reader.locale_of(cell), value)
 
 
 @lru_cache(maxsize=100_000)

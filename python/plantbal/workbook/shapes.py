@@ -88,7 +88,7 @@ def with_unit(cell: Cell, unit: str, reader: Reader) -> Cell:
         digits = f"{text:f}"
         if len(digits.partition(".")[2]) == _THOUSANDS:
             digits += "0"  # else it could be thousands
-        text = digits.replace(".", reader.marks[0])
+        text = digits.replace(".", reader.marks_of(cell)[0])
     if not unit or not isinstance(text, str) or not _BARE.fullmatch(text):
         return cell
     return Cell(cell.sheet, cell.line, cell.column, f"{text} {unit}")

@@ -1,4 +1,4 @@
-"""Workbooks: the sheets of an xlsx file or a folder of CSV files, as cells with their places.
+"""Workbooks: the sheets of an xlsx or ods file or a folder of CSV files, as cells with their places.
 
 No row is lost in silence: a quote out of place is a fault with its line, and a sheet's `notes` say
 what a reader of the workbook might not expect, such as hidden rows.
@@ -106,6 +106,12 @@ class Sheet:
         The day from which days are counted.
     notes : list of str
         What is to be said of how it was read.
+    word : str
+        The kind of sheet that it is read as, if its name doesn't say it.
+    locale : str
+        Whose numbers and days it has, if others than the workbook.
+    taken : dict of int to bool
+        The rows that a mapping has taken: whether they are heads, or passed over.
     """
 
     file: str
@@ -114,6 +120,9 @@ class Sheet:
     is_csv: bool = False
     epoch: datetime.date = EPOCH
     notes: list[str] = field(default_factory=list)
+    word: str = ""
+    locale: str = ""
+    taken: dict[int, bool] = field(default_factory=dict)
 
     def place(self, line: int | None = None, column: int | None = None, head: str = "") -> Place:
         """Return a place in it; column 0 is that of a cell whose column isn't there."""
@@ -147,7 +156,7 @@ def read_workbook(path: Source) -> list[Sheet]:
     Parameters
     ----------
     path : str, Path, binary file or mapping of DataFrame
-        An xlsx file, also an open one, a CSV file, or a folder; or tables by the names of sheets.
+        An xlsx or ods file, also an open one, a CSV file, or a folder; or tables by the names of sheets.
 
     Raises
     ------
@@ -168,13 +177,22 @@ def read_workbook(path: Source) -> list[Sheet]:
         raise unread(path, error) from error
     if place.suffix.lower() in _TABLES:
         return [read_csv(place)]
-    from plantbal.workbook.xlsx import read_xlsx
+    return _packed_of(*read_bytes(place, limits.WORKBOOK_BYTES))
 
-    return read_xlsx(place)
+
+def _packed_of(name: str, data: bytes) -> list[Sheet]:
+    """Return the sheets of the bytes of an xlsx or ods file."""
+    if b"opendocument.spreadsheet" in data[:200]:
+        from plantbal.workbook.ods import ods_of
+
+        return ods_of(name, data)
+    from plantbal.workbook.xlsx import xlsx_of
+
+    return xlsx_of(name, data)
 
 
 def _read_open(file: BinaryIO) -> list[Sheet]:
-    """Return the sheets of an open xlsx file."""
+    """Return the sheets of an open xlsx or ods file."""
     if not hasattr(file, "read"):
         what = f"a {type(file).__name__} is no workbook"
         raise InputFault(what, remedy="give a path, an open xlsx file, or DataFrames by sheets")
@@ -185,9 +203,7 @@ def _read_open(file: BinaryIO) -> list[Sheet]:
         raise InputFault(what, place=Place(file=name), remedy="open it with mode 'rb'")
     if len(data) > limits.WORKBOOK_BYTES:
         raise too_large(name, limits.WORKBOOK_BYTES)
-    from plantbal.workbook.xlsx import xlsx_of
-
-    return xlsx_of(name, data)
+    return _packed_of(name, data)
 
 
 def _read_folder(folder: Path) -> list[Sheet]:

@@ -97,7 +97,7 @@ class Tables:
         found: dict[str, list[Sheet]] = {kind: [] for kind in SHEETS}
         for sheet in sheets:
             self.notes += [f"{sheet.place()} {note}" for note in sheet.notes]
-            word = re.split(r"[^a-z]", sheet.name.strip().casefold(), maxsplit=1)[0]
+            word = sheet.word or re.split(r"[^a-z]", sheet.name.strip().casefold(), maxsplit=1)[0]
             if word == "critical" and is_rows_of_critical(sheet):
                 word = "rows"
             if word in found:

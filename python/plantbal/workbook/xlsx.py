@@ -10,16 +10,15 @@ from __future__ import annotations
 
 import datetime
 import io
-import zipfile
 from collections.abc import Iterator
 from contextlib import contextmanager
 from dataclasses import dataclass, field
 from decimal import Decimal
-from pathlib import Path
 from typing import Any
 
 from plantbal import limits
-from plantbal.faults import InputFault, Place, ToolMissing, read_bytes
+from plantbal.faults import InputFault, Place, ToolMissing
+from plantbal.workbook.packed import check_size, hidden_notes, readable
 from plantbal.workbook.sheets import (
     EPOCH,
     EPOCH_1904,
@@ -32,12 +31,11 @@ from plantbal.workbook.sheets import (
     without_end,
 )
 
-_SAID = 5  # rows, columns or cells of a kind that a note names
 _TRUE = ("1", "true")
 
 
-def read_xlsx(path: Path) -> list[Sheet]:
-    """Return the sheets of an xlsx file.
+def xlsx_of(name: str, data: bytes) -> list[Sheet]:
+    """Return the sheets of the bytes of an xlsx file.
 
     Raises
     ------
@@ -46,18 +44,10 @@ def read_xlsx(path: Path) -> list[Sheet]:
     ToolMissing
         If openpyxl isn't installed.
     """
-    return xlsx_of(*read_bytes(path, limits.WORKBOOK_BYTES))
-
-
-def xlsx_of(name: str, data: bytes) -> list[Sheet]:
-    """Return the sheets of the bytes of an xlsx file, as `read_xlsx` does."""
-    if b"opendocument.spreadsheet" in data[:200]:
-        remedy = "save it as xlsx in LibreOffice, by File, Save As"
-        raise InputFault("this is an OpenDocument workbook", place=Place(file=name), remedy=remedy)
     if not data.startswith(b"PK"):
         old = data.startswith(b"\xd0\xcf\x11\xe0")
         raise InputFault(
-            "this is a workbook of the old form" if old else "this is no xlsx workbook",
+            "this is a workbook of the old form" if old else "this is no xlsx or ods workbook",
             place=Place(file=name),
             remedy="save it as xlsx, or give a folder of CSV files",
         )
@@ -65,42 +55,14 @@ def xlsx_of(name: str, data: bytes) -> list[Sheet]:
         import openpyxl
     except ImportError as error:
         raise ToolMissing("openpyxl", "python3-openpyxl") from error
-    with _readable(name):
-        _check_size(name, data)
+    with readable(name):
+        check_size(name, data)
         values = openpyxl.load_workbook(io.BytesIO(data), read_only=True, data_only=True)
         written = openpyxl.load_workbook(io.BytesIO(data), read_only=True, data_only=False)
         epoch = EPOCH_1904 if values.epoch.year == EPOCH_1904.year else EPOCH
         held = Held()
         pairs = zip(values.worksheets, written.worksheets)
         return [_Reading(name, one, other, epoch).sheet(held) for one, other in pairs]
-
-
-@contextmanager
-def _readable(name: str) -> Iterator[None]:
-    """Say of whatever openpyxl raises that the workbook can't be read."""
-    try:
-        yield
-    except InputFault:
-        raise
-    except Exception as error:  # openpyxl raises whatever its parts raise
-        raise InputFault(
-            f"this workbook can't be read ({str(error)[:200] or type(error).__name__})",
-            place=Place(file=name),
-            remedy="open it and save it as xlsx again",
-        ) from error
-
-
-def _check_size(name: str, data: bytes) -> None:
-    """Refuse a workbook that is too large once it is unpacked; zipfile unpacks no more than this."""
-    with zipfile.ZipFile(io.BytesIO(data)) as packed:
-        size = sum(entry.file_size for entry in packed.infolist())
-    if size > limits.UNPACKED_BYTES:
-        raise InputFault(
-            f"this workbook has {size:,} bytes once it is unpacked, and at most "
-            f"{limits.UNPACKED_BYTES:,} are read",
-            place=Place(file=name),
-            remedy="take out sheets and pictures that aren't the plant's",
-        )
 
 
 @dataclass
@@ -144,7 +106,10 @@ class _Reading:
                         self.hidden.append(line)
             columns = _hidden_columns(one)
         made.lines = sorted(rows.items())
-        made.notes = list(self._notes(columns, max(map(len, rows.values()), default=0)))
+        width = max(map(len, rows.values()), default=0)
+        some = [letters(column) for column in columns if column <= width]
+        is_hidden = self.values.sheet_state != "visible" and width > 0
+        made.notes = list(hidden_notes(is_hidden, self.hidden, some, self.struck))
         return made
 
     def _check_place(self, line: int, cells: list[dict[str, Any]]) -> None:
@@ -202,18 +167,6 @@ class _Reading:
             return datetime.datetime.combine(value, datetime.time())
         return str(value).strip() or None
 
-    def _notes(self, columns: list[int], width: int) -> Iterator[str]:
-        """Give what is to be said of what a reader of the workbook doesn't see, or sees struck."""
-        if self.values.sheet_state != "visible" and width:
-            yield "the sheet is hidden, and is read"
-        if self.hidden:
-            yield f"{_listed('row', map(str, self.hidden))} hidden, and read"
-        some = [letters(column) for column in columns if column <= width]
-        if some:
-            yield f"{_listed('column', some)} hidden, and read"
-        if self.struck:
-            yield f"{_listed('cell', self.struck)} struck through, and read"
-
 
 @contextmanager
 def _parser(sheet: Any) -> Iterator[Any]:
@@ -240,12 +193,3 @@ def _hidden_columns(parser: Any) -> list[int]:
             last = min(int(column["max"]), limits.COLUMNS)
             found += range(int(column["min"]), last + 1)
     return found
-
-
-def _listed(what: str, names: Any) -> str:
-    """Return several rows, columns or cells as the beginning of a sentence."""
-    every = list(names)
-    if len(every) == 1:
-        return f"{what} {every[0]} is"
-    more = f" and {len(every) - _SAID:,} more" if len(every) > _SAID else ""
-    return f"{what}s {', '.join(every[:_SAID])}{more} are"

@@ -1,0 +1,432 @@
+"""Sheets as their mapping says: the heads of their kinds, units, days, names as in the book.
+
+A cell keeps its row and its column, so what is said of it names the cell of the workbook. What a
+mapping doesn't name isn't left out in silence: a sheet without a place in it is a fault, and so are,
+later, a column or a row of figures that no reader takes.
+"""
+
+from __future__ import annotations
+
+import datetime
+import fnmatch
+import re
+from collections.abc import Iterator, Sequence
+from dataclasses import replace
+from decimal import Decimal
+
+from plantbal.faults import InputFault
+from plantbal.workbook.mapping.form import (
+    DAY_OF_MONTH,
+    HOUR,
+    SITE,
+    TIME,
+    SheetMapping,
+    WorkbookMapping,
+)
+from plantbal.workbook.mapping.months import month_of
+from plantbal.workbook.mapping.vocabulary import is_total, plain_word
+from plantbal.workbook.sheetkinds import PASSED, SHEETS
+from plantbal.workbook.sheets import Sheet, Value, letters
+from plantbal.workbook.units import UNITS, is_rate, unit_of
+
+HEADS_WITHIN = 40
+_NAMED = frozenset("stream from to tank name tag".split())
+_WORDED = frozenset("kind test setting".split())
+# A row of a sheet: its number, and what stands in it.
+Line = tuple[int, list[Value]]
+
+
+def applied(mapping: WorkbookMapping, sheets: Sequence[Sheet]) -> list[Sheet]:
+    """Return the sheets of a workbook as a mapping says.
+
+    Raises
+    ------
+    InputFault
+        If the mapping doesn't fit the workbook.
+    """
+    found = []
+    for sheet in sheets:
+        own = mapping_of(mapping, sheet)
+        if own is None:
+            found.append(_unmapped(sheet))
+        elif not own.kind or (own.plant and own.plant != mapping.plant):
+            why = "as the mapping says" if not own.kind else f"it is of the plant {own.plant}"
+            sheet.notes.append(f"the sheet is passed over: {why}")
+            found.append(replace(sheet, word="about"))
+        else:
+            found.append(Applying(mapping, own, sheet).sheet())
+    return found
+
+
+def mapping_of(mapping: WorkbookMapping, sheet: Sheet) -> SheetMapping | None:
+    """Return what a mapping says of a sheet: by its whole name, or by the first pattern."""
+    name = sheet.name.strip().casefold()
+    whole = [each for each in mapping.sheets if each.name.strip().casefold() == name]
+    like = [each for each in mapping.sheets if fnmatch.fnmatchcase(name, each.name.casefold())]
+    return next(iter([*whole, *like]), None)
+
+
+def _unmapped(sheet: Sheet) -> Sheet:
+    """Return a sheet that the mapping doesn't name, if it is one of a plant's workbook, or empty."""
+    word = re.split(r"[^a-z]", sheet.name.strip().casefold(), maxsplit=1)[0]
+    if len(sheet.lines) > 1 and word not in SHEETS and word not in PASSED:
+        raise InputFault(
+            "the mapping has no sheet of this name",
+            place=sheet.place(),
+            remedy=f'write name = "{sheet.name}" and its kind under [[sheet]], or kind = "" to '
+            "pass it over",
+        )
+    return sheet
+
+
+class Applying:
+    """Turns a sheet into one of its kind.
+
+    Parameters
+    ----------
+    mapping : WorkbookMapping
+        The mapping.
+    own : SheetMapping
+        What it says of the sheet.
+    given : Sheet
+        The sheet.
+    """
+
+    def __init__(self, mapping: WorkbookMapping, own: SheetMapping, given: Sheet) -> None:
+        self.mapping = mapping
+        self.own = own
+        self.given = given
+        self.kind = SHEETS[own.kind]
+        self.lines: list[Line] = [(line, list(values)) for line, values in given.lines]
+        self.taken: dict[int, bool] = {}  # rows that are heads, and those that are passed over
+        self.notes: list[str] = []
+        self.unit_beside: tuple[int, str] | None = None  # of a long sheet without units
+        self.names = {plain_text(key): value for key, value in mapping.names.items()}
+        self.words = {plain_word(key): value for key, value in mapping.words.items()}
+
+    def sheet(self) -> Sheet:
+        """Return the sheet of its kind."""
+        if self.lines:
+            at = self._head_row()
+            columns = self._columns(self.lines[at][1])
+            self._take_heads(at, columns)
+            above, heads = self._above(at), self._heads(at, columns)
+            self.lines = [*above, *heads, *self._body(self.lines[at + 1 :], columns)]
+        else:
+            self.notes.append("the sheet is empty")
+        notes = [*self.given.notes, *self.notes]
+        return replace(
+            self.given,
+            word=self.own.kind,
+            locale=self.own.locale,
+            lines=self.lines,
+            taken=self.taken,
+            notes=notes,
+        )
+
+    def fault(self, line: int, column: int, what: str, remedy: str) -> InputFault:
+        """Return a fault at a cell; columns are counted from 0."""
+        return InputFault(what, place=self.given.place(line, column + 1), remedy=remedy)
+
+    # ---- heads
+
+    def _head_row(self) -> int:
+        """Return the place of the row with the heads: that with most of those of the mapping."""
+        keys = {plain_word(head) for head in self.own.columns if not _letter_of(head)}
+        keys |= {plain_word(head) for head in self.own.units if not _letter_of(head)}
+        counts = [
+            len({plain_word(value) for value in values if isinstance(value, str)} & keys)
+            for _, values in self.lines[:HEADS_WITHIN]
+        ]
+        if max(counts, default=0):
+            return counts.index(max(counts))
+        for at, (line, _) in enumerate(self.lines):
+            if line == self.own.heads or (not self.own.heads and not keys):
+                return at if self.own.heads else self._first_heads()
+        shown = ", ".join(list(self.own.columns)[:5])
+        raise InputFault(
+            f"no row has the heads of the mapping: {shown}" if shown else "no row has the heads",
+            place=self.given.place(),
+            remedy="look whether they are called otherwise here, and correct the mapping",
+        )
+
+    def _first_heads(self) -> int:
+        """Return the place of the first row with the words of heads, if the mapping names none."""
+        for at, (_, values) in enumerate(self.lines[:HEADS_WITHIN]):
+            if sum(isinstance(value, str) for value in values) > 1:
+                return at
+        return 0
+
+    def _columns(self, heads: list[Value]) -> dict[int, str]:
+        """Return what the columns are, by their places; those that the mapping doesn't name not."""
+        by_head = {plain_word(head): to for head, to in self.own.columns.items()}
+        by_place = {_letter_of(head): to for head, to in self.own.columns.items()}
+        width = max(len(values) for _, values in self.lines)
+        found = {}
+        for at in range(width):
+            head = heads[at] if at < len(heads) else None
+            if isinstance(head, str) and plain_word(head) in by_head:
+                found[at] = by_head[plain_word(head)]
+            elif letters(at + 1) in by_place:
+                found[at] = by_place[letters(at + 1)]
+        return found
+
+    def _take_heads(self, at: int, columns: dict[int, str]) -> None:
+        """Mark the rows of heads; one of units below the heads is compared with the mapping."""
+        line, heads = self.lines[at]
+        self.units = {
+            column: self.own.units.get(head, "")
+            for column, head in self._heads_of(heads)
+            if head in self.own.units
+        }
+        if self.own.unit:
+            for column, _ in self._heads_of(heads):
+                if column not in columns and column not in self.units:
+                    self.units[column] = self.own.unit
+        self.unit_lines: set[int] = set()
+        for below, values in self.lines[at + 1 : at + 4]:
+            if _is_unit_row(values):
+                self._compare(below, values)
+                self.unit_lines.add(below)
+                self.taken[below] = True
+        for above, values in self.lines[:at]:
+            if _is_unit_row(values) or sum(isinstance(value, str) for value in values) > 1:
+                self.taken[above] = True
+
+    def _heads_of(self, heads: list[Value]) -> Iterator[tuple[int, str]]:
+        """Give the places and texts of heads, as the keys of the mapping have them."""
+        keys = {plain_word(key): key for key in (*self.own.units, *self.own.columns)}
+        for column, value in enumerate(heads):
+            if isinstance(value, str):
+                yield column, keys.get(plain_word(value), value)
+        for key in (*self.own.units, *self.own.columns):
+            letter = _letter_of(key)
+            if letter:
+                yield next(n for n in range(20_000) if letters(n + 1) == letter), key
+
+    def _compare(self, line: int, values: list[Value]) -> None:
+        for column, value in enumerate(values):
+            if not isinstance(value, str) or not _is_unit(value):
+                continue
+            unit = unit_of(value)
+            told = self.units.get(column)
+            if told is not None and unit_of(told) != unit:
+                what = f"{value} stands here, and the mapping has {told}"
+                raise self.fault(line, column, what, "correct one of both")
+            self.units[column] = unit
+
+    def _above(self, at: int) -> list[Line]:
+        return [(line, values) for line, values in self.lines[:at] if line not in self.taken]
+
+    def _heads(self, at: int, columns: dict[int, str]) -> list[Line]:
+        """Return the row of heads, and one of their units if there are any."""
+        line, heads = self.lines[at]
+        row: list[Value] = []
+        for column in range(max([len(heads), *(n + 1 for n in columns)])):
+            head = heads[column] if column < len(heads) else None
+            to = columns.get(column)
+            if to is None:
+                row.append(self._named(head))
+            else:
+                row.append(None if to in ("", TIME, HOUR, SITE) else _head_of(to))
+        self.taken[line] = True
+        units = {c: u for c, u in self.units.items() if c < len(row) and row[c] is not None}
+        if not self.kind.columns and "value" in columns.values():
+            if "unit" not in columns.values() and units:
+                self.unit_beside = len(row), next(iter(units.values()))
+                row.append("unit")
+            return [(line, row)]
+        places: list[Value] = [units.get(column) for column in range(len(row))]
+        return [(line, row), *([(line, places)] if units else [])]
+
+    def _named(self, value: Value) -> Value:
+        """Return a text, as it is called in the book."""
+        if isinstance(value, str):
+            return self.names.get(plain_text(value), value)
+        return value
+
+    # ---- rows
+
+    def _body(self, lines: list[Line], columns: dict[int, str]) -> Iterator[Line]:
+        """Give the rows below the heads."""
+        heads = {plain_word(head) for head in self.own.columns}
+        above: dict[int, Value] = {}
+        others = 0
+        for line, values in lines:
+            if line in self.unit_lines:
+                continue
+            texts = {plain_word(value) for value in values if isinstance(value, str)}
+            if len(texts & heads) > 1 and len(texts & heads) == len(heads & set(texts)) >= 2:
+                self.taken[line] = True  # the same heads again
+                continue
+            if self._is_total(values):
+                self.taken[line] = False
+                shown = next(str(value) for value in values if value is not None)
+                self.notes.append(f"line {line}: the row {shown!r} is passed over")
+                continue
+            if not self._is_here(line, values, columns):
+                self.taken[line] = False
+                others += 1
+                continue
+            yield line, self._row(line, values, columns, above)
+        if others:
+            self.notes.append(f"{others:,} rows of other plants are passed over")
+
+    def _is_total(self, values: list[Value]) -> bool:
+        first = next((value for value in values if value is not None), None)
+        if not isinstance(first, str):
+            return False
+        words = [plain_word(each) for each in self.own.totals]
+        return any(plain_word(first).startswith(each) for each in words) or (
+            is_total(first) and not any(plain_text(first) in each for each in (self.names,))
+        )
+
+    def _is_here(self, line: int, values: list[Value], columns: dict[int, str]) -> bool:
+        """Say whether a row is of the plant that is read."""
+        for column, to in columns.items():
+            if to != SITE:
+                continue
+            value = values[column] if column < len(values) else None
+            if value is None and any(each is not None for each in values):
+                what = "this row has no plant"
+                raise self.fault(line, column, what, "write which plant it is of")
+            return value is None or plain_text(str(value)) == plain_text(self.mapping.plant)
+        return True
+
+    def _row(
+        self, line: int, values: list[Value], columns: dict[int, str], above: dict[int, Value]
+    ) -> list[Value]:
+        """Return a row with days, names and words as the readers know them."""
+        row = list(values)
+        self._fill(row, columns, above)
+        day = next((at for at, to in columns.items() if to in ("day", DAY_OF_MONTH)), None)
+        for column, to in columns.items():
+            if column >= len(row):
+                continue
+            value = row[column]
+            if to in ("", SITE):
+                row[column] = None
+            elif to == DAY_OF_MONTH:
+                row[column] = self._day(line, column, value)
+            elif to in _NAMED:
+                row[column] = self._named(value)
+            elif to in _WORDED and isinstance(value, str):
+                row[column] = self.words.get(plain_word(value), value)
+        self._put_time(line, row, columns, day)
+        if self.unit_beside is not None:
+            at, unit = self.unit_beside
+            row += [None] * (at - len(row))
+            row[at:] = [unit]
+        return row
+
+    def _fill(self, row: list[Value], columns: dict[int, str], above: dict[int, Value]) -> None:
+        """Give empty cells what stands above them, in the columns for which the mapping says so."""
+        downs = {plain_word(head) for head in self.own.down}
+        heads = self._downs(downs)
+        if not any(value is not None for at, value in enumerate(row) if at not in heads):
+            return
+        for column in heads:
+            if column < len(row) and row[column] is not None:
+                above[column] = row[column]
+            elif column in above:
+                row += [None] * (column + 1 - len(row))
+                row[column] = above[column]
+
+    def _downs(self, downs: set[str]) -> list[int]:
+        if not downs:
+            return []
+        at = self._head_row()
+        heads = self.lines[at][1]
+        return [
+            column
+            for column, value in enumerate(heads)
+            if isinstance(value, str) and plain_word(value) in downs
+        ]
+
+    def _day(self, line: int, column: int, value: Value) -> Value:
+        """Return the day of a month by its number."""
+        if isinstance(value, str) and re.fullmatch(r"[0-9]{1,2}\.?", value):
+            value = Decimal(value.rstrip("."))
+        if not isinstance(value, Decimal):
+            return value
+        month = month_of(self.given.name if self.own.month == "name" else self.own.month)
+        if month is None:
+            what = "no month is told of which this is a day"
+            remedy = 'write month = "2024-01" into the mapping, or name the sheet by its month'
+            raise self.fault(line, column, what, remedy)
+        try:
+            return datetime.datetime(*month, int(value) if value == int(value) else 0)
+        except ValueError as error:
+            what = f"{value} is no day of {month[0]}-{month[1]:02}"
+            raise self.fault(line, column, what, "correct it, or the mapping's month") from error
+
+    def _put_time(
+        self, line: int, row: list[Value], columns: dict[int, str], day: int | None
+    ) -> None:
+        """Put a time of the day, or an hour, that has a column of its own to its day."""
+        for column, to in columns.items():
+            if to not in (TIME, HOUR) or column >= len(row):
+                continue
+            value, row[column] = row[column], None
+            if value is None or day is None or day >= len(row) or row[day] is None:
+                continue
+            time = _time_of(value)
+            if time is None:
+                what = f"{value} is no time of the day"
+                raise self.fault(line, column, what, "write it as 13:00")
+            row[day] = _with_time(row[day], time)
+
+
+def plain_text(text: str) -> str:
+    """Return a text with single spaces."""
+    return " ".join(text.split())
+
+
+def _head_of(to: str) -> str:
+    return "day" if to == DAY_OF_MONTH else to
+
+
+def _letter_of(head: str) -> str:
+    """Return the letters of a column that is told by its place, or nothing."""
+    match = re.fullmatch(r"column ([A-Z]{1,3})", head)
+    return match.group(1) if match else ""
+
+
+def _is_unit(text: str) -> bool:
+    return unit_of(text) in UNITS or is_rate(text)
+
+
+def _is_unit_row(values: list[Value]) -> bool:
+    """Say whether a row has units, and beside them at most a word for it."""
+    there = [value for value in values if value is not None]
+    texts = [value for value in there if isinstance(value, str)]
+    units = [value for value in texts if _is_unit(value)]
+    return len(texts) == len(there) and bool(units) and len(units) >= len(there) - 2
+
+
+def _time_of(value: Value) -> str | None:
+    """Return a time of the day as a text; the last hour may be 24."""
+    if isinstance(value, datetime.time):
+        return f"{value:%H:%M:%S}"
+    if isinstance(value, datetime.datetime):
+        return f"{value:%H:%M:%S}"
+    if isinstance(value, Decimal):
+        if value == int(value) and 0 <= value <= 24:
+            return f"{int(value):02}:00"
+        if 0 < value < 1:  # a part of a day, as a spreadsheet has it
+            seconds = round(value * 86_400)
+            return f"{seconds // 3600:02}:{seconds // 60 % 60:02}:{seconds % 60:02}"
+        return None
+    match = re.fullmatch(
+        r"([0-9]{1,2})(?::([0-9]{2}))?(?::([0-9]{2}))?(?:\s*(?:h|Uhr))?", str(value)
+    )
+    if match is None or int(match[1]) > 24:
+        return None
+    return f"{int(match[1]):02}:{match[2] or '00'}:{match[3] or '00'}"
+
+
+def _with_time(day: Value, time: str) -> Value:
+    if isinstance(day, datetime.datetime):
+        hours, minutes, *rest = map(int, time.split(":"))
+        return day + datetime.timedelta(hours=hours, minutes=minutes, seconds=sum(rest))
+    return f"{day} {time}"

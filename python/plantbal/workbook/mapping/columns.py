@@ -1,0 +1,312 @@
+"""What the columns of a sheet are: by the words of their heads, and by what stands below them."""
+
+from __future__ import annotations
+
+from collections import Counter
+from collections.abc import Collection
+from dataclasses import dataclass, field
+from decimal import Decimal
+
+from plantbal.workbook.mapping.form import DAY_OF_MONTH, HOUR, OPEN, SITE, TIME, SheetMapping
+from plantbal.workbook.mapping.known import Known, tag_in
+from plantbal.workbook.mapping.months import month_of, month_word
+from plantbal.workbook.mapping.profile import ColumnProfile, SheetProfile, split_unit
+from plantbal.workbook.mapping.vocabulary import (
+    Meaning,
+    column_meanings,
+    is_remark,
+    is_total,
+    plain_word,
+)
+from plantbal.workbook.sheetkinds import SheetKind
+from plantbal.workbook.units import AMOUNTS, DENSITIES, GRADES, LENGTHS, VOLUMES, is_rate
+
+_DAYS = frozenset("day first last since until".split())
+_FIGURES = frozenset(
+    "level volume amount value density error base dof grade moisture temperature".split()
+)
+_LONG = ("day", "tag", "value", "unit")
+# Units that the figures of a column may have; without one a figure has two readings.
+_UNITS_OF: dict[str, Collection[str]] = {
+    "level": LENGTHS,
+    "volume": VOLUMES,
+    "amount": AMOUNTS,
+    "value": AMOUNTS,
+    "density": DENSITIES,
+    "grade": GRADES,
+    "moisture": GRADES,
+    "error": {*AMOUNTS, *LENGTHS, *GRADES},
+    "base": AMOUNTS,
+}
+_MOST_MM = 3_000  # a level of more whole units is in millimetres: no tank has 30 m in cm
+
+
+@dataclass
+class Columns:
+    """Looks at the columns of a sheet of a kind.
+
+    Attributes
+    ----------
+    profile : SheetProfile
+        The sheet.
+    kind : SheetKind
+        Its kind.
+    known : Known
+        What is known of the plant.
+    has_units : bool
+        Whether the streams say the units of their figures.
+    evidence : dict
+        What speaks for each value, by its path within the sheet.
+    languages : Counter of str
+        The languages of the words that were found.
+    """
+
+    profile: SheetProfile
+    kind: SheetKind
+    known: Known
+    has_units: bool = False
+    evidence: dict[tuple[str, ...], str] = field(default_factory=dict)
+    languages: Counter[str] = field(default_factory=Counter)
+
+    @property
+    def heads(self) -> tuple[str, ...]:
+        """The heads of the kind."""
+        return tuple(column.head for column in self.kind.columns) or _LONG
+
+    @property
+    def is_long(self) -> bool:
+        """Whether each figure has a row."""
+        found = {m.of for column in self.profile.columns for m in column_meanings(column.name)}
+        if not self.kind.columns:
+            tags = sum(bool(self._tag(column)) for column in self.profile.columns)
+            return {"tag", "value"} <= found and tags < 2
+        return True
+
+    def _tag(self, column: ColumnProfile) -> str:
+        return self.known.meter(column.head)
+
+    def _tank(self, column: ColumnProfile) -> str:
+        return tag_in(column.head, self.known.tanks) if self.kind.is_across else ""
+
+    def assigned(self) -> dict[str, str]:
+        """Return what the columns are; those that are nothing known aren't there."""
+        found: dict[str, str] = {}
+        taken: dict[str, str] = {}
+        wide = not self.kind.columns and not self.is_long
+        for exact in (True, False):
+            for column in self.profile.columns:
+                if column.key in found or self._tank(column) or (wide and self._tag(column)):
+                    continue
+                for meaning in self._meanings(column, exact, wide):
+                    if meaning.of not in taken:
+                        found[column.key], taken[meaning.of] = meaning.of, column.key
+                        self.evidence["columns", column.key] = meaning.said()
+                        self.languages[meaning.language] += 1
+                        break
+        self._guess_days(found, taken)
+        return found
+
+    def _meanings(self, column: ColumnProfile, exact: bool, wide: bool) -> list[Meaning]:
+        """Return what a head may mean here, of what can stand below it."""
+        heads = {"day"} if wide else set(self.heads)
+        heads |= {SITE} | ({TIME} if not self.kind.columns else set())
+        found = []
+        for meaning in column_meanings(column.name or column.head):
+            whole = plain_word(meaning.word) == plain_word(column.name or column.head)
+            if meaning.of in heads and whole is exact and self._can_be(column, meaning.of):
+                found.append(meaning)
+        own = plain_word(column.name or column.head)
+        return sorted(found, key=lambda each: each.of != own)
+
+    def _can_be(self, column: ColumnProfile, of: str) -> bool:
+        """Say whether what stands in a column can be that."""
+        if not column.there:
+            return of not in self.kind.needed
+        if of in _DAYS:
+            return column.has_days or self._are_numbers_of_days(column, of)
+        if of in _FIGURES:
+            return not column.has_days and (column.has_figures or of in ("error", "base"))
+        if of == TIME:
+            return column.times > 0 or column.has_figures or column.has_days
+        if of == "period":
+            return not column.has_figures
+        return not column.has_days and not column.times
+
+    def _are_numbers_of_days(self, column: ColumnProfile, of: str) -> bool:
+        """Say whether a column has the days of a month by their numbers."""
+        numbers = column.decimals
+        if of != "day" or not numbers or len(numbers) < column.there:
+            return False
+        return [int(n) for n in numbers] == list(range(1, len(numbers) + 1)) and len(numbers) <= 31
+
+    def _guess_days(self, found: dict[str, str], taken: dict[str, str]) -> None:
+        """Take the only column of days for the days, if no head says so."""
+        if "day" in taken or "day" not in (*self.heads, *(() if self.kind.columns else ("day",))):
+            return
+        if self.kind.word == "moistures":
+            return
+        days = [c for c in self.profile.columns if c.has_days and c.key not in found]
+        if len(days) == 1:
+            found[days[0].key] = "day"
+            self.evidence["columns", days[0].key] = "it is the only column of days"
+
+    # ---- the whole sheet
+
+    def mapping(self, name: str) -> SheetMapping:
+        """Return what is proposed for the sheet."""
+        columns = self.assigned()
+        units: dict[str, str] = {}
+        month = ""
+        for column in self.profile.columns:
+            to = columns.get(column.key)
+            if to == "day" and not column.has_days and column.there:
+                columns[column.key], month = DAY_OF_MONTH, self._month()
+            elif to == TIME and column.has_figures and not column.times:
+                columns[column.key] = HOUR
+            elif to is None:
+                self._take_other(column, columns)
+            self._take_unit(column, columns.get(column.key), units, set(columns.values()))
+        unit = self._unit(columns, units)
+        totals = tuple(self.profile.totals)
+        if totals:
+            self.evidence["totals",] = "rows that begin so are sums, and aren't read"
+        by_head = any(not key.startswith("column ") for key in columns)
+        return SheetMapping(
+            name,
+            self.kind.word,
+            heads=0 if by_head or self.profile.at is None else self.profile.heads_line,
+            month=month,
+            columns=columns,
+            unit=unit,
+            units=units,
+            totals=totals,
+            down=self._down(columns),
+        )
+
+    def _month(self) -> str:
+        """Return the month of days that are numbers."""
+        name, titles = self.profile.sheet.name, self.profile.titles
+        if month_of(name):
+            self.evidence["month",] = f"{name!r} names the month"
+            return "name"
+        for title in titles:
+            found = month_of(title)
+            if found:
+                self.evidence["month",] = f"{title[:60]!r} stands above the heads"
+                return f"{found[0]}-{found[1]:02}"
+        word = month_word(name)
+        self.evidence[
+            "month",
+        ] = f"days are numbers, and no year is told{f' of {word}' if word else ''}"
+        return OPEN
+
+    def _take_other(self, column: ColumnProfile, columns: dict[str, str]) -> None:
+        """Take a column that is none of the kind's: of a tag, a tank, remarks or sums."""
+        wide = not self.kind.columns and not self.is_long
+        name = self._tank(column) or (self._tag(column) if wide else "")
+        if name:
+            if name != column.head:
+                columns[column.key] = name
+                self.evidence["columns", column.key] = f"{name} stands in it"
+            return
+        if not column.there:
+            return
+        path = "columns", column.key
+        if is_total(column.head):
+            columns[column.key], self.evidence[path] = "", "a column of sums"
+        elif is_remark(column.head) or (column.has_texts and column.head):
+            columns[column.key], self.evidence[path] = "", "remarks: it isn't read"
+        elif column.head and (column.has_figures or column.has_days):
+            open_ = bool(self.known.names) or bool(self.kind.columns)
+            if open_:
+                columns[column.key] = OPEN
+                what = "a tag of the plant" if wide else f"one of {', '.join(self.heads)}"
+                self.evidence[path] = f'figures stand in it: {what}, or "" if it isn\'t to be read'
+
+    # ---- units
+
+    def _take_unit(
+        self, column: ColumnProfile, to: str | None, units: dict[str, str], all_: set[str]
+    ) -> None:
+        """Take the unit of a column; without one, what its figures leave open is a question."""
+        path = "units", column.key
+        is_wide = bool(self._tank(column)) or (not self.kind.columns and bool(self._tag(column)))
+        if to in ("", OPEN, None) and not is_wide:
+            return
+        allowed = _UNITS_OF.get(to or "")
+        if is_wide:
+            allowed = AMOUNTS if not self.kind.columns else {*VOLUMES, *LENGTHS}
+        if allowed is None or not (column.there or is_wide):
+            return
+        if column.unit and (column.unit in allowed or is_rate(column.unit)):
+            units[column.key], self.evidence[path] = column.unit, column.unit_said
+            return
+        if is_wide or "unit" in all_ and to in ("level", "volume", "amount", "value", "grade"):
+            return
+        if to == "moisture" and "unit" in all_:
+            return
+        if not column.numbers or (to == "value" and self.kind.columns):
+            return  # each figure has its own unit, or none is needed
+        guess, said = self._guess_unit(column, to or "")
+        if guess is not None:
+            units[column.key], self.evidence[path] = guess, said
+
+    def _guess_unit(self, column: ColumnProfile, to: str) -> tuple[str | None, str]:
+        """Return the unit of figures without one, by their size; `?` if that doesn't decide."""
+        title = self._unit_of_titles(to)
+        if title:
+            return title, "a title above says so"
+        numbers = column.decimals
+        least, most = (min(numbers), max(numbers)) if numbers else (Decimal(0), Decimal(0))
+        if to == "density" and numbers:
+            if least >= 100 and most <= 3_000:
+                return "kg/m3", f"from {least} to {most}, as densities in kg/m3 are"
+            if least > Decimal("0.3") and most < 3:
+                return "t/m3", f"from {least} to {most}, as densities in t/m3 are"
+        if to == "level" and numbers and all(n == int(n) for n in numbers) and most > _MOST_MM:
+            return "mm", f"whole numbers up to {most:,}: in cm that would be {most / 100:,} m"
+        if to == "amount" and self.has_units and "stream" in self.heads:
+            return None, ""
+        if any(each == 0 for each in numbers) and to == "error" and most == 0:
+            return None, ""
+        such = ", ".join(list(_UNITS_OF[to])[:6])
+        return OPEN, f"no unit is told of {least} to {most}: {such}"
+
+    def _unit_of_titles(self, to: str) -> str:
+        found = {split_unit(title)[1] for title in self.profile.titles} - {""}
+        fit = [unit for unit in found if unit in _UNITS_OF.get(to, ())]
+        return fit[0] if len(fit) == 1 and len(found) == 1 else ""
+
+    def _unit(self, columns: dict[str, str], units: dict[str, str]) -> str:
+        """Return the unit of all figures below tags or tanks, if their columns don't say it."""
+        wide = [
+            column
+            for column in self.profile.columns
+            if self._tank(column) or (not self.kind.columns and self._tag(column))
+        ]
+        lacks = [column for column in wide if column.key not in units and column.numbers]
+        if not lacks or (not self.kind.columns and (self.has_units or self.is_long)):
+            return ""
+        to = {"straps": "volume", "dips": "level"}.get(self.kind.word, "amount")
+        merged = ColumnProfile(0, "", values=[v for each in lacks for v in each.values], numbers=1)
+        guess, said = self._guess_unit(merged, to)
+        if guess:
+            self.evidence["unit",] = f"{said} ({len(lacks)} columns)"
+        return guess or ""
+
+    def _down(self, columns: dict[str, str]) -> tuple[str, ...]:
+        """Return the heads of names or days that stand once for several rows."""
+        found = []
+        for column in self.profile.columns:
+            to = columns.get(column.key)
+            if to not in ("tank", "stream", "day", "tag", "first") or not column.head:
+                continue
+            if (
+                column.there
+                and column.blanks > 2 * column.there
+                and column.has_days | column.has_texts
+            ):
+                found.append(column.head)
+                said = f"{column.blanks} of {column.blanks + column.there} of its cells are empty"
+                self.evidence["down",] = f"{said}: each has what stands above it"
+        return tuple(found)

@@ -1,0 +1,82 @@
+"""Proposes how a plant's workbook is read, as a small file that a person looks at and changes."""
+
+from __future__ import annotations
+
+import argparse
+import sys
+from pathlib import Path
+
+from plantbal.book.meters import read_meters
+from plantbal.book.store import METERS, Store
+from plantbal.book.years import Years
+from plantbal.files import write_text
+from plantbal.workbook.mapping.form import mapping_text
+from plantbal.workbook.mapping.known import Known
+from plantbal.workbook.mapping.proposing import Proposal, propose
+from plantbal.workbook.sheets import read_workbook
+
+HELP = """
+WORKBOOK is an xlsx or ods file, a CSV file, or a folder of CSV files, as the plant keeps it. The
+mapping says which sheet is what, which column, whose numbers and days, which unit, what streams and
+tanks are called in the book. It is guessed from words in English, German, Spanish and French, and
+from the shape of the data; what speaks for each guess stands beside it.
+
+A "?" is a question: what stands there can be read in two ways, and no workbook is read by a mapping
+that has one. The status is 1 then. `convert`, `book new` and `book add` take the mapping by
+--mapping FILE; a book keeps it, and reads every later workbook by it.
+
+examples:
+  plantbal-desk map plant.xlsx --out plant.toml
+  plantbal-desk book new 2024 plant.xlsx --mapping plant.toml
+  plantbal-desk map april.xlsx --book mill --out april.toml
+"""
+
+
+def add_arguments(parser: argparse.ArgumentParser) -> None:
+    """Add the words of the command."""
+    parser.add_argument("workbook", metavar="WORKBOOK")
+    parser.add_argument("--out", metavar="FILE", default="-", help="the mapping")
+    plant = "which plant is read, if the workbook has several"
+    parser.add_argument("--plant", metavar="NAME", default="", help=plant)
+    book = "a book whose tags, streams and tanks are looked for"
+    parser.add_argument("--book", metavar="FOLDER", help=book)
+
+
+def run(options: argparse.Namespace) -> int:
+    """Write the mapping, and say which questions are open."""
+    known = known_of(options.book) if options.book else Known()
+    found = propose(read_workbook(options.workbook), known, options.plant)
+    write_text(options.out, text_of(found, options.workbook))
+    questions = found.open()
+    for line in questions:
+        print(f"{options.prog}: ? {line}", file=sys.stderr)
+    count = len(questions)
+    if options.out != "-":
+        open_ = f", with {count} question{'' if count == 1 else 's'} open" if count else ""
+        print(f"{options.out}: {len(found.mapping.sheets)} sheets{open_}")
+    return 1 if questions else 0
+
+
+def text_of(found: Proposal, workbook: str | Path) -> str:
+    """Return the file of a proposal."""
+    head = (
+        f"How {Path(workbook).name} is read, as plantbal-desk map proposes it. Look at each line.\n"
+    )
+    head += (
+        "What stands left of = is the workbook's; right of it is what it is taken for; # says why."
+    )
+    if found.open():
+        head += '\nA "?" is a question: write the answer in its place.'
+    return mapping_text(found.mapping, found.evidence, head)
+
+
+def known_of(folder: str | Path) -> Known:
+    """Return the tags, streams and tanks of a book."""
+    store = Store(folder)
+    with store.opened(reading=True):
+        last = Years(store, lambda _: None).last
+        meters = read_meters(store.path(METERS))
+    tags = tuple(meter.tag for meter in meters.values() if meter.tag)
+    tanks = tuple(row[1] for row in last.plant if row[0] == "tank")
+    streams = tuple(row[1] for row in last.plant if row[0] == "stream")
+    return Known(tags, streams, tanks)

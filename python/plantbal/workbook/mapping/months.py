@@ -1,0 +1,52 @@
+"""The month that a text names, such as the name of a sheet: `Januar 2024`, `2024-01`, `01/2024`."""
+
+from __future__ import annotations
+
+import re
+from functools import lru_cache
+
+from plantbal.workbook.cells import month_names
+
+_LOCALES = ("en", "de", "es", "fr")
+_NUMBERS = re.compile(
+    r"(?<![0-9])(?:(20[0-9]{2})[-_./ ]?(0[1-9]|1[0-2])|(0[1-9]|1[0-2])[-_./ ](20[0-9]{2}))(?![0-9])"
+)
+_YEAR = re.compile(r"(?<![0-9])(20[0-9]{2})(?![0-9])")
+
+
+@lru_cache
+def _names() -> dict[str, int]:
+    found: dict[str, int] = {}
+    for locale in _LOCALES:
+        found |= month_names(locale)
+    return found
+
+
+def month_word(text: str) -> str:
+    """Return the word of a text that is the name of a month; empty if there is none."""
+    for word in re.findall(r"[^\W\d_]+", text):
+        if word.casefold().rstrip(".") in _names() and len(word) > 2:
+            return str(word)
+    return ""
+
+
+def month_of(text: str) -> tuple[int, int] | None:
+    """Return the year and the month that a text names; None unless it names both."""
+    numbers = _NUMBERS.search(text)
+    if numbers:
+        year, month = (numbers[1], numbers[2]) if numbers[1] else (numbers[4], numbers[3])
+        return int(year), int(month)
+    word, years = month_word(text), _YEAR.findall(text)
+    if word and len(set(years)) == 1:
+        return int(years[0]), _names()[word.casefold().rstrip(".")]
+    return None
+
+
+def pattern_of(name: str) -> str:
+    """Return a sheet's name with `*` for what is different each month."""
+    pattern = _NUMBERS.sub("*", name)
+    word = month_word(pattern)
+    if word:
+        pattern = pattern.replace(word, "*", 1)
+    pattern = _YEAR.sub("*", pattern)
+    return re.sub(r"\*(?:[\s._-]*\*)+", "*", pattern)

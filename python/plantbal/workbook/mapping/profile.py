@@ -1,0 +1,275 @@
+"""What a sheet looks like: the row of its heads, and what stands below each of them."""
+
+from __future__ import annotations
+
+import datetime
+import re
+from collections.abc import Sequence
+from dataclasses import dataclass, field
+from decimal import Decimal
+
+from plantbal.workbook.cells import MISSING
+from plantbal.workbook.mapping.vocabulary import column_meanings, is_total, plain_word
+from plantbal.workbook.sheets import NoValue, Percent, Sheet, Value, letters
+from plantbal.workbook.units import UNITS, is_rate, unit_of
+
+HEADS_WITHIN = 40
+_SAMPLE = 400  # rows below the heads that are looked at
+_DATE = re.compile(
+    r"[0-9]{1,4}\s?[./-]\s?[0-9]{1,2}\s?[./-]\s?[0-9]{1,4}\.?([ T].*)?|[0-9]{1,2}\.?[ -][^\W\d]+\.?[ -][0-9]{4}"
+)
+_NUMBER = re.compile("[-+(\u2212]?[0-9][0-9.,' \u00a0\u2009\u202f\u2019]*(?:[eE][-+]?[0-9]+)?[)-]?")
+_WITH_UNIT = re.compile(
+    r"(?:[<>~]?\s*)(.*?[0-9])\s*(%|[^\W\d_][\w³/]*)(?:\s+(?:or|oder|ou|o)\s.*)?"
+)
+_BRACKETS = re.compile(r"(.*?)\s*[\[(]\s*([^\[\]()]+?)\s*[\])]\s*")
+_TAIL = re.compile(r"(.*?)[\s,;:/_]+(?:in\s+|en\s+)?([^\s]+)")
+
+
+@dataclass
+class ColumnProfile:
+    """A column: its head, its unit, and what is below it.
+
+    Attributes
+    ----------
+    at : int
+        Its place, counted from 0.
+    head, name, unit : str
+        The text of its head, that without the unit in it, and the unit that head or row have.
+    unit_said : str
+        Where the unit stands.
+    days, numbers, texts, blanks, mixed : int
+        How many cells are days, numbers, other texts, empty, and figures with a unit after them.
+    values : list of Value
+        What stands below.
+    """
+
+    at: int
+    head: str
+    name: str = ""
+    unit: str = ""
+    unit_said: str = ""
+    days: int = 0
+    numbers: int = 0
+    texts: int = 0
+    blanks: int = 0
+    mixed: int = 0
+    times: int = 0
+    values: list[Value] = field(default_factory=list)
+
+    @property
+    def key(self) -> str:
+        """How a mapping calls it."""
+        return self.head or f"column {letters(self.at + 1)}"
+
+    @property
+    def there(self) -> int:
+        """How many cells aren't empty."""
+        return self.days + self.numbers + self.texts + self.mixed + self.times
+
+    @property
+    def has_days(self) -> bool:
+        """Whether most are days."""
+        return 2 * self.days > self.there
+
+    @property
+    def has_figures(self) -> bool:
+        """Whether most are numbers, or numbers with a unit."""
+        return 2 * (self.numbers + self.mixed) > self.there
+
+    @property
+    def has_texts(self) -> bool:
+        """Whether most are texts."""
+        return 2 * self.texts > self.there
+
+    @property
+    def decimals(self) -> list[Decimal]:
+        """The numbers among its cells that are cells of numbers."""
+        return [value for value in self.values if isinstance(value, Decimal)]
+
+    def names(self) -> list[str]:
+        """Return its texts, each once."""
+        texts = [value for value in self.values if isinstance(value, str)]
+        return list(dict.fromkeys(text for text in texts if text.casefold() not in MISSING))
+
+
+@dataclass
+class SheetProfile:
+    """A sheet.
+
+    Attributes
+    ----------
+    sheet : Sheet
+        The sheet.
+    at : int or None
+        The place of the row of heads among its lines; None if it has none.
+    columns : list of ColumnProfile
+        Its columns.
+    titles : list of str
+        The texts above the heads.
+    units_row : int or None
+        The row of units below the heads.
+    totals : list of str
+        The texts with which rows of sums begin.
+    """
+
+    sheet: Sheet
+    at: int | None = None
+    columns: list[ColumnProfile] = field(default_factory=list)
+    titles: list[str] = field(default_factory=list)
+    units_row: int | None = None
+    totals: list[str] = field(default_factory=list)
+
+    @property
+    def heads_line(self) -> int:
+        """The number of the row of heads."""
+        return self.sheet.lines[self.at][0] if self.at is not None else 0
+
+    def column(self, head: str) -> ColumnProfile | None:
+        """Return the column of a head."""
+        return next((each for each in self.columns if each.key == head), None)
+
+
+def profile_of(sheet: Sheet, known: Sequence[str] = ()) -> SheetProfile:
+    """Return what a sheet looks like.
+
+    Parameters
+    ----------
+    sheet : Sheet
+        The sheet.
+    known : sequence of str
+        The tags, streams and tanks of the plant, which may be heads.
+    """
+    found = SheetProfile(sheet)
+    found.at = _head_row(sheet, {plain_word(name) for name in known})
+    if found.at is None:
+        return found
+    found.titles = [
+        value for _, values in sheet.lines[: found.at] for value in values if isinstance(value, str)
+    ]
+    heads = sheet.lines[found.at][1]
+    body = sheet.lines[found.at + 1 :]
+    units: list[Value] = []
+    for line, values in body[:3]:
+        if _is_unit_row(values):
+            units, found.units_row = values, line
+            body = [each for each in body if each[0] != line]
+            break
+    else:
+        for line, values in reversed(sheet.lines[max(0, found.at - 2) : found.at]):
+            if _is_unit_row(values):
+                units, found.units_row = values, line
+                break
+    rows = [values for _, values in body[:_SAMPLE] if not _is_sum(values, found.totals)]
+    width = max(map(len, [heads, *rows]), default=0)
+    for at in range(width):
+        column = _column(at, heads, units, found.units_row)
+        for values in rows:
+            _count(column, values[at] if at < len(values) else None)
+        if column.head or column.there:
+            found.columns.append(column)
+    return found
+
+
+def _head_row(sheet: Sheet, known: set[str]) -> int | None:
+    """Return the place of the row of heads: of texts, with known words first, above figures."""
+    best, place = 0.0, None
+    least = 1 if all(len(values) < 2 for _, values in sheet.lines) else 2
+    for at, (_, values) in enumerate(sheet.lines[:HEADS_WITHIN]):
+        texts = [value for value in values if isinstance(value, str)]
+        others = [value for value in values if value is not None and not isinstance(value, str)]
+        texts = [text for text in texts if not _DATE.fullmatch(text)]
+        if (
+            not texts
+            or len(others) > len(texts)
+            or _is_unit_row(values)
+            or at + 1 == len(sheet.lines)
+        ):
+            continue
+        plain = {plain_word(split_unit(text)[0]) for text in texts}
+        words = sum(bool(column_meanings(split_unit(text)[0])) for text in texts)
+        score = len(texts) + 2 * words + 2 * len(plain & known) - len(others)
+        below = [each for _, row in sheet.lines[at + 1 : at + 5] for each in row]
+        figures = sum(each is not None and not isinstance(each, str) for each in below)
+        if score > best and len(texts) >= least and (figures or words >= least or plain & known):
+            best, place = score, at
+    return place
+
+
+def _is_sum(values: list[Value], totals: list[str]) -> bool:
+    """Say whether a row is a sum, and keep what it begins with."""
+    first = next((value for value in values if value is not None), None)
+    if isinstance(first, str) and is_total(first):
+        if first not in totals:
+            totals.append(first)
+        return True
+    return False
+
+
+def _is_unit_row(values: list[Value]) -> bool:
+    there = [value for value in values if value is not None]
+    texts = [value for value in there if isinstance(value, str)]
+    units = [value for value in texts if unit_of(value) in UNITS or is_rate(value)]
+    return len(texts) == len(there) and bool(units) and len(units) >= len(there) - 2
+
+
+def split_unit(head: str) -> tuple[str, str]:
+    """Return a head without its unit, and the unit in brackets or at its end."""
+    brackets = _BRACKETS.fullmatch(head)
+    if brackets and _unit(brackets[2]):
+        return brackets[1].strip(), _unit(brackets[2])
+    tail = _TAIL.fullmatch(head.strip())
+    if tail and _unit(tail[2]) and not (len(tail[2]) == 1 and tail[2] not in "tm%"):
+        return tail[1].strip(), _unit(tail[2])
+    return head.strip(), ""
+
+
+def _unit(text: str) -> str:
+    """Return a unit, or one of a rate; empty if a text is none."""
+    plain = unit_of(text.strip().removeprefix("in ").strip())
+    if plain in UNITS:
+        return plain
+    return text.strip() if is_rate(text.strip()) else ""
+
+
+def _column(
+    at: int, heads: list[Value], units: list[Value], units_row: int | None
+) -> ColumnProfile:
+    """Return a column with its head and its unit."""
+    head = heads[at] if at < len(heads) else None
+    text = head if isinstance(head, str) else ""
+    name, unit = split_unit(text)
+    column = ColumnProfile(at, text, name, unit, "its head says so" if unit else "")
+    below = units[at] if at < len(units) else None
+    if isinstance(below, str) and _unit(below):
+        column.unit, column.unit_said = _unit(below), f"row {units_row} says so"
+    return column
+
+
+def _count(column: ColumnProfile, value: Value) -> None:
+    """Count what stands in a cell."""
+    if value is None or isinstance(value, NoValue):
+        column.blanks += 1
+        return
+    column.values.append(value)
+    if isinstance(value, datetime.datetime):
+        column.days += 1
+    elif isinstance(value, datetime.time):
+        column.times += 1
+    elif isinstance(value, (Decimal, Percent)):
+        column.numbers += 1
+    elif isinstance(value, bool):
+        column.texts += 1
+    elif value.casefold() in MISSING:
+        column.blanks += 1
+        column.values.pop()
+    elif _DATE.fullmatch(value):
+        column.days += 1
+    elif re.fullmatch(r"[0-9]{1,2}:[0-9]{2}(:[0-9]{2})?", value):
+        column.times += 1
+    elif _NUMBER.fullmatch(value):
+        column.numbers += 1
+    elif (match := _WITH_UNIT.fullmatch(value)) and _unit(match[2]):
+        column.mixed += 1
+    else:
+        column.texts += 1

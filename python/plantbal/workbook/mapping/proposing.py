@@ -1,0 +1,469 @@
+"""Proposes the mapping of a workbook: from words in four languages, and from the shape of its data.
+
+First each sheet is profiled: its row of heads, and what is below them. The sheet of streams, which
+has two columns of ends, gives tags and names; those of tanks give tanks. Then the others are known
+by their heads, by tags and tanks over their columns, or by their names. Each guess is kept with its
+evidence. Where two readings are possible the value is a `?`, and the evidence says which.
+"""
+
+from __future__ import annotations
+
+import re
+from collections import Counter
+from collections.abc import Iterable, Sequence
+from dataclasses import dataclass, field, replace
+from decimal import Decimal
+
+from plantbal.workbook.mapping.columns import Columns
+from plantbal.workbook.mapping.form import OPEN, SITE, Path_, SheetMapping, WorkbookMapping
+from plantbal.workbook.mapping.known import Known, tag_in
+from plantbal.workbook.mapping.months import pattern_of
+from plantbal.workbook.mapping.names import is_name, name_of
+from plantbal.workbook.mapping.profile import ColumnProfile, SheetProfile, profile_of
+from plantbal.workbook.mapping.vocabulary import (
+    LANGUAGES,
+    column_meanings,
+    plain_word,
+    sheet_meanings,
+    value_meaning,
+)
+from plantbal.workbook.mapping.written import Written
+from plantbal.workbook.sheetkinds import PASSED, SHEETS
+from plantbal.workbook.sheets import Sheet
+from plantbal.workbook.units import LENGTHS
+
+# The kinds that are known by their heads, those that say most first.
+_BY_HEADS = (
+    "streams",
+    "straps",
+    "moistures",
+    "tickets",
+    "estimates",
+    "dips",
+    "assays",
+    "critical",
+    "tanks",
+    "accounts",
+    "settings",
+    "periods",
+)
+_NONE = ("", OPEN)
+
+
+@dataclass
+class Proposal:
+    """A mapping that is proposed.
+
+    Attributes
+    ----------
+    mapping : WorkbookMapping
+        The mapping; a `?` stands where a question is open.
+    evidence : dict
+        What speaks for each of its values.
+    """
+
+    mapping: WorkbookMapping
+    evidence: dict[Path_, str] = field(default_factory=dict)
+
+    def open(self) -> list[str]:
+        """Return the questions that are open, a sentence each."""
+        found = []
+        for path, value in _values(self.mapping):
+            if value == OPEN:
+                found.append(f"{_said(self.mapping, path)}: {self.evidence.get(path, '')}")
+        return found
+
+
+def _values(mapping: WorkbookMapping) -> Iterable[tuple[Path_, str]]:
+    """Give the texts of a mapping with their paths."""
+    yield from ((("locale",), mapping.locale), (("plant",), mapping.plant))
+    yield from ((("names", key), value) for key, value in mapping.names.items())
+    yield from ((("words", key), value) for key, value in mapping.words.items())
+    for at, sheet in enumerate(mapping.sheets):
+        for key in ("kind", "locale", "month", "unit", "plant"):
+            yield ("sheet", at, key), getattr(sheet, key)
+        for key in ("columns", "units"):
+            for head, value in getattr(sheet, key).items():
+                yield ("sheet", at, key, head), value
+
+
+def _said(mapping: WorkbookMapping, path: Path_) -> str:
+    """Return which value of a mapping a path is."""
+    if path[0] != "sheet":
+        return " ".join(map(str, path))
+    sheet = mapping.sheets[int(path[1])].name
+    return f"{sheet}: {' '.join(map(str, path[2:]))}"
+
+
+def propose(sheets: Sequence[Sheet], known: Known = Known(), plant: str = "") -> Proposal:
+    """Return the mapping that is proposed for a workbook.
+
+    Parameters
+    ----------
+    sheets : sequence of Sheet
+        The workbook.
+    known : Known
+        What a book knows of its plant.
+    plant : str
+        Which plant is read, if the workbook has several.
+    """
+    return _Proposing(sheets, known, plant).proposal()
+
+
+class _Proposing:
+    """Looks at a workbook, and collects what is proposed and why."""
+
+    def __init__(self, sheets: Sequence[Sheet], known: Known, plant: str) -> None:
+        self.sheets = [sheet for sheet in sheets if sheet.lines]
+        self.known = known
+        self.plant = plant
+        self.evidence: dict[Path_, str] = {}
+        self.languages: Counter[str] = Counter()
+        self.of_sheets: dict[int, Counter[str]] = {}
+        self.names: dict[str, str] = {}
+        self.words: dict[str, str] = {}
+        self.kinds: dict[int, tuple[str, str]] = {}
+
+    def proposal(self) -> Proposal:
+        """Return it."""
+        self.profiles = [profile_of(sheet, self.known.names) for sheet in self.sheets]
+        self._learn()
+        self.profiles = [profile_of(sheet, self.known.names) for sheet in self.sheets]
+        for at in range(len(self.sheets)):
+            self.kinds[at] = self._kind(at)
+        made = [self._sheet(at) for at in range(len(self.sheets))]
+        locale = self._locale(made)
+        made = self._sites(made)
+        mapping = WorkbookMapping(
+            locale=locale,
+            missing=tuple(self._missing()),
+            plant=self.plant,
+            names=self.names,
+            words=self.words,
+            sheets=tuple(made),
+        )
+        return Proposal(mapping, self.evidence)
+
+    # ---- the plant
+
+    def _learn(self) -> None:
+        """Learn tags, streams and tanks from the sheets that list them."""
+        tags: list[str] = []
+        streams: list[str] = []
+        tanks: list[str] = []
+        for profile in self.profiles:
+            for word, into in (("streams", (tags, streams)), ("tanks", (tanks,))):
+                if self._by_heads(profile, (word,)) != word:
+                    continue
+                found = Columns(profile, SHEETS[word], Known()).assigned()
+                heads = ("tag", "stream") if word == "streams" else ("tank",)
+                for head, names in zip(heads, into):
+                    column = next((profile.column(k) for k, v in found.items() if v == head), None)
+                    names += _texts(column.values) if column else []
+        for profile in self.profiles:
+            if not tanks and self._by_heads(profile, ("straps", "dips")):
+                column = next((c for c in profile.columns if "tank" in _meant(c.name)), None)
+                tanks += _texts(column.values) if column else []
+        own = self.known
+        self.known = Known(
+            tuple(dict.fromkeys([*own.tags, *tags])),
+            tuple(dict.fromkeys([*own.streams, *streams])),
+            tuple(dict.fromkeys([*own.tanks, *tanks])),
+        )
+
+    # ---- kinds
+
+    def _kind(self, at: int) -> tuple[str, str]:
+        """Return the kind of a sheet, and what speaks for it."""
+        profile, name = self.profiles[at], self.sheets[at].name
+        plain = re.split(r"[^a-z]", name.strip().casefold(), maxsplit=1)[0]
+        if plain in PASSED:
+            return "", "sheets of this name are passed over"
+        meaning = next(iter(sheet_meanings(name)), None)
+        by_name = plain if plain in SHEETS else meaning.of if meaning else ""
+        by_name = by_name if by_name in SHEETS else ""
+        said = f"its name is {plain}" if plain in SHEETS else meaning.said() if meaning else ""
+        by_shape, shape_said = self._by_shape(profile)
+        if by_shape:
+            return by_shape, shape_said
+        by_heads = self._by_heads(profile, _BY_HEADS)
+        if by_name and by_name != by_heads and self._fits(profile, by_name):
+            return by_name, said
+        if by_heads:
+            needed = ", ".join(SHEETS[by_heads].needed)
+            return by_heads, f"its heads say {needed}" + (
+                f"; {said}" if by_name == by_heads else ""
+            )
+        if by_name and profile.at is not None:
+            return by_name, f"{said}; its heads don't tell more"
+        if by_name == "readings" or plain in SHEETS:
+            return by_name, said
+        if profile.at is None or not any(c.has_figures or c.has_days for c in profile.columns):
+            return "", "there is no table of figures in it"
+        return (
+            OPEN,
+            f"there are figures in it, and neither name nor heads say what: {_kinds_said()}",
+        )
+
+    def _fits(self, profile: SheetProfile, word: str) -> bool:
+        """Say whether a sheet has the columns that a kind needs."""
+        kind = SHEETS[word]
+        found = Columns(profile, kind, self.known).assigned()
+        return bool(kind.needed) and set(kind.needed) <= set(found.values())
+
+    def _by_heads(self, profile: SheetProfile, words: Sequence[str]) -> str:
+        """Return the first of some kinds whose columns a sheet has; empty if it has none's."""
+        if profile.at is None:
+            return ""
+        for word in words:
+            kind = SHEETS[word]
+            if len(kind.needed) > 1 and self._fits(profile, word):
+                return word
+            if word == "tanks" and len(kind.needed) == 1:
+                heads = set(Columns(profile, kind, self.known).assigned().values())
+                if "tank" in heads and heads & {"error", "density", "base", "since", "until"}:
+                    return word
+        return ""
+
+    def _by_shape(self, profile: SheetProfile) -> tuple[str, str]:
+        """Return the kind of a sheet that has tags or tanks over its columns, and why."""
+        if profile.at is None:
+            return "", ""
+        days = [column for column in profile.columns if column.has_days]
+        tags = [c for c in profile.columns if self.known.meter(c.head)]
+        tanks = [c for c in profile.columns if tag_in(c.head, self.known.tanks) and c.has_figures]
+        heads = self._by_heads(profile, ("streams", "tickets", "assays", "moistures", "estimates"))
+        if len(tags) > 1 and len(tags) >= len(tanks) and not heads:
+            return "readings", f"{len(tags)} of its heads are tags or streams of the plant"
+        if tanks and not heads and 2 * len(tanks) >= len(profile.columns) - 2:
+            return self._of_tanks(profile, tanks, days)
+        known = {*self.known.tanks}
+        if known and profile.at > 0:
+            above = self.sheets[self.profiles.index(profile)].lines[profile.at - 1][1]
+            over = [value for value in above if isinstance(value, str) and value in known]
+            if (
+                over
+                and not days
+                and "level" in {m for c in profile.columns for m in _meant(c.name)}
+            ):
+                return "straps", f"{len(over)} tanks are over pairs of levels and volumes"
+        found = {m for c in profile.columns for m in _meant(c.name)}
+        if days and {"tag", "value"} <= found and "level" not in found and not heads:
+            return "readings", "it has a row for each figure: a day, a tag and a value"
+        return "", ""
+
+    def _of_tanks(
+        self, profile: SheetProfile, tanks: list[ColumnProfile], days: list[ColumnProfile]
+    ) -> tuple[str, str]:
+        """Return whether columns of tanks have levels of days, or volumes of levels."""
+        count = f"{len(tanks)} of its heads are tanks"
+        if days:
+            return "dips", f"{count}, and {days[0].key!r} has days"
+        if any(column.unit in LENGTHS for column in tanks):
+            return "dips", f"{count}, with levels in {tanks[0].unit}"
+        kind = Columns(profile, SHEETS["dips"], self.known)
+        if "day" in kind.assigned().values():
+            return "dips", f"{count}, and it has the days of a month by their numbers"
+        if any("level" in _meant(column.name) for column in profile.columns):
+            return "straps", f"{count}, beside a column of levels"
+        return "", ""
+
+    # ---- sheets
+
+    def _sheet(self, at: int) -> SheetMapping:
+        """Return what is proposed for a sheet."""
+        kind, said = self.kinds[at]
+        name = pattern_of(self.sheets[at].name)
+        others = [pattern_of(sheet.name) for sheet in self.sheets]
+        if (
+            others.count(name) > 1
+            and len({self.kinds[n] for n, o in enumerate(others) if o == name}) > 1
+        ):
+            name = self.sheets[at].name
+        path: Path_ = ("sheet", at)
+        self.evidence[(*path, "kind")] = said
+        if name != self.sheets[at].name:
+            self.evidence[(*path, "name")] = f"{self.sheets[at].name!r} names a month"
+        if kind in ("", OPEN):
+            return SheetMapping(name, kind)
+        columns = Columns(self.profiles[at], SHEETS[kind], self.known, self._streams_have_units())
+        found = columns.mapping(name)
+        for key, text in columns.evidence.items():
+            self.evidence[(*path, *key)] = text
+        self.languages.update(columns.languages)
+        self.of_sheets[at] = columns.languages
+        self._take_names(self.profiles[at], found)
+        return found
+
+    def _streams_have_units(self) -> bool:
+        """Say whether the sheet of streams has a column of units."""
+        for at, (kind, _) in self.kinds.items():
+            if kind == "streams":
+                found = Columns(self.profiles[at], SHEETS["streams"], self.known).assigned()
+                if "unit" in found.values():
+                    return True
+        return not any(kind == "streams" for kind, _ in self.kinds.values()) and bool(
+            self.known.names
+        )
+
+    def _take_names(self, profile: SheetProfile, found: SheetMapping) -> None:
+        """Propose names of streams, tanks and units that a session can have, and words for kinds."""
+        for key, column in found.columns.items():
+            own = profile.column(key)
+            if own is None:
+                continue
+            if column in ("stream", "from", "to", "tank") or (
+                column == "name" and found.kind in ("units", "boundaries", "accounts")
+            ):
+                for text in own.names():
+                    self._take_name(text, is_end=column in ("from", "to"))
+            if column == "kind":
+                for text in own.names():
+                    meaning = value_meaning(text)
+                    if meaning and meaning.of != text and meaning.of != "env":
+                        self.words[text] = meaning.of
+                        self.evidence[("words", text)] = meaning.said()
+        for column_ in profile.columns:
+            if column_.head in (*self.known.tanks, *self.known.streams) and column_.head:
+                self._take_name(column_.head, is_end=False)
+
+    def _take_name(self, text: str, is_end: bool) -> None:
+        meaning = value_meaning(text) if is_end else None
+        if meaning and meaning.of == "env":
+            if text != "env":
+                self.names[text] = "env"
+                self.evidence[("names", text)] = meaning.said()
+        elif not is_name(text) and text not in self.names:
+            taken = {*self.names.values(), *filter(is_name, self.known.names)}
+            self.names[text] = name_of(text, taken)
+            self.evidence[("names", text)] = "a name has letters, digits, _, - and . alone"
+
+    # ---- forms
+
+    def _locale(self, made: list[SheetMapping]) -> str:
+        """Return whose numbers and days the workbook has; a sheet that differs has its own."""
+        written = {
+            at: self._written(at) for at, sheet in enumerate(made) if sheet.kind not in _NONE
+        }
+        said = Written()
+        for at, own in written.items():  # those that decide first
+            if (own.mark or own.order) and own.agrees(said, self._language(at)):
+                said.add(own)
+        for at, own in written.items():
+            if own.mark or own.order:
+                agrees = own.mark in ("", said.mark) and own.order in ("", said.order)
+            else:
+                agrees = own.agrees(said, self._language(at))
+                if agrees:
+                    said.add(own)
+            if not agrees:
+                self._own_locale(at, own, made, said)
+        language = self.languages.most_common(1)[0][0] if self.languages else "en"
+        locale, why = said.locale(language)
+        self.evidence["locale",] = why
+        if self.languages:
+            self.evidence["locale",] += f"; its heads are {LANGUAGES[language]}"
+        return locale
+
+    def _own_locale(self, at: int, own: Written, made: list[SheetMapping], others: Written) -> None:
+        """Propose a locale for a sheet that is written otherwise than the others."""
+        language = self._language(at)
+        locale, why = own.locale(language)
+        made[at] = replace(made[at], locale=locale)
+        mark = {",": "a decimal comma", ".": "a decimal point"}.get(others.mark, "another form")
+        self.evidence[
+            "sheet", at, "locale"
+        ] = f"{why}; its heads are {LANGUAGES[language]}, and other sheets have {mark}"
+
+    def _language(self, at: int) -> str:
+        """Return the language of a sheet: that of most of its heads."""
+        found = self.of_sheets.get(at) or self.languages
+        return found.most_common(1)[0][0] if found else "en"
+
+    def _written(self, at: int) -> Written:
+        """Return how the figures and days of a sheet are written."""
+        written = Written()
+        for column in self.profiles[at].columns:
+            texts = [value for value in column.values if isinstance(value, str)]
+            if column.has_days or column.has_figures:
+                for text in texts:
+                    written.take(text)
+            if column.has_days:
+                written.take_run(texts)
+        return written
+
+    def _missing(self) -> list[str]:
+        """Return words that stand in the place of figures."""
+        found: Counter[str] = Counter()
+        for at, profile in enumerate(self.profiles):
+            if self.kinds[at][0] not in ("readings", "dips"):
+                continue
+            for column in profile.columns:
+                if column.has_figures:
+                    found.update(
+                        value
+                        for value in column.values
+                        if isinstance(value, str) and not re.search("[0-9#]", value)
+                    )
+        if found:
+            said = ", ".join(f"{word!r} {count} times" for word, count in found.most_common(5))
+            self.evidence["missing",] = f"in the place of figures: {said}"
+        return list(found)
+
+    # ---- several plants
+
+    def _sites(self, made: list[SheetMapping]) -> list[SheetMapping]:
+        """Return the sheets with the plants that they are of, if there are several."""
+        sites: Counter[str] = Counter()
+        for at, sheet in enumerate(made):
+            for key, to in sheet.columns.items():
+                column = self.profiles[at].column(key)
+                if to == SITE and column is not None:
+                    sites.update(str(value) for value in column.values)
+        if sites:
+            self._ask_site(sorted(sites), "a column says which")
+            return made
+        rests = self._rests(made)
+        plants = sorted({rest for rest in rests.values() if rest})
+        of_streams = [rests.get(n, "") for n, sheet in enumerate(made) if sheet.kind == "streams"]
+        if len(of_streams) < 2 or len(set(of_streams)) < len(of_streams):
+            return made
+        self._ask_site(plants, "each has a sheet of streams")
+        found = []
+        for at, sheet in enumerate(made):
+            rest = rests.get(at, "")
+            self.evidence["sheet", at, "plant"] = f"its name has {rest!r}" if rest else ""
+            found.append(_of_plant(sheet, rest))
+        return found
+
+    def _rests(self, made: Sequence[SheetMapping]) -> dict[int, str]:
+        """Return what is left of the names of sheets without the words for their kinds."""
+        found = {}
+        for at, sheet in enumerate(made):
+            words = re.findall(r"[^\W_]+", sheet.name)
+            found[at] = " ".join(
+                word for word in words if not any(True for _ in sheet_meanings(word))
+            )
+        return found
+
+    def _ask_site(self, plants: Sequence[str], why: str) -> None:
+        names = ", ".join(plants)
+        matched = [name for name in plants if plain_word(name) == plain_word(self.plant)]
+        self.evidence["plant",] = f"the workbook has several plants, {names}: {why}"
+        self.plant = matched[0] if matched else OPEN
+
+
+def _of_plant(sheet: SheetMapping, plant: str) -> SheetMapping:
+    return replace(sheet, plant=plant) if plant else sheet
+
+
+def _texts(values: Iterable[object]) -> list[str]:
+    return [f"{each}" for each in values if isinstance(each, (str, Decimal))]
+
+
+def _meant(name: str) -> set[str]:
+    return {meaning.of for meaning in column_meanings(name)}
+
+
+def _kinds_said() -> str:
+    return ", ".join(SHEETS)
