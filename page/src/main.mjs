@@ -16,7 +16,7 @@ import { chooseLanguage, chosenLanguage, LANGUAGES, nameOfLanguage, say, takeWor
 import { ZipFault } from "./zip.mjs";
 
 const at = (id) => document.getElementById(id);
-const MIB = 1048576;
+const MIB = 1048576, MOST_CHANGED = 262144;
 
 let core = null, data = null, coreDigest = "";
 let stopping = null; // what ends the file that is being judged
@@ -154,7 +154,7 @@ async function judge(file) {
     const found = await judges[kind](bytes, stop.signal);
     if (stop.signal.aborted) return undefined;
     const digest = await digestOf(bytes);
-    shown = { make: () => [aboutFile(file, bytes, digest, found), found.make()] };
+    shown = { make: () => [aboutFile(file, bytes, digest, found), kind === KIND.BUNDLE ? null : changing(file, bytes), found.make()] };
     finish();
   } catch (fault) {
     if (stopping === stop) fail(fault);
@@ -231,6 +231,16 @@ function aboutFile(file, bytes, digest, found) {
       h("button", { type: "button", id: "save", onclick: () => save(found.saved, file.name) }, say(found.saved.key)), " ",
       h("button", { type: "button", onclick: () => window.print() }, say("print")), " ",
       h("button", { type: "button", onclick: () => at("pick").click() }, say("another"))));
+}
+
+// A copy of the text, to be changed and judged again: so that a reader sees what a row does.
+function changing(file, bytes) {
+  if (bytes.length > MOST_CHANGED) return null;
+  const area = h("textarea", { id: "text", rows: "14", spellcheck: "false", "aria-label": say("change") });
+  area.value = textOf(bytes);
+  const name = file.name.startsWith(`${say("changed")} `) ? file.name : `${say("changed")} ${file.name}`;
+  return h("details", { class: "no-print", id: "change" }, h("summary", {}, say("change")), h("p", { class: "note" }, say("change_said")), area,
+    h("p", {}, h("button", { type: "button", id: "judge", onclick: () => judge(new File([area.value], name)) }, say("judge_text"))));
 }
 
 function save({ text, ending }, name) {
