@@ -161,6 +161,8 @@ def test_signals(say: Desk, words: Words, tmp_path: Path) -> None:
     (good, bad) = found["sites"]
     assert (good["look"], good["why"], list(good["rows"][0])) == (False, [], HEADS)
     assert bad["look"] and "1 row is refused" in bad["why"][0]
+    told = json.loads((tmp_path / "out" / "tell.json").read_text())
+    assert [each["site"] for each in told["sites"]] == ['b "x"'] and told["wanting"] == 1
     text = (tmp_path / "out" / "night.prom").read_text()
     samples = [
         each for family in parser.text_string_to_metric_families(text) for each in family.samples

@@ -78,7 +78,7 @@ def test_a_night_of_many_plants(tmp_path: Path) -> None:
     sites = [{"site": f"p{k}", "look": True, "why": ["x\r\nBcc: a@b.org"] * 9} for k in range(250)]
     letter = letter_of(told_of(tmp_path, sites=sites, wanting=250, plants=250), None, None, NOW)
     assert letter is not None and "and 50 more plants" in letter.text
-    assert "p0: and 4 more reasons" in letter.text
+    assert "p0: and more reasons, which the page has" in letter.text
     assert "\nBcc:" not in letter.text and r"x\r\nBcc: a@b.org" in letter.text
     assert len(letter.text) < 60_000
 

@@ -10,15 +10,15 @@ import datetime
 import json
 from collections.abc import Iterator
 from dataclasses import dataclass
+from itertools import islice
 from pathlib import Path
 from typing import Any
 
 from plantbal.faults import InputFault, Place, decoded, read_bytes
+from plantbal.fleet.limits import LINE_TOLD, PLANTS_TOLD, REASONS_TOLD
 from plantbal.limits import INPUT_BYTES
 from plantbal.statuses import ExitStatus
 
-# Plants that a letter names, reasons that it has of each, and the characters of a line.
-_PLANTS, _REASONS, _LINE = 200, 5, 300
 _ENDED = {
     ExitStatus.GOOD: "nobody has to look",
     ExitStatus.LOOK: "somebody has to look",
@@ -98,7 +98,7 @@ class Letter:
 def _one_line(text: str) -> str:
     """Return a text as it can stand in a line."""
     shown = "".join(each if each.isprintable() else ascii(each)[1:-1] for each in text)
-    return shown if len(shown) <= _LINE else f"{shown[:_LINE]}.."
+    return shown if len(shown) <= LINE_TOLD else f"{shown[:LINE_TOLD]}.."
 
 
 def letter_of(
@@ -166,12 +166,12 @@ def _lines(
     yield f"Night {told.night}, ended {told.ended:%Y-%m-%d %H:%M %z}: {plants}, of which "
     yield f"{told.wanting or 'none'} {'needs' if told.wanting in (0, 1) else 'need'} a person; "
     yield f"{_ended_said(told.status)}.\n"
-    for place, (site, why) in enumerate(told.why.items()):
-        if place == _PLANTS:
-            yield f"\nand {len(told.why) - _PLANTS:,} more plants: the page has them all\n"
-            return
+    for site, why in islice(told.why.items(), PLANTS_TOLD):
         yield "\n"
-        for said in why[:_REASONS]:
+        for said in why[:REASONS_TOLD]:
             yield f"{said}\n"
-        if len(why) > _REASONS:
-            yield f"{site}: and {len(why) - _REASONS:,} more reasons\n"
+        if len(why) > REASONS_TOLD:
+            yield f"{site}: and more reasons, which the page has\n"
+    more = told.wanting - min(len(told.why), PLANTS_TOLD)
+    if more > 0:
+        yield f"\nand {more:,} more plants: the page has them all\n"

@@ -35,3 +35,5 @@ FOLDERS, DEPTH = 10_000, 64
 NOTES = 20
 # Of the program's words on standard error, and of the sentences on a check.
 SAID_BYTES, SENTENCES = 4096, 100
+# Plants that a mail names, reasons that it has of each, and the characters of a line.
+PLANTS_TOLD, REASONS_TOLD, LINE_TOLD = 200, 5, 300

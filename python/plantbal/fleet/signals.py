@@ -1,7 +1,9 @@
-"""What a night says to other programs: ``night.json``, and ``night.prom`` for Prometheus.
+"""What a night says to other programs: ``night.json``, ``tell.json``, and ``night.prom``.
 
-``night.prom`` is a file for the textfile collector of Prometheus' node exporter. Both files are
-renamed into their place, so that a reader finds either the night before or this one.
+``tell.json`` has of ``night.json`` what a mail says, and is small however many plants there are: a
+credential of systemd has a megabyte at most. ``night.prom`` is a file for the textfile collector of
+Prometheus' node exporter. All are renamed into their place, so that a reader finds either the night
+before or this one.
 """
 
 from __future__ import annotations
@@ -10,10 +12,12 @@ import datetime
 import json
 from collections.abc import Iterator, Mapping, Sequence
 from dataclasses import asdict, dataclass
+from itertools import islice
 from pathlib import Path
 
 from plantbal.files import write_text
 from plantbal.fleet.keep import Times
+from plantbal.fleet.limits import LINE_TOLD, PLANTS_TOLD, REASONS_TOLD
 from plantbal.fleet.night import Night, Run
 from plantbal.fleet.rows import Plant
 
@@ -84,7 +88,20 @@ def write_signals(night: Night, signals: Sequence[Signal], times: Times, status:
         "sites": [each.as_dict() for each in signals],
     }
     write_text(_path(night, "night.json"), json.dumps(found, indent=1) + "\n")
+    short = {**found, "words": [], "sites": list(map(_shortened, _wanting(signals)))}
+    write_text(_path(night, "tell.json"), json.dumps(short, indent=1) + "\n")
     write_text(_path(night, "night.prom"), "".join(_metrics(signals, times, status)))
+
+
+def _wanting(signals: Sequence[Signal]) -> Iterator[Signal]:
+    """Give the first plants that want a person, as many as a mail names."""
+    return islice((each for each in signals if each.plant.needs), PLANTS_TOLD)
+
+
+def _shortened(signal: Signal) -> dict[str, object]:
+    """Return what a mail says of a plant."""
+    why = [said[:LINE_TOLD] for said in islice(signal.plant.says(), REASONS_TOLD + 1)]
+    return {"site": signal.plant.site[:LINE_TOLD], "look": True, "why": why}
 
 
 def _path(night: Night, name: str) -> Path:

@@ -13,7 +13,15 @@ from plantbal.faults import FileFault, InputFault, Place
 from plantbal.fleet.limits import DEPTH, FOLDERS, NOTES
 
 # What the folder of the nights has beside the sites.
-RESERVED = ("nights", "latest", "index.html", "fleet.sqlite")
+RESERVED = (
+    "nights",
+    "latest",
+    "index.html",
+    "fleet.sqlite",
+    "night.json",
+    "tell.json",
+    "night.prom",
+)
 NIGHT = re.compile(r"\d{4}-\d\d-\d\d(?:[T_.-][0-9A-Za-z]+)?")
 _SHOWN = 5
 
