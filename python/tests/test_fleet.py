@@ -13,6 +13,7 @@ import subprocess
 import time
 from collections.abc import Callable, Collection
 from contextlib import closing
+from dataclasses import replace
 from pathlib import Path
 
 import pytest
@@ -20,10 +21,13 @@ from conftest import TOP, Desk, example, text_of
 from mistakes import BASE, MISTAKES, Mistake
 
 from plantbal.faults import InputFault
+from plantbal.fleet.gather import asked_of, gather
 from plantbal.fleet.given import Given, days_of, has_critical, sha256_of
+from plantbal.fleet.job import run_here
 from plantbal.fleet.keep import checksums
+from plantbal.fleet.night import Night
 from plantbal.fleet.rows import HEADS
-from plantbal.fleet.sites import sites
+from plantbal.fleet.sites import Site, sites
 from plantbal.inert import inert
 from plantbal.report.blocks import Subject, over_of, subjects_of
 from plantbal.report.parsing import parse_rows
@@ -453,6 +457,38 @@ def test_cluster(
     assert len(rows_of(shared.out)) == len(rows_of(sent.out)) == 10
     assert shared.err == sent.err
     assert len(list(out.glob("*/latest/output.csv"))) == 10
+    digest = sha256_of(Path(str(words[words.index("--program") + 1])))
+    for path in out.glob("*/latest/run.json"):  # of the program that the worker ran
+        assert json.loads(path.read_text())["program_sha256"] == digest, path
+
+
+def test_a_cluster_that_is_not_reached(say: Desk, tmp_path: Path, program: Path) -> None:
+    """With TLS and no certificates it is a sentence, and no traceback."""
+    folder = folder_of(tmp_path / "sessions", {"a.csv": SITE.format(100_000_000).encode()})
+    words = ("fleet", "--scheduler", "tls://127.0.0.1:9", "--program", program)
+    found = say(*words, "--out", tmp_path / "out", folder)
+    assert found.status == 3 and "set its certificates, DASK_DISTRIBUTED__COMM__TLS" in found.err
+
+
+def test_another_program_on_a_machine(tmp_path: Path, program: Path) -> None:
+    """A plant that another program ran than the night's needs a person, as one with another gap."""
+    session, out = tmp_path / "a.csv", tmp_path / "out"
+    session.write_text(SITE.format(100_000_000))
+    site, given = Site("a", session), Given.read(session)
+    night = Night(out, NIGHT, program, "0" * 64, ["run", "--gap=20"])
+    night.begin(site)
+    part = night.part_of(site)
+    digest = run_here([str(program), "run"], str(session), str(part / "output.csv"), None, "")
+    assert digest == sha256_of(program)
+    asked = replace(night.asked_of(site, given), program_sha256=digest)
+    plant = gather(night, site, night.publish(site, asked), given)
+    said = [*plant.why, *plant.why_of["may"]]
+    assert any(
+        "another program than the others, with the SHA-256 " + digest in each for each in said
+    )
+    assert "its report has the gap 10, and 20 was asked for" in said
+    assert asked_of(["run", "--sweeps", "7", "--gap=3", "--tests"]) == {"gap": "3", "sweeps": "7"}
+    assert asked_of(["check"]) == {}
 
 
 STUB = """#!/bin/sh

@@ -13,7 +13,7 @@ from hypothesis import strategies as st
 from mistakes import BASE, MISTAKES, Mistake
 
 import plantbal
-from plantbal.fleet.command import lint_plants
+from plantbal.fleet.running import lint_plants
 from plantbal.fleet.rows import Plant, Row
 from plantbal.fleet.sites import sites
 from plantbal.fleet.taking import Taker

@@ -45,17 +45,8 @@ def run(
     """
     if not jobs:
         return
-    try:
-        import cloudpickle
-        import distributed
-    except ImportError as error:
-        raise ToolMissing("dask.distributed", "python3-distributed") from error
-    # The machines of a cluster needn't have this package: the calls go there as they are.
-    cloudpickle.register_pickle_by_value(calls)
-    for name in ("distributed", "asyncio"):  # what goes wrong is in the rows of the plants
-        logging.getLogger(name).setLevel(logging.CRITICAL)
+    dask = _dask()
     calls.go_on()
-    dask: Any = distributed  # it isn't typed
     with ExitStack() as open_things:
         client = open_things.enter_context(_client(dask, asked, open_things))
         bar = open_things.enter_context(_bar(len(jobs) + len(done), len(done)))
@@ -68,6 +59,42 @@ def run(
             raise
 
 
+def _dask() -> Any:
+    """Return dask.distributed, which isn't typed.
+
+    Raises
+    ------
+    ToolMissing
+        If it isn't there.
+    """
+    try:
+        import cloudpickle
+
+        with warnings.catch_warnings():  # that versions differ a little is in each night's mail
+            warnings.simplefilter("ignore")
+            import distributed
+    except ImportError as error:
+        raise ToolMissing("dask.distributed", "python3-distributed") from error
+    warnings.filterwarnings("ignore", category=distributed.versions.VersionMismatchWarning)
+    # The machines of a cluster needn't have this package: the calls go there as they are.
+    cloudpickle.register_pickle_by_value(calls)
+    for name in ("distributed", "asyncio"):  # what goes wrong is in the rows of the plants
+        logging.getLogger(name).setLevel(logging.CRITICAL)
+    return distributed
+
+
+def programs_of(scheduler: str, program: str) -> Counter[str]:
+    """Return the digests of a program on the machines of a cluster, and how many have each.
+
+    Raises
+    ------
+    Fault
+        If the scheduler doesn't answer, or has no machine.
+    """
+    with _client_of(_dask(), scheduler) as client:
+        return Counter(client.run(calls.digest_of, program).values())
+
+
 def _client(dask: Any, asked: Asked, open_things: ExitStack) -> Any:
     """Return a client of the cluster that is asked for, or of threads of this process."""
     if asked.scheduler is None:
@@ -76,9 +103,23 @@ def _client(dask: Any, asked: Asked, open_things: ExitStack) -> Any:
             n_workers=1, threads_per_worker=count, processes=False, dashboard_address=":0"
         )
         return dask.Client(open_things.enter_context(here))
-    said = f"the scheduler {asked.scheduler}"
+    return _client_of(dask, asked.scheduler)
+
+
+def _client_of(dask: Any, scheduler: str) -> Any:
+    """Return a client of a cluster.
+
+    Raises
+    ------
+    Hindered
+        If the scheduler doesn't answer, has no machine, or isn't spoken to as it wants.
+    """
+    said = f"the scheduler {scheduler}"
     try:
-        client = dask.Client(asked.scheduler, timeout=_ANSWERS)
+        client = dask.Client(scheduler, timeout=_ANSWERS)
+    except (TypeError, RuntimeError) as error:  # of tls:// without certificates, mostly
+        remedy = "set its certificates, DASK_DISTRIBUTED__COMM__TLS__CA_FILE and the others"
+        raise Hindered(f"{said} can't be reached: {error}", remedy=remedy) from error
     except (OSError, ValueError) as error:
         raise Hindered(f"{said} doesn't answer", remedy="start `dask-scheduler` there") from error
     try:
@@ -194,7 +235,8 @@ class _Cluster:
             return Ended(job.site, "lost")
         if not found:
             return Ended(job.site, "timeout")
-        if self._asked.send:
-            for name, data in found.items():
-                (job.part / name).write_bytes(data)
-        return Ended(job.site, "" if (job.part / calls.STATUS).exists() else "lost")
+        digest, files = found if self._asked.send else (found, {})
+        for name, data in files.items():
+            (job.part / name).write_bytes(data)
+        why = "" if (job.part / calls.STATUS).exists() else "lost"
+        return Ended(job.site, why, program_sha256=digest)

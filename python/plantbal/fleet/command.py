@@ -6,30 +6,30 @@ from __future__ import annotations
 
 import argparse
 import datetime
-import gc
+import re
 import signal
 import sys
 import threading
 from collections.abc import Callable, Iterator, Sequence
-from concurrent.futures import ThreadPoolExecutor
-from contextlib import closing, contextmanager
-from dataclasses import dataclass, field, replace
+from contextlib import contextmanager
 from pathlib import Path
 
 from plantbal.commands.options import seconds_of
-from plantbal.faults import Fault, InputFault, WordsFault
+from plantbal.faults import Fault, WordsFault
 from plantbal.files import write_text
 from plantbal.fleet.alarms import age_of, level_of
-from plantbal.fleet.engines import WHY, Asked, Ended, Engine, Job
-from plantbal.fleet.given import Given, SessionTooLarge, sha256_of
-from plantbal.fleet.night import Kept, Night, Run, alone
+from plantbal.fleet.engines import Asked, Engine
+from plantbal.fleet.given import sha256_of
+from plantbal.fleet.night import Night, alone
 from plantbal.fleet.rows import Plant, failed, summary
+from plantbal.fleet.running import Fleet, lint_plants
 from plantbal.fleet.sites import NIGHT, Site, sites
-from plantbal.fleet.taking import Taker
 from plantbal.program import find_program
+from plantbal.statuses import ExitStatus, looks
 
 HELP = """
-Each FOLDER/SITE.csv is a session. These files are kept for a night, which has the name of its day:
+Each FOLDER/SITE.csv is a session, and each FOLDER/SITE with a journal.csv the book of a plant, which
+is run by its open periods. These files are kept for a night, which has the name of its day:
 
   OUT/SITE/NIGHT/output.csv   the output (.jsonl with --format json), with stderr.txt and run.json
   OUT/SITE/latest             a link to the last night that has an output
@@ -59,8 +59,9 @@ as great as that if there is no gross error. `verdict` is that of the global tes
 row is refused, or if a stream was taken out. `look` says why somebody has to look: a row is
 refused, there is no report, it hasn't converged, the global test rejects or can't be made, a
 stream carries more of a component than there is of it, the session is stale, or it has gone. A
-plant whose session has gone is told each night until --forget SITE. Standard error says so too. The status is 1
-if somebody has to look at any plant, and 0 otherwise.
+plant whose session has gone is told each night until --forget SITE. Standard error says so too. The
+status is 1 if somebody has to look at any plant, 3 if no plant could be run or the night couldn't
+be kept, and 0 otherwise.
 
 Words after a single -- are given to plantbal; the default is `run`:
 
@@ -120,168 +121,6 @@ def _count(text: str) -> int:
     return int(text)
 
 
-@dataclass
-class Fleet:
-    """A night that is being run.
-
-    Attributes
-    ----------
-    night : Night
-        The night.
-    sites : list of Site
-        The plants.
-    given : dict of Site to Given
-        The session of each, if it can be read.
-    runs : dict of Site to Run
-        What is asked of each of these, and how it ended.
-    sums : dict of Site to dict of str to str
-        The digests of the files of each that is kept.
-    taker : Taker
-        What takes in what came of a plant.
-    plants : dict of str to Plant
-        What came of each.
-    begun : set of Site
-        Those that may have a folder of a run that hasn't ended.
-    """
-
-    night: Night
-    sites: list[Site]
-    taker: Taker = field(default_factory=Taker)
-    given: dict[Site, Given] = field(default_factory=dict)
-    runs: dict[Site, Run] = field(default_factory=dict)
-    sums: dict[Site, dict[str, str]] = field(default_factory=dict)
-    plants: dict[str, Plant] = field(default_factory=dict)
-    begun: set[Site] = field(default_factory=set)
-
-    def __post_init__(self) -> None:
-        self._site_of = {site.name: site for site in self.sites}
-
-    def job(self, site: Site) -> Job:
-        """Return the job of a plant."""
-        output = self.night.part_of(site) / self.night.output_name
-        return Job(site.name, site.path.absolute(), output.absolute(), _size_of(site))
-
-    def ask(self, site: Site) -> bool:
-        """Read a plant's session, and say whether it can be read."""
-        if site not in self.runs:
-            try:
-                self.given[site] = Given.read(site.path)
-            except SessionTooLarge as fault:
-                self.plants[site.name] = failed(site, "TooLarge", str(fault))
-                return False
-            except InputFault as fault:
-                self.plants[site.name] = failed(site, "nosession", str(fault))
-                return False
-            self.runs[site] = self.night.asked_of(site, self.given[site])
-        return True
-
-    def is_done(self, site: Site) -> bool:
-        """Take in a plant if it has its output, and say whether it has."""
-        kept = self.night.kept(site, self.runs[site]) if self.ask(site) else None
-        if kept is not None:
-            self.take(site, kept)
-        return kept is not None
-
-    def begin(self, job: Job) -> bool:
-        """Make a plant ready to be run, and say whether it can be."""
-        site = self._site_of[job.site]
-        if not self.ask(site):
-            return False
-        try:
-            self.night.begin(site)
-        except InputFault as fault:
-            self.plants[site.name] = failed(site, "nooutput", str(fault))
-            return False
-        self.begun.add(site)
-        return True
-
-    def came(self, ended: Ended) -> None:
-        """Take in a plant whose job ended."""
-        site = self._site_of[ended.site]
-        kept = None
-        if ended.why:
-            self.night.drop(site)
-            self.plants[site.name] = failed(site, ended.why, WHY[ended.why])
-        else:
-            try:
-                kept = self.night.publish(site, self.runs[site], ended.came)
-            except (OSError, InputFault) as error:
-                self.plants[site.name] = failed(site, "nooutput", f"its output is lost: {error}")
-        self.begun.discard(site)  # not before: Ctrl-C may come at any time
-        if kept is not None:
-            self.take(site, kept)
-
-    def take(self, site: Site, kept: Kept) -> None:
-        """Take in what is kept of a plant."""
-        self.runs[site], self.sums[site] = kept.run, kept.sums
-
-        def taken(plant: Plant) -> None:
-            if not plant.is_believed:
-                try:
-                    self.sums[site] = self.night.refuse(site, self.sums[site])
-                except OSError as error:
-                    plant.why.append(f"its output stays where it is: {error}")
-            self.plants[site.name] = plant
-
-        self.taker.plant(self.night, site, kept, self.given[site], taken)
-
-    def run(self, engine: Engine, asked: Asked, again: bool) -> None:
-        """Run what has no output yet; sessions are read, and outputs taken in, while others run."""
-        try:
-            # Mostly these wait for the disk.
-            with ThreadPoolExecutor(8, "fleet") as pool:
-                known = [site for site in self.sites if not again and self.night.has_run(site)]
-                whole = zip(known, pool.map(self.is_done, known))
-                done = [site for site, is_done in whole if is_done]
-                known_now = {*self.plants, *(site.name for site in done)}
-                todo = [site for site in self.sites if site.name not in known_now]
-                jobs = sorted(map(self.job, todo), key=lambda job: job.size, reverse=True)
-                every = engine(asked, jobs, self.begin, [self.job(site) for site in done])
-                pool.submit(_load)
-                with closing(every):
-                    for ended in every:
-                        self.came(ended)
-                self.taker.finish()
-        finally:
-            self.taker.stop()
-            for site in self.begun:
-                self.night.drop(site)
-
-    def in_order(self) -> list[Plant]:
-        """Return the plants by name, with the reasons in their rows."""
-        return [self.plants[name] for name in sorted(self.plants)]
-
-
-def _load() -> None:
-    """Load what writes the night."""
-    from plantbal.fleet import index, keep  # noqa: F401
-
-    index.template()
-    gc.freeze()  # all this stays, and the garbage collector needn't go through it again
-
-
-def _size_of(site: Site) -> int:
-    """Return how many bytes a session has; none if it has gone."""
-    try:
-        return site.path.stat().st_size
-    except OSError:
-        return 0
-
-
-def lint_plants(taker: Taker, plants: list[Plant], chosen: list[Site]) -> None:
-    """Add to plants what lint finds in their sessions; its errors are in their outputs, too."""
-    site_of = {site.name: site for site in chosen}
-    for plant in plants:
-        if plant.rows[0].state in ("nosession", "TooLarge"):
-            continue  # it can't be read, or may be a pipe
-
-        def found(said: str, plant: Plant = plant) -> None:
-            plant.rows = [replace(row, warnings=said) for row in plant.rows]
-
-        taker.lint(site_of[plant.site], found)
-    taker.finish()
-
-
 @contextmanager
 def _stopped_by_sigterm() -> Iterator[None]:
     """Take SIGTERM as Ctrl-C is taken."""
@@ -338,14 +177,14 @@ def run(options: argparse.Namespace) -> int:
     elsewhere = options.scheduler is not None
     if options.engine == "parallel" and (elsewhere or options.send):
         say("--scheduler and --send are words for dask: leave --engine parallel out")
-        return 2
+        return ExitStatus.USAGE
     program = _program(options.program, elsewhere)
     out, folder = Path(options.out), Path(options.folder)
     chosen = sites(folder, recursive=options.recursive, out=out)
     for left in chosen.left:
         say(left)
     name = options.date or today().isoformat()
-    digest = "" if elsewhere else sha256_of(program)
+    digest = _digest_elsewhere(say, options.scheduler, program) if elsewhere else sha256_of(program)
     wants_days = options.stale is not None
     night = Night(out, name, program, digest, options.words or ["run"], wants_days)
     fleet = Fleet(night, chosen.sites)
@@ -365,20 +204,22 @@ def run(options: argparse.Namespace) -> int:
             lock=lock,
         )
         try:
+            if chosen.books:
+                _add_books(fleet, chosen.books)
             fleet.run(engine, asked, options.again)
         except KeyboardInterrupt:
             count = f"{len(fleet.plants)} of {len(chosen.sites) + len(chosen.wrong)} plants"
             say(f"stopped after {count}: the same words with --date {name} run the others")
-            return 130
+            return ExitStatus.STOPPED
         from plantbal.fleet.index import index
         from plantbal.fleet.keep import Times, keep, table, thin_out
         from plantbal.fleet.signals import Signal, write_signals
 
-        _take_gone(fleet, folder, options.forget)
+        _take_gone(fleet, folder, options.forget, chosen.books)
         plants = fleet.in_order()
         alarm(fleet, plants, options.level, options.stale)
         if options.lint:
-            lint_plants(fleet.taker, plants, chosen.sites)
+            lint_plants(fleet.taker, plants, fleet.sites)
         for plant in plants:
             plant.tell()
         times, unkept = Times(begun, _now()), list[Exception]()
@@ -390,11 +231,12 @@ def run(options: argparse.Namespace) -> int:
         except (Fault, OSError) as error:  # the disk is full, mostly: what is known is said
             unkept.append(error)
         is_late = _say_future(say, fleet.night)
-        status = int(is_late or bool(unkept) or any(plant.needs for plant in plants))
+        status = status_of(plants, is_late)
         runs = {site.name: run for site, run in fleet.runs.items()}
         signals = [Signal(plant, runs.get(plant.site)) for plant in plants]
         try:
-            write_signals(fleet.night, signals, times, status)
+            ends = ExitStatus.FAILED if unkept else status
+            write_signals(fleet.night, signals, times, ends)
         except (Fault, OSError) as error:
             unkept.append(error)
     write_text("-", table(plants))
@@ -404,7 +246,33 @@ def run(options: argparse.Namespace) -> int:
     return status
 
 
-def _take_gone(fleet: Fleet, folder: Path, forgotten: Sequence[str]) -> None:
+def status_of(plants: Sequence[Plant], is_late: bool) -> ExitStatus:
+    """Return the status of a night that was kept.
+
+    Parameters
+    ----------
+    plants : sequence of Plant
+        The plants.
+    is_late : bool
+        Whether there are nights in the future.
+    """
+    if plants and all(plant.is_not_run for plant in plants):
+        return ExitStatus.FAILED
+    return looks(is_late or any(plant.needs for plant in plants))
+
+
+def _add_books(fleet: Fleet, found: list[Site]) -> None:
+    """Add the books to a night: their sessions, or why they have none."""
+    from plantbal.fleet.books import Books
+
+    books = Books(fleet.night)
+    books.read(fleet.taker, found)
+    fleet.plants.update(books.plants)
+    for site in books.sites:
+        fleet.add(site)
+
+
+def _take_gone(fleet: Fleet, folder: Path, forgotten: Sequence[str], books: Sequence[Site]) -> None:
     """Take in the plants whose sessions have gone, but not those that are to be forgotten.
 
     Raises
@@ -415,6 +283,10 @@ def _take_gone(fleet: Fleet, folder: Path, forgotten: Sequence[str]) -> None:
     from plantbal.fleet.keep import gone
 
     found = gone(fleet.night, fleet.plants)
+    for book in books:  # an earlier year of one that has no open period any more
+        for name in [name for name in found if name.startswith(f"{book.name}/")]:
+            if re.fullmatch(r"[^/]+", name[len(book.name) + 1 :]):
+                del found[name]
     unknown = [name for name in forgotten if name not in found]
     if unknown:
         names = ", ".join(sorted(found)) or "none"
@@ -448,6 +320,17 @@ def _program(named: str | None, elsewhere: bool) -> Path:
             "no program is named", remedy="say --program PATH, where each machine has it"
         )
     return Path(named)
+
+
+def _digest_elsewhere(say: Callable[[str], None], scheduler: str, program: Path) -> str:
+    """Return the digest of the program that most machines of a cluster have."""
+    from plantbal.fleet.by_dask import programs_of
+
+    found = programs_of(scheduler, str(program))
+    if len(found) > 1:
+        each = ", ".join(f"{digest} on {count}" for digest, count in found.most_common())
+        say(f"the machines have different programs as {program}: {each}")
+    return found.most_common(1)[0][0]
 
 
 def _say_all(say: Callable[[str], None], plants: list[Plant], page: Path | None) -> None:

@@ -100,11 +100,14 @@ class Ended:
         Why the program didn't end by itself, such as ``timeout``; empty if it did.
     came : Came or None
         How it ended by itself; None if the files that it left say so.
+    program_sha256 : str
+        The digest of the program that ran it, if another machine did.
     """
 
     site: str
     why: str = ""
     came: Came | None = None
+    program_sha256: str = ""
 
 
 # What the words of `Ended.why` mean.

@@ -2,9 +2,9 @@
 
 from __future__ import annotations
 
-from collections.abc import Collection, Mapping
+from collections.abc import Collection, Mapping, Sequence
 from contextlib import suppress
-from dataclasses import dataclass, replace
+from dataclasses import dataclass, field, replace
 from functools import cached_property
 from itertools import islice
 from pathlib import Path
@@ -54,10 +54,13 @@ class Told:
         The plant.
     outline : Outline
         What is kept of the output.
+    asked : mapping of str to str
+        The gap and the sweeps that a run was asked for, as its reports have to show them.
     """
 
     site: Site
     outline: Outline
+    asked: Mapping[str, str] = field(default_factory=dict)
 
     @property
     def refused(self) -> set[int]:
@@ -121,8 +124,13 @@ def gather(night: Night, site: Site, kept: Kept, given: Given) -> Plant:
         outline = outline_of(path)
     except InputFault as fault:
         return failed(site, "unreadable", str(fault), run)
-    told = Told(site, outline)
+    told = Told(site, outline, asked_of(night.words))
     plant = _of_outline(told)
+    if run.program_sha256 != night.program_sha256:
+        what = (
+            f"it was run by another program than the others, with the SHA-256 {run.program_sha256}"
+        )
+        plant.why.append(f"{what}: install the same one on each machine, and say --again")
     if night.wants_days:
         plant.last_day = last_day(told.session)
     if kept.size <= JUDGED_BYTES:
@@ -249,9 +257,24 @@ def _of_block(told: Told, block: Block) -> tuple[Row, list[str]]:
     return row, said
 
 
+def asked_of(words: Sequence[str]) -> dict[str, str]:
+    """Return the gap and the sweeps that words of a run ask for."""
+    asked = {"gap": "10", "sweeps": "5000"}
+    flat = [part for word in words for part in word.split("=", 1)]
+    if flat[:1] != ["run"]:
+        return {}
+    for name, value in zip(flat, flat[1:]):
+        if name.removeprefix("--") in asked and name.startswith("--"):
+            asked[name[2:]] = value
+    return asked
+
+
 def _of_solution(told: Told, block: Block, solved: Values) -> list[str]:
     """Return why a person has to look at a solution, whatever its global test says."""
     said = []
+    for name, wanted in told.asked.items():
+        if block.head[name] != wanted:
+            said.append(f"its report has the {name} {block.head[name]}, and {wanted} was asked for")
     if solved["state"] != "converged":
         said.append("its report isn't converged; --sweeps among the words allows more sweeps")
     if told.refused and solved["dof"] == "0":

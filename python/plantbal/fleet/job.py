@@ -5,7 +5,9 @@ Nothing of the package is imported here: a machine of a cluster gets these calls
 
 from __future__ import annotations
 
+import hashlib
 import os
+import shutil
 import signal
 import subprocess
 import tempfile
@@ -45,6 +47,24 @@ def limits(memory: int, size: int) -> str:
     return f"trap '' XFSZ; {'; '.join(lines)}"
 
 
+# The digests of programs, by their files as they were when they were read.
+_DIGESTS: dict[tuple[str, int, int, int], str] = {}
+
+
+def digest_of(program: str) -> str:
+    """Return the SHA-256 of a program where this runs; a text that is none if it can't be read."""
+    try:
+        path = os.path.realpath(shutil.which(program) or program)
+        found = os.stat(path)
+        key = path, found.st_ino, found.st_size, found.st_mtime_ns
+        if key not in _DIGESTS:
+            with open(path, "rb") as file:
+                _DIGESTS[key] = hashlib.file_digest(file, "sha256").hexdigest()
+        return _DIGESTS[key]
+    except OSError as error:
+        return f"unread: {error.strerror}"
+
+
 # The jobs that run in this process, and whether more may begin.
 _RUNNING: set[subprocess.Popen[bytes]] = set()
 _STOPPED: set[str] = set()
@@ -52,8 +72,10 @@ _STOPPED: set[str] = set()
 
 def run_here(
     command: list[str], session: str, output: str, timeout: float | None, limited: str
-) -> bool:
-    """Run a session into a folder that this machine sees, and return whether it ended in time.
+) -> str:
+    """Run a session into a folder that this machine sees, and return the digest of the program.
+
+    It is empty if the session didn't end in time.
 
     Parameters
     ----------
@@ -66,6 +88,7 @@ def run_here(
     limited : str
         What sets its limits, as `limits` returns it.
     """
+    digest = digest_of(command[0])
     job = subprocess.Popen(
         ["sh", "-c", JOB, "job", session, output, *command],
         stdin=subprocess.DEVNULL,
@@ -76,9 +99,9 @@ def run_here(
     try:
         if not _STOPPED:
             job.wait(timeout)
-        return not _STOPPED
+        return "" if _STOPPED else digest
     except subprocess.TimeoutExpired:
-        return False
+        return ""
     finally:
         _kill(job)
         _RUNNING.discard(job)
@@ -106,8 +129,10 @@ def go_on() -> None:
 
 def run_sent(
     command: list[str], session: bytes, name: str, timeout: float | None, limited: str
-) -> dict[str, bytes] | None:
-    """Run the bytes of a session, and return the files that it leaves; None if it took too long.
+) -> tuple[str, dict[str, bytes]] | None:
+    """Run the bytes of a session, and return the program's digest and the files that it leaves.
+
+    It is None if it took too long.
 
     Parameters
     ----------
@@ -127,11 +152,12 @@ def run_sent(
         given.write_bytes(session)
         part = Path(folder, "part")
         part.mkdir()
-        if not run_here(command, str(given), str(part / name), timeout, limited):
+        digest = run_here(command, str(given), str(part / name), timeout, limited)
+        if not digest:
             return None
         found = {path.name: path.read_bytes() for path in part.iterdir()}
         found[STATUS] = " ".join(map(str, ended(str(part)))).encode("ascii")
-        return found
+        return digest, found
 
 
 def ended(part: str) -> tuple[int, float, float]:

@@ -35,5 +35,7 @@ FOLDERS, DEPTH = 10_000, 64
 NOTES = 20
 # Of the program's words on standard error, and of the sentences on a check.
 SAID_BYTES, SENTENCES = 4096, 100
+# The same of a book, of which it says the sessions of the years that are open.
+BOOK_BYTES = 144 * MIB
 # Plants that a mail names, reasons that it has of each, and the characters of a line.
 PLANTS_TOLD, REASONS_TOLD, LINE_TOLD = 200, 5, 300

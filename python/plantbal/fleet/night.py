@@ -49,7 +49,7 @@ class Run:
     site, night, session : str
         The plant, the night, and the file of the session.
     session_sha256, program_sha256, output_sha256 : str
-        The digests; that of a program on other machines is empty.
+        The digests; that of a program on other machines is the one that ran there.
     program : str
         The program.
     words : list of str
@@ -146,7 +146,7 @@ class Night:
     program : Path
         The program.
     program_sha256 : str
-        Its digest; empty if it is on other machines.
+        Its digest; of programs on other machines that which most have.
     words : list of str
         Its words.
     wants_days : bool

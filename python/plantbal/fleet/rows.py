@@ -67,6 +67,8 @@ class Row:
         return [str(getattr(self, name)) for name in HEADS]
 
 
+# What a plant's state is if it wasn't the session that kept it from being run.
+_NOT_RUN = frozenset(["ended", "lost", "nooutput", "WriteFault"])
 HEADS = [each.name for each in fields(Row)]
 
 
@@ -104,6 +106,11 @@ class Plant:
     def needs(self) -> bool:
         """Whether a person has to look."""
         return bool(self.why or any(self.why_of.values()))
+
+    @property
+    def is_not_run(self) -> bool:
+        """Whether the program couldn't be run on it, whatever its session says."""
+        return self.rows[0].state in _NOT_RUN
 
     def tell(self) -> None:
         """Write the reasons into the rows."""

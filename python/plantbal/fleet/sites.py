@@ -5,8 +5,10 @@ from __future__ import annotations
 import os
 import re
 from collections import defaultdict
-from collections.abc import Iterator
+from collections.abc import Iterator, Mapping
+from contextlib import suppress
 from dataclasses import dataclass, field
+from itertools import islice
 from pathlib import Path
 
 from plantbal.faults import FileFault, InputFault, Place
@@ -54,11 +56,14 @@ class Chosen:
         Those that can't be run under their names, the folders that can't be read, and why.
     left : list of str
         What is said of the other files.
+    books : list of Site
+        The folders of books.
     """
 
     sites: list[Site]
     wrong: dict[Site, str]
     left: list[str]
+    books: list[Site] = field(default_factory=list)
 
 
 def _is_session(name: str) -> bool:
@@ -85,12 +90,15 @@ class _Walk:
         What is said of what isn't run.
     unread : dict of Path to str
         The folders inside that can't be read, and why.
+    books : list of Path
+        The folders that are books.
     """
 
     out: Path | None
     recursive: bool
     left: list[str] = field(default_factory=list)
     unread: dict[Path, str] = field(default_factory=dict)
+    books: list[Path] = field(default_factory=list)
     folders: int = 0
 
     def sessions(self, folder: Path, depth: int = 0) -> Iterator[Path]:
@@ -102,12 +110,18 @@ class _Walk:
             If the folder can't be read.
         """
         self.folders += 1
-        others, linked = [], []
+        if is_book(folder):
+            self.books.append(folder)
+            return
+        others, linked, sheets = [], [], []
+        is_workbook = depth > 0 and _is_workbook(folder)
         for entry in sorted(os.scandir(folder), key=lambda each: each.name):
             path = folder / entry.name
             if entry.name.startswith("."):
                 continue
-            if _is_session(entry.name):
+            if is_workbook and _is_sheet(path):
+                sheets.append(entry.name)
+            elif _is_session(entry.name):
                 yield path
             elif entry.is_dir(follow_symlinks=False):
                 if path.resolve() != self.out:
@@ -116,6 +130,9 @@ class _Walk:
                 linked.append(entry.name)
             else:
                 others.append(entry.name)
+        if sheets:
+            said = f"the sheets of a workbook aren't run: {_some(sheets)}"
+            self.left.append(f"{folder}: {said}; plantbal-desk convert makes a session of them")
         if linked:
             what = "a link to a folder isn't" if len(linked) == 1 else "links to folders aren't"
             self.left.append(f"{folder}: {what} followed: {_some(linked)}")
@@ -126,7 +143,7 @@ class _Walk:
 
     def _inside(self, folder: Path, depth: int) -> Iterator[Path]:
         """Give the sessions of a folder inside, or note that it has one."""
-        if self.recursive:
+        if self.recursive or is_book(folder):
             if depth > DEPTH or self.folders >= FOLDERS:
                 what = f"{DEPTH} within each other" if depth > DEPTH else f"{FOLDERS:,}"
                 self.unread[folder] = f"it isn't looked into: there are more folders than {what}"
@@ -138,6 +155,46 @@ class _Walk:
         elif _has_session(folder):
             said = "this folder has a session or more, which aren't run: say --recursive for them"
             self.left.append(f"{folder}: {said}")
+
+
+def is_book(folder: Path) -> bool:
+    """Say whether a folder is that of a book: whether it has a journal with a journal's head."""
+    try:
+        with (folder / "journal.csv").open("rb") as file:
+            head = file.read(64).removeprefix(b"\xef\xbb\xbf").partition(b",")[0]
+    except OSError:
+        return False
+    return head in (b"number", b"when")
+
+
+def _is_workbook(folder: Path) -> bool:
+    """Say whether a folder is a workbook: whether two of its files or more are sheets of one."""
+    with suppress(OSError):
+        paths = (folder / entry.name for entry in os.scandir(folder))
+        return len(list(islice(filter(_is_sheet, paths), 2))) == 2
+    return False
+
+
+def _is_sheet(path: Path) -> bool:
+    """Say whether a file is a sheet of a workbook: it has the name of one, and heads of its columns.
+
+    A row of a session has one of these words at most, its kind.
+    """
+    from plantbal.schema import schema
+    from plantbal.workbook.sheetkinds import SHEETS
+
+    kind = SHEETS.get(path.stem.lower()) if path.suffix.lower() == ".csv" else None
+    if kind is None:
+        return False
+    with suppress(OSError), path.open("rb") as file:
+        line = file.read(1024).removeprefix(b"\xef\xbb\xbf").partition(b"\n")[0]
+        heads = [
+            each.strip().lower() for each in re.split("[,;\t]", line.decode("utf-8", "replace"))
+        ]
+        if sum(head in kind.heads for head in heads) > 1:
+            return True
+        return heads[0] in kind.heads and heads[0] not in {row.kind for row in schema().session}
+    return False
 
 
 def _has_session(folder: Path) -> bool:
@@ -178,7 +235,7 @@ def sites(folder: Path, *, recursive: bool = False, out: Path | None = None) -> 
         paths = list(walk.sessions(folder))
     except OSError as error:
         raise FileFault(error.strerror or "it can't be read", place=place) from error
-    if not paths and not walk.unread:
+    if not paths and not walk.unread and not walk.books:
         raise FileFault(
             "there is no session, no file that ends with .csv",
             place=place,
@@ -196,9 +253,26 @@ def sites(folder: Path, *, recursive: bool = False, out: Path | None = None) -> 
             wrong[Site(_shown(name), some[0])] = str(fault)
         else:
             found.append(Site(name, some[0]))
+    books = _books(folder, walk.books, named, wrong)
     more = len(walk.left) - NOTES
     rest = [f"{folder}: {more} more such folders"] if more > 0 else []
-    return Chosen(found, wrong, [*walk.left[:NOTES], *rest])
+    taken = {site.name for site in wrong}
+    found = [site for site in found if site.name not in taken]
+    return Chosen(found, wrong, [*walk.left[:NOTES], *rest], books)
+
+
+def _books(
+    folder: Path, paths: list[Path], named: Mapping[str, list[Path]], wrong: dict[Site, str]
+) -> list[Site]:
+    """Return the books under their names, and note those that can't have theirs."""
+    books = []
+    for path in paths:
+        name = folder.resolve().name if path == folder else path.relative_to(folder).as_posix()
+        if fault := _name_fault(name, [path, *named.get(name, [])]):
+            wrong[Site(_shown(name), path)] = str(fault)
+        else:
+            books.append(Site(name, path))
+    return books
 
 
 def _shown(name: str) -> str:

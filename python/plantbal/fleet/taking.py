@@ -33,6 +33,7 @@ from typing import Any
 from plantbal.faults import Fault, Hindered
 from plantbal.fleet.given import Given
 from plantbal.fleet.limits import (
+    BOOK_BYTES,
     MIB,
     SHARING_BYTES,
     SHARING_PLANTS,
@@ -62,7 +63,7 @@ class End(Enum):
 
 @dataclass(frozen=True, slots=True)
 class Task:
-    """What is to be taken in: what came of a plant or, without that, what lint finds in its session.
+    """What is to be taken in: what came of a plant, or else what its book or its session says.
 
     Attributes
     ----------
@@ -74,16 +75,22 @@ class Task:
         What is kept of the plant.
     given : Given or None
         Its session before the run.
+    is_book : bool
+        Whether the sessions are wanted that ask for the open periods of its book; without any of
+        these what lint finds in its session is.
     """
 
     site: Site
     night: Night | None = None
     kept: Kept | None = None
     given: Given | None = None
+    is_book: bool = False
 
     @property
     def is_large(self) -> bool:
         """Whether it gets a reader of its own."""
+        if self.is_book:
+            return True
         size = self.kept.size if self.kept else 0
         with suppress(OSError):
             size += self.site.path.stat().st_size
@@ -91,6 +98,11 @@ class Task:
 
     def done(self) -> Any:
         """Return what comes of it; this is called in a reader."""
+        if self.is_book:
+            from plantbal.book.reporting import sessions_asking
+            from plantbal.book.store import Store
+
+            return sessions_asking(Store(self.site.path))
         if self.night is None or self.kept is None or self.given is None:
             from plantbal.lint import brief, lint_session
 
@@ -228,6 +240,21 @@ class Taker:
 
         self._hand_in(Task(site, night, kept, given), answered)
 
+    def book(
+        self, site: Site, found: Callable[[dict[str, str]], None], wrong: Callable[[str], None]
+    ) -> None:
+        """Hand in a book; give the sessions that ask for its open periods, or why there are none."""
+
+        def answered(answer: Answer) -> None:
+            if answer.end is End.DONE:
+                found(answer.found)
+            elif answer.end is End.FAULT:
+                wrong(answer.found)
+            else:
+                wrong(self._said(answer, "its book"))
+
+        self._hand_in(Task(site, is_book=True), answered)
+
     def lint(self, site: Site, found: Callable[[str], None]) -> None:
         """Hand in a session, and give what lint finds in it to `found`, in one line."""
 
@@ -321,11 +348,12 @@ class Server:
             reader.send(task)
             if not reader.poll(self._seconds):
                 return self._failed(Answer(End.TIME))
-            said = reader.recv_bytes(TOLD_BYTES)
+            most = BOOK_BYTES if task.is_book else TOLD_BYTES
+            said = reader.recv_bytes(most)
         except (EOFError, ConnectionError):
             return self._failed(None)
         except OSError:
-            what = f"what is to be said of it has more than {TOLD_BYTES:,} bytes"
+            what = f"what is to be said of it has more than {most:,} bytes"
             return self._failed(Answer(End.FAULT, what))
         self._count += 1
         if task.is_large:
