@@ -37,7 +37,7 @@ ZSH = $(SHARE)/zsh/$(if $(filter /usr,$(PREFIX)),vendor-completions,site-functio
 
 PROGRAM_DOCUMENTS = README.md CHANGELOG.md docs/GUIDE.md docs/REFERENCE.md docs/AUDIT.md docs/FORMAT.md docs/DEFINITIONS.md docs/STATEMENT.md docs/ASSURANCE.md docs/DECISIONS.md docs/PAGE.md
 VERIFY_DOCUMENTS = coq/README.md coq/Certified.v coq/Sound.v docs/ASSURANCE.md
-DESK_DOCUMENTS = docs/MONTH_END.md docs/PYTHON.md docs/OPERATIONS.md
+DESK_DOCUMENTS = docs/MONTH_END.md docs/OFFICE.md docs/PYTHON.md docs/OPERATIONS.md
 WORKBOOKS = examples/month_end examples/refinery_workbook examples/terminal_workbook examples/tank_farm_workbook
 
 SECONDS = 600

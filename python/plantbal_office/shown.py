@@ -144,6 +144,14 @@ def bar_width(count: int) -> str:
 
 
 @register.filter
+def homely(text: object) -> str:
+    """Return what is said of a workbook without the folder in which the desk keeps it."""
+    from plantbal_office.enter.drops import without_folders
+
+    return without_folders(str(text))
+
+
+@register.filter
 def figures(text: str) -> str:
     """Return figures as the package writes them, in the person's language."""
     return in_language(text)

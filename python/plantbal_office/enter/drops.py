@@ -5,6 +5,7 @@ They are kept in the desk's folder for files until they are booked, and for a we
 
 from __future__ import annotations
 
+import re
 import shutil
 import tempfile
 from collections.abc import Iterator, Sequence
@@ -37,6 +38,8 @@ TABLES = (".csv", ".txt", ".tsv")
 MOST_FILES = 60
 LONGEST_NAME = 100
 KEPT = timedelta(days=7)
+# Where workbooks are while they are looked at: a person knows nothing of these folders.
+_FOLDERS = re.compile(r"/\S*?/(?:plantbal-drop-[^/]+|drops/[0-9a-f-]{36})/")
 
 
 def options_of(locale: str) -> ReadingOptions:
@@ -148,6 +151,11 @@ def dropped(request: HttpRequest, wanted: bool = True) -> Iterator[Path | None]:
         raise Fault(what, remedy=_("choose the workbook of the plant, or all CSV files of it"))
     with tempfile.TemporaryDirectory(prefix="plantbal-drop-") as made:
         yield write(Path(made), *found[0])
+
+
+def without_folders(text: str) -> str:
+    """Return what is said of a workbook without the folder in which the desk keeps it."""
+    return _FOLDERS.sub("", text)
 
 
 def folder_of(drop: Drop) -> Path:

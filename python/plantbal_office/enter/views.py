@@ -28,6 +28,7 @@ from plantbal_office.enter.drops import (
     keep,
     options_of,
     path_of,
+    without_folders,
     workbooks_of,
 )
 from plantbal_office.enter.models import Drop
@@ -159,7 +160,7 @@ def book(request: HttpRequest, drop: str) -> HttpResponse:
         how = form.cleaned_data
         added = act_of(found, how, how["why"].strip())(book_of(request, expected=True))
         for line in lines_of(added):
-            messages.success(request, line)
+            messages.success(request, without_folders(line))
         forget(found)
         rest = Drop.objects.filter(plant=request.plant, person=request.user).order_by("made")
         if rest.exists():

@@ -30,6 +30,10 @@ _STYLE = re.compile(r' style="([^"<>]*)"')
 _ROW = re.compile(
     r'(<tr[^>]*? data-stream="([^"]+)"[^>]*><td class="name">)(.*?)(</td>)', re.DOTALL
 )
+# What is said of one error, its set of suspects, and names in it.
+_HOLE = re.compile(r'<li><p class="hole">.*?</ul></li>', re.DOTALL)
+_HEAD = re.compile(r"<b>(.*?)</b>", re.DOTALL)
+_STREAM = re.compile(r"[A-Za-z0-9_.-]+")
 # How long Graphviz has for the drawing of a page.
 SECONDS = 8.0
 
@@ -99,4 +103,25 @@ def linked(plant: Plant, period: str, body: str) -> str:
         address = escape(reverse("look:stream", args=[plant.slug, period, found[2]]))
         return f'{found[1]}<a href="{address}">{found[3]}</a>{found[4]}'
 
-    return _ROW.sub(link, body)
+    return _HOLE.sub(lambda found: _hole(plant, period, found[0]), _ROW.sub(link, body))
+
+
+def _hole(plant: Plant, period: str, text: str) -> str:
+    """Return what is said of an error with links from its streams and its days to the readings."""
+    head = _HEAD.search(text)
+    names = _STREAM.findall(head[1]) if head else []
+    month = contents_of(plant).month(period)
+    year = month.year if month is not None else ""
+    contents = contents_of(plant)
+    there = [each.name for each in (*contents.flows.get(year, ()), *contents.vessels.get(year, ()))]
+    known = [name for name in names if name in there]
+    for name in known:
+        address = escape(reverse("look:stream", args=[plant.slug, period, name]))
+        text = re.sub(
+            rf"(?<![\w.-]){re.escape(name)}(?![\w.-])", f'<a href="{address}">{name}</a>', text, 1
+        )
+    if known:
+        address = escape(reverse("look:stream", args=[plant.slug, period, known[0]]))
+        link = rf'<a href="{address}#d-\1">\g<0></a>'
+        text = re.sub(r'<span class="day">(\d{4}-\d\d-\d\d)</span>', link, text)
+    return text

@@ -19,7 +19,7 @@ from plantbal.book.library import Book
 from plantbal.faults import Fault
 from plantbal_office.access import Role
 from plantbal_office.deeds.once import once
-from plantbal_office.enter.drops import LOCALES, dropped, options_of
+from plantbal_office.enter.drops import LOCALES, dropped, options_of, without_folders
 from plantbal_office.people.models import Membership
 from plantbal_office.plants.models import Plant
 from plantbal_office.plants.standing import Stand, Standing, stands_of, status_of
@@ -144,15 +144,15 @@ def begin(request: HttpRequest) -> HttpResponse:
             plant.save()
             messages.success(request, _("The book is begun: {year}.").format(year=made.year))
             for note in made.notes:
-                messages.info(request, note)
+                messages.info(request, without_folders(note))
             return reverse("plants:months", args=[plant.slug])
 
         try:
             return once(request, act)
         except Fault as fault:
-            form.add_error(None, str(fault))
+            form.add_error(None, without_folders(str(fault)))
             for line in getattr(fault, "lines", ()):
-                form.add_error(None, line)
+                form.add_error(None, without_folders(line))
     answer = {"form": form, "title": _("Begin a book")}
     return render(request, "plants/begin.html", answer, status=400 if form.errors else 200)
 
@@ -202,7 +202,7 @@ def next_year(request: HttpRequest) -> HttpResponse:
         try:
             return once(request, act)
         except Fault as fault:
-            form.add_error(None, str(fault))
+            form.add_error(None, without_folders(str(fault)))
     version: Version = contents_of(request.plant).version
     answer = {"form": form, "version": version, "title": _("Begin the next year")}
     return render(request, "plants/next.html", answer, status=400 if form.errors else 200)

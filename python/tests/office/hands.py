@@ -12,9 +12,9 @@ import time
 from collections.abc import Mapping
 from pathlib import Path
 
-from by_commands import call
+from office.by_commands import call
 from selenium import webdriver
-from selenium.common.exceptions import StaleElementReferenceException
+from selenium.common.exceptions import WebDriverException
 from selenium.webdriver.common.by import By
 from selenium.webdriver.remote.webelement import WebElement
 from selenium.webdriver.support.ui import Select, WebDriverWait
@@ -128,7 +128,7 @@ class Browser:
             try:
                 before.is_enabled()
                 return False
-            except StaleElementReferenceException:
+            except WebDriverException:  # it is stale, or the browser has lost it
                 return True
 
         WebDriverWait(self.driver, PATIENCE).until(is_gone)

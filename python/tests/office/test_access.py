@@ -7,7 +7,7 @@ from collections.abc import Iterator
 from pathlib import Path
 
 import pytest
-import site_of
+from office import site_of
 
 # What stands in addresses; a role that may is answered by something else than 403 and 404.
 WORDS = {

@@ -8,7 +8,7 @@ import zipfile
 from typing import Any
 
 import pytest
-from site_of import Site
+from office.site_of import Site
 
 AMEND = "correct/fact/2023-24/FI-302_2024-04-18/amend"
 WORDS = {"amount": "12188 t", "why": "typed a digit short"}
@@ -235,3 +235,83 @@ def test_undo(site: Site) -> None:
     found = Book(site.book).fact("2023-24", "FI-302_2024-04-18")
     assert (found.shown.fact.said(), len(found.edits)) == ("1,218 t", 2)
     assert found.shown.fact.variance == found.shown.before[0].variance, "its error too"
+
+
+def test_without_a_token(site: Site) -> None:
+    """A form of another site, without this sign-in's token, does nothing."""
+    from django.test import Client
+
+    form = site.fields(f"{AMEND}?amount=12188+t&why=x") | WORDS
+    client = Client(enforce_csrf_checks=True)
+    client.force_login(site.person)
+    assert client.post(f"/p/{site.plant.slug}/{AMEND}", form).status_code == 403
+    assert site.head() == 3
+
+
+def test_killed(site: Site) -> None:
+    """A form whose work was killed is said to be at work, and goes again after a while, once."""
+    from datetime import timedelta
+
+    from django.utils import timezone
+    from plantbal_office.deeds.models import Deed
+
+    form = site.fields(f"{AMEND}?amount=12188+t&why=x") | WORDS
+    Deed.objects.create(key=form["deed"], person=site.person, plant=site.plant, address="/")
+    answer = site.client.post(f"/p/{site.plant.slug}/{AMEND}", form, follow=True)
+    assert "at work still" in sentence(answer) and site.head() == 3
+    Deed.objects.filter(key=form["deed"]).update(begun=timezone.now() - timedelta(hours=1))
+    assert site.post(AMEND, form).status_code == 302 and site.head() == 4
+
+
+def test_another_person(site: Site, made: Any, tmp_path: Any) -> None:
+    """A form of another person, and a workbook of another plant, are nobody else's."""
+    other = Site(tmp_path, site.plant.slug + "x", ("engineer", "clerk"), made)
+    page = drop(site, readings("2024-04-18,12188"), called="april")
+    path = page.redirect_chain[-1][0].replace(site.plant.slug, other.plant.slug, 1)
+    assert other.client.get(path).status_code == 404
+    assert site.client.get(f"/p/{other.plant.slug}/").status_code == 404
+
+
+def test_many_at_once(site: Site, made: Any, tmp_path: Any) -> None:
+    """People at work in two books at once: each change is booked, or its person told; none is lost."""
+    import re
+    import threading
+
+    from django.db import connection
+
+    other = Site(tmp_path, site.plant.slug + "y", ("engineer",), made)
+    done: list[tuple[str, str]] = []
+
+    def work(here: Site, day: int) -> None:
+        from django.test import Client
+
+        client = Client()
+        client.force_login(here.person)
+        path = f"/p/{here.plant.slug}/correct/fact/2023-24/FI-302_2024-04-{day:02}/amend"
+        for _ in range(30):
+            page = client.get(f"{path}?amount={11_000 + day}+t&why=x").content.decode()
+            form = {
+                n: re.findall(rf'name="{n}" value="([^"]*)"', page) for n in ("deed", "version")
+            }
+            if not form["deed"]:
+                continue
+            words = {n: found[0] for n, found in form.items()}
+            answer = client.post(path, words | {"amount": f"{11_000 + day} t", "why": "x"})
+            if answer.status_code == 302:
+                done.append((here.plant.slug, f"FI-302_2024-04-{day:02}"))
+                break
+            assert answer.status_code in (400, 409), answer
+        connection.close()
+
+    threads = [
+        threading.Thread(target=work, args=(here, day))
+        for here in (site, other)
+        for day in (1, 2, 3)
+    ]
+    for thread in threads:
+        thread.start()
+    for thread in threads:
+        thread.join()
+    assert len(done) == 6, done
+    for here in (site, other):
+        assert here.head() == 6, "three amendments each"

@@ -5,10 +5,10 @@ from __future__ import annotations
 from pathlib import Path
 
 import pytest
-from hands import Browser, settled
+from office.hands import Browser, settled
 from selenium.webdriver.common.keys import Keys
 from selenium.webdriver.support.ui import WebDriverWait
-from test_month_end import MILL
+from office.test_month_end import MILL
 
 PASTE = """
 const data = new DataTransfer(); data.setData('text/plain', arguments[1]);
@@ -47,6 +47,7 @@ def test_grid(april: Browser) -> None:
     april.one(wrong).click()
     april.one(wrong).send_keys("1218.5", Keys.ENTER)
     assert "median" in said_of(april, wrong, "look")
+    april.one(wrong).click()
     april.driver.execute_script(PASTE, april.one(wrong), "12188\n12188.5\t330")
     settled()
     assert [each.text for each in april.all("td.changed")] == ["12188", "12188.5", "330"]

@@ -6,7 +6,7 @@ from collections.abc import Callable
 from pathlib import Path
 
 import pytest
-from hands import Browser, Commands, Hand, bytes_of, lines_of
+from office.hands import Browser, Commands, Hand, bytes_of, lines_of
 
 TOP = Path(__file__).resolve().parents[3]
 EXAMPLES = TOP / "examples"

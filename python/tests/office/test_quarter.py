@@ -2,14 +2,11 @@
 
 from __future__ import annotations
 
-import sys
 from pathlib import Path
 
 import pytest
-from hands import Browser, Commands, Hand, bytes_of, lines_of
-
-sys.path.insert(0, str(Path(__file__).resolve().parents[1]))
-from months import Refinery, write  # noqa: E402
+from months import Refinery, write
+from office.hands import Browser, Commands, Hand, bytes_of, lines_of
 
 MONTHS = ("2024-01", "2024-02", "2024-03")
 Closes = dict[str, dict[str, str]]
@@ -26,9 +23,9 @@ def fixture_workbooks(tmp_path_factory: pytest.TempPathFactory) -> dict[str, Pat
 
 def quarter(hand: Hand, workbooks: dict[str, Path], closes: Closes) -> None:
     """January to March, each closed, and January amended after that, and handed over again."""
-    hand.begin("2024", workbooks["plant"])
+    hand.begin("2024", workbooks["plant"], "en_GB")
     for name in MONTHS:
-        hand.add(workbooks[name])
+        hand.add(workbooks[name], "en_GB")
         hand.report(name)
         if isinstance(hand, Browser):
             closes[name] = hand.gates_of(name)
