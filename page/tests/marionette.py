@@ -44,12 +44,15 @@ class Firefox:
         self._asked = 0
         port = _free_port()
         chosen = {**_PREFERENCES, "browser.download.dir": str(downloads), "marionette.port": port}
-        lines = (f"user_pref({json.dumps(name)}, {json.dumps(value)});" for name, value in chosen.items())
+        lines = (
+            f"user_pref({json.dumps(name)}, {json.dumps(value)});" for name, value in chosen.items()
+        )
         (folder / "user.js").write_text("\n".join(lines), "utf-8")
         self._process = subprocess.Popen(
             ["firefox-esr", "--headless", "--marionette", "--no-remote", "--profile", str(folder)],
             env={**os.environ, "HOME": str(folder), "MOZ_DISABLE_CONTENT_SANDBOX": "1"},
-            stdout=subprocess.DEVNULL, stderr=subprocess.DEVNULL,
+            stdout=subprocess.DEVNULL,
+            stderr=subprocess.DEVNULL,
         )
         try:
             self._socket = self._connected(port)
