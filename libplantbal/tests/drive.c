@@ -1,9 +1,11 @@
 // The program's runs and checks through the library: reads standard input, writes standard output, and ends with the status.
 //
 //     drive run|check|block|records|fields [gap sweeps eliminate tests form]
+//     drive many WORD..
 //
 // `run` and `check` are one call each. `block` hands all records over in one block, `records` in blocks of one code each, and
-// `fields` gives each line that has no quotes as fields.
+// `fields` gives each line that has no quotes as fields. `many` reads sessions, each after its length in four bytes, and writes for each
+// of them and each word the status in four bytes, the length in four and the output: so a process serves any number of sessions.
 #include "plantbal.h"
 #include <stdio.h>
 #include <stdlib.h>
@@ -21,15 +23,18 @@ static void read_all(void) {
     }
 }
 
-// Writes what a session has to hand over, by a buffer of its length.
-static int write_output(plantbal_session session) {
+// The output so far.
+static unsigned char *said;
+static size_t said_length;
+
+// Appends what a session has to hand over, by a buffer of its length.
+static int take_output(plantbal_session session) {
     size_t count = 0;
     int status = plantbal_session_output(session, &count, 0, &count);
     if (status != PLANTBAL_SMALL_BUFFER) return status;
-    void *text = malloc(count);
-    status = plantbal_session_output(session, text, count, &count);
-    fwrite(text, 1, count, stdout);
-    free(text);
+    said = realloc(said, said_length + count);
+    status = plantbal_session_output(session, said + said_length, count, &count);
+    said_length += count;
     return status;
 }
 
@@ -41,7 +46,7 @@ static int give_blocks(plantbal_session session, size_t room) {
         if (plantbal_session_rows(session, input, length, skip, codes, room, &taken)) exit(100);
         for (size_t i = 0; i < taken; i++) refused |= codes[i];
         skip += taken;
-        if (room < 1000 && write_output(session)) exit(101);
+        if (room < 1000 && take_output(session)) exit(101);
     } while (taken == room);
     free(codes);
     return refused != 0;
@@ -67,27 +72,57 @@ static int give_fields(plantbal_session session) {
     return refused != 0;
 }
 
-int main(int argc, char **argv) {
-    plantbal_options options = PLANTBAL_OPTIONS;
-    uint32_t *words[] = {&options.gap, &options.sweeps, &options.eliminate, &options.tests, &options.form};
-    for (int i = 2; i < argc && i < 7; i++) *words[i - 2] = (uint32_t)strtoul(argv[i], NULL, 10);
+// Does what a word says with the input, and leaves the output. Returns the status.
+static int answer(const char *word, const plantbal_options *options) {
     plantbal_session session = PLANTBAL_SESSION;
     int status;
-    read_all();
-    if (strcmp(argv[1], "run") == 0) {
-        status = plantbal_run(&options, input, length, session);
-    } else if (strcmp(argv[1], "check") == 0) {
+    said_length = 0;
+    if (strcmp(word, "run") == 0) {
+        status = plantbal_run(options, input, length, session);
+    } else if (strcmp(word, "check") == 0) {
         status = plantbal_check(input, length, session);
     } else {
-        status = plantbal_session_new(&options, session);
+        status = plantbal_session_new(options, session);
         if (status == PLANTBAL_DONE) {
-            if (strcmp(argv[1], "block") == 0) status = give_blocks(session, length + 1);
-            else if (strcmp(argv[1], "records") == 0) status = give_blocks(session, 1);
+            if (strcmp(word, "block") == 0) status = give_blocks(session, length + 1);
+            else if (strcmp(word, "records") == 0) status = give_blocks(session, 1);
             else status = give_fields(session);
         }
     }
-    if (status <= PLANTBAL_DONE_REFUSED && write_output(session)) return 103;
+    if (status <= PLANTBAL_DONE_REFUSED && take_output(session)) exit(103);
     plantbal_session_free(session);
+    return status;
+}
+
+// Answers one session after another, by each word.
+static void answer_many(int count, char **words, const plantbal_options *options) {
+    uint32_t size, head[2];
+    while (fread(&size, 4, 1, stdin) == 1) {
+        input = realloc(input, size + 1);
+        length = fread(input, 1, size, stdin);
+        for (int i = 0; i < count; i++) {
+            head[0] = (uint32_t)answer(words[i], options);
+            head[1] = (uint32_t)said_length;
+            fwrite(head, 4, 2, stdout);
+            fwrite(said, 1, said_length, stdout);
+        }
+        fflush(stdout);
+    }
+}
+
+int main(int argc, char **argv) {
+    plantbal_options options = PLANTBAL_OPTIONS;
+    uint32_t *words[] = {&options.gap, &options.sweeps, &options.eliminate, &options.tests, &options.form};
+    int status = 0;
+    if (strcmp(argv[1], "many") == 0) {
+        answer_many(argc - 2, argv + 2, &options);
+    } else {
+        for (int i = 2; i < argc && i < 7; i++) *words[i - 2] = (uint32_t)strtoul(argv[i], NULL, 10);
+        read_all();
+        status = answer(argv[1], &options);
+        fwrite(said, 1, said_length, stdout);
+    }
     free(input);
+    free(said);
     return status;
 }
