@@ -3,7 +3,9 @@
 #   make install DESTDIR= PREFIX=/usr/local   the program, the package plantbal of Python, manual pages, completions, documents
 #   make deb                                  packaging/out/plantbal_*.deb and packaging/out/python3-plantbal_*.deb, and those of what else is built
 #   make wheel                                packaging/out/plantbal-*.whl, for pip: the package of Python with the program in it
-#   make release                              the packages, the wheel, the build record and SHA256SUMS, in an empty packaging/out
+#   make audit                                packaging/out/plantbal-audit.pyz: the audit without the program, in one file for a bare Python
+#   make image                                packaging/out/root and the packages: what packaging/Containerfile makes its two images of
+#   make release                              the packages, the wheel, the audit, the build record and SHA256SUMS, in an empty packaging/out
 #   make check-packages                       all packages made, unpacked elsewhere and tried
 #   make install-verify VERIFY=..             plantbal-verify and its manual page, from coq/ (`make -C coq` proves and builds it)
 #   make fuzz SECONDS=3600 SEED=1             changed inputs to all subcommands; failures are kept in KEEP
@@ -44,7 +46,7 @@ SECONDS = 600
 SEED = 0
 KEEP = /tmp/plantbal-fuzz
 
-.PHONY: install install-program install-desk install-verify install-library install-library-dev deb wheel release check-packages book-tries fuzz page clean
+.PHONY: install install-program install-desk install-verify install-library install-library-dev deb wheel audit image release check-packages book-tries fuzz page clean
 
 install: install-program install-desk
 
@@ -119,6 +121,12 @@ deb: $(PROGRAM)
 
 wheel: $(PROGRAM)
 	packaging/wheel $(PROGRAM) $(DEBS)
+
+audit:
+	packaging/audit_pyz $(DEBS)
+
+image: deb
+	packaging/image $(PROGRAM) $(DEBS)
 
 release: $(PROGRAM)
 	packaging/release $(PROGRAM) $(DEBS)

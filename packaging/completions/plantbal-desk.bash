@@ -32,6 +32,7 @@ _plantbal_desk() {
         run:--eliminate) :; return ;;
         lint:--accounts) _plantbal_files -f; return ;;
         lint:--ignore) _plantbal_words 'refused nothing-asked missing-reading missing-dip no-period after-report one-sided never-served near-names magnitude small-deviation large-deviation density exchanged strap-slope scatter worse-class no-critical no-balance after-balance unchecked-grade unused-assay grade no-cost no-account nearly-full negative-flow tank-jump tank-range zero frozen negative copy estimated no-owner untested no-elimination no-transfer unused-dip not-reported'; return ;;
+        lint:--timeout) :; return ;;
         lint:--book) _plantbal_files -d; return ;;
         explain:--program) _plantbal_files -f; return ;;
         check:--program) _plantbal_files -f; return ;;
@@ -205,7 +206,7 @@ _plantbal_desk() {
             _plantbal_files -f
             return
         fi
-        _plantbal_words '-h --help --json --accounts --strict --ignore --book' ;;
+        _plantbal_words '-h --help --json --accounts --strict --ignore --timeout --book' ;;
     explain)
         if [[ $here != -* ]]; then
             _plantbal_files -f
@@ -217,7 +218,7 @@ _plantbal_desk() {
             _plantbal_files -f
             return
         fi
-        _plantbal_words '-h --help --program' ;;
+        _plantbal_words '-h --help --json --program' ;;
     archive)
         if [[ $here != -* ]]; then
             _plantbal_files -f
@@ -229,7 +230,7 @@ _plantbal_desk() {
             _plantbal_files -f
             return
         fi
-        _plantbal_words '-h --help --words --no-program --strict --book --before --signers --signed-by --revoked --signature --authority --after --timeout --program' ;;
+        _plantbal_words '-h --help --words --no-program --strict --json --book --before --signers --signed-by --revoked --signature --authority --after --timeout --program' ;;
     report)
         if [[ $here != -* ]]; then
             _plantbal_files -f
@@ -263,7 +264,7 @@ _plantbal_desk() {
             _plantbal_files -f
             return
         fi
-        _plantbal_words '-h --help --program --locale --missing --skip --limits --mapping --book --who --key --why --strike --anyway --year --dry-run --density --error --take --session --gap --sweeps --no-tests --eliminate --report --head --text --signed --signers --revoked --stamps --off --csv --xlsx --postings --by --owner --tanks --page --title --all --plant --first' ;;
+        _plantbal_words '-h --help --program --locale --missing --skip --limits --mapping --book --who --key --why --strike --anyway --year --dry-run --json --density --error --take --session --gap --sweeps --no-tests --eliminate --report --head --text --signed --signers --revoked --stamps --off --csv --xlsx --postings --by --owner --tanks --page --title --all --plant --first' ;;
     template)
         if [[ $here != -* ]]; then
             if [[ ! " ${COMP_WORDS[*]:at + 1:COMP_CWORD - at - 1} " =~ ' '(refinery|concentrator|utility)' ' ]]; then

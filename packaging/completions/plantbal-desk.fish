@@ -44,6 +44,7 @@ complete -c plantbal-desk -n '__fish_seen_subcommand_from lint' -l json -d 'a li
 complete -c plantbal-desk -n '__fish_seen_subcommand_from lint' -l accounts -r -F -d 'the accounts of a book, accounts.csv: what is in none is a finding too'
 complete -c plantbal-desk -n '__fish_seen_subcommand_from lint' -l strict -d 'status 1 on warnings too'
 complete -c plantbal-desk -n '__fish_seen_subcommand_from lint' -l ignore -x -a 'refused nothing-asked missing-reading missing-dip no-period after-report one-sided never-served near-names magnitude small-deviation large-deviation density exchanged strap-slope scatter worse-class no-critical no-balance after-balance unchecked-grade unused-assay grade no-cost no-account nearly-full negative-flow tank-jump tank-range zero frozen negative copy estimated no-owner untested no-elimination no-transfer unused-dip not-reported' -d 'leave findings of this code out; may be given more than once'
+complete -c plantbal-desk -n '__fish_seen_subcommand_from lint' -l timeout -x -d 'end after that many seconds (default: 300)'
 complete -c plantbal-desk -n '__fish_seen_subcommand_from lint' -l book -x -a '(__fish_complete_directories)' -d 'the book that the session is from: what it has quieted is counted, and not listed'
 complete -c plantbal-desk -n '__fish_seen_subcommand_from lint' -F
 complete -c plantbal-desk -n '__fish_seen_subcommand_from explain' -s h -l help -d 'show this help message and exit'
@@ -51,6 +52,7 @@ complete -c plantbal-desk -n '__fish_seen_subcommand_from explain' -l program -r
 complete -c plantbal-desk -n '__fish_seen_subcommand_from explain' -F
 complete -c plantbal-desk -n '__fish_seen_subcommand_from explain' -F
 complete -c plantbal-desk -n '__fish_seen_subcommand_from check' -s h -l help -d 'show this help message and exit'
+complete -c plantbal-desk -n '__fish_seen_subcommand_from check' -l json -d 'write the same as JSON'
 complete -c plantbal-desk -n '__fish_seen_subcommand_from check' -l program -r -F -d 'the program (default: that of PLANTBAL, of the path, or of this checkout)'
 complete -c plantbal-desk -n '__fish_seen_subcommand_from check' -F
 complete -c plantbal-desk -n '__fish_seen_subcommand_from archive' -s h -l help -d 'show this help message and exit'
@@ -73,6 +75,7 @@ complete -c plantbal-desk -n '__fish_seen_subcommand_from audit' -s h -l help -d
 complete -c plantbal-desk -n '__fish_seen_subcommand_from audit' -l words -x -d 'the words of the run, as one word'
 complete -c plantbal-desk -n '__fish_seen_subcommand_from audit' -l no-program -d 'don\'t run the program'
 complete -c plantbal-desk -n '__fish_seen_subcommand_from audit' -l strict -d 'status 1 on notes too'
+complete -c plantbal-desk -n '__fish_seen_subcommand_from audit' -l json -d 'write the same as JSON'
 complete -c plantbal-desk -n '__fish_seen_subcommand_from audit' -l book -x -a '(__fish_complete_directories)' -d 'the book whose head the bundle names: it has to have it, and the session\'s rows by then'
 complete -c plantbal-desk -n '__fish_seen_subcommand_from audit' -l before -x -d 'the bundle that this one names as the one before it: it has to be the same'
 complete -c plantbal-desk -n '__fish_seen_subcommand_from audit' -l signers -r -F -d 'who may sign, as OpenSSH\'s allowed_signers: the bundle has to be signed by one'
@@ -123,6 +126,7 @@ complete -c plantbal-desk -n '__fish_seen_subcommand_from book' -l strike -d 'st
 complete -c plantbal-desk -n '__fish_seen_subcommand_from book' -l anyway -d 'also if the period is open'
 complete -c plantbal-desk -n '__fish_seen_subcommand_from book' -l year -x -d 'the new part: 2024b after 2024'
 complete -c plantbal-desk -n '__fish_seen_subcommand_from book' -l dry-run -d 'say what would be booked, and book nothing'
+complete -c plantbal-desk -n '__fish_seen_subcommand_from book' -l json -d 'write the same as JSON'
 complete -c plantbal-desk -n '__fish_seen_subcommand_from book' -l density -x -d 'another density: 862'
 complete -c plantbal-desk -n '__fish_seen_subcommand_from book' -l error -x -d 'another error: 0.2 t'
 complete -c plantbal-desk -n '__fish_seen_subcommand_from book' -l take -d 'book what is proposed'

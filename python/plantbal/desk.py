@@ -236,10 +236,10 @@ def script(word: str) -> NoReturn:
     """Run a subcommand as a command of its own: the thin files in examples/ call it."""
     command = next(command for command in COMMANDS if command.word == word)
     prog = os.path.basename(sys.argv[0])
-    _exit(parser_of(command, prog), sys.argv[1:])
+    end(parser_of(command, prog), sys.argv[1:])
 
 
-def _exit(parser: argparse.ArgumentParser, words: Sequence[str]) -> NoReturn:
+def end(parser: argparse.ArgumentParser, words: Sequence[str]) -> NoReturn:
     """Run a command, and end with its status: a mistake of our own is none that a person looks at."""
     try:
         status = call(parser, words)
@@ -254,8 +254,8 @@ def main() -> NoReturn:
     words = sys.argv[1:]
     for command in COMMANDS:
         if words[:1] == [command.word]:  # the others needn't be loaded
-            _exit(parser_of(command, f"plantbal-desk {command.word}"), words[1:])
-    _exit(desk_parser(), words)
+            end(parser_of(command, f"plantbal-desk {command.word}"), words[1:])
+    end(desk_parser(), words)
 
 
 if __name__ == "__main__":

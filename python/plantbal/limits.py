@@ -41,6 +41,8 @@ ROWS_OF_ANOTHER_FORM = 1_000
 REFUSED_KEPT = 100
 FAULTS_KEPT = 10_000
 
+# Seconds that lint has for a session: one of 200,000 facts takes a few.
+LINT_SECONDS = 300.0
 # Seconds that graphviz has for a drawing.
 DRAWING_SECONDS = 60.0
 # A mapping of a workbook.

@@ -9,10 +9,15 @@ import json
 from collections.abc import Mapping
 from dataclasses import dataclass, field
 from functools import lru_cache
-from pathlib import Path
+from pkgutil import get_data
 from typing import Any
 
-FILE = Path(__file__).with_name("schema.json")
+
+def text() -> str:
+    """Return the file of the schema; the package may be within a zip."""
+    data = get_data("plantbal", "schema.json")
+    assert data is not None  # it is beside this file
+    return data.decode("utf-8")
 
 
 @dataclass(frozen=True, slots=True)
@@ -213,7 +218,7 @@ def _codes(data: list[dict[str, Any]]) -> dict[int, Code]:
 @lru_cache(maxsize=1)
 def schema() -> Schema:
     """Return the rows and codes that the program has."""
-    data = json.loads(FILE.read_text(encoding="utf-8"))
+    data = json.loads(text())
     return Schema(
         limits=data["limits"],
         session=tuple(_row(row) for row in data["session"]),

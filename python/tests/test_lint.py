@@ -3,6 +3,7 @@
 from __future__ import annotations
 
 import json
+import time
 from collections.abc import Iterator
 from pathlib import Path
 
@@ -666,3 +667,19 @@ def test_never_fails(data: st.DataObject) -> None:
     for each in lint_session("\n".join(rows).encode()):
         assert "\n" not in str(each) and each.severity in SEVERITIES
         assert each.text and each.remedy
+
+
+def test_lint_ends(say: Desk, tmp_path: Path) -> None:
+    """A session may ask for many windows over many streams: lint has a limit of time."""
+    rows = ["unit,U", *(f"stream,S{k},env,U,metered,1" for k in range(600))]
+    rows += [
+        f"period,p{k},2024-{k // 28 + 1:02}-{k % 28 + 1:02},2024-{k // 28 + 1:02}-{k % 28 + 1:02}"
+        for k in range(300)
+    ]
+    rows += [f"window,p{a},p{b}" for a in range(150) for b in range(a + 1, a + 60)]
+    path = tmp_path / "windows.csv"
+    path.write_text("".join(f"{row}\n" for row in rows))
+    begun = time.monotonic()
+    found = say("lint", "--timeout", "0.2", path)
+    assert time.monotonic() - begun < 20
+    assert found.status == 3 and "lint isn't done after 0.2 s: say --timeout" in found.err

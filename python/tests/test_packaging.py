@@ -259,3 +259,36 @@ def test_setuptools_builds_the_package(tmp_path: Path) -> None:
 def files_of(folder: Path) -> list[Path]:
     """The files of the package in a copy of the repository."""
     return [path for path in (folder / "python/plantbal").rglob("*") if path.is_file()]
+
+
+def test_the_version_moves() -> None:
+    """It is that of the newest release or, once something has landed since, a later one."""
+    changes = (TOP / "CHANGELOG.md").read_text(encoding="utf-8")
+    version = (TOP / "VERSION").read_text().strip()
+    newest = re.search(r"^## \[(\d[^]]*)\]", changes, re.M)
+    assert newest is not None
+    unreleased = changes.partition("## [Unreleased]")[2].partition("\n## [")[0].strip()
+    numbers = [tuple(map(int, text.split("."))) for text in (newest[1], version)]
+    assert (numbers[0] < numbers[1]) if unreleased else (numbers[0] == numbers[1]), version
+
+
+def test_the_audit_in_one_file(tmp_path: Path) -> None:
+    """On a Python without any package, and without the program."""
+    subprocess.run([TOP / "packaging" / "audit_pyz", tmp_path], check=True, capture_output=True)
+    audit = [sys.executable, "-I", "-S", str(tmp_path / "plantbal-audit.pyz")]
+    day = TOP / "examples" / "refinery_day"
+    plain = {"PATH": "/usr/bin:/bin"}
+    report, session = f"{day}.out.csv", f"{day}.csv"
+    for words, status, said in (
+        ((report, session), 0, "everything holds"),
+        ((report, str(TOP / "examples" / "two_meters.csv")), 1, "wrong: "),
+        ((str(tmp_path / "none.zip"),), 3, ""),
+        ((), 2, ""),
+    ):
+        done = subprocess.run([*audit, *words], capture_output=True, text=True, env=plain, cwd="/")
+        assert done.returncode == status and said in done.stdout, (words, done)
+    with open(report, "rb") as file:
+        done = subprocess.run(
+            [*audit, "check"], stdin=file, capture_output=True, text=True, env=plain
+        )
+    assert done.stdout == "yes,may1,0\n" and done.returncode == 0, done

@@ -40,6 +40,7 @@ READING: dict[str, tuple[str, ...]] = {
     "page": ("FILE",),
     "fleet": ("--out", "OUT", "FILE"),
     "tell": ("FILE",),
+    "map": ("FILE",),
     "from-scipy": ("FILE",),
 }
 # `serve` opens its books when it is called from a browser: it has tests of its own.

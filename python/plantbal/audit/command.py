@@ -9,6 +9,7 @@ from plantbal.audit.holding import check_twice, hold, run_again
 from plantbal.audit.runwords import words_read, words_shown
 from plantbal.audit.said import Audit, Given, Kind
 from plantbal.audit.signed import add_signers
+from plantbal.commands.data import add_json, write_json
 from plantbal.commands.options import add_program, add_timeout
 from plantbal.faults import Fault, InputFault, Place, read_bytes, ToolMissing, WordsFault
 from plantbal.limits import SESSION_BYTES
@@ -58,6 +59,7 @@ def add_arguments(parser: argparse.ArgumentParser) -> None:
     parser.add_argument("--words", metavar="WORDS", help="the words of the run, as one word")
     parser.add_argument("--no-program", action="store_true", help="don't run the program")
     parser.add_argument("--strict", action="store_true", help="status 1 on notes too")
+    add_json(parser)
     book = "the book whose head the bundle names: it has to have it, and the session's rows by then"
     parser.add_argument("--book", metavar="FOLDER", help=book)
     before = "the bundle that this one names as the one before it: it has to be the same"
@@ -100,7 +102,7 @@ def given_of(audit: Audit, options: argparse.Namespace) -> Given:
 
 def run(options: argparse.Namespace) -> int:
     """Audit, and return the status."""
-    audit = Audit()
+    audit = Audit(is_shown=not options.json)
     if not options.no_program:
         try:
             find_program(options.program)
@@ -122,6 +124,11 @@ def run(options: argparse.Namespace) -> int:
     checks = "the checker in plain Python says yes" if options.no_program else "both checks say yes"
     hold(audit, given, verdicts, checks)
     wrong, notes = audit.count(Kind.WRONG), audit.count(Kind.NOTE)
+    if options.json:
+        said = [{"kind": kind.value, "text": text} for kind, text in audit.said]
+        found = {"source": given.source, "holds": not wrong, "wrong": wrong, "notes": notes}
+        write_json({**found, "sha256": given.sum.rpartition(" ")[2], "said": said})
+        return looks(wrong or (options.strict and notes))
     end = f"{wrong} thing{'' if wrong == 1 else 's'} wrong" if wrong else "everything holds"
     print(f"{given.source}: {end}, with {notes} note{'' if notes == 1 else 's'}{given.sum}")
     return looks(wrong or (options.strict and notes))

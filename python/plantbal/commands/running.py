@@ -7,11 +7,13 @@ import argparse
 import errno
 import os
 import sys
-from collections.abc import Callable
+from collections.abc import Callable, Iterator, Mapping
 from pathlib import Path
 from types import SimpleNamespace
+from typing import TYPE_CHECKING
 
 from plantbal import schema
+from plantbal.commands.data import add_json, write_json
 from plantbal.commands.options import add_program, add_run, add_sweeps, add_timeout
 from plantbal.commands.progress import Progress
 from plantbal.faults import InputFault, ProgramFault, WordsFault, decoded, read_bytes
@@ -26,6 +28,9 @@ from plantbal.report.output import Output, parse_report, read_report
 from plantbal.report.rows import Numbers
 from plantbal.runs import check, run
 from plantbal.statuses import ExitStatus, looks
+
+if TYPE_CHECKING:
+    import pandas
 
 OUTPUT_HELP = """
 The report goes to standard output, or to the file of --out by its ending: .csv, .sqlite or .xlsx.
@@ -196,6 +201,7 @@ def _solve(options: argparse.Namespace) -> int:
 
 def _add_check(parser: argparse.ArgumentParser) -> None:
     parser.add_argument("report", metavar="REPORT", nargs="?", default="-")
+    add_json(parser)
     add_program(parser)
 
 
@@ -219,6 +225,15 @@ def _impossible(source: str, text: str) -> list[str]:
         return []
 
 
+def _verdicts_said(verdicts: pandas.DataFrame, subjects: Mapping[int, str]) -> Iterator[object]:
+    """Give the verdicts as values; what a verdict hasn't is null."""
+    import pandas
+
+    for index, row in zip(verdicts.index, verdicts.to_dict("records")):
+        found = {str(name): None if pandas.isna(value) else value for name, value in row.items()}
+        yield {"subject": subjects.get(index), **found}
+
+
 def _check(options: argparse.Namespace) -> int:
     _say_reading(options.report)
     source, data = read_bytes(options.report)
@@ -231,6 +246,9 @@ def _check(options: argparse.Namespace) -> int:
     blocks = verdicts[verdicts["verdict"] != "unreadable"]
     subjects = dict(zip(blocks.index, _subjects(source, text, list(blocks["period"]))))
     last = {subject: index for index, subject in subjects.items()}
+    if options.json:
+        write_json(list(_verdicts_said(verdicts, subjects)))
+        return looks(not (verdicts["verdict"] == "yes").all())
     for row in verdicts.itertuples():
         subject = subjects.get(row.Index, "")
         if row.verdict == "yes":
@@ -272,8 +290,7 @@ def _add_schema(parser: argparse.ArgumentParser) -> None:
 
 def _schema(options: argparse.Namespace) -> int:
     del options
-    text = schema.FILE.read_text(encoding="utf-8")
-    write_text("-", text)
+    write_text("-", schema.text())
     return ExitStatus.GOOD
 
 

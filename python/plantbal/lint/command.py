@@ -4,8 +4,15 @@ from __future__ import annotations
 
 import argparse
 import json
+import signal
 import sys
+import threading
+from collections.abc import Iterator
+from contextlib import contextmanager
 
+from plantbal.commands.options import seconds_of
+from plantbal.faults import Hindered
+from plantbal.limits import LINT_SECONDS
 from plantbal.lint.findings import RULES
 from plantbal.lint.sessions import lint_session, summary
 from plantbal.statuses import looks
@@ -46,15 +53,47 @@ def add_arguments(parser: argparse.ArgumentParser) -> None:
         choices=list(RULES),
         help="leave findings of this code out; may be given more than once",
     )
+    timeout = f"end after that many seconds (default: {LINT_SECONDS:g})"
+    parser.add_argument(
+        "--timeout", metavar="SECONDS", type=seconds_of, default=LINT_SECONDS, help=timeout
+    )
     book = "the book that the session is from: what it has quieted is counted, and not listed"
     parser.add_argument("--book", metavar="FOLDER", help=book)
+
+
+@contextmanager
+def ends_after(seconds: float) -> Iterator[None]:
+    """End a block that takes longer, if this is the main thread: others can't be interrupted.
+
+    Raises
+    ------
+    Hindered
+        If it does.
+    """
+    if threading.current_thread() is not threading.main_thread():
+        yield
+        return
+
+    def stop(*_: object) -> None:
+        """Raise within the block."""
+        remedy = "say --timeout with more of them, or lint a part of the session"
+        raise Hindered(f"lint isn't done after {seconds:g} s", remedy=remedy)
+
+    before = signal.signal(signal.SIGALRM, stop)
+    signal.setitimer(signal.ITIMER_REAL, seconds)
+    try:
+        yield
+    finally:
+        signal.setitimer(signal.ITIMER_REAL, 0)
+        signal.signal(signal.SIGALRM, before)
 
 
 def run(options: argparse.Namespace) -> int:
     """Write the findings, and return the status."""
     if options.session == "-" and sys.stdin.isatty():
         print("reading standard input, up to Ctrl-D", file=sys.stderr)
-    findings = lint_session(options.session, ignore=options.ignore, accounts=options.accounts)
+    with ends_after(options.timeout):
+        findings = lint_session(options.session, ignore=options.ignore, accounts=options.accounts)
     quiet = 0
     if options.book is not None:
         from plantbal.book.answers import without_quiet

@@ -13,8 +13,10 @@ from plantbal.book.reporting import (
     suspects_of,
     suspects_of_block,
 )
+from plantbal.book.results import Reported
 from plantbal.book.said import counted
 from plantbal.book.window import undipped
+from plantbal.commands.data import add_json, write_json
 from plantbal.commands.options import add_run, settings_of
 from plantbal.files import write_text
 from plantbal.gates import line_of, unsaid
@@ -28,15 +30,20 @@ def _add_report(parser: argparse.ArgumentParser) -> None:
     parser.add_argument(
         "--session", metavar="FILE", help="write the session that asks for the reports too"
     )
+    add_json(parser)
     add_run(parser)
 
 
 def _report(options: argparse.Namespace) -> int:
     """Write the reports."""
     book = Book(options.book, who=options.who, key=options.key)
-    wants = False
+    wants, rows = False, list[dict[str, object]]()
     for found in book.reports(*options.periods, settings=settings_of(options)):
         output, name = found.output, found.period
+        if options.json:
+            rows.append(_row_of(found))
+            wants = wants or not output.ok
+            continue
         print(state_of(output, name))
         said = [*suspects_of(output), *found.holes, *balances_said(output), *found.missing]
         for line in [*said, *map(line_of, unsaid(found.stops))]:
@@ -44,9 +51,28 @@ def _report(options: argparse.Namespace) -> int:
         history = f", with {counted(found.edits, 'edit')}" if found.edits else ""
         print(f"{name}: {found.path}{history}" + ("" if found.is_new else ", as it was"))
         wants = wants or not output.ok
+    if options.json:
+        write_json(rows)
     if options.session:
         write_text(options.session, book.session_asking(*options.periods))
     return looks(wants)
+
+
+def _row_of(found: Reported) -> dict[str, object]:
+    """Return what is said of a report as values."""
+    return {
+        "period": found.period,
+        "ok": found.output.ok,
+        "state": state_of(found.output, found.period),
+        "why": found.output.why,
+        "suspects": suspects_of(found.output),
+        "balances": balances_said(found.output),
+        "missing": found.missing,
+        "stops": [line_of(stop) for stop in unsaid(found.stops)],
+        "edits": found.edits,
+        "path": found.path,
+        "is_new": found.is_new,
+    }
 
 
 def _add_window(parser: argparse.ArgumentParser) -> None:

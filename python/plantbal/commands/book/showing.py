@@ -12,6 +12,7 @@ from plantbal.book.meters import Meter
 from plantbal.book.naming import day_of
 from plantbal.book.results import ReportState, Shown, TankApart, YearStatus
 from plantbal.book.said import behind_said, counted
+from plantbal.commands.data import add_json, write_json
 from plantbal.schema import schema
 from plantbal.statuses import ExitStatus
 from plantbal.workbook.units import GRAMS, VOLUMES, WET
@@ -25,6 +26,7 @@ def _add_show(parser: argparse.ArgumentParser) -> None:
     parser.add_argument("name", metavar="NAME", help="a tag, stream or tank")
     parser.add_argument("first", metavar="FIRST", nargs="?", help="from this day on")
     parser.add_argument("last", metavar="LAST", nargs="?", help="up to this day")
+    add_json(parser)
     form = "how days are written, such as de"
     parser.add_argument("--locale", metavar="NAME", default="", help=form)
 
@@ -33,6 +35,9 @@ def _show(options: argparse.Namespace) -> int:
     """Show it."""
     first, last = day_of(options.first, options.locale), day_of(options.last, options.locale)
     found, meter, waiting = Book(options.book).show(options.name, first, last)
+    if options.json:
+        write_json({"waiting": waiting, "shown": found})
+        return ExitStatus.GOOD
     for line in [*waiting, *(line_of(shown, meter) for shown in found)]:
         print(line)
     return ExitStatus.GOOD
@@ -67,11 +72,15 @@ def in_unit(fact: Fact, meter: Meter | None) -> str:
 
 def _add_status(parser: argparse.ArgumentParser) -> None:
     parser.add_argument("--all", action="store_true", help="closed periods too")
+    add_json(parser)
 
 
 def _status(options: argparse.Namespace) -> int:
     """Say how the book stands."""
     found = Book(options.book).status()
+    if options.json:
+        write_json(found)
+        return ExitStatus.GOOD
     lines = list(found.waiting)
     for year in found.years:
         lines += year_lines(year, options.all)

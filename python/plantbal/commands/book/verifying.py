@@ -7,8 +7,9 @@ from types import SimpleNamespace
 
 from plantbal.book.library import Book
 from plantbal.book.said import counted
+from plantbal.commands.data import add_json, data_of, write_json
 from plantbal.faults import Fault
-from plantbal.statuses import ExitStatus
+from plantbal.statuses import ExitStatus, looks
 
 # ---- verify
 
@@ -19,12 +20,16 @@ def _add_verify(parser: argparse.ArgumentParser) -> None:
     )
     head = "a head that was kept elsewhere: this book has to have it"
     parser.add_argument("--head", metavar="DIGEST", action="append", default=[], help=head)
+    add_json(parser)
 
 
 def _verify(options: argparse.Namespace) -> int:
     """Test every file of the book, and say all that is wrong."""
     book = Book(options.book)
     found = book.verify(options.bundles, heads=options.head)
+    if options.json:
+        write_json({"ok": found.ok, **data_of(found)})
+        return looks(not found.ok)
     for line in [*found.waiting, *(f"wrong: {each}" for each in found.wrong), *found.notes]:
         print(line)
     if not found.ok:
@@ -40,12 +45,16 @@ def _verify(options: argparse.Namespace) -> int:
 
 
 def _add_head(parser: argparse.ArgumentParser) -> None:
-    pass
+    add_json(parser)
 
 
 def _head(options: argparse.Namespace) -> int:
     """Print the head."""
-    print(Book(options.book).head)
+    head = Book(options.book).head
+    if options.json:
+        write_json(head)
+    else:
+        print(head)
     return ExitStatus.GOOD
 
 
