@@ -10,6 +10,7 @@ from __future__ import annotations
 import os
 from collections.abc import Iterable
 from functools import lru_cache
+from itertools import accumulate
 from pathlib import Path
 from types import TracebackType
 from typing import Any
@@ -172,6 +173,7 @@ class Session:
         self._native = library()
         self._handle = self._native.handle()
         options = self._native.options(gap, sweeps, eliminate, tests, json)
+        self._code = self._native.ffi.new("uint8_t *")
         status = self._native.functions.plantbal_session_new(options, self._handle)
         if status != Status.DONE:
             raise fault(Status(status))
@@ -185,8 +187,9 @@ class Session:
             If memory ran out: the rows that were taken stay taken.
         """
         given = self._native.ffi.from_buffer(data)
-        # there are at most as many rows as line ends, and one more
-        codes = bytearray(_ends(data) + 1)
+        # a row has a byte at least, and each but the last one a line end; what isn't written takes
+        # no memory
+        codes = bytearray(len(given) // 2 + 1)
         room = self._native.ffi.from_buffer(codes)
         taken = self._native.ffi.new("size_t *")
         status = self._native.functions.plantbal_session_rows(
@@ -194,7 +197,7 @@ class Session:
         )
         if status != Status.DONE:
             raise fault(Status(status))
-        return bytes(codes[: taken[0]])
+        return bytes(memoryview(codes)[: taken[0]])
 
     def look(self, what: str, kind: str, *words: Any) -> Any | None:
         """Return what a look-up of the library finds, or None if there is nothing there.
@@ -220,17 +223,14 @@ class Session:
     def row(self, fields: Iterable[bytes]) -> int:
         """Take one row by its fields, and return its code: 0 if it is accepted."""
         listed = list(fields)
-        ends, end = [], 0
-        for field in listed:
-            end += len(field)
-            ends.append(end)
-        code = self._native.ffi.new("uint8_t *")
+        text = b"".join(listed)
+        ends = list(accumulate(map(len, listed)))
         status = self._native.functions.plantbal_session_row(
-            self._handle, b"".join(listed), end, ends, len(ends), code
+            self._handle, text, len(text), ends, len(ends), self._code
         )
         if status != Status.DONE:
             raise fault(Status(status))
-        return int(code[0])
+        return int(self._code[0])
 
     def output(self) -> bytes:
         """Return what the rows have added to the output since the last call."""
@@ -250,9 +250,3 @@ class Session:
         trace: TracebackType | None,
     ) -> None:
         self.close()
-
-
-def _ends(data: bytes | bytearray | memoryview) -> int:
-    """Return how many bytes may end a row."""
-    whole = data if isinstance(data, (bytes, bytearray)) else bytes(data)
-    return whole.count(b"\n") + whole.count(b"\r")
