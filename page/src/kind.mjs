@@ -65,11 +65,10 @@ function kindOfText(text, sessionKinds) {
   if (start.startsWith("{") || start.startsWith("[")) return KIND.JSON;
   const seen = new Map();
   let semicolons = 0, tabs = 0;
-  for (const { fields } of records(text)) {
-    const [kind] = fields;
+  for (const { kind } of records(text)) {
     seen.set(kind, (seen.get(kind) ?? 0) + 1);
-    if (fields.length === 1 && kind.includes(";")) semicolons += 1;
-    if (fields.length === 1 && kind.includes("\t")) tabs += 1;
+    if (kind.includes(";")) semicolons += 1;
+    if (kind.includes("\t")) tabs += 1;
   }
   const count = (kinds) => kinds.reduce((sum, kind) => sum + (seen.get(kind) ?? 0), 0);
   const reported = count(["node", "solved", "end"]);

@@ -7,7 +7,7 @@ import { load, MOST_BYTES, OPTIONS, PlantbalError, STATUS } from "../plantbal.mj
 import { audited, digestOf } from "./bundle.mjs";
 import { h } from "./dom.mjs";
 import { isJudged, KIND, kindOf } from "./kind.mjs";
-import { records, textOf } from "./records.mjs";
+import { textOf } from "./records.mjs";
 import { takeSessionKinds } from "./refused.mjs";
 import { parsed, takeColumns } from "./report.mjs";
 import { verdictsOf } from "./verdicts.mjs";
@@ -199,10 +199,10 @@ function chosenOptions() {
 async function judgeSession(bytes, signal) {
   const answer = answered(await core.run(bytes, { ...chosenOptions(), signal }));
   const text = textOf(bytes), output = parsed(new TextDecoder().decode(answer.text));
-  const codes = new Map(output.between.filter(({ fields }) => fields[0] === "refused").map(({ fields }) => [Number(fields[1]), Number(fields[2])]));
+  const codes = new Map(output.between.filter(({ kind }) => kind === "refused").map(({ fields }) => [Number(fields[1]), Number(fields[2])]));
   const check = output.blocks.length > 0 ? await core.check(answer.text, { signal }) : { status: STATUS.TOO_LARGE };
   const checkedWell = check.status <= STATUS.DONE_REFUSED ? check.status === STATUS.DONE : null;
-  const judged = { text, session: codes.size > 0 ? [...records(text)] : [], codes, output, checkedWell };
+  const judged = { text, codes, output, checkedWell };
   return { ...timesOf(answer), saved: { text: answer.text, ending: "out.csv", key: "save_output" }, make: () => sessionView(judged) };
 }
 

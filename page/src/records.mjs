@@ -14,52 +14,87 @@ export function textOf(bytes) {
   }
 }
 
+/** A record: where it stands. Its fields are read when they are asked for, so that a text of a million rows stays small. */
+class TextRecord {
+  constructor(text, number, line, begin, end) {
+    Object.assign(this, { text, number, line, begin, end });
+  }
+
+  /** Its first field. */
+  get kind() {
+    if (this.text[this.begin] === '"') return this.fields[0];
+    const comma = this.text.indexOf(",", this.begin);
+    return this.text.slice(this.begin, comma < 0 ? this.end : Math.min(comma, this.end));
+  }
+
+  get fields() {
+    return fieldsFrom(this.text, this.begin).fields;
+  }
+
+  /** Where each field begins and ends. */
+  get places() {
+    return fieldsFrom(this.text, this.begin).places;
+  }
+}
+
 /**
  * Gives the records of a text one after the other.
  *
- * @returns {Generator<{ number: number, line: number, begin: number, end: number, fields: string[], places: [number, number][] }>}
+ * @returns {Generator<TextRecord>}
  */
 export function* records(text) {
+  const quotes = finder(text, '"'), feeds = finder(text, "\n"), returns = finder(text, "\r");
   let at = 0, line = 1, number = 0;
   while (at < text.length) {
-    const record = { number: 0, line, begin: at, end: at, fields: [], places: [] };
-    let ended = false;
-    while (!ended) {
-      const begin = at;
-      let field = "";
-      if (text[at] === '"') {
-        at += 1;
-        for (;;) {
-          const quote = text.indexOf('"', at);
-          if (quote < 0) {
-            field += text.slice(at);
-            at = text.length;
-            break;
-          }
-          field += text.slice(at, quote);
-          at = quote + 1;
-          if (text[at] !== '"') break;
-          field += '"';
-          at += 1;
-        }
-      }
-      const rest = endOfField(text, at);
-      field += text.slice(at, rest);
-      at = rest;
-      record.fields.push(field);
-      record.places.push([begin, at]);
-      ended = text[at] !== ",";
-      if (!ended) at += 1;
+    const begin = at, first = line;
+    at = Math.min(feeds(begin), returns(begin));
+    if (quotes(begin) < at) {
+      at = fieldsFrom(text, begin).end;
+      for (let i = begin; i < at; i += 1) if (text[i] === "\n") line += 1;
     }
-    record.end = at;
-    for (let i = record.begin; i < at; i += 1) if (text[i] === "\n") line += 1;
-    if (text[at] === "\r" && text[at + 1] === "\n") at += 2;
-    else at += 1;
+    const end = at;
+    at += text[at] === "\r" && text[at + 1] === "\n" ? 2 : 1;
     line += 1;
-    if (record.fields.length === 1 && record.places[0][0] === record.places[0][1]) continue;
-    record.number = number += 1;
-    yield record;
+    if (end > begin) yield new TextRecord(text, number += 1, first, begin, end);
   }
+}
+
+// The fields of the record that begins at a place, where each stands, and where the record ends.
+function fieldsFrom(text, begin) {
+  const fields = [], places = [];
+  let at = begin, ended = false;
+  while (!ended) {
+    const from = at;
+    let field = "";
+    if (text[at] === '"') {
+      at += 1;
+      for (;;) {
+        const quote = text.indexOf('"', at);
+        field += text.slice(at, quote < 0 ? text.length : quote);
+        at = quote < 0 ? text.length : quote + 1;
+        if (quote < 0 || text[at] !== '"') break;
+        field += '"';
+        at += 1;
+      }
+    }
+    const rest = endOfField(text, at);
+    fields.push(field + text.slice(at, rest));
+    places.push([from, rest]);
+    at = rest;
+    ended = text[at] !== ",";
+    if (!ended) at += 1;
+  }
+  return { fields, places, end: at };
+}
+
+// Gives where a sign stands next, or the end of the text, for places that go forward.
+function finder(text, sign) {
+  let next = -1;
+  return (at) => {
+    if (next < at) next = text.indexOf(sign, at);
+    if (next < 0) next = text.length;
+    return next;
+  };
 }
 
 function endOfField(text, at) {
@@ -72,10 +107,10 @@ function endOfField(text, at) {
 
 /** Returns the line in which a record stands, and the mark below some of its fields: the columns of the first and the last sign. */
 export function rowShown(text, record, first = 0, last = first) {
-  const most = 160;
+  const most = 160, { places } = record;
   const line = text.slice(record.begin, record.end).replace(/[\r\n]/g, " ");
-  const from = (record.places[first] ?? record.places[0])[0] - record.begin;
-  const to = Math.max(from + 1, (record.places[last] ?? record.places.at(-1))[1] - record.begin);
+  const from = (places[first] ?? places[0])[0] - record.begin;
+  const to = Math.max(from + 1, (places[last] ?? places.at(-1))[1] - record.begin);
   if (line.length <= most) return { line, from, to };
   // A long line is cut about the place at fault.
   const left = Math.max(0, Math.min(from - 40, line.length - most));

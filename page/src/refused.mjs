@@ -95,25 +95,26 @@ function ofDates(fields) {
 
 // A kind of row that there is may still not stand there, or has a word that there isn't.
 function keyOf(record, code) {
-  const [kind] = record.fields;
+  const { kind } = record;
   return code === CAUSE.KIND && ["version", "boundary", "stream", "critical", "late"].includes(kind) ? `${code}_${kind}` : String(code);
 }
 
 /**
  * Returns the refused rows of a session in sentences.
  *
- * @param {object[]} records the records of the session
+ * @param {Iterable<object>} found the records of the session
  * @param {Map<number, number>} codes the codes of those that are refused, by their numbers
  * @param {string} text the session
  * @param {number} most how many are said
  */
-export function toldRefusals(records, codes, text, most) {
-  const declared = new Declared(), said = [];
-  for (const record of records) {
+export function toldRefusals(found, codes, text, most) {
+  const declared = new Declared(), said = [], wanted = Math.min(most, codes.size);
+  for (const record of found) {
+    if (said.length === wanted) break;
     const code = codes.get(record.number);
     if (code === undefined) {
       declared.take(record.fields);
-    } else if (said.length < most) {
+    } else {
       said.push({
         at: record.number, line: record.line, code,
         why: say(`r${keyOf(record, code)}`), remedy: say(`m${keyOf(record, code)}`), picture: rowShown(text, record, ...fieldsOf(record, code, declared)),

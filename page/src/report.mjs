@@ -13,18 +13,18 @@ export function takeColumns(output, lacking) {
 
 /** Returns the columns of a record: as many as it has fields, if its kind is known. */
 export function columnsOf(record) {
-  const names = columns[record.fields[0]];
+  const names = columns[record.kind];
   if (names === undefined) return [];
-  return record.fields.length - 1 === names.length - without.length && record.fields[0] === "stream"
+  return record.fields.length - 1 === names.length - without.length && record.kind === "stream"
     ? names.filter((name) => !without.includes(name))
     : names;
 }
 
 /** Returns the values of a record by its columns; what isn't there is empty. */
 export function valuesOf(record) {
-  const values = Object.fromEntries((columns[record.fields[0]] ?? []).map((name) => [name, ""]));
+  const values = Object.fromEntries((columns[record.kind] ?? []).map((name) => [name, ""])), { fields } = record;
   columnsOf(record).forEach((name, i) => {
-    values[name] = record.fields[i + 1] ?? "";
+    values[name] = fields[i + 1] ?? "";
   });
   return values;
 }
@@ -53,7 +53,7 @@ class Block {
 
   /** The rows of a kind. */
   all(kind) {
-    if (!this.kept.has(kind)) this.kept.set(kind, this.rows.filter(({ fields }) => fields[0] === kind).map(valuesOf));
+    if (!this.kept.has(kind)) this.kept.set(kind, this.rows.filter((row) => row.kind === kind).map(valuesOf));
     return this.kept.get(kind);
   }
 
@@ -64,7 +64,7 @@ class Block {
 
   /** The record of the first row of a kind, or of that with a name. */
   find(kind, name = "") {
-    return this.rows.find(({ fields }) => fields[0] === kind && (name === "" || fields[1] === name)) ?? null;
+    return this.rows.find((row) => row.kind === kind && (name === "" || row.fields[1] === name)) ?? null;
   }
 
   get streams() {
@@ -81,7 +81,7 @@ export function parsed(text) {
   const found = [...records(text)], blocks = [], between = [];
   let block = null;
   for (const record of found) {
-    const [kind] = record.fields;
+    const { kind } = record;
     if (kind === "report") {
       block = new Block(record);
       blocks.push(block);

@@ -1,6 +1,7 @@
 /** What the page shows of a judged file: of a report, of a session, and of a bundle. Each is made anew when the language changes. */
 import { STEP } from "./bundle.mjs";
 import { h, picture, table } from "./dom.mjs";
+import { records } from "./records.mjs";
 import { toldRefusals } from "./refused.mjs";
 import { valuesOf } from "./report.mjs";
 import { classOf, figures, headline } from "./statement.mjs";
@@ -107,8 +108,8 @@ const capital = (text) => text.slice(0, 1).toUpperCase() + text.slice(1);
 
 // ---- a session
 
-function refusedRows(session, codes, text) {
-  const rows = toldRefusals(session, codes, text, ROWS);
+function refusedRows(codes, text) {
+  const rows = toldRefusals(records(text), codes, text, ROWS);
   if (rows.length === 0) return null;
   return h("section", {}, h("h3", {}, say("refused_rows")), h("ol", { class: "refused" }, rows.map((row) => h("li", {},
     h("p", {}, h("b", {}, `${say("row_line", { at: whole(row.at), line: whole(row.line) })}. `), row.why),
@@ -144,9 +145,9 @@ function suspectsOf(block) {
 }
 
 function betweenOf(rows) {
-  const over = rows.filter(({ fields }) => fields[0] === "over").map(valuesOf);
-  const classes = rows.filter(({ fields }) => fields[0] === "class").map(valuesOf);
-  const others = rows.filter(({ fields }) => !["over", "class", "refused", "design"].includes(fields[0]));
+  const over = rows.filter(({ kind }) => kind === "over").map(valuesOf);
+  const classes = rows.filter(({ kind }) => kind === "class").map(valuesOf);
+  const others = rows.filter(({ kind }) => !["over", "class", "refused", "design"].includes(kind));
   const columns = [{ head: say("stream"), name: "name" }, { head: say("way"), name: "way" }, { head: say("class"), name: "class" }, { head: say("certificate"), name: "wide" }];
   return [
     over.map((row) => h("p", { class: "verdict small look" }, h("span", { class: "sign" }, "!"), say("over", row))),
@@ -158,12 +159,12 @@ function betweenOf(rows) {
 
 /** Returns what a run gave of a session. */
 export function sessionView(judged) {
-  const { text, session, codes, output } = judged;
+  const { text, codes, output } = judged;
   const last = output.blocks.length - 1;
   const parts = output.blocks.map((block, i) => () => statementOf(block, i === last && output.blocks.length <= BLOCKS));
   return [
     sessionBanner(judged),
-    refusedRows(session, codes, text),
+    refusedRows(codes, text),
     some(parts, BLOCKS, (n) => say("more_blocks", { n: whole(n) })),
     betweenOf(output.between),
     leaves(),
