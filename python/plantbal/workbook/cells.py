@@ -10,6 +10,7 @@ from decimal import ROUND_HALF_EVEN, Context, Decimal, Inexact
 from fractions import Fraction
 from functools import lru_cache
 
+from plantbal import limits
 from plantbal.faults import Fault, InputFault
 from plantbal.workbook.sheets import Cell, NoValue, Percent
 from plantbal.workbook.units import (
@@ -37,7 +38,7 @@ _DAY = re.compile(r"([0-9]{1,4})([./-])\s?([0-9]{1,2})\2\s?([0-9]{1,4})\.?")
 _TIME = re.compile(r"(.*?)[ T]+([0-9]{1,2}:[0-9]{2}(?::[0-9]{2}(?:[.,][0-9]+)?)?)")
 _NAMED = re.compile(r"([0-9]{1,2})\.?[ -]([^\W\d]+)\.?[ -]([0-9]{4})")
 _GRADE = re.compile(r"(.*?[0-9])\s*(%|[^\W\d_]+(?:/[^\W\d_]+)?)")
-_EXACT = Context(prec=400, traps=[Inexact])
+EXACT = Context(prec=400, traps=[Inexact])
 # Days that Excel's numbers stand for: 1954 to 2119.
 _FIRST_SERIAL, _LAST_SERIAL = 20_000, 80_000
 
@@ -78,12 +79,15 @@ def month_names(locale: str) -> dict[str, int]:
 
 def plain_number(text: str, mark: str, group: str) -> Decimal | None:
     """Return the number of a text with this decimal mark and these thousands, or None."""
-    mark, group = re.escape(mark), re.escape(group)
-    form = rf"[+-]?(?:[0-9]+|[0-9]{{1,3}}(?:{group}[0-9]{{3}})+)(?:{mark}[0-9]+)?"
-    if len(text) > 60 or not re.fullmatch(form, text):
+    if len(text) > limits.DIGITS or not _form_of(mark, group).fullmatch(text):
         return None
-    plain = re.sub(group, "", text) if group else text
-    return Decimal(re.sub(mark, ".", plain))
+    return Decimal(text.replace(group, "").replace(mark, ".") if group else text.replace(mark, "."))
+
+
+@lru_cache
+def _form_of(mark: str, group: str) -> re.Pattern[str]:
+    mark, group = re.escape(mark), re.escape(group)
+    return re.compile(rf"[+-]?(?:[0-9]+|[0-9]{{1,3}}(?:{group}[0-9]{{3}})+)(?:{mark}[0-9]+)?")
 
 
 @dataclass(frozen=True, slots=True)
@@ -182,7 +186,7 @@ class Reader:
             not self.locale_of(cell) and not exponent and _EITHER.fullmatch(plain)
         ):
             raise self.fault(cell, *self._why_not(cell, text, plain), head)
-        return number.scaleb(int(exponent.group(2)), _EXACT) if exponent else number
+        return number.scaleb(int(exponent.group(2)), EXACT) if exponent else number
 
     def locale_of(self, cell: Cell) -> str:
         """Return whose numbers and days a cell has: its sheet's own, or the workbook's."""

@@ -18,6 +18,7 @@ from plantbal.workbook.hours import (
     DayFigure,
     Days,
     Figure,
+    Starts,
     clock_of,
     counted,
     has_times,
@@ -105,14 +106,16 @@ def wide_by_day(
     if timed:
         clock = clock_of(reader, settings, first, first)
     found = Daily([], taken=[cells for cells, _ in stamped])
+    starts = Starts(clock)
     rows: dict[datetime.date, list[Cell]] = {}
     for column, figures in series.items():
         name = heads[column].text
-        days = _days_of(reader, clock, name, names[name], figures, timed)
+        days = _days_of(reader, clock, name, names[name], figures, timed, starts)
         found.take(days)
         for each in days.found:
-            row = rows.setdefault(each.day, _empty(heads, each, at))
-            row[column] = each.cell
+            if each.day not in rows:
+                rows[each.day] = _empty(heads, each, at)
+            rows[each.day][column] = each.cell
     hourly = timed and max(found.by_hours, default=1) > 1
     for cells, stamp in zip(lines, stamps):
         if stamp is None:
@@ -172,7 +175,8 @@ def long_by_day(
             found.lines.append(_as_day(rows[0][0], column, rows[0][1].at.date()))
             continue
         rows.sort(key=_order_of)
-        days = _days_of(reader, clock, name, names[name], [each for _, each in rows], timed)
+        every = [each for _, each in rows]
+        days = _days_of(reader, clock, name, names[name], every, timed, Starts(clock))
         found.take(days)
         by_stamp = {figure.stamp.line: cells for cells, figure in rows}
         unit = _one_unit(reader, [cells for cells, _ in rows], at.get("unit"))
@@ -192,7 +196,13 @@ def _order_of(row: tuple[list[Cell], Figure]) -> datetime.datetime:
 
 
 def _days_of(
-    reader: Reader, clock: Clock, said: str, name: str, figures: list[Figure], timed: bool
+    reader: Reader,
+    clock: Clock,
+    said: str,
+    name: str,
+    figures: list[Figure],
+    timed: bool,
+    starts: Starts,
 ) -> Days:
     """Return the days of a series."""
     modulus = clock.settings.counters.get(name)
@@ -200,7 +210,7 @@ def _days_of(
         figures = figures if timed else _at_begins(reader, clock, figures)
         return counted(reader, clock, said, modulus, figures)
     if timed:
-        return summed(reader, clock, said, figures)
+        return summed(reader, clock, said, figures, starts)
     plain = [each for each in figures if not reader.is_missing(each.cell)]
     return Days([DayFigure(each.at.date(), each.stamp, each.cell, 1) for each in plain])
 

@@ -17,13 +17,13 @@ import re
 from collections import Counter
 from collections.abc import Iterator, Sequence
 from dataclasses import dataclass, field
-from decimal import Decimal
+from decimal import Decimal, localcontext
 from fractions import Fraction
 from functools import lru_cache
 from zoneinfo import ZoneInfo
 
 from plantbal.faults import InputFault
-from plantbal.workbook.cells import Reader
+from plantbal.workbook.cells import EXACT, Reader
 from plantbal.workbook.settings import Settings
 from plantbal.workbook.sheets import Cell
 
@@ -256,26 +256,67 @@ def _are_begins(clock: Clock, figures: Sequence[Figure]) -> bool:
     )
 
 
-def summed(reader: Reader, clock: Clock, name: str, figures: Sequence[Figure]) -> Days:
+class Starts:
+    """The day and the begin of each stamp of a sheet, found once for all of its columns.
+
+    Parameters
+    ----------
+    clock : Clock
+        How its stamps are read.
+    """
+
+    def __init__(self, clock: Clock) -> None:
+        self.clock = clock
+        self._stamps: list[datetime.datetime] = []
+        self._found: list[tuple[datetime.date, datetime.datetime]] = []
+        self._hours: dict[datetime.date, list[datetime.datetime]] = {}
+
+    def of(
+        self, reader: Reader, figures: Sequence[Figure]
+    ) -> list[tuple[datetime.date, datetime.datetime]]:
+        """Return the day and the begin of each figure's stamp.
+
+        Raises
+        ------
+        InputFault
+            If a stamp comes twice, or isn't there.
+        """
+        stamps = [figure.at for figure in figures]
+        if stamps != self._stamps:
+            ends = _HOUR if self.clock.ends and not self.clock.is_daily else datetime.timedelta(0)
+            begins = [at - ends for at in self.clock.instants(reader, figures)]
+            self._found = [(self.clock.day(at), at) for at in begins]
+            self._stamps = stamps
+        return self._found
+
+    def hours(self, day: datetime.date) -> list[datetime.datetime]:
+        """Return the instants at which the hours of a day begin."""
+        if day not in self._hours:
+            self._hours[day] = self.clock.hours(day)
+        return self._hours[day]
+
+
+def summed(
+    reader: Reader, clock: Clock, name: str, figures: Sequence[Figure], starts: Starts
+) -> Days:
     """Return the days of a series of hourly figures, or of one figure a day."""
     days = Days()
     try:
-        instants = list(clock.instants(reader, figures))
+        found = starts.of(reader, figures)
     except InputFault as fault:
         days.faults.append(fault)
         return days
     hours: dict[datetime.date, dict[datetime.datetime, Figure]] = {}
-    for figure, instant in zip(figures, instants):
+    for figure, (day, start) in zip(figures, found):
         if clock.is_daily:
-            day = clock.day(instant) - (_DAY if clock.ends else datetime.timedelta(0))
+            day -= _DAY if clock.ends else datetime.timedelta(0)
             if not reader.is_missing(figure.cell):
                 days.found.append(DayFigure(day, figure.stamp, figure.cell, 1))
             continue
-        start = instant - (_HOUR if clock.ends else datetime.timedelta(0))
-        hours.setdefault(clock.day(start), {})[start] = figure
-    for day, found in hours.items():
+        hours.setdefault(day, {})[start] = figure
+    for day, of_day in hours.items():
         try:
-            _sum_day(reader, clock, name, day, found, days)
+            _sum_day(reader, starts, name, day, of_day, days)
         except InputFault as fault:
             days.faults.append(fault)
     return days
@@ -283,7 +324,7 @@ def summed(reader: Reader, clock: Clock, name: str, figures: Sequence[Figure]) -
 
 def _sum_day(
     reader: Reader,
-    clock: Clock,
+    starts: Starts,
     name: str,
     day: datetime.date,
     found: dict[datetime.datetime, Figure],
@@ -296,8 +337,8 @@ def _sum_day(
     InputFault
         If an hour has no figure, or a stamp isn't the begin of an hour.
     """
-    first = next(iter(found.values()))
-    wanted = clock.hours(day)
+    clock, first = starts.clock, next(iter(found.values()))
+    wanted = starts.hours(day)
     for instant in found.keys() - set(wanted):
         remedy = "give a figure for each hour, at its full hour"
         raise reader.fault(found[instant].stamp, "this isn't a full hour of the day", remedy)
@@ -313,8 +354,10 @@ def _sum_day(
         remedy = "write them, or empty all of the day and estimate it; missing hours and 0 in a "
         raise reader.fault(first.cell, what, f"{remedy}sheet settings take such hours for 0")
     days.filled += len(lacks)
-    total = sum((Fraction(reader.number(each.cell, name)) for each in there.values()), Fraction(0))
-    days.found.append(DayFigure(day, first.stamp, _with(first.cell, total), len(wanted)))
+    with localcontext(EXACT):
+        total = sum((reader.number(each.cell, name) for each in there.values()), Decimal(0))
+    cell = Cell(first.cell.sheet, first.cell.line, first.cell.column, total)
+    days.found.append(DayFigure(day, first.stamp, cell, len(wanted)))
 
 
 def counted(
