@@ -113,7 +113,8 @@ def _hole(plant: Plant, period: str, text: str) -> str:
     month = contents_of(plant).month(period)
     year = month.year if month is not None else ""
     contents = contents_of(plant)
-    there = [each.name for each in (*contents.flows.get(year, ()), *contents.vessels.get(year, ()))]
+    there = {each.name for each in contents.flows.get(year, ())}
+    there |= {each.name for each in contents.vessels.get(year, ())}
     known = [name for name in names if name in there]
     for name in known:
         address = escape(reverse("look:stream", args=[plant.slug, period, name]))

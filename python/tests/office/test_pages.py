@@ -14,6 +14,7 @@ import pytest
 from looks import SCRIPT, Look, differences, faults
 from office.hands import Browser
 from office.test_month_end import MILL, TOP
+from selenium.webdriver.support.ui import WebDriverWait
 
 KEPT = Path(__file__).with_name("pictures")
 SHOWN = TOP / "docs" / "pictures"
@@ -70,6 +71,8 @@ def fixture_shown(
 def look_of(desk: Browser, width: int) -> Look:
     """How the page looks at a width."""
     desk.driver.set_window_size(width, 900)
+    inner = lambda driver: driver.execute_script("return innerWidth") == width  # noqa: E731
+    WebDriverWait(desk.driver, 20).until(inner)
     answer = desk.driver.execute_script(f"return ({SCRIPT})({width})")
     look = Look.of(answer)
     steady = [
@@ -113,7 +116,7 @@ def complaints_of(desk: Browser, name: str, width: int) -> list[str]:
     """What no page may be, at a width."""
     look = look_of(desk, width)
     said = faults(look, width)
-    if name == "grid":  # it scrolls in a box of its own
+    if name in ("grid", "faults"):  # their tables scroll in boxes of their own
         said = [each for each in said if not each.startswith("beyond")]
     for text in look.texts:
         if text.text and contrast(text.ink, text.ground) < LEAST_CONTRAST:
