@@ -151,6 +151,10 @@ def pictured(desk: Browser, name: str) -> None:
     desk.driver.set_window_size(PICTURED[name], 900)
     high = desk.driver.execute_script("return document.querySelector('main').scrollHeight + 60")
     desk.driver.set_window_size(PICTURED[name], min(1500, high) + 90)
+    tidy = (
+        "for (const each of document.querySelectorAll('dd.hash')) if (each.textContent[0] === '/') "
+    )
+    desk.driver.execute_script(tidy + "each.textContent = '/srv/books/mountain-mill'")
     desk.driver.save_screenshot(str(SHOWN / f"office_{name}.png"))
 
 
