@@ -232,13 +232,6 @@ def _called(options: argparse.Namespace) -> int:
         return ExitStatus.STOPPED
 
 
-def script(word: str) -> NoReturn:
-    """Run a subcommand as a command of its own: the thin files in examples/ call it."""
-    command = next(command for command in COMMANDS if command.word == word)
-    prog = os.path.basename(sys.argv[0])
-    end(parser_of(command, prog), sys.argv[1:])
-
-
 def end(parser: argparse.ArgumentParser, words: Sequence[str]) -> NoReturn:
     """Run a command, and end with its status: a mistake of our own is none that a person looks at."""
     try:

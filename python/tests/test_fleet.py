@@ -92,7 +92,7 @@ ENGINES = {
 @pytest.mark.parametrize("words", ENGINES.values(), ids=ENGINES)
 def test_engine(program: Path, plants: Path, tmp_path: Path, words: list[str]) -> None:
     out = tmp_path / "out"
-    command = [TOP / "examples/fleet", "--program", program, "--jobs", "2", "--date", NIGHT, *words]
+    command = [TOP / "plantbal-desk", "fleet", "--program", program, "--jobs", "2", "--date", NIGHT, *words]
     done = subprocess.run(
         [*command, "--out", out, plants], capture_output=True, text=True, timeout=300, check=False
     )
@@ -543,7 +543,7 @@ def test_stopped(
     """What has its output isn't run again, and nothing looks whole that isn't."""
     log, out, words = forty
     words = ["--engine", engine, *words]
-    command = [str(word) for word in [TOP / "examples/fleet", *words]]
+    command = [str(word) for word in [TOP / "plantbal-desk", "fleet", *words]]
     with subprocess.Popen(
         command,
         stdout=subprocess.PIPE,
