@@ -91,6 +91,7 @@ COMMANDS: tuple[Command, ...] = (
     Command("page", "page.command", "the month's statement: a page, a workbook, a PDF"),
     Command("serve", "commands.serving", "the desk in the browser, for one person"),
     Command("fleet", "fleet.command", "run a folder of sessions", takes_words=True),
+    Command("across", "fleet.across", "all nights and books of a group in one database"),
     Command("tell", "fleet.tell", "send a mail about a night that needs a person"),
     Command("critical", "study.critical", "critical values as rows of a session"),
     Command("from-scipy", "study.foreign", "another program's figures in the form of a report"),

@@ -112,7 +112,7 @@ def test_a_reason_is_asked_for(
     monkeypatch.setattr("plantbal.commands.book.adding._may_ask", lambda: True)
     before = files_of(tmp_path / "mill")
     said = book("add", folder(tmp_path / "april", month()))
-    assert said.status == 1 and "a reason is wanted, and none came: say --why TEXT" in said.err
+    assert said.status == 2 and "a reason is wanted, and none came: say --why TEXT" in said.err
     assert files_of(tmp_path / "mill") == before
 
 
@@ -563,7 +563,7 @@ def test_nearly_full(book: Type, monkeypatch: pytest.MonkeyPatch) -> None:
 
 def test_no_book(say: Desk, tmp_path: Path) -> None:
     said = say("book", "status", "--book", tmp_path)
-    assert said.status == 1 and "there is no book in" in said.err
+    assert said.status == 3 and "there is no book in" in said.err
     assert list(tmp_path.iterdir()) == []
     said = say("book", "new", "24", tmp_path, "--book", tmp_path)
     assert "'24' is no year: say four digits" in said.err

@@ -56,7 +56,7 @@ def test_a_missing_day_is_what_the_balance_leaves(book: Type, tmp_path: Path) ->
     assert line.startswith(f"PRODUCT 2024-04-17: {feed / 1e6:,.0f} t ± 11."), said
     assert line.endswith(" t, by the balance of the day, of FEED")
     assert "nothing is booked; to book it: plantbal-desk book estimate 2024-04 --take" in said.out
-    assert book("estimate", "2024-04", "--take").status == 1
+    assert book("estimate", "2024-04", "--take").status == 2
     said = book("estimate", "2024-04", "--take", "--why", "the scale was out of order")
     assert "1 day is booked as an estimate" in said.out, said
     row = of(rows_of(tmp_path), 17)

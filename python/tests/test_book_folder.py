@@ -388,7 +388,7 @@ def test_reports_never_meet(tmp_path: Path, book: Type) -> None:
 
 def test_no_book(say: Desk, tmp_path: Path) -> None:
     said = say("book", "status", "--book", tmp_path / "none")
-    assert said.status == 1 and "or make one: plantbal-desk book new" in said.err
+    assert said.status == 3 and "or make one: plantbal-desk book new" in said.err
     assert not (tmp_path / "none").exists()
 
 

@@ -962,7 +962,7 @@ def test_empty_template(say: Desk, tmp_path: Path) -> None:
     template("utility", path)
     said = say("convert", path)
     assert said.status == 1 and "there is no stream: write the rows" in said.err
-    assert say("template", "refinery", tmp_path / "plant.ods").status == 1
+    assert say("template", "refinery", tmp_path / "plant.ods").status == 2
     assert say("template", "bakery", path).status == 2
 
 

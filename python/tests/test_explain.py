@@ -591,4 +591,4 @@ def test_command(say: Desk, tmp_path: Path) -> None:
     assert (good.status, good.out) == (0, "") and "nothing to explain" in good.err
     other = say("explain", example("refinery_day.csv"), output)
     assert other.status == 1 and "isn't the output of" in other.err
-    assert say("explain", tmp_path / "none").status == 1
+    assert say("explain", tmp_path / "none").status == 3

@@ -602,7 +602,7 @@ def test_command_of_a_good_session(say: Desk) -> None:
 def test_command_of_an_error(say: Desk, tmp_path: Path) -> None:
     assert say("lint", text="").status == 1
     said = say("lint", tmp_path / "none.csv")
-    assert said.status == 1 and "none.csv: No such file" in said.err
+    assert said.status == 3 and "none.csv: No such file" in said.err
     assert say("lint", "--ignore", "nothing", text=GOOD).status == 2
 
 

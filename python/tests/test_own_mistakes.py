@@ -242,7 +242,7 @@ def test_input(program: Path, say: Desk, tmp_path: Path, read: Input, mistake: s
         path.write_bytes(data)
     found = say(*(str(path) if word == "FILE" else word for word in read.words))
     text = found.err + (found.out if read.says == "out" else "")
-    assert found.status == 1, text
+    assert found.status == (3 if data in (FOLDER, NONE) else 1), text
     assert "Traceback" not in text and str(path) in text, text
     assert re.search(said.replace("FILE", re.escape(str(path))), text, re.DOTALL), text
 
@@ -281,7 +281,7 @@ def test_output(
         path.mkdir()
     before = sorted(tmp_path.rglob("*"))
     found = say(*words[:-1], path)
-    assert found.status == 1, found
+    assert found.status == 3, found
     assert f"{path}: it can't be written: " in found.err, found.err
     assert re.search(said, found.err) and "Traceback" not in found.err
     assert sorted(tmp_path.rglob("*")) == before
@@ -318,7 +318,7 @@ def test_full_device(program: Path, words: tuple[object, ...]) -> None:
             text=True,
             check=False,
         )
-    assert done.returncode == 1, done.stderr
+    assert done.returncode == 3, done.stderr
     assert "standard output: No space left on device: make room" in done.stderr
     assert "Traceback" not in done.stderr and "Exception" not in done.stderr
 
@@ -370,7 +370,7 @@ def test_missing_tool(
         monkeypatch.setitem(sys.modules, tool, None)
     made = [str(word).replace("OUT", str(tmp_path / "made")) for word in words]
     found = say(*made)
-    assert (found.status, said in found.err) == (1, True), found.err
+    assert (found.status, said in found.err) == (3, True), found.err
     assert "Traceback" not in found.err and not list(tmp_path.iterdir())
 
 
@@ -380,7 +380,7 @@ def test_another_python(say: Desk, monkeypatch: pytest.MonkeyPatch) -> None:
     for own in (False, True):
         monkeypatch.setattr(sys, "executable", "/usr/bin/python3" if own else "/opt/bin/python3")
         found = say("tables", "flows", OUTPUT)
-        assert found.status == 1 and "install python3-pandas" in found.err
+        assert found.status == 3 and "install python3-pandas" in found.err
         assert (", which is for /usr/bin/python3: this is /opt/bin/" in found.err) != own
 
 
@@ -438,9 +438,10 @@ NAMES = [
     "words, said", NAMES, ids=[f"{words[0]} {words[-1]}" for words, _ in NAMES]
 )
 def test_names(program: Path, say: Desk, words: list[object], said: str) -> None:
-    """A period, a stream or an ending that isn't there is named, with those that are."""
+    """A period or a stream that isn't there is named, and an ending, which is of the words."""
     found = say(*words)
-    assert (found.status, found.out, said in found.err) == (1, "", True), found.err
+    status = 2 if Path(str(words[-1])).suffix in (".pdf", ".json", ".ods", ".txt", ".gif") else 1
+    assert (found.status, found.out, said in found.err) == (status, "", True), found.err
 
 
 # Those with mistakes in tests of their own.

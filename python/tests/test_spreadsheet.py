@@ -203,7 +203,7 @@ def test_rows_before_of_another_form(say: Desk, tmp_path: Path) -> None:
     before = tmp_path / "plant.csv"
     before.write_text("critical,global,1,3841\ntank;SILO;1\n")
     found = say("from-spreadsheet", *WORDS, "--before", before, FOLDER / "tags.csv", "none.csv")
-    assert found.status == 1 and "none.csv: No such file" in found.err
+    assert found.status == 3 and "none.csv: No such file" in found.err
     files = [FOLDER / "tags.csv", FOLDER / "readings.csv"]
     found = say("from-spreadsheet", *WORDS, "--before", before, *files)
     assert (found.status, found.out) == (1, "")

@@ -40,6 +40,7 @@ READING: dict[str, tuple[str, ...]] = {
     "page": ("FILE",),
     "fleet": ("--out", "OUT", "FILE"),
     "tell": ("FILE",),
+    "across": ("--out", "OUT", "FILE"),
     "map": ("FILE",),
     "from-scipy": ("FILE",),
 }
