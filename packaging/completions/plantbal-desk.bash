@@ -20,7 +20,7 @@ _plantbal_desk() {
     fi
     for ((at = 1; at < COMP_CWORD; at++)); do
         case ${COMP_WORDS[at]} in
-        run|lint|explain|check|archive|audit|report|solve|map|convert|book|template|from-spreadsheet|tables|uncertainty|advise|balance|recovery|draw|chart|page|serve|fleet|tell|critical|from-scipy|schema) word=${COMP_WORDS[at]}; break ;;
+        run|lint|explain|check|archive|audit|report|solve|map|convert|book|template|from-spreadsheet|tables|uncertainty|advise|balance|recovery|draw|chart|page|serve|fleet|across|tell|critical|from-scipy|schema) word=${COMP_WORDS[at]}; break ;;
         esac
     done
     case $word:$before in
@@ -178,6 +178,7 @@ _plantbal_desk() {
         fleet:--level) :; return ;;
         fleet:--forget) :; return ;;
         fleet:--keep) :; return ;;
+        across:--out) _plantbal_files -d; return ;;
         tell:--to) :; return ;;
         tell:--from) :; return ;;
         tell:--smtp) :; return ;;
@@ -341,6 +342,12 @@ _plantbal_desk() {
             return
         fi
         _plantbal_words '-h --help --out --date --again --recursive --engine --jobs --timeout --retries --scheduler --send --program --lint --stale --level --forget --keep' ;;
+    across)
+        if [[ $here != -* ]]; then
+            _plantbal_files -d
+            return
+        fi
+        _plantbal_words '-h --help --out' ;;
     tell)
         _plantbal_words '-h --help --to --from --smtp --security --user --password-file --sendmail --tries --pause --age --status --always' ;;
     critical)
@@ -353,7 +360,7 @@ _plantbal_desk() {
         _plantbal_words '-h --help --period --change --without-least' ;;
     schema)
         _plantbal_words '-h --help' ;;
-    *) _plantbal_words 'run lint explain check archive audit report solve map convert book template from-spreadsheet tables uncertainty advise balance recovery draw chart page serve fleet tell critical from-scipy schema -h --help --version' ;;
+    *) _plantbal_words 'run lint explain check archive audit report solve map convert book template from-spreadsheet tables uncertainty advise balance recovery draw chart page serve fleet across tell critical from-scipy schema -h --help --version' ;;
     esac
 }
 
