@@ -94,17 +94,17 @@ function proofOf(rows) {
 
 /** Returns what the tests of a block say: a level, a headline and sentences. */
 export function headline(block) {
-  const solved = block.one("solved"), whole_ = block.one("global");
+  const solved = block.one("solved"), overall = block.one("global");
   const rejecting = block.all("measure").filter(({ verdict }) => verdict === "reject");
   rejecting.sort((a, b) => (numberOf(b.low) > numberOf(a.low) ? 1 : -1));
   const said = [];
   if (solved !== null) {
     const values = { low: thousandths(numberOf(solved.low)), high: thousandths(numberOf(solved.high)), dof: solved.dof };
     said.push(say(solved.high ? "statistic_between" : "statistic_least", values)
-      + (whole_?.critical ? ` ${say("critical_is", { critical: thousandths(numberOf(whole_.critical)) })}` : ""));
+      + (overall?.critical ? ` ${say("critical_is", { critical: thousandths(numberOf(overall.critical)) })}` : ""));
   }
   if (solved?.state !== "converged") return { level: "bad", head: say("unconverged"), said };
-  const key = { accept: "accepted", reject: "rejected", undecided: "undecided", nocritical: "nocritical", notest: "notest" }[whole_?.verdict] ?? "untested";
+  const key = { accept: "accepted", reject: "rejected", undecided: "undecided", nocritical: "nocritical", notest: "notest" }[overall?.verdict] ?? "untested";
   const level = { accepted: "good", rejected: "look", undecided: "look" }[key] ?? "plain";
   if (key === "rejected" && rejecting.length > 0) {
     said.push(say("suspects", { names: rejecting.slice(0, 6).map(({ stream }) => stream).join(", ") }));
