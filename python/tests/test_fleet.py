@@ -92,7 +92,17 @@ ENGINES = {
 @pytest.mark.parametrize("words", ENGINES.values(), ids=ENGINES)
 def test_engine(program: Path, plants: Path, tmp_path: Path, words: list[str]) -> None:
     out = tmp_path / "out"
-    command = [TOP / "plantbal-desk", "fleet", "--program", program, "--jobs", "2", "--date", NIGHT, *words]
+    command = [
+        TOP / "plantbal-desk",
+        "fleet",
+        "--program",
+        program,
+        "--jobs",
+        "2",
+        "--date",
+        NIGHT,
+        *words,
+    ]
     done = subprocess.run(
         [*command, "--out", out, plants], capture_output=True, text=True, timeout=300, check=False
     )
@@ -862,3 +872,23 @@ def test_checksums_of_any_name() -> None:
 
 def test_heads_are_in_the_help(say: Desk) -> None:
     assert ",".join(HEADS) in "".join(say("fleet", "--help").out.split())
+
+
+def test_pages(say: Desk, tmp_path: Path, program: Path, monkeypatch: pytest.MonkeyPatch) -> None:
+    """A night of many plants has several pages; those that need a person are on the first ones."""
+    monkeypatch.setattr("plantbal.fleet.index.PLANTS", 4)
+    data = {f"p{k}.csv": SITE.format(100_000_000).encode() for k in range(9)} | {"z.csv": b""}
+    folder, out = folder_of(tmp_path / "sessions", data), tmp_path / "out"
+    words = ["fleet", "--program", program, "--out", out, "--jobs", 2]
+    say(*words, "--date", "2026-11-28", folder)
+    pages = sorted(path.name for path in out.glob("index*.html"))
+    assert pages == ["index-2.html", "index-3.html", "index.html"]
+    texts = [(out / name).read_text() for name in ("index.html", "index-2.html", "index-3.html")]
+    found = [re.findall(r'class="(?:good|look)">\n<td>(?:<a [^>]*>)?(\w+)', text) for text in texts]
+    assert found == [["z", "p0", "p1", "p2"], ["p3", "p4", "p5", "p6"], ["p7", "p8"]]
+    assert all('aria-current="page"' in text and "10 plants, of which 1" in text for text in texts)
+    for k in range(4, 9):
+        (folder / f"p{k}.csv").unlink()
+    forget = [word for k in range(4, 9) for word in ("--forget", f"p{k}")]
+    say(*words, "--date", "2026-11-29", *forget, folder)
+    assert sorted(path.name for path in out.glob("index*.html")) == ["index-2.html", "index.html"]

@@ -1,10 +1,14 @@
-"""The page of a night: plants that need a person first, and each plant's nights before it."""
+"""The page of a night: plants that need a person first, and each plant's nights before it.
+
+A night of many plants has several pages, of some hundred plants each, so that a browser shows each
+at once: ``index.html``, ``index-2.html`` and so on.
+"""
 
 from __future__ import annotations
 
 import sqlite3
 from collections import defaultdict
-from collections.abc import Sequence
+from collections.abc import Iterator, Sequence
 from dataclasses import dataclass
 from functools import cache
 from typing import TYPE_CHECKING
@@ -20,6 +24,7 @@ if TYPE_CHECKING:
     from jinja2 import Template
 
 NIGHTS = 14
+PLANTS = 500  # of a page
 
 
 @dataclass(frozen=True, slots=True)
@@ -67,32 +72,49 @@ def template() -> Template:
 
 
 def index(night: Night, plants: Sequence[Plant], times: Times) -> None:
-    """Write the page of a night."""
+    """Write the pages of a night, and take away those that an earlier night had more."""
     with database(night.out / "fleet.sqlite") as base:
         before = _before(base, night)
         nights = base.execute(
             "SELECT night, plants, wanting FROM nights ORDER BY night DESC LIMIT 31"
         ).fetchall()
     ordered = sorted(plants, key=lambda plant: (not plant.needs, plant.site))
-    lines = [
-        Line(
-            row,
-            _link(night, row),
-            [*(plant.why if place == 0 else []), *plant.why_of.get(row.period, [])],
-            before[row.site] if place == 0 else [],
+    parts = [ordered[at : at + PLANTS] for at in range(0, len(ordered), PLANTS)] or [[]]
+    names = [page_name(number) for number in range(1, len(parts) + 1)]
+    # the first one last: whoever sees it finds the others
+    for name, part in reversed(list(zip(names, parts))):
+        text = template().render(
+            night=night,
+            times=times,
+            lines=list(_lines(night, part, before)),
+            nights=nights,
+            said=summary(plants),
+            words=" ".join(night.words),
+            pages=names if len(names) > 1 else [],
+            page=name,
+            first=part[0].site if part else "",
+            last=part[-1].site if part else "",
         )
-        for plant in ordered
-        for place, row in enumerate(plant.rows)
-    ]
-    text = template().render(
-        night=night,
-        times=times,
-        lines=lines,
-        nights=nights,
-        said=summary(plants),
-        words=" ".join(night.words),
-    )
-    write_text(night.out / "index.html", text)
+        write_text(night.out / name, text)
+    number = len(names) + 1
+    while (path := night.out / page_name(number)).exists():
+        path.unlink()
+        number += 1
+
+
+def page_name(number: int) -> str:
+    """Return the name of a page, counted from 1."""
+    return "index.html" if number == 1 else f"index-{number}.html"
+
+
+def _lines(
+    night: Night, plants: Sequence[Plant], before: dict[str, list[tuple[str, bool]]]
+) -> Iterator[Line]:
+    """Give the lines of plants."""
+    for plant in plants:
+        for place, row in enumerate(plant.rows):
+            why = [*(plant.why if place == 0 else []), *plant.why_of.get(row.period, [])]
+            yield Line(row, _link(night, row), why, before[row.site] if place == 0 else [])
 
 
 def _link(night: Night, row: Row) -> str:

@@ -25,6 +25,7 @@ RESERVED = (
     "night.prom",
 )
 NIGHT = re.compile(r"\d{4}-\d\d-\d\d(?:[T_.-][0-9A-Za-z]+)?")
+_PAGE = re.compile(r"index-[0-9]+\.html")
 _SHOWN = 5
 
 
@@ -284,7 +285,7 @@ def _name_fault(name: str, paths: list[Path]) -> InputFault | None:
     """Return why no session can be run under a name, if none can."""
     place = Place(file=str(paths[0]))
     for part in name.split("/"):
-        if part in RESERVED or NIGHT.fullmatch(part):
+        if part in RESERVED or NIGHT.fullmatch(part) or _PAGE.fullmatch(part):
             said = f"the name {part} is one of the nights' own"
             return InputFault(said, place=place, remedy="rename it")
     if not name.isprintable():  # a line feed, or bytes that are no UTF-8
