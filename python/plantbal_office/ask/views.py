@@ -67,6 +67,7 @@ def difference(request: HttpRequest, period: str) -> HttpResponse:
     states = tuple(words.split(" ")) if words else ()
     if len(states) not in (0, 2) or any(len(each) > 12 for each in states):
         raise Fault(_("these are no two states"), remedy=_("choose them from the list"))
+    version = contents_of(request.plant).version
     found = plain_book(request.plant).difference(period, *states)
     choices = [f"{number} now" for number in range(1, month.earlier + 1)]
     choices += [f"{n} {n + 1}" for n in range(1, month.earlier)] + ["posted now"]
@@ -77,7 +78,7 @@ def difference(request: HttpRequest, period: str) -> HttpResponse:
         "causes": list(dict.fromkeys(str(each) for each in found.causes)),
         "between": words,
         "choices": choices,
-        "version": contents_of(request.plant).version,
+        "version": version,
         "section": "ask",
         "is_old": month.report is ReportState.OLDER,
     }

@@ -3,6 +3,7 @@
 from __future__ import annotations
 
 from collections.abc import Callable
+from dataclasses import dataclass
 
 from django import forms
 from django.contrib import messages
@@ -13,6 +14,7 @@ from django.utils.translation import gettext as _
 from django.utils.translation import gettext_lazy
 
 from plantbal.book.closing import NotClosed
+from plantbal.book.expected import Version
 from plantbal.book.ledger import Fact
 from plantbal.book.library import Book
 from plantbal.book.looking import Contents, FactLine
@@ -53,6 +55,15 @@ class Reason(forms.Form):
 # ---- single facts
 
 
+@dataclass(frozen=True)
+class Asked:
+    """What is asked for of a fact: the fact, the version of its book, and how the page is headed."""
+
+    found: FactLine
+    version: Version
+    title: str
+
+
 def named(found: Fact) -> tuple[str, str | None]:
     """Return the words that name a fact: its place and its day, or of a ticket its id."""
     return (found.id, None) if found.kind == "transfer" else (found.place, str(found.first))
@@ -60,6 +71,7 @@ def named(found: Fact) -> tuple[str, str | None]:
 
 def amend(request: HttpRequest, year: str, identity: str) -> HttpResponse:
     """Give a fact another value: the form, what it would do, and then the deed."""
+    version = contents_of(request.plant).version
     found = plain_book(request.plant).fact(year, identity)
     words = request.POST if request.method == "POST" else request.GET
     form = Change(words if "amount" in words else None)
@@ -78,11 +90,12 @@ def amend(request: HttpRequest, year: str, identity: str) -> HttpResponse:
             locale=locale,
         )
 
-    return _changed(request, found, form, act, _("Amend"))
+    return _changed(request, Asked(found, version, _("Amend")), form, act)
 
 
 def strike(request: HttpRequest, year: str, identity: str) -> HttpResponse:
     """Take a fact out: the form, what it would do, and then the deed."""
+    version = contents_of(request.plant).version
     found = plain_book(request.plant).fact(year, identity)
     words = request.POST if request.method == "POST" else request.GET
     form = Reason(words if "why" in words else None)
@@ -91,19 +104,16 @@ def strike(request: HttpRequest, year: str, identity: str) -> HttpResponse:
     def act(book: Book) -> Edited:
         return book.strike(name, day, why=form.cleaned_data["why"].strip())
 
-    return _changed(request, found, form, act, _("Strike"))
+    return _changed(request, Asked(found, version, _("Strike")), form, act)
 
 
 def _changed(
-    request: HttpRequest,
-    found: FactLine,
-    form: forms.Form,
-    act: Callable[[Book], Edited],
-    title: str,
+    request: HttpRequest, asked: Asked, form: forms.Form, act: Callable[[Book], Edited]
 ) -> HttpResponse:
     """Show the form of a change, or what it would do, or do it."""
-    words = {"found": found, "fact": found.shown.fact, "form": form, "title": title}
-    words |= {"version": contents_of(request.plant).version, "section": "statement"}
+    found = asked.found
+    words = {"found": found, "fact": found.shown.fact, "form": form, "title": asked.title}
+    words |= {"version": asked.version, "section": "statement"}
     if not form.is_bound or not form.is_valid():
         return render(request, "correct/change.html", words, status=400 if form.errors else 200)
     if request.method == "POST":
@@ -202,6 +212,8 @@ def estimate(request: HttpRequest, period: str) -> HttpResponse:
             return reverse("look:statement", args=[request.plant.slug, period])
 
         return once(request, deed)
+    # before anything is looked at: what is decided then is on no newer book
+    version = contents_of(request.plant).version
     found = plain_book(request.plant).estimate(period, stream)
     trial: Trial | None = None
     if any(each.is_needed for each in found.proposals):
@@ -212,7 +224,7 @@ def estimate(request: HttpRequest, period: str) -> HttpResponse:
         "stream": stream,
         "lines": [(each, proposal_said(each)) for each in found.proposals],
         "trial": trial,
-        "version": contents_of(request.plant).version,
+        "version": version,
         "form": Reason(),
         "section": "statement",
     }
@@ -252,13 +264,14 @@ def close(request: HttpRequest, period: str) -> HttpResponse:
     if month.closed:
         words = {"month": month, "section": "statement", "stand": stand_of(request.plant, month)}
         return render(request, "correct/closed.html", words)
+    version = contents_of(request.plant).version
     said, stops = _asked(request, period)
     gates = list(dict.fromkeys(stop.gate for stop in stops))
     words = {
         "month": month,
         "said": said,
         "gates": [(gate, about(gate), _of(gate, stops)) for gate in gates],
-        "version": contents_of(request.plant).version,
+        "version": version,
         "section": "statement",
     }
     return render(request, "correct/close.html", words)

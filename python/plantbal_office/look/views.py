@@ -114,6 +114,7 @@ def _bars(values: list[int | None]) -> list[tuple[float, float, int]]:
 
 def fact(request: HttpRequest, year: str, identity: str) -> HttpResponse:
     """Show a fact: what it says, what it was, the row and the lines of the journal that have it."""
+    version = contents_of(request.plant).version
     found = plain_book(request.plant).fact(year, identity)
     here = found.shown.fact
     words = {
@@ -121,7 +122,7 @@ def fact(request: HttpRequest, year: str, identity: str) -> HttpResponse:
         "fact": here,
         "in_unit": in_unit(here, found.meter),
         "is_estimate": is_marked(here.id) and not found.shown.before,
-        "version": contents_of(request.plant).version,
+        "version": version,
         "section": "statement",
     } | notes_on(request, f"fact:{year}:{identity}")
     return render(request, "look/fact.html", words)
