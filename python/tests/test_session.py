@@ -14,7 +14,7 @@ from conftest import least_spent
 from hypothesis import given, settings
 from hypothesis import strategies as st
 
-from plantbal import Fault, Refusal, Session
+from plantbal import Fault, InputFault, Refusal, Session
 from plantbal.amounts import grams_of, tonnes_of, tonnes_text, variance_of
 from plantbal.records import read_records
 from plantbal.schema import schema
@@ -367,3 +367,45 @@ def test_to_csv_is_whole_or_not_there(tmp_path: Path) -> None:
     assert [p.name for p in tmp_path.iterdir()] == ["s.csv"]
     with pytest.raises(Fault, match="No such file"):
         session.to_csv(tmp_path / "none" / "s.csv")
+
+
+def test_rows_as_dicts() -> None:
+    """As JSON has them: the keys are the names of the columns, and no float is taken."""
+    rows: list[dict[str, object]] = [
+        {"kind": "unit", "name": "U"},
+        {"kind": "stream", "name": "A", "from": "env", "to": "U", "word": "metered", "base": 1},
+        {"kind": "stream", "name": "B", "from": "U", "to": "env", "word": "plain", "base": 0},
+        {"kind": "period", "name": "d1", "first": "2024-03-01", "last": datetime.date(2024, 3, 1)},
+        {"kind": "critical", "word": "global", "dof": "1", "value": 3841},
+        {
+            "kind": "reading",
+            "id": "r",
+            "stream": "A",
+            "day": "2024-03-01",
+            "grams": 5,
+            "variance": 9,
+        },
+        {"kind": "report", "period": "d1"},
+    ]
+    assert Session.from_dicts(rows).to_csv().splitlines() == [
+        "unit,U",
+        "stream,A,env,U,metered,1",
+        "stream,B,U,env,plain,0",
+        "period,d1,2024-03-01,2024-03-01",
+        "critical,global,1,3841",
+        "reading,r,A,2024-03-01,5,9",
+        "report,d1",
+    ]
+    wrong: list[tuple[dict[str, object], str]] = [
+        ({"kind": "units", "name": "U"}, "row 1: there is no kind 'units': say one of version"),
+        ({"name": "U"}, "there is no kind None"),
+        ({"kind": "unit"}, "its keys aren't those of a row unit: beside kind it has name"),
+        ({"kind": "unit", "name": 1.5}, "name is 1.5, of type float: say a text"),
+        ({"kind": "unit", "name": True}, "of type bool"),
+    ]
+    for row, said in wrong:
+        with pytest.raises(InputFault) as fault:
+            Session.from_dicts([row])
+        assert said in str(fault.value), row
+    refused = Session.from_dicts([*rows[:1], *rows[:1]], strict=False).refused
+    assert len(refused) == 1 and "row 2" in str(refused[0])

@@ -23,6 +23,7 @@ from plantbal.model.refusals import Refusals
 from plantbal.model.state import State
 from plantbal.model.words import refusal_of
 from plantbal.records import without_empty_end
+from plantbal.session.dicts import fields_of
 
 if TYPE_CHECKING:
     import pandas
@@ -313,7 +314,31 @@ class SessionRows:
         for number, fields in enumerate(zip(*columns)):
             self.row("reading", *fields, place=place(number))
 
-    # ---- frames
+    # ---- dicts and frames
+
+    @classmethod
+    def from_dicts(cls, rows: Iterable[Mapping[str, object]], *, strict: bool = True) -> Self:
+        """Return the session of rows as dicts, such as those that JSON has.
+
+        Parameters
+        ----------
+        rows : iterable of mapping of str to object
+            Each row: its ``kind``, and its columns by their names in ``plantbal.schema``.
+        strict : bool
+            Whether a row that the program would refuse is an exception; otherwise it is left out,
+            and stands in `refused`.
+
+        Raises
+        ------
+        InputFault
+            If a row hasn't the keys of its kind, or a value that isn't exact.
+        Refusal
+            If the program would refuse a row, and the session is strict.
+        """
+        session = cls(strict=strict)
+        for number, row in enumerate(rows, 1):
+            session.row(*fields_of(row, number), place=Place(row=str(number)))
+        return session
 
     @classmethod
     def from_frames(
