@@ -440,7 +440,8 @@ NAMES = [
 def test_names(program: Path, say: Desk, words: list[object], said: str) -> None:
     """A period or a stream that isn't there is named, and an ending, which is of the words."""
     found = say(*words)
-    status = 2 if Path(str(words[-1])).suffix in (".pdf", ".json", ".ods", ".txt", ".gif") else 1
+    is_of_words = Path(str(words[-1])).suffix in (".pdf", ".json", ".ods") or len(words) == 5
+    status = 2 if is_of_words else 1
     assert (found.status, found.out, said in found.err) == (status, "", True), found.err
 
 
