@@ -10,7 +10,7 @@ from typing import Any
 
 import pytest
 from conftest import Desk
-from office import DAYS, Rows, grams_of_streams, level, office, refinery, written
+from libre import DAYS, Rows, grams_of_streams, level, office, refinery, written
 
 from plantbal import convert
 from plantbal.faults import Fault, InputFault
