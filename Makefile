@@ -46,7 +46,7 @@ SECONDS = 600
 SEED = 0
 KEEP = /tmp/plantbal-fuzz
 
-.PHONY: install install-program install-desk install-verify install-library install-library-dev deb wheel audit image release check-packages book-tries fuzz page clean
+.PHONY: install install-program install-desk install-office install-verify install-library install-library-dev deb wheel audit image release check-packages book-tries fuzz page clean
 
 install: install-program install-desk
 
@@ -97,6 +97,14 @@ install-desk:
 	    sed 's|@BIN@|$(PREFIX)/bin|; s|@LIBEXEC@|$(LIBEXEC)|; s|@DOC@|$(PREFIX)/share/doc/python3-plantbal|' "$$unit" >"$(DESTDIR)$(UNITS)/$$(basename "$$unit")"; \
 	    chmod 644 "$(DESTDIR)$(UNITS)/$$(basename "$$unit")"; \
 	done
+
+install-office:
+	install -D -m 755 packaging/office/plantbal-office $(BIN)/plantbal-office
+	install -D -m 644 packaging/office/gunicorn.py $(SHARE)/plantbal-office/gunicorn.py
+	install -D -m 644 -t $(SHARE)/doc/plantbal-office docs/OFFICE.md
+	install -D -m 644 -t $(SHARE)/doc/plantbal-office/examples packaging/office/nginx.conf packaging/office/Caddyfile
+	install -D -m 644 -t $(SHARE)/man/man8 docs/plantbal-office.8
+	install -D -m 644 -t "$(DESTDIR)$(UNITS)" packaging/office/plantbal-office.service packaging/office/plantbal-office.socket
 
 $(LIBRARY_FROM)/libplantbal.so.0:
 	@echo "make: there is no $@: ./build library proves and builds it" >&2; exit 1

@@ -100,6 +100,22 @@ def _rules() -> Iterable[Rule]:
         yield Rule(address, method, Scope.PLANT, roles)
 
 
+# The door of an office's service; a desk of one person has none of these.
+_OF_SERVICE = (
+    Rule("service:signin", "GET", Scope.ANYBODY),
+    Rule("service:signin", "POST", Scope.ANYBODY),
+    Rule("service:second", "GET", Scope.ANYBODY),
+    Rule("service:second", "POST", Scope.ANYBODY),
+    Rule("service:oidc", "GET", Scope.ANYBODY),
+    Rule("service:back", "GET", Scope.ANYBODY),
+    Rule("service:signout", "POST", Scope.PERSON),
+    Rule("service:enroll", "GET", Scope.PERSON),
+    Rule("service:enroll", "POST", Scope.PERSON),
+    Rule("service:password", "GET", Scope.PERSON),
+    Rule("service:password", "POST", Scope.PERSON),
+    Rule("service:log", "GET", Scope.SERVICE),
+)
+
 _OF_PLANTS: tuple[tuple[str, str, frozenset[Role]], ...] = (
     ("plants:months", "GET", SEES),
     ("plants:verify", "GET", SEES),
@@ -150,8 +166,10 @@ _OF_PLANTS: tuple[tuple[str, str, frozenset[Role]], ...] = (
 )
 
 RULES: dict[tuple[str, str], Rule] = {(rule.address, rule.method): rule for rule in _rules()}
+SERVICE_RULES = {(rule.address, rule.method): rule for rule in _OF_SERVICE}
 
 
 def rule_of(address: str, method: str) -> Rule | None:
     """Return the rule of an address, or None if there is none: then nobody may."""
-    return RULES.get((address, "GET" if method == "HEAD" else method))
+    asked = address, "GET" if method == "HEAD" else method
+    return RULES.get(asked) or SERVICE_RULES.get(asked)

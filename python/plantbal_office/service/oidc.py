@@ -1,0 +1,60 @@
+"""Signing in by OpenID Connect: Authlib asks the provider, and an account has to be there."""
+
+from __future__ import annotations
+
+from authlib.common.errors import AuthlibBaseError
+from authlib.integrations.django_client import OAuth
+from django.conf import settings
+from django.http import Http404, HttpRequest, HttpResponse
+from django.urls import reverse
+from django.utils.translation import gettext as _
+
+from plantbal.faults import Fault
+from plantbal_office.middleware import said
+from plantbal_office.people.models import Person
+from plantbal_office.service import locks
+from plantbal_office.service.models import Event
+from plantbal_office.service.views import entered
+
+_PROVIDER = "provider"
+
+
+def _client() -> object:
+    """Return the client of the provider that the configuration names."""
+    named = settings.PLANTBAL_OIDC
+    if not named:
+        raise Http404
+    oauth = OAuth()
+    oauth.register(
+        _PROVIDER,
+        client_id=named["client"],
+        client_secret=named["secret"],
+        server_metadata_url=named["server"],
+        client_kwargs={"scope": "openid profile email", "code_challenge_method": "S256"},
+    )
+    return oauth.create_client(_PROVIDER)
+
+
+def leave(request: HttpRequest) -> HttpResponse:
+    """Go to the provider."""
+    client = _client()
+    back = request.build_absolute_uri(reverse("service:back"))
+    return client.authorize_redirect(request, back)  # type: ignore[attr-defined]
+
+
+def back(request: HttpRequest) -> HttpResponse:
+    """Come back from the provider: whoever it names signs in, if that account is there."""
+    client = _client()
+    try:
+        token = client.authorize_access_token(request)  # type: ignore[attr-defined]
+    except (AuthlibBaseError, OSError, ValueError, KeyError) as error:
+        locks.note(request, Event.Kind.FAILED, "", f"oidc: {type(error).__name__}")
+        what = _("the provider didn't say who you are")
+        return said(request, Fault(what, remedy=_("begin at the sign-in again")), 403)
+    name = str((token.get("userinfo") or {}).get(settings.PLANTBAL_OIDC["claim"], ""))
+    person = Person.objects.filter(username=name, is_active=True).first() if name else None
+    if person is None:
+        locks.note(request, Event.Kind.FAILED, name, "oidc: no account")
+        what = _("there is no account for you here")
+        return said(request, Fault(what, remedy=_("ask your administrator for it")), 403)
+    return entered(request, person, "/")
