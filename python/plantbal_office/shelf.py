@@ -79,7 +79,7 @@ def _marks(folder: Path) -> Iterator[tuple[str, int, int, int, int]]:
 
 def who_of(request: HttpRequest) -> str:
     """Return whose name a journal gets for what a request does."""
-    return request.user.shown_name if settings.PLANTBAL_NAMES_PEOPLE else ""
+    return request.user.get_username() if settings.PLANTBAL_NAMES_PEOPLE else ""
 
 
 def book_of(request: HttpRequest, *, expected: bool = False) -> Book:

@@ -94,6 +94,14 @@ def submit(
         return Closed(name, found.report, done.head, found.reasons)
 
 
+def closing(book: Store, name: str, settings: RunSettings = RunSettings()) -> Reported | None:
+    """Return what a close would say; the parameters are those of `plantbal.Book.closing`."""
+    with book.opened(reading=True):
+        every = {gate: about(gate) for gate in Gate}
+        found = prepared(book, name, anyway=every, settings=settings, who="")
+    return found.report if found is not None else None
+
+
 @dataclass(frozen=True)
 class Prepared:
     """A close that has yet to be done.

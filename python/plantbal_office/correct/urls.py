@@ -2,10 +2,14 @@
 
 from django.urls import path
 
-from plantbal_office.correct import views
+from plantbal_office.correct import approval, views
 
 app_name = "correct"
 urlpatterns = [
+    path("waiting", approval.waiting, name="waiting"),
+    path("approve", approval.approve, name="approve"),
+    path("to-sign", approval.to_sign, name="to_sign"),
+    path("<str:period>/submit", approval.submit, name="submit"),
     path("quiet", views.quiet, name="quiet"),
     path("<str:period>/report", views.report, name="report"),
     path("<str:period>/close", views.close, name="close"),

@@ -273,6 +273,7 @@ def close(request: HttpRequest, period: str) -> HttpResponse:
         "gates": [(gate, about(gate), _of(gate, stops)) for gate in gates],
         "version": version,
         "section": "statement",
+        "ruled": plain_book(request.plant).rules() is not None,
     }
     return render(request, "correct/close.html", words)
 
@@ -284,14 +285,10 @@ def _of(gate: Gate, stops: list[Stop]) -> list[tuple[str, str]]:
 
 def _asked(request: HttpRequest, period: str) -> tuple[Said, list[Stop]]:
     """Return what the report says with which a month would be closed, and what it stops at."""
-    with plain_book(request.plant).trial() as book:
-        try:
-            done = book.close(period, settings=run_settings())
-        except NotClosed as stopped:
-            stops = list(stopped.report.stops)
-            return report_said(stopped.report.output, stops), stops
-        assert done.report is not None
-        return report_said(done.report.output), []
+    report = plain_book(request.plant).closing(period, settings=run_settings())
+    assert report is not None, "a closed month isn't asked"
+    stops = list(report.stops)
+    return report_said(report.output, stops), stops
 
 
 def _close(request: HttpRequest, period: str, given: dict[Gate, str]) -> str:

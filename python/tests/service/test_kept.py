@@ -204,6 +204,64 @@ def test_configurations_that_are_refused(tmp_path: Path, more: str, what: str) -
         read_config(path)
 
 
+# ---- by two
+
+
+def test_a_close_by_two(office: services.Service, tmp_path: Path) -> None:
+    """One submits in the browser and another approves there; nobody does both, and both are named."""
+    book = office.books / "two"
+    examples = TOP / "examples" / "month_end"
+    code = (
+        "from pathlib import Path; from plantbal import Book\n"
+        "from plantbal.workbook.options import ReadingOptions\n"
+        f"top = Path({str(examples)!r}); book = Book({str(book)!r}, who='eva'); de = ReadingOptions('de')\n"
+        "book.begin('2023-24', top / 'plant', reading=de); book.add(top / 'april', reading=de)\n"
+        f"rules = Path({str(tmp_path / 'rules')!r})\n"
+        f"rules.write_text('[wants]\\nclose = true\\n[sign]\\nvouching = [{os.geteuid()}]\\n')\n"
+        "book.set_rules(rules)\n"
+    )
+    subprocess.run([sys.executable, "-c", code], env=office.here, check=True)
+    office.plant("two", book)
+    office.person("lisa", "engineer", plant="two")
+    office.person("paul", "engineer", "approver", plant="two")
+    lisa, paul = office.signed_in("lisa"), office.signed_in("paul")
+    page = paul.get("/p/two/correct/2024-04/close").text
+    assert "Submit the close" in page
+    words = hidden(page) | dict.fromkeys(re.findall(r'name="(why-[a-z-]+)"', page), "as it is")
+    assert paul.post("/p/two/correct/2024-04/submit", words, at="/").status_code == 302
+    page = paul.get("/p/two/correct/waiting").text
+    words = hidden(page) | {"answer": "approve", "head": field(page, "head")}
+    answer = paul.post("/p/two/correct/approve", words, at="/")
+    assert answer.status_code == 400 and "you have submitted action" in answer.text
+    words = hidden(page) | {
+        "answer": "reject",
+        "head": field(page, "head"),
+        "why": "by somebody else",
+    }
+    assert paul.post("/p/two/correct/approve", words, at="/").status_code == 302
+    page = lisa.get("/p/two/correct/2024-04/close").text
+    words = hidden(page) | dict.fromkeys(re.findall(r'name="(why-[a-z-]+)"', page), "as it is")
+    assert lisa.post("/p/two/correct/2024-04/submit", words, at="/").status_code == 302
+    page = paul.get("/p/two/correct/waiting").text
+    words = hidden(page) | {"answer": "approve", "head": field(page, "head")}
+    assert lisa.post("/p/two/correct/approve", words, at="/").status_code == 403
+    assert paul.post("/p/two/correct/approve", words, at="/").status_code == 302
+    done = services.run(
+        [sys.executable, "-m", "plantbal", "book", "signed", "--book", book], env=office.here
+    )
+    assert done.returncode == 0, done.stdout + done.stderr
+    assert "submitted by lisa as action" in done.stdout and "approved by paul" in done.stdout
+
+
+def hidden(page: str) -> dict[str, str]:
+    """The fields of the first form of a page that has a key."""
+    return {name: field(page, name) for name in ("deed", "version")}
+
+
+def field(page: str, name: str) -> str:
+    return re.findall(rf'name="{name}" value="([^"]*)"', page)[0]
+
+
 # ---- killed
 
 

@@ -44,7 +44,7 @@ def marks_of(user: str, who: str, rules: Rules, signed: str = "") -> Marks:
     number = number_of(user)
     name = name_of(user, who, rules)
     found = {f"name {each}" for each in (name, signed) if each}
-    if number is None or number not in rules.vouching:
+    if not name or number not in rules.vouching:
         found.add(f"user {number if number is not None else user}")
     return frozenset(found)
 

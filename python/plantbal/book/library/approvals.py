@@ -12,7 +12,7 @@ from plantbal.book.approval.history import Looked
 from plantbal.book.approval.rules import Rules
 from plantbal.book.approval.state import Waiting
 from plantbal.book.library.base import Base
-from plantbal.book.results import Closed
+from plantbal.book.results import Closed, Reported
 from plantbal.book.store import Head
 from plantbal.gates import Gate
 from plantbal.program import RunSettings
@@ -59,6 +59,23 @@ class Approvals(Base):
         return ruling.set_rules(
             store, rules=rules, signers=signers, revoked=revoked, why=why, who=who
         )
+
+    def closing(self, period: str, *, settings: RunSettings | None = None) -> Reported | None:
+        """Return the report with which a period would be closed, and what stops it; do nothing.
+
+        Parameters
+        ----------
+        period : str
+            The period.
+        settings : RunSettings, optional
+            How it is run.
+
+        Returns
+        -------
+        Reported or None
+            None if the period is closed already.
+        """
+        return closing.closing(self._store(), period, self._settings(settings))
 
     def submit(
         self,

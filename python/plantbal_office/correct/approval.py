@@ -1,0 +1,98 @@
+"""What two people do: one submits a close, another looks at what waits, and approves or rejects it."""
+
+from __future__ import annotations
+
+from django.contrib import messages
+from django.http import HttpRequest, HttpResponse
+from django.shortcuts import render
+from django.urls import reverse
+from django.utils.translation import gettext as _
+
+from plantbal.book.approval.state import Waiting
+from plantbal.faults import Fault
+from plantbal.gates import Gate
+from plantbal_office.deeds.once import once
+from plantbal_office.shelf import book_of, contents_of, plain_book, run_settings
+
+_REASON = 80  # characters
+_ROWS = 40  # of what waits
+
+
+def submit(request: HttpRequest, period: str) -> HttpResponse:
+    """Submit the close of a month."""
+    anyway = {gate: request.POST.get(f"why-{gate.value}", "").strip() for gate in Gate}
+    given = {gate: why[: _REASON + 1] for gate, why in anyway.items() if why}
+
+    def act() -> str:
+        done = book_of(request, expected=True).submit(period, anyway=given, settings=run_settings())
+        what = _("{name} is submitted, and waits for an approval by somebody else.")
+        messages.success(request, what.format(name=done.period))
+        return reverse("correct:waiting", args=[request.plant.slug])
+
+    return once(request, act)
+
+
+def waiting(request: HttpRequest) -> HttpResponse:
+    """Show what waits for an approval."""
+    book = plain_book(request.plant)
+    rules = book.rules()
+    words = {
+        "waiting": [(each, _rows(each)) for each in book.waiting()],
+        "keys": rules is not None and rules.keys,
+        "ruled": rules is not None,
+        "version": contents_of(request.plant).version,
+        "section": "statement",
+    }
+    return render(request, "correct/waiting.html", words)
+
+
+def _rows(waiting: Waiting) -> list[str]:
+    """Return the rows that wait, the first of many."""
+    return [
+        f"{name}: {row}"
+        for name, text in waiting.proposal.rows.items()
+        for row in text.splitlines()[:_ROWS]
+    ]
+
+
+def to_sign(request: HttpRequest) -> HttpResponse:
+    """Give the text that an approval signs, as a file."""
+    book = book_of(request)
+    text = book.to_sign(request.GET.get("head", ""))
+    answer = HttpResponse(text, content_type="text/plain; charset=utf-8")
+    answer["Content-Disposition"] = 'attachment; filename="approval.txt"'
+    return answer
+
+
+def approve(request: HttpRequest) -> HttpResponse:
+    """Approve what was shown, or reject it with a reason."""
+    head, why = request.POST.get("head", ""), request.POST.get("why", "").strip()
+    signature, record = _file(request, "signature"), _file(request, "record")
+    is_rejected = request.POST.get("answer") == "reject"
+
+    def act() -> str:
+        book = book_of(request)
+        if is_rejected:
+            book.reject(head, why=why[:_REASON])
+            messages.success(request, _("It is rejected, and nothing of it is done."))
+        else:
+            done = book.approve(head, record=record, signature=signature)
+            what = (
+                _("{of} is approved, and done.")
+                if not done.lacking
+                else _("{of} is approved; more have to.")
+            )
+            messages.success(request, what.format(of=f"{done.act} {done.of}".strip()))
+        return reverse("correct:waiting", args=[request.plant.slug])
+
+    return once(request, act)
+
+
+def _file(request: HttpRequest, name: str) -> str:
+    """Return the text of a small file of a form; nothing without one."""
+    found = request.FILES.get(name)
+    if found is None:
+        return ""
+    if found.size > 1 << 16:
+        raise Fault(_("this is no signature"), remedy=_("send the file that ssh-keygen has made"))
+    return str(found.read().decode("ascii", "replace"))
