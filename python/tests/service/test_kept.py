@@ -156,7 +156,7 @@ def test_sign_in_by_ldap(office: services.Service, tmp_path: Path) -> None:
             "-w",
             "secret",
         ]
-        for _ in range(50):
+        for _ in range(300):
             if services.run(add, input=entry).returncode in (0, 68):
                 break
             time.sleep(0.2)
