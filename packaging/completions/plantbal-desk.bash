@@ -20,7 +20,7 @@ _plantbal_desk() {
     fi
     for ((at = 1; at < COMP_CWORD; at++)); do
         case ${COMP_WORDS[at]} in
-        run|lint|explain|check|archive|audit|report|solve|map|convert|book|template|from-spreadsheet|tables|uncertainty|advise|balance|recovery|draw|chart|page|serve|fleet|across|tell|critical|from-scipy|schema) word=${COMP_WORDS[at]}; break ;;
+        run|lint|explain|check|archive|audit|report|solve|map|convert|book|pull|push|template|from-spreadsheet|tables|uncertainty|advise|balance|recovery|draw|chart|page|serve|fleet|across|tell|critical|from-scipy|schema) word=${COMP_WORDS[at]}; break ;;
         esac
     done
     case $word:$before in
@@ -104,6 +104,12 @@ _plantbal_desk() {
         book:--title) :; return ;;
         book:--plant) _plantbal_files -f; return ;;
         book:--first) :; return ;;
+        pull:--book) _plantbal_files -d; return ;;
+        pull:--who) :; return ;;
+        pull:--from) :; return ;;
+        pull:--to) :; return ;;
+        push:--book) _plantbal_files -d; return ;;
+        push:--who) :; return ;;
         from-spreadsheet:--decimal) _plantbal_words 'point comma'; return ;;
         from-spreadsheet:--date) :; return ;;
         from-spreadsheet:--missing) :; return ;;
@@ -266,6 +272,10 @@ _plantbal_desk() {
             return
         fi
         _plantbal_words '-h --help --program --locale --missing --skip --limits --mapping --book --who --key --why --strike --anyway --year --dry-run --json --density --error --take --session --gap --sweeps --no-tests --eliminate --report --head --text --signed --signers --revoked --stamps --off --csv --xlsx --postings --by --owner --tanks --page --title --all --plant --first' ;;
+    pull)
+        _plantbal_words '-h --help --book --who --from --to --dry-run' ;;
+    push)
+        _plantbal_words '-h --help --book --who --tables' ;;
     template)
         if [[ $here != -* ]]; then
             if [[ ! " ${COMP_WORDS[*]:at + 1:COMP_CWORD - at - 1} " =~ ' '(refinery|concentrator|utility)' ' ]]; then
@@ -360,7 +370,7 @@ _plantbal_desk() {
         _plantbal_words '-h --help --period --change --without-least' ;;
     schema)
         _plantbal_words '-h --help' ;;
-    *) _plantbal_words 'run lint explain check archive audit report solve map convert book template from-spreadsheet tables uncertainty advise balance recovery draw chart page serve fleet across tell critical from-scipy schema -h --help --version' ;;
+    *) _plantbal_words 'run lint explain check archive audit report solve map convert book pull push template from-spreadsheet tables uncertainty advise balance recovery draw chart page serve fleet across tell critical from-scipy schema -h --help --version' ;;
     esac
 }
 

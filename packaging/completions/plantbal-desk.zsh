@@ -5,7 +5,7 @@ _plantbal_desk() {
     local -a specifications
     local word at
     for ((at = 2; at < CURRENT; at++)); do
-        case $words[at] in run|lint|explain|check|archive|audit|report|solve|map|convert|book|template|from-spreadsheet|tables|uncertainty|advise|balance|recovery|draw|chart|page|serve|fleet|across|tell|critical|from-scipy|schema) word=$words[at]; break ;; esac
+        case $words[at] in run|lint|explain|check|archive|audit|report|solve|map|convert|book|pull|push|template|from-spreadsheet|tables|uncertainty|advise|balance|recovery|draw|chart|page|serve|fleet|across|tell|critical|from-scipy|schema) word=$words[at]; break ;; esac
     done
     case $word in
     run)
@@ -188,6 +188,29 @@ _plantbal_desk() {
             '1:word:(book)'
             '2:COMMAND:(new add show amend strike estimate report window close submit submitted approve reject rules signed quiet difference posted account status next retire verify head accept)'
             '*:FILE:_files'
+        ) ;;
+    pull)
+        specifications=(
+            '-h[show this help message and exit]'
+            '--help[show this help message and exit]'
+            '--book=[the book'\''s folder]:FOLDER:_files -/'
+            '--who=[who does it, beside the user'\''s own name]:NAME:'
+            '--from=[the first day (default\: that of the book'\''s last year)]:DAY:'
+            '--to=[the last day (default\: yesterday)]:DAY:'
+            '--dry-run[say what would be booked, and book nothing]'
+            '1:word:(pull)'
+            '*:MAPPING:'
+        ) ;;
+    push)
+        specifications=(
+            '-h[show this help message and exit]'
+            '--help[show this help message and exit]'
+            '--book=[the book'\''s folder]:FOLDER:_files -/'
+            '--who=[who does it, beside the user'\''s own name]:NAME:'
+            '--tables[print how the tables are made]'
+            '1:word:(push)'
+            '2:MAPPING:'
+            '*:PERIOD:'
         ) ;;
     template)
         specifications=(
@@ -422,7 +445,7 @@ _plantbal_desk() {
             '-h[show this help message and exit]'
             '--help[show this help message and exit]'
             '--version[write the version and end]'
-            "1:word:((run\:'run a session, and say what has to be looked at' lint\:'say what in a session is accepted but looks wrong' explain\:'say for each refused row what is wrong with it' check\:'check a report, in CSV or as JSON lines' archive\:'put a month into a bundle with digests' audit\:'say whether a bundle, or a report and its session, holds' report\:'turn a report into CSV, SQLite or a workbook' solve\:'reconcile with scipy if sweeps don'\''t come near' map\:'propose how a plant'\''s own workbook is read' convert\:'a session from a plant'\''s workbook' book\:'keep a plant'\''s book, a session for each year' template\:'an empty workbook for convert' from-spreadsheet\:'a session from daily readings and tags' tables\:'tables of flows, classes, suspects, imbalances' uncertainty\:'how good each flow is, and which meters it rests on' advise\:'which streams to meter so that each is observable, at least cost' balance\:'reconcile flows and grades together, with both errors' recovery\:'where a component goes, its recovery, and a chart of it' draw\:'draw a report, a design, or which streams to meter' chart\:'chart the periods of one or more reports' page\:'the month'\''s statement\: a page, a workbook, a PDF' serve\:'the desk in the browser, for one person' fleet\:'run a folder of sessions' across\:'all nights and books of a group in one database' tell\:'send a mail about a night that needs a person' critical\:'critical values as rows of a session' from-scipy\:'another program'\''s figures in the form of a report' schema\:'the rows of sessions and outputs as data'))"
+            "1:word:((run\:'run a session, and say what has to be looked at' lint\:'say what in a session is accepted but looks wrong' explain\:'say for each refused row what is wrong with it' check\:'check a report, in CSV or as JSON lines' archive\:'put a month into a bundle with digests' audit\:'say whether a bundle, or a report and its session, holds' report\:'turn a report into CSV, SQLite or a workbook' solve\:'reconcile with scipy if sweeps don'\''t come near' map\:'propose how a plant'\''s own workbook is read' convert\:'a session from a plant'\''s workbook' book\:'keep a plant'\''s book, a session for each year' pull\:'read facts of a database into a book' push\:'write what is booked to a database, once' template\:'an empty workbook for convert' from-spreadsheet\:'a session from daily readings and tags' tables\:'tables of flows, classes, suspects, imbalances' uncertainty\:'how good each flow is, and which meters it rests on' advise\:'which streams to meter so that each is observable, at least cost' balance\:'reconcile flows and grades together, with both errors' recovery\:'where a component goes, its recovery, and a chart of it' draw\:'draw a report, a design, or which streams to meter' chart\:'chart the periods of one or more reports' page\:'the month'\''s statement\: a page, a workbook, a PDF' serve\:'the desk in the browser, for one person' fleet\:'run a folder of sessions' across\:'all nights and books of a group in one database' tell\:'send a mail about a night that needs a person' critical\:'critical values as rows of a session' from-scipy\:'another program'\''s figures in the form of a report' schema\:'the rows of sessions and outputs as data'))"
         ) ;;
     esac
     _arguments -s : $specifications

@@ -17,7 +17,7 @@ from plantbal.statuses import ExitStatus, said
 
 # Each is imported by the calls that need it, and is Debian's package python3-NAME.
 LIBRARIES = frozenset(
-    "babel distributed django graphviz jinja2 matplotlib networkx numpy openpyxl pandas scipy tqdm".split()
+    "babel distributed django graphviz jinja2 matplotlib networkx numpy openpyxl pandas scipy sqlalchemy tqdm".split()
 )
 
 
@@ -73,6 +73,8 @@ COMMANDS: tuple[Command, ...] = (
     Command("map", "workbook.mapping.command", "propose how a plant's own workbook is read"),
     Command("convert", "workbook.conversion", "a session from a plant's workbook"),
     Command("book", "commands.book.command", "keep a plant's book, a session for each year"),
+    Command("pull", "commands.database:PULL", "read facts of a database into a book"),
+    Command("push", "commands.database:PUSH", "write what is booked to a database, once"),
     Command("template", "workbook.template", "an empty workbook for convert"),
     Command("from-spreadsheet", "workbook.spreadsheet", "a session from daily readings and tags"),
     Command("tables", "report.tables", "tables of flows, classes, suspects, imbalances"),

@@ -45,5 +45,12 @@ FAULTS_KEPT = 10_000
 LINT_SECONDS = 300.0
 # Seconds that graphviz has for a drawing.
 DRAWING_SECONDS = 60.0
-# A mapping of a workbook.
+# A mapping of a workbook, or of a database.
 MAPPING_BYTES = 1 << 20
+
+# What a query of a database gives: rows, seconds until it is cancelled, and megabytes of figures.
+QUERY_ROWS = 2_000_000
+QUERY_SECONDS = 60
+QUERY_MEGABYTES = 256
+# A file with a password.
+PASSWORD_BYTES = 1 << 12

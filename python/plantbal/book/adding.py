@@ -5,16 +5,24 @@ from __future__ import annotations
 import calendar
 import datetime
 from collections.abc import Callable, Mapping, Sequence
-from pathlib import Path
+from typing import Protocol
 
 from plantbal.book.accounting import accounts_of, put_accounts
 from plantbal.book.changes import Changes, compare, gone, strayed
+from plantbal.book.forms import MEASURES
 from plantbal.book.ledger import FACT_KINDS, PLANT_KINDS, Fact, Ledger, rows_text
+from plantbal.book.measures import (
+    density_changes,
+    put_measures,
+    put_trails,
+    trails_of,
+)
 from plantbal.book.meters import Meter, meters_of, meters_text, read_meters
-from plantbal.book.reading import ANOTHER_VALUE, converted, raise_all
 from plantbal.book.mapping import mapping_of, put_reading
+from plantbal.book.reading import ANOTHER_VALUE, Given, Tabled, converted, name_of, raise_all
 from plantbal.book.results import Added, YearAdded
 from plantbal.book.said import closed_in, counted, doubts, lacking, odd
+from plantbal.book.forms import MEASURES
 from plantbal.book.store import METERS, PLANT, Act, Action, Store
 from plantbal.book.years import Years
 from plantbal.faults import Fault, InputFault, Refusal
@@ -26,8 +34,16 @@ from plantbal.workbook.converter import Converter
 from plantbal.workbook.options import ReadingOptions
 from plantbal.workbook.sheets import Cell
 
-# Gives the reason of a change, by what is said of it.
-Why = Callable[[str], str]
+
+class Reasoned(Protocol):
+    """What has a reason for each fact that is changed."""
+
+    def reason_of(self, fact: Fact) -> str:
+        """Return why a booked fact is changed or struck."""
+
+
+# Gives the reason of a change, by what is said of it, or by the fact.
+Why = Callable[[str], str] | Reasoned
 
 
 class Unreasoned(Fault):
@@ -36,19 +52,19 @@ class Unreasoned(Fault):
     Attributes
     ----------
     changes : tuple of str
-        What would change, a line each.
+        What would change, a line each: first the densities by which facts change.
     """
 
-    def __init__(self, changes: Sequence[str]) -> None:
-        are = "is" if len(changes) == 1 else "are"
-        what = f"{counted(len(changes), 'fact')} {are} booked otherwise"
+    def __init__(self, count: int, changes: Sequence[str]) -> None:
+        are = "is" if count == 1 else "are"
+        what = f"{counted(count, 'fact')} {are} booked otherwise"
         super().__init__(what, remedy='say why: --why "typed a digit short"; nothing is booked')
         self.changes = tuple(changes)
 
 
 def add(
     book: Store,
-    workbook: str | Path,
+    workbook: Given,
     *,
     why: str | Why = "",
     strike: bool = False,
@@ -59,7 +75,7 @@ def add(
     who: str = "",
 ) -> Added:
     """Add a workbook; the parameters are those of `plantbal.Book.add`."""
-    name = Path(workbook).name
+    name = name_of(workbook)
     with book.opened(reading=dry_run):
         before: dict[str, list[Finding]] = {}
         years = Years(book, lambda ledger: before.update({ledger.name: odd(ledger)}))
@@ -69,8 +85,11 @@ def add(
         of_years = years.all() if wide else [into]  # periods are asked only for what they share
         periods = [each for ledger in of_years for each in ledger.periods.values()]
         accounts = accounts_of(book)
-        kept = reading.kept(mapping_of(book))
-        work = converted(workbook, kept, into.plant, meters, periods, accounts)
+        # what comes from a database isn't written as the workbooks of the book are
+        is_tabled = isinstance(workbook, Tabled)
+        kept = reading if is_tabled else reading.kept(mapping_of(book))
+        measures = book.text(MEASURES)
+        work = converted(workbook, kept, into.plant, meters, periods, accounts, measures)
         facts = [Fact.of(row) for row in work.session if row[0] in (*FACT_KINDS, "late")]
         raise_all(years.outside(facts))
         plant = put_plant(into, work)
@@ -79,7 +98,13 @@ def add(
         if strike and not anyway:
             check_most(changes, name)
         reasons = Reasons(why)
-        check_reasons(changes, strike, why)
+        found = meters | {meter.name: meter for meter in meters_of(work.plant)}
+        trails = work.measuring.trails
+        causes: list[str] = []
+        if changes.changed and not why:
+            of = trails_of(book), changes.changed, trails, meters, found
+            causes += density_changes(*of)
+        check_reasons(changes, strike, why, causes)
         changes.put(reasons, strike)
         raise_all(put_assays(years, work))
 
@@ -89,13 +114,14 @@ def add(
             action.add(ledger)
         if plant and into is years.last:
             action.written[PLANT] = rows_text(into.plant)
-        found = meters | {meter.name: meter for meter in meters_of(work.plant)}
         if meters_text(found.values()) != meters_text(meters.values()):
             action.written[METERS] = meters_text(found.values())
 
         told = put_accounts(accounts, work.accounts, book, action)
-        if reading.mapping is not None and put_reading(book, kept, action):
+        if reading.mapping is not None and not is_tabled and put_reading(book, kept, action):
             told.append("mapping.toml: later workbooks are read by it")
+        told += put_measures(book, action, work.measures.found)
+        put_trails(book, action, changes, trails)
         parts = tuple(_year_added(before, ledger, facts, found) for ledger in years.used)
         is_booked = not dry_run and bool(action.appended or action.written)
         if is_booked:
@@ -168,19 +194,26 @@ class Reasons:
         self.why = why
         self.given: dict[str, str] = {}
 
-    def __call__(self, identity: str, said: str) -> str:
+    def __call__(self, fact: Fact, said: str) -> str:
         """Return the reason of a change."""
-        if identity not in self.given:
-            self.given[identity] = self.why if isinstance(self.why, str) else self.why(said)
-        return self.given[identity]
+        if fact.id not in self.given:
+            self.given[fact.id] = self._reason(fact, said)
+        return self.given[fact.id]
+
+    def _reason(self, fact: Fact, said: str) -> str:
+        if isinstance(self.why, str):
+            return self.why
+        return self.why(said) if callable(self.why) else self.why.reason_of(fact)
 
     def said(self) -> str:
         """Return the reasons, each once."""
         return "; ".join(dict.fromkeys(self.given.values()))
 
 
-def check_reasons(changes: Changes, strike: bool, why: str | Why) -> None:
-    """Refuse changes without a reason.
+def check_reasons(
+    changes: Changes, strike: bool, why: str | Why, causes: Sequence[str] = ()
+) -> None:
+    """Refuse changes without a reason; what causes them is said before them.
 
     Raises
     ------
@@ -191,7 +224,7 @@ def check_reasons(changes: Changes, strike: bool, why: str | Why) -> None:
     if strike:
         lines += [f"{fact.id}: {fact.said()} is struck" for _, fact in changes.gone]
     if lines and not why:
-        raise Unreasoned(list(dict.fromkeys(lines)))
+        raise Unreasoned(len(set(lines)), [*causes, *dict.fromkeys(lines)])
 
 
 # ---- assays

@@ -13,6 +13,7 @@ from plantbal.audit.believed import program_digest
 from plantbal.book.accounting import put_accounts
 from plantbal.book.forms import JOURNAL, is_year, is_year_file, year_file
 from plantbal.book.ledger import PLANT_KINDS, rows_text
+from plantbal.book.measures import put_measures
 from plantbal.book.meters import meters_of, meters_text
 from plantbal.book.reading import check_faults, sheets_of
 from plantbal.book.mapping import put_reading
@@ -26,7 +27,11 @@ from plantbal.report.parsing import parse_rows
 from plantbal.workbook.conversion import NO_STREAMS, Conversion
 from plantbal.workbook.converter import Converter
 from plantbal.workbook.options import ReadingOptions
-from plantbal.workbook.sheetkinds import PLANT_SHEETS, Stage
+from plantbal.workbook.sheetforms import Stage
+from plantbal.workbook.sheetkinds import PLANT_SHEETS
+
+# Of the sessions of a book: with it a day of service can be given at any time.
+VERSION: tuple[tuple[str, ...], ...] = ()
 
 
 def begin(
@@ -50,6 +55,7 @@ def begin(
         action.written[year_file(year)] = rows_text(rows)
         told = put_accounts(Accounts(), work.accounts, book, action)
         put_reading(book, reading, action)
+        told += put_measures(book, action, work.measures.found)
         action.rows = [f"{year}: 1 to {len(rows)}"]
         classes = classes_of(rows, program)
         book.do(action)
@@ -111,6 +117,7 @@ def plant_of(
         what, remedy = "there is no sheet streams", NO_STREAMS
         raise InputFault(what, place=Place(file=str(workbook)), remedy=remedy)
     work.known = accounts
+    work.plant.begin(VERSION)
     work.read(Stage.PLANT)
     work.tables.say_unread(PLANT_SHEETS)
     work.faults.extend(work.session.refused)

@@ -66,6 +66,9 @@ class Changes:
         Facts that a command has amended or struck, and that the workbook has as they were before.
     same : int
         How many are booked as they stand there.
+    rows : list of (Ledger, int, str, str)
+        Of each fact that was put to a year the number of its row, its id in the workbook, and the
+        one under which it is booked.
     """
 
     new: list[tuple[Ledger, Fact]] = field(default_factory=list)
@@ -74,35 +77,40 @@ class Changes:
     gone: list[tuple[Ledger, Fact]] = field(default_factory=list)
     stale: list[Change] = field(default_factory=list)
     same: int = 0
+    rows: list[tuple[Ledger, int, str, str]] = field(default_factory=list)
 
     def edited(self, strike: bool) -> list[tuple[Ledger, Fact]]:
         """Return the booked facts that are changed or struck, with their years."""
         pairs = [(change.ledger, change.old) for change in [*self.changed, *self.left]]
         return [*pairs, *(self.gone if strike else ())]
 
-    def put(self, reason: Callable[[str, str], str], strike: bool) -> None:
+    def put(self, reason: Callable[[Fact, str], str], strike: bool) -> None:
         """Put the rows to the ledgers.
 
         Parameters
         ----------
         reason : callable
-            Returns the reason of a change, by the fact's id and what changes.
+            Returns the reason of a change, by the fact and what changes.
         strike : bool
             Whether facts that are gone are struck.
         """
         for ledger, fact in self.gone if strike else ():
-            ledger.put("strike", fact.id, reason(fact.id, f"{fact.id} is struck"))
+            ledger.put("strike", fact.id, reason(fact, f"{fact.id} is struck"))
         for change in self.left:
-            change.ledger.put("strike", change.old.id, reason(change.old.id, change.said()))
+            change.ledger.put("strike", change.old.id, reason(change.old, change.said()))
         for change in self.changed:
-            why = reason(change.old.id, change.said())
+            why = reason(change.old, change.said())
             if change.moved:
                 change.ledger.put("strike", change.old.id, why)
                 self.new.append((change.ledger, change.new))
             else:
-                change.ledger.put(*change.new.amendment(change.old.id, why))
+                ledger, identity = change.ledger, change.old.id
+                ledger.put(*change.new.amendment(identity, why))
+                self.rows.append((ledger, ledger.count, change.new.id, identity))
         for ledger, fact in self.new:
-            ledger.put_fact(replace(fact, id=ledger.free(fact.id)))
+            identity = ledger.free(fact.id)
+            ledger.put_fact(replace(fact, id=identity))
+            self.rows.append((ledger, ledger.count, fact.id, identity))
 
 
 def compare(years: Years, facts: list[Fact]) -> Changes:

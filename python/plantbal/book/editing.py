@@ -9,6 +9,7 @@ from fractions import Fraction
 
 from plantbal.book.forms import report_file
 from plantbal.book.ledger import Fact, Ledger
+from plantbal.book.measures import check_measured, trails_of
 from plantbal.book.meters import Meter, read_meters, taken
 from plantbal.book.naming import Names, cell_of
 from plantbal.book.results import Edited
@@ -19,6 +20,7 @@ from plantbal.faults import Fault, Refusal
 from plantbal.workbook.base import Span, share_at
 from plantbal.workbook.cells import Reader, check_locale
 from plantbal.workbook.plant import TankRow
+from plantbal.workbook.units import AMOUNTS, VOLUMES
 
 
 # ---- other values
@@ -42,6 +44,13 @@ class Other:
     density: str
     error: str
     locale: str
+
+    def is_volume(self, meter: Meter) -> bool:
+        """Whether the amount is a volume, which a density and a temperature make a mass."""
+        cell = cell_of(self.amount)
+        return (
+            Reader(check_locale(self.locale)).split(cell, AMOUNTS, "")[1] or meter.unit
+        ) in VOLUMES
 
     def of(self, fact: Fact, meter: Meter, tank: TankRow | None, born: int = 0) -> Fact:
         """Return a fact with these values, its variance by the error of its meter.
@@ -116,6 +125,8 @@ def amend(
             raise Fault(f"{fact.id} was struck", text=name, remedy=remedy)
         tanks = {tank.name: tank for tank in taken(places[-1][0].plant, meters)[1]}
         meter = meters.get(fact.place, Meter(fact.place))
+        is_volume = fact.kind != "dip" and other.is_volume(meter)
+        check_measured(trails_of(book), places, is_volume)
         more = born(places[-1][0], fact, meter)
         new = other.of(fact, meter, tanks.get(fact.place), more)
         if (new.values, new.variance) == (fact.values, fact.variance):

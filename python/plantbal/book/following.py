@@ -18,6 +18,7 @@ from plantbal.book.beginning import check_year, classes_of, plant_of
 from plantbal.book.contents import contents_of
 from plantbal.book.ledger import Fact, Ledger, plain, rows_text
 from plantbal.book.mapping import mapping_of, put_reading
+from plantbal.book.measures import keep_measures, put_measures
 from plantbal.book.meters import meters_of, meters_text, read_meters
 from plantbal.book.results import Begun
 from plantbal.book.store import METERS, PLANT, Act, Action, Store
@@ -172,7 +173,9 @@ def begun(
         file, text = str(plant.workbook), rows_text(rows)
         action.what = Path(plant.workbook).name
         action.written |= {PLANT: text, METERS: meters_text(kept.values())}
-        notes = [*put_accounts(accounts, work.accounts, book, action), *work.notes]
+        keep_measures(work, book)
+        told = put_measures(book, action, work.measures.found)
+        notes = [*told, *put_accounts(accounts, work.accounts, book, action), *work.notes]
     new = Ledger.read(year, file, text, first, datetime.date.max)
     for record in read_records(text.encode("utf-8")):
         if record.fields not in new.plant:

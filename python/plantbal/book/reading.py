@@ -4,9 +4,11 @@ book's."""
 from __future__ import annotations
 
 from collections.abc import Collection, Iterable, Iterator, Sequence
-from dataclasses import replace
+from dataclasses import dataclass, replace
 from pathlib import Path
 
+from plantbal.book.forms import MEASURES
+from plantbal.book.measures import take_measures
 from plantbal.book.meters import Meter, taken
 from plantbal.book.said import counted, listed
 from plantbal.faults import Fault, Faults, InputFault, Refusal
@@ -30,11 +32,37 @@ ANOTHER_VALUE = (
 )
 
 
-def sheets_of(path: str | Path, reading: ReadingOptions) -> list[Sheet]:
+@dataclass(frozen=True)
+class Tabled:
+    """Sheets that come from elsewhere than a workbook, such as a database.
+
+    Attributes
+    ----------
+    name : str
+        What the journal calls them.
+    sheets : list of Sheet
+        The sheets.
+    """
+
+    name: str
+    sheets: list[Sheet]
+
+
+Given = str | Path | Tabled
+
+
+def name_of(workbook: Given) -> str:
+    """Return what the journal calls a workbook."""
+    return workbook.name if isinstance(workbook, Tabled) else Path(workbook).name
+
+
+def sheets_of(path: Given, reading: ReadingOptions) -> list[Sheet]:
     """Return the sheets of a workbook, as its mapping says.
 
     A CSV file of another name, of which the mapping says nothing, is what its heads say.
     """
+    if isinstance(path, Tabled):
+        return path.sheets
     sheets = read_workbook(path)
     if len(sheets) == 1 and sheets[0].is_csv and not Path(path).is_dir():
         name = sheets[0].name.strip().casefold()
@@ -73,12 +101,13 @@ def raise_all(faults: Sequence[Fault]) -> None:
 
 
 def converted(
-    workbook: str | Path,
+    workbook: Given,
     reading: ReadingOptions,
     plant: list[tuple[str, ...]],
     meters: dict[str, Meter],
     periods: Iterable[Period] = (),
     accounts: Collection[str] = (),
+    kept: str = "",
 ) -> Converter:
     """Return what a workbook holds; what it doesn't have of the plant, or of periods, is the book's.
 
@@ -96,6 +125,8 @@ def converted(
         The book's periods.
     accounts : collection of str
         The streams and tanks that have an account in the book.
+    kept : str
+        What the book keeps of products, factors, gauges and tables of water.
 
     Raises
     ------
@@ -109,6 +140,8 @@ def converted(
         work.known = accounts
         _read_plant(work, plant, meters)
         work.read_accounts()
+        take_measures(work, MEASURES, kept)
+        work.measures.read()
         work.read_facts()
         edits = list(_edits(work))
         if not edits:

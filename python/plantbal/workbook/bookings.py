@@ -9,6 +9,7 @@ from plantbal.session import period_days
 from plantbal.workbook.base import MOST_VARIANCE, Span, share_at, error_said
 from plantbal.workbook.cells import Error
 from plantbal.workbook.drying import Dry, MoistureReader
+from plantbal.workbook.measuring import Applied, Measuring
 from plantbal.workbook.periods import Periods
 from plantbal.workbook.plant import PlantReader, StreamRow
 from plantbal.workbook.sheets import Cell
@@ -28,6 +29,8 @@ class Bookings:
         The periods that a day may be in.
     moistures : MoistureReader
         The moistures, for what is wet.
+    measuring : Measuring
+        What volumes become masses by.
 
     Attributes
     ----------
@@ -36,7 +39,12 @@ class Bookings:
     """
 
     def __init__(
-        self, tables: Tables, plant: PlantReader, periods: Periods, moistures: MoistureReader
+        self,
+        tables: Tables,
+        plant: PlantReader,
+        periods: Periods,
+        moistures: MoistureReader,
+        measuring: Measuring,
     ) -> None:
         self.tables = tables
         self.reader = tables.reader
@@ -44,6 +52,7 @@ class Bookings:
         self.plant = plant
         self.periods = periods
         self.moistures = moistures
+        self.measuring = measuring
         self.days: dict[str, dict[datetime.date, Cell]] = {}
 
     def book(
@@ -55,6 +64,7 @@ class Bookings:
         cell: Cell,
         is_wet: bool = False,
         guessed: int = 0,
+        applied: Applied | None = None,
     ) -> None:
         """Give a reading to the session, or a day of a guess for so many; a wet one as it is dry.
 
@@ -70,11 +80,16 @@ class Bookings:
         figure = Dry(grams, error.variance(grams))
         if is_wet:
             figure = self.moistures.dried_on(stream, day, grams, error, cell)
+        elif applied is not None:
+            more = self.measuring.variance_of_day(applied, day)
+            figure = Dry(grams, figure.variance + more)
         name = estimate_id(stream.label, str(day)) if guessed else f"{stream.label}_{day}"
         fields = [name, stream.name, str(day), str(figure.grams)]
         own = figure.variance * max(1, guessed)
         variance = self.tables.bearable(own + self._born(stream, day), figure.grams, cell)
-        self.tables.put(["reading", *fields, str(variance)], {"grams": cell})
+        is_put = self.tables.put(["reading", *fields, str(variance)], {"grams": cell})
+        if is_put and applied is not None:
+            self.measuring.keep(name, applied, figure.grams, variance)
 
     def _born(self, stream: StreamRow, day: datetime.date) -> int:
         """Return what a day bears of a systematic error that is wider than a row."""

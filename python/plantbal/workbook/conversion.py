@@ -19,7 +19,8 @@ from plantbal.workbook.converter import Converter
 from plantbal.workbook.fates import SheetFates
 from plantbal.workbook.mapping.form import WorkbookMapping
 from plantbal.workbook.options import ReadingOptions
-from plantbal.workbook.sheetkinds import Stage, help_lines
+from plantbal.workbook.sheetforms import Stage
+from plantbal.workbook.sheetkinds import help_lines
 from plantbal.workbook.sheets import Source, read_workbook
 
 HELP = f"""

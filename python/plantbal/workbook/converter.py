@@ -14,12 +14,15 @@ from plantbal.workbook.cells import Reader, rounded_down
 from plantbal.workbook.dips import Dips
 from plantbal.workbook.drying import MoistureReader
 from plantbal.workbook.estimates import Estimates
+from plantbal.workbook.measuresheets import MeasureReader, Measures
+from plantbal.workbook.measuring import Measuring
 from plantbal.workbook.missing import Missing
 from plantbal.workbook.periods import Periods
 from plantbal.workbook.plant import PlantReader
 from plantbal.workbook.readings import Readings
 from plantbal.workbook.sessionrows import SessionRows
-from plantbal.workbook.sheetkinds import SHEETS, Stage
+from plantbal.workbook.sheetforms import Stage
+from plantbal.workbook.sheetkinds import SHEETS
 from plantbal.workbook.sheets import Sheet
 from plantbal.workbook.tables import Tables
 from plantbal.workbook.tickets import Tickets
@@ -41,7 +44,7 @@ class Converter:
     ----------
     tables : Tables
         Its tables.
-    plant, periods, moistures, bookings, readings, estimates, tickets, dips, assays, rows
+    plant, periods, moistures, measures, measuring, bookings, readings, estimates, tickets, dips, assays, rows
         The readers of its sheets.
     known : collection of str
         The streams and tanks that have an account elsewhere.
@@ -55,11 +58,15 @@ class Converter:
         tables, plant = self.tables, self.plant
         self.periods: Periods = Periods(tables)
         self.moistures: MoistureReader = MoistureReader(tables, plant, self.periods)
-        self.bookings: Bookings = Bookings(tables, plant, self.periods, self.moistures)
+        self.measures: MeasureReader = MeasureReader(tables, plant, Measures())
+        self.measuring: Measuring = Measuring(tables, self.periods, self.measures.found)
+        self.bookings: Bookings = Bookings(
+            tables, plant, self.periods, self.moistures, self.measuring
+        )
         self.readings: Readings = Readings(tables, plant, self.bookings)
         self.estimates: Estimates = Estimates(tables, plant, self.bookings)
-        self.tickets: Tickets = Tickets(tables, plant, self.moistures)
-        self.dips: Dips = Dips(tables, plant)
+        self.tickets: Tickets = Tickets(tables, plant, self.moistures, self.measuring)
+        self.dips: Dips = Dips(tables, plant, self.measuring)
         self.assays: Assays = Assays(tables, plant)
         self.rows: SessionRows = SessionRows(tables)
         self.known: Collection[str] = ()
@@ -103,6 +110,7 @@ class Converter:
         self.periods.take_months(days or {first for first, _, _ in self.tickets.found})
         self.bookings.check_bases()
         self.moistures.say()
+        self.measuring.say()
 
     def check_whole(self, design: bool = False) -> None:
         """Keep a fault if there is nothing to report; a design needs streams alone."""

@@ -4,8 +4,11 @@ from __future__ import annotations
 
 import datetime
 import difflib
+from fractions import Fraction
 
-from plantbal.workbook.plant import PlantReader
+from plantbal.workbook.cells import Error
+from plantbal.workbook.measuring import Measuring
+from plantbal.workbook.plant import PlantReader, TankRow
 from plantbal.workbook.sheets import Cell
 from plantbal.workbook.tables import Row, Tables
 
@@ -19,6 +22,8 @@ class Dips:
         The tables of the workbook.
     plant : PlantReader
         Its plant.
+    measuring : Measuring
+        What volumes become masses by.
 
     Attributes
     ----------
@@ -26,10 +31,11 @@ class Dips:
         The days of each tank that have a dip, and where it stands.
     """
 
-    def __init__(self, tables: Tables, plant: PlantReader) -> None:
+    def __init__(self, tables: Tables, plant: PlantReader, measuring: Measuring) -> None:
         self.tables = tables
         self.reader = tables.reader
         self.plant = plant
+        self.measuring = measuring
         self.found: dict[str, dict[datetime.date, Cell]] = {}
 
     def read(self) -> None:
@@ -50,16 +56,7 @@ class Dips:
             raise self.reader.fault(row["tank"], f"there is no tank {name!r}", remedy, "tank")
         top = tank.points[-1][0] if tank.points else None
         mm = self.reader.level(row["level"], unit=row["unit"], top=top)
-        density = self.reader.density(row["density"]) or tank.density
-        if density is None:
-            remedy = "write one, such as 862 (kg/m3), here or in the sheet tanks"
-            raise self.reader.fault(row["density"], "the dip has no density", remedy, "density")
-        error = tank.error
-        if not self.reader.is_missing(row["error"]):
-            error = self.reader.error(row["error"], density, level=True)
-        if error is None:
-            remedy = "write the gauge's, such as `3 mm`, here or in the sheet tanks"
-            raise self.reader.fault(row["error"], "the dip has no error", remedy, "error")
+        error = self._error(row, tank)
         if day is None:
             return
         days = self.found.setdefault(name, {})
@@ -67,9 +64,36 @@ class Dips:
             other = str(days[day].place()).rstrip(":")
             what = f"{name} has a dip of {day} already ({other})"
             raise self.reader.fault(row["level"], what, "leave one of both out")
-        whole = self.reader.whole(row["density"], density)
-        variance = self.tables.bearable(error.variance(0, tank.slope(mm, density)), 0, row["level"])
+        dipped = self.measuring.of_dip(tank, row, mm, error, day)
+        if dipped is not None:
+            density, variance = dipped.density, dipped.variance
+        else:
+            exact = self._density(row, tank)
+            density = self.reader.whole(row["density"], exact)
+            variance = error.variance(0, tank.slope(mm, exact))
+        variance = self.tables.bearable(variance, 0, row["level"])
         cells = {"mm": row["level"], "density": row["density"], "day": row["day"]}
-        fields = [f"{name}_{day}", name, str(day), str(mm), str(whole), str(variance)]
+        fact = f"{name}_{day}"
+        fields = [fact, name, str(day), str(mm), str(density), str(variance)]
         if self.tables.put(["dip", *fields], cells):
             days[day] = row["level"]
+            if dipped is not None:
+                self.measuring.keep_dip(fact, dipped, row["level"])
+
+    def _density(self, row: Row, tank: TankRow) -> Fraction:
+        """Return the one density of a dip in g/m3: its row's, or its tank's."""
+        density = self.reader.density(row["density"]) or tank.density
+        if density is None:
+            remedy = "write one, such as 862 (kg/m3), here or in the sheet tanks"
+            raise self.reader.fault(row["density"], "the dip has no density", remedy, "density")
+        return density
+
+    def _error(self, row: Row, tank: TankRow) -> Error:
+        """Return the error of a dip: its row's, or its tank's."""
+        if self.reader.is_missing(row["error"]) and tank.error is not None:
+            return tank.error
+        if self.reader.is_missing(row["error"]):
+            remedy = "write the gauge's, such as `3 mm`, here or in the sheet tanks"
+            raise self.reader.fault(row["error"], "the dip has no error", remedy, "error")
+        density = self.reader.density(row["density"]) or tank.density
+        return self.reader.error(row["error"], density, level=True)

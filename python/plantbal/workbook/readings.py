@@ -56,7 +56,12 @@ class Readings:
         """Take a reading."""
         with self.tables.kept():
             own = unit or stream.unit or "t"
-            grams = self.reader.grams(cell, own, stream.density, stream.tag)
+            measuring = self.bookings.measuring
+            applied = measuring.of_day(stream, cell, own, day) if day is not None else None
+            if applied is not None:
+                grams = measuring.grams(applied)
+            else:
+                grams = self.reader.grams(cell, own, stream.density, stream.tag)
             if day is None:
                 return
             error = stream.error or Error()
@@ -67,7 +72,8 @@ class Readings:
                 remedy = "give its meter one in tonnes as well, such as `1.5 % or 0.2 t`"
                 what = "a reading of 0 has no error in percent"
                 raise self.reader.fault(cell, what, remedy, stream.tag)
-            self.bookings.book(stream, day, grams, error, cell, self.reader.is_wet(cell, own))
+            is_wet = self.reader.is_wet(cell, own)
+            self.bookings.book(stream, day, grams, error, cell, is_wet, applied=applied)
 
     def read(self) -> None:
         """Read the readings, in whatever form they stand."""

@@ -7,117 +7,23 @@ are read in the order in which they stand here.
 
 from __future__ import annotations
 
-from collections.abc import Callable
-from dataclasses import dataclass, replace
-from enum import Enum, auto
+from dataclasses import replace
 from typing import TYPE_CHECKING
 
 from plantbal.accounts.sheet import Kind
+from plantbal.workbook.measurekinds import KEPT, OF_DAYS, TEMPERATURE
+from plantbal.workbook.sheetforms import DAY, DENSITY, FIRST, LAST, TANK, Column, SheetKind, Stage
 from plantbal.workbook.units import GRADES, GRAMS, VOLUMES, WET
 
 if TYPE_CHECKING:
     from plantbal.workbook.converter import Converter
 
 REFINERY, CONCENTRATOR, UTILITY = "refinery", "concentrator", "utility"
-
-
-class Stage(Enum):
-    """When a sheet is read."""
-
-    PLANT = auto()  # by the plant, as a whole
-    FACTS = auto()  # one after the other, after the plant
-    END = auto()  # what is asked of the session, and rows as they are
-
-
-@dataclass(frozen=True)
-class Column:
-    """A column of a sheet.
-
-    Attributes
-    ----------
-    head : str
-        Its head.
-    about : str
-        What it holds: the note at its head in the template.
-    needed : bool
-        Whether each sheet of its kind has it.
-    words : tuple of str
-        The words to choose from; none for any.
-    of : tuple of str, optional
-        The sheet and the head of the column from which its texts are chosen; None for any text.
-    is_day : bool
-        Whether days stand in it.
-    """
-
-    head: str
-    about: str
-    needed: bool = False
-    words: tuple[str, ...] = ()
-    of: tuple[str, str] | None = None
-    is_day: bool = False
-
-
-@dataclass(frozen=True)
-class SheetKind:
-    """A kind of sheet.
-
-    Attributes
-    ----------
-    word : str
-        What its name begins with.
-    about : str
-        What it is for.
-    columns : tuple of Column
-        Its columns, in the order in which the template has them.
-    reader : callable
-        Reads the sheets of this kind; one that several kinds have is called once.
-    stage : Stage
-        When they are read.
-    plants : tuple of str
-        The templates that have it.
-    said : str
-        Its columns in the help of `convert`, if a list of their heads says too little.
-    is_shaped : bool
-        Whether it may be in other shapes than a row for each figure.
-    is_across : bool
-        Whether one of these shapes has a column for each tank.
-    first : str
-        The head over the days in the template, if it has no columns of its own.
-    """
-
-    word: str
-    about: str
-    columns: tuple[Column, ...]
-    reader: Callable[[Converter], None]
-    stage: Stage = Stage.FACTS
-    plants: tuple[str, ...] = ()
-    said: str = ""
-    is_shaped: bool = False
-    is_across: bool = False
-    first: str = ""
-
-    @property
-    def needed(self) -> tuple[str, ...]:
-        """The heads that it needs."""
-        return tuple(column.head for column in self.columns if column.needed)
-
-    @property
-    def others(self) -> tuple[str, ...]:
-        """The heads that it may have."""
-        return tuple(column.head for column in self.columns if not column.needed)
-
-    @property
-    def heads(self) -> tuple[str, ...]:
-        """The heads of the template."""
-        return tuple(column.head for column in self.columns) or (self.first,)
-
-
 ALL = (REFINERY, CONCENTRATOR, UTILITY)
 _TANKS = (REFINERY, CONCENTRATOR)
 _MASSES = (*GRAMS, *WET)
 _AMOUNTS = (*_MASSES, *VOLUMES)
 _UNIT = Column("unit", "of the figures: t without it; volumes want a density", words=_AMOUNTS)
-_DENSITY = Column("density", "in kg/m3, or with its unit: 0.862 t/m3")
 _ERROR = Column("error", "the standard deviation: 1.5 %, 0.2 t, or 1.5 % or 0.2 t; of a gauge 3 mm")
 _BASE = Column("base", "the standard deviation that it has in every period beside: 0.5 t")
 _NAME = Column("name", "1 to 32 letters, digits, _, - or .", needed=True)
@@ -132,12 +38,8 @@ _SERVICE = (
 _TAG = "the meter's tag, which stands over its column of readings; empty for none"
 _STREAM = "the stream's name: 1 to 32 letters, digits, _, - or ."
 _END = "a unit, a tank, env, or a boundary"
-_TANK = Column("tank", "the tank's name", needed=True, of=("tanks", "tank"))
 _OF_STREAM = Column("stream", _STREAM, of=("streams", "stream"))
 _OF_TAG = Column("tag", _TAG, of=("streams", "tag"))
-_DAY = Column("day", "the day", is_day=True)
-_FIRST = Column("first", "the first day", is_day=True)
-_LAST = Column("last", "the last day, counted too; if it is empty, the first", is_day=True)
 _AMOUNT = Column("amount", "in the unit beside it")
 
 
@@ -170,12 +72,12 @@ SHEETS: dict[str, SheetKind] = {
             "tanks",
             "the tanks and stockpiles, with the error of their gauges or surveys",
             (
-                replace(_TANK, of=None),
+                replace(TANK, of=None),
                 Column(
                     "error", "the standard deviation of the gauge: 3 mm, or 8 t; not in percent"
                 ),
                 _BASE,
-                _DENSITY,
+                DENSITY,
                 *_SERVICE,
             ),
             _plant,
@@ -188,7 +90,7 @@ SHEETS: dict[str, SheetKind] = {
             "the strapping tables, from the bottom of each tank to its top; a stockpile's has two "
             "points, such as level 0 and volume 0, level 100000 and volume 1000000: 1 is 10 m3 then",
             (
-                _TANK,
+                TANK,
                 Column("level", "in mm, or with its unit: 14.62 m", needed=True),
                 Column("volume", "what the tank holds at this level", needed=True),
                 Column("unit", "of the volumes: m3 without it", words=tuple(VOLUMES)),
@@ -214,7 +116,7 @@ SHEETS: dict[str, SheetKind] = {
                     words=("metered", "batch", "plain"),
                 ),
                 _UNIT,
-                _DENSITY,
+                DENSITY,
                 _ERROR,
                 _BASE,
                 *_SERVICE,
@@ -283,17 +185,18 @@ SHEETS: dict[str, SheetKind] = {
                     "the sales unit: t without it, dmt, or a volume with its density beside",
                     words=("dmt", *_AMOUNTS),
                 ),
-                _DENSITY,
+                DENSITY,
             ),
             lambda work: work.read_accounts(),
             Stage.PLANT,
             ALL,
             said="name, kind, product, group, owner, unit, density: where a book adds each stream up",
         ),
+        *KEPT,
         SheetKind(
             "periods",
             "the periods; without a row each calendar month with a reading is one",
-            (_NAME, replace(_FIRST, needed=True), replace(_LAST, needed=True)),
+            (_NAME, replace(FIRST, needed=True), replace(LAST, needed=True)),
             lambda work: work.periods.read(),
             plants=ALL,
             said="name, first, last (without it, each calendar month with a reading is a period)",
@@ -306,9 +209,9 @@ SHEETS: dict[str, SheetKind] = {
                 _OF_TAG,
                 _OF_STREAM,
                 Column("id", "the ticket's number, each once"),
-                _DAY,
-                _FIRST,
-                _LAST,
+                DAY,
+                FIRST,
+                LAST,
                 Column("moisture", "with its unit: 8.2 %; or alone, with the unit beside it", True),
                 Column("error", "the standard deviation: 3 % of the moisture, or 2500 ppm", True),
                 Column("amount", "the wet tonnes of a shift, if a day has several"),
@@ -320,6 +223,7 @@ SHEETS: dict[str, SheetKind] = {
             "ticket's id; or first and last; of a shift with its wet tonnes in amount",
             is_shaped=True,
         ),
+        *OF_DAYS,
         SheetKind(
             "readings",
             "the days down, and a column for each tag of the sheet streams, the tag over it",
@@ -336,11 +240,11 @@ SHEETS: dict[str, SheetKind] = {
             (
                 _OF_TAG,
                 _OF_STREAM,
-                replace(_DAY, needed=True),
-                _LAST,
+                replace(DAY, needed=True),
+                LAST,
                 replace(_AMOUNT, needed=True),
                 _UNIT,
-                _DENSITY,
+                DENSITY,
                 replace(_ERROR, needed=True),
             ),
             lambda work: work.estimates.read(),
@@ -354,12 +258,13 @@ SHEETS: dict[str, SheetKind] = {
             (
                 Column("id", "the ticket's number, each once", True),
                 replace(_OF_STREAM, needed=True),
-                replace(_FIRST, needed=True),
-                _LAST,
+                replace(FIRST, needed=True),
+                LAST,
                 replace(_AMOUNT, needed=True),
                 _UNIT,
-                _DENSITY,
+                DENSITY,
                 _ERROR,
+                TEMPERATURE,
             ),
             lambda work: work.tickets.read(),
             plants=_TANKS,
@@ -369,12 +274,14 @@ SHEETS: dict[str, SheetKind] = {
             "dips",
             "the levels of the tanks at the end of a day, that of the day before a period too",
             (
-                _TANK,
-                replace(_DAY, needed=True),
+                TANK,
+                replace(DAY, needed=True),
                 Column("level", "in mm, or with its unit: 14.62 m", True),
                 Column("unit", "of the levels: mm without it", words=("mm", "cm", "m")),
-                _DENSITY,
+                DENSITY,
                 Column("error", "the standard deviation: 3 mm, or 8 t; the tank's without it"),
+                TEMPERATURE,
+                Column("water", "the level of the free water, in mm or with its unit"),
             ),
             lambda work: work.dips.read(),
             plants=_TANKS,

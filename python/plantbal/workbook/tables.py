@@ -18,7 +18,8 @@ from plantbal.session import Session
 from plantbal.workbook.fates import Fate, Fates, is_figure, unread_column, unread_rows
 from plantbal.workbook.base import MOST_GRAMS, MOST_VARIANCE, error_said
 from plantbal.workbook.cells import Reader
-from plantbal.workbook.sheetkinds import PASSED, SHEETS, SheetKind
+from plantbal.workbook.sheetforms import SheetKind
+from plantbal.workbook.sheetkinds import PASSED, SHEETS
 from plantbal.workbook.shapes import HEADS_WITHIN, Shape, shape_of
 from plantbal.workbook.sheets import Cell, Sheet
 

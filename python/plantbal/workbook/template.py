@@ -10,7 +10,8 @@ from typing import Any
 from plantbal.faults import ToolMissing, WordsFault
 from plantbal.files import replacing
 from plantbal.statuses import ExitStatus
-from plantbal.workbook.sheetkinds import ALL, SHEETS, Column, SheetKind
+from plantbal.workbook.sheetforms import Column, SheetKind
+from plantbal.workbook.sheetkinds import ALL, SHEETS
 from plantbal.workbook.sheets import letters
 
 HELP = """

@@ -8,6 +8,7 @@ from plantbal.book import adding, editing, estimating, showing
 from plantbal.book.adding import Why
 from plantbal.book.library.base import Base, Day, day_or_none
 from plantbal.book.meters import Meter
+from plantbal.book.reading import Given
 from plantbal.book.results import Added, Edited, Estimated, Shown
 from plantbal.workbook.options import ReadingOptions
 
@@ -17,7 +18,7 @@ class Facts(Base):
 
     def add(
         self,
-        workbook: str | Path,
+        workbook: Given,
         *,
         why: str | Why = "",
         strike: bool = False,
@@ -30,11 +31,11 @@ class Facts(Base):
 
         Parameters
         ----------
-        workbook : str or Path
-            An xlsx file, a CSV file, or a folder of CSV files.
-        why : str or callable
+        workbook : str, Path or Tabled
+            An xlsx file, a CSV file, or a folder of CSV files; or sheets that come from elsewhere.
+        why : str, callable or Reasoned
             The reason of what is changed or struck, or what gives it for each change: it gets
-            the sentence that says the change.
+            the sentence that says the change, or the fact.
         strike : bool
             Whether facts are struck that aren't in the workbook any more.
         anyway : bool

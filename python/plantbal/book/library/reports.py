@@ -4,8 +4,9 @@ from __future__ import annotations
 
 from collections.abc import Iterator, Mapping
 
-from plantbal.book import accounting, closing, reporting, window
+from plantbal.book import accounting, closing, handing, reporting, window
 from plantbal.book.difference import Difference, difference, post
+from plantbal.book.handing import Handed
 from plantbal.book.library.base import Base
 from plantbal.book.results import Closed, Reported, Windowed
 from plantbal.gates import Gate
@@ -97,6 +98,16 @@ class Reports(Base):
             If there is no such period, or it has no report.
         """
         return accounting.account(self._store(), period)
+
+    def handed(self, period: str) -> Handed:
+        """Return what is handed over of a period: flows, stock, what was posted, with an id.
+
+        Raises
+        ------
+        Fault
+            If there is no such period, or its report is missing or older than its facts.
+        """
+        return handing.handed(self._store(), period)
 
     def difference(self, period: str, *states: str) -> Difference:
         """Return what two states of a period have otherwise, and why.

@@ -18,7 +18,7 @@ from plantbal.workbook.mapping.vocabulary import (
     is_total,
     plain_word,
 )
-from plantbal.workbook.sheetkinds import SheetKind
+from plantbal.workbook.sheetforms import SheetKind
 from plantbal.workbook.units import AMOUNTS, DENSITIES, GRADES, LENGTHS, VOLUMES, is_rate
 
 _DAYS = frozenset("day first last since until".split())

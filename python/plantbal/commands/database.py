@@ -1,0 +1,115 @@
+"""The commands on databases: pull reads facts into a book, push writes what is booked."""
+
+from __future__ import annotations
+
+import argparse
+import sys
+
+from plantbal.book.library import Book
+from plantbal.commands.book.adding import lines_of as added_lines
+from plantbal.database.mapping import read_mapping
+from plantbal.database.pulling import lines_of, pull
+from plantbal.database.pushing import push, tables_sql
+from plantbal.faults import WordsFault
+from plantbal.book.naming import day_of
+from plantbal.statuses import ExitStatus
+
+
+class Pull:
+    """Reads the facts of some days from a database into a book, by the queries of a mapping."""
+
+    HELP = """
+MAPPING is a TOML file with the database and the queries, each with the sheet of a workbook that it
+gives (docs/PYTHON.md, "Databases"). All figures of the days are read, and the book says what is new,
+changed or late, as `book add` does; so what was pulled already is booked once. What is changed is
+amended, with the time at which the source changed it as the reason.
+
+A password is never a word here: it comes from the environment or a file of mode 600, as the mapping
+says, or from .pgpass. The transaction is read only.
+
+examples:
+  plantbal-desk pull historian.toml --book mill
+  plantbal-desk pull historian.toml --book mill --from 2024-04-01 --to 2024-04-30 --dry-run
+"""
+
+    @staticmethod
+    def add_arguments(parser: argparse.ArgumentParser) -> None:
+        """Add the words of the command."""
+        _add_common(parser)
+        first = "the first day (default: that of the book's last year)"
+        parser.add_argument("--from", metavar="DAY", dest="first", help=first)
+        parser.add_argument(
+            "--to", metavar="DAY", dest="last", help="the last day (default: yesterday)"
+        )
+        parser.add_argument(
+            "--dry-run", action="store_true", help="say what would be booked, and book nothing"
+        )
+
+    @staticmethod
+    def run(options: argparse.Namespace) -> int:
+        """Pull, and say what that was."""
+        days = [day_of(each, "") if each else None for each in (options.first, options.last)]
+        found = pull(
+            Book(options.book, who=options.who),
+            read_mapping(options.database),
+            first=days[0],
+            last=days[1],
+            dry_run=options.dry_run,
+        )
+        print("\n".join([*lines_of(found), *added_lines(found.added)]))
+        if options.dry_run:
+            print("nothing is booked, as --dry-run says")
+        return ExitStatus.GOOD
+
+
+class PushCommand:
+    """Writes the flows, the stock and the postings of periods to tables of a database, once."""
+
+    HELP = """
+MAPPING is a TOML file with the database and a part [push] (docs/PYTHON.md, "Databases"). What is
+handed over of a period has an id. All of it is written in one transaction, or nothing; if the
+database has the id, nothing is written, and the status is 0 too. A report that is made again has
+another id, and its figures come beside those of the one before.
+
+  --tables prints the statements that make both tables, for who has the right to
+
+examples:
+  plantbal-desk push erp.toml --tables
+  plantbal-desk push erp.toml 2024-04 --book mill
+"""
+
+    @staticmethod
+    def add_arguments(parser: argparse.ArgumentParser) -> None:
+        """Add the words of the command."""
+        _add_common(parser)
+        parser.add_argument("period", metavar="PERIOD", nargs="*")
+        parser.add_argument("--tables", action="store_true", help="print how the tables are made")
+
+    @staticmethod
+    def run(options: argparse.Namespace) -> int:
+        """Push each period, and say what that was."""
+        mapping = read_mapping(options.database)
+        if options.tables:
+            sys.stdout.write(tables_sql(mapping))
+            return ExitStatus.GOOD
+        if not options.period:
+            raise WordsFault("there is no period to push", remedy="name one, such as 2024-04")
+        book = Book(options.book, who=options.who)
+        for period in options.period:
+            found = push(book, mapping, period)
+            count, identity = len(found.handed.figures), found.handed.id[:12]
+            if found.is_new:
+                print(f"{period}: {count} figures are written, as {identity}")
+            else:
+                print(f"{period}: {identity} is there already, so nothing is written")
+        return ExitStatus.GOOD
+
+
+def _add_common(parser: argparse.ArgumentParser) -> None:
+    parser.add_argument("database", metavar="MAPPING")
+    parser.add_argument("--book", metavar="FOLDER", default=".", help="the book's folder")
+    who = "who does it, beside the user's own name"
+    parser.add_argument("--who", metavar="NAME", default="", help=who)
+
+
+PULL, PUSH = Pull(), PushCommand()
