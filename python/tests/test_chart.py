@@ -159,7 +159,7 @@ FAULTY = [
 @pytest.mark.parametrize("words, text, said", FAULTY, ids=[case[2] for case in FAULTY])
 def test_faulty(say: Desk, words: list[object], text: str, said: str) -> None:
     found = say("chart", *words, text=text)
-    assert (found.status, found.out) == (1, "")
+    assert (found.status, found.out) == (2 if "--out" in words else 1, "")
     assert said in found.err
 
 

@@ -288,13 +288,13 @@ def test_recovery_command(say: Desk, tmp_path: Path) -> None:
     assert say("recovery", OUT, "--session", COPPER, "--chart", chart).status == 0
     drawn = text_of(chart)
     assert 'id="recovery-CONCENTRATE"' in drawn and 'id="carried-TAILINGS-jun08"' in drawn
-    for words, said in (
-        (("--component", "au"), "there are balances of cu"),
-        (("--product", "FEED"), "FEED doesn't leave the plant"),
-        (("--chart", tmp_path / "x.gif"), "say .svg, .png or .pdf"),
+    for words, status, said in (
+        (("--component", "au"), 1, "there are balances of cu"),
+        (("--product", "FEED"), 1, "FEED doesn't leave the plant"),
+        (("--chart", tmp_path / "x.gif"), 2, "say .svg, .png or .pdf"),
     ):
         found = say("recovery", OUT, *words)
-        assert (found.status, said in found.err) == (1, True), found.err
+        assert (found.status, said in found.err) == (status, True), found.err
     none = say("recovery", example("two_meters.out.csv"))
     assert (none.status, "there is no component in it" in none.err) == (1, True)
 

@@ -110,9 +110,14 @@ def test_engine(program: Path, plants: Path, tmp_path: Path, words: list[str]) -
     found = {row["site"]: tuple(row[name] for name in columns) for row in rows_of(done.stdout)}
     assert found == {f"site {k:02}": wanted(k) for k in range(1, 21)}, done.stderr
     said = done.stderr.splitlines()
-    assert said[0].startswith("fleet: site 07: 1 row is refused: ") and "'V W'" in said[0]
+    assert (
+        said[0].startswith("plantbal-desk fleet: site 07: 1 row is refused: ")
+        and "'V W'" in said[0]
+    )
     assert "it asks for nothing; add a row report,PERIOD" in said[1]
-    assert said[2:] == [f"fleet: 20 plants, of which 2 need a person: {out / 'index.html'}"]
+    assert said[2:] == [
+        f"plantbal-desk fleet: 20 plants, of which 2 need a person: {out / 'index.html'}"
+    ]
     assert done.returncode == 1
     kept = {path.relative_to(out / "site 01").as_posix() for path in out.glob("site 01/**/*")}
     files = {f"{NIGHT}/{name}" for name in ("output.csv", "stderr.txt", "run.json")}

@@ -154,6 +154,7 @@ PACKAGES = {
     "dask": "python3-distributed",
     "defusedxml": "python3-defusedxml",
     "distributed": "python3-distributed",
+    "django": "python3-django",
     "graphviz": "python3-graphviz",
     "jinja2": "python3-jinja2",
     "markupsafe": "python3-jinja2",
@@ -163,6 +164,7 @@ PACKAGES = {
     "openpyxl": "python3-openpyxl",
     "pandas": "python3-pandas",
     "scipy": "python3-scipy",
+    "sqlalchemy": "python3-sqlalchemy",
     "unidecode": "python3-unidecode",
     "tqdm": "python3-tqdm",
 }
@@ -176,7 +178,7 @@ def imported(path: Path) -> set[str]:
             found |= {alias.name.split(".")[0] for alias in node.names}
         elif isinstance(node, ast.ImportFrom) and node.module and not node.level:
             found.add(node.module.split(".")[0])
-    return found - set(sys.stdlib_module_names) - {"plantbal"}
+    return found - set(sys.stdlib_module_names) - {"plantbal", "plantbal_office"}
 
 
 def test_each_import_has_its_package() -> None:

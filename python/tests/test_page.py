@@ -511,7 +511,8 @@ WRONG = [
 @pytest.mark.parametrize("words, said", WRONG, ids=[case[1] for case in WRONG])
 def test_wrong_words(say: Desk, words: list[object], said: str) -> None:
     found = say("page", *words)
-    assert (found.status, found.out) == (1, "") and said in found.err
+    status = 2 if "--eliminate" in words and "--run" not in words else 1
+    assert (found.status, found.out) == (status, "") and said in found.err
 
 
 def test_xlsx(say: Desk, tmp_path: Path) -> None:

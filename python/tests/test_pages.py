@@ -15,7 +15,7 @@ PAGES = [
     (
         "docs/MONTH_END.md",
         "examples/month_end",
-        [f"examples/{name}_workbook" for name in ("refinery", "terminal", "tank_farm")],
+        [f"examples/{name}_workbook" for name in ("own", "refinery", "terminal", "tank_farm")],
     ),
 ]
 

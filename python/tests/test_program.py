@@ -276,15 +276,15 @@ def test_desk_solve(program: Path, say: Desk) -> None:
 
 
 MISTAKES = [
-    (["run", "none.csv"], "", 1, "none.csv: No such file"),
-    (["report", "none.csv"], "", 1, "none.csv: No such file"),
-    (["report", "--out", "o.pdf"], "", 1, "o.pdf ends with '.pdf': say .csv, .sqlite or .xlsx"),
+    (["run", "none.csv"], "", 3, "none.csv: No such file"),
+    (["report", "none.csv"], "", 3, "none.csv: No such file"),
+    (["report", "--out", "o.pdf"], "", 2, "o.pdf ends with '.pdf': say .csv, .sqlite or .xlsx"),
     (["report"], "a;b\n", 1, "save it with commas"),
     (["check"], "", 1, "it is empty: run a session that asks for a report"),
     (["check"], "unit,U\n", 1, ""),
     (["run", "--gap", "x"], "", 2, "'x' isn't a whole number from 1 to 1,000,000"),
     (["reprot"], "", 2, "invalid choice: 'reprot'"),
-    (["run", "--program", "/none"], "", 1, "there is no program /none"),
+    (["run", "--program", "/none"], "", 3, "there is no program /none"),
 ]
 
 

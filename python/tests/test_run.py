@@ -112,7 +112,7 @@ def test_first_few(program: Path, say: Desk) -> None:
 def test_status_of_the_program(program: Path, say: Desk, tmp_path: Path) -> None:
     (tmp_path / "big").write_bytes(b"\n" * 67_108_865)
     found = say("run", "--program", program, tmp_path / "big")
-    assert found.status == 5 and "(TooLarge)" in found.err and "split it" in found.err
+    assert found.status == 3 and "(TooLarge)" in found.err and "split it" in found.err
 
 
 SLOW = """#!/bin/sh

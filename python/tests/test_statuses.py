@@ -42,6 +42,8 @@ READING: dict[str, tuple[str, ...]] = {
     "tell": ("FILE",),
     "across": ("--out", "OUT", "FILE"),
     "map": ("FILE",),
+    "pull": ("FILE",),
+    "push": ("FILE",),
     "from-scipy": ("FILE",),
 }
 # `serve` opens its books when it is called from a browser: it has tests of its own.

@@ -148,9 +148,11 @@ class _Reader:
         self.file = file
 
     def fault(self, what: str, remedy: str, text: str = "") -> InputFault:
+        """Return a fault of this file."""
         return InputFault(what, place=Place(file=self.file), text=text, remedy=remedy)
 
     def mapping(self, found: dict[str, Any]) -> DatabaseMapping:
+        """Return the mapping that the tables of a file say."""
         self._known(found, _SECTIONS, "the mapping")
         source = self._table(found, "source")
         self._known(source, ("url", "password"), "[source]")

@@ -136,6 +136,7 @@ class _Reading:
         self.missing: Counter[str] = Counter()
 
     def fault(self, what: str, remedy: str, line: int | None = None) -> InputFault:
+        """Return a fault of the query, or of a row that it gave."""
         place = Place(file=self.mapping.file, sheet=f"query {self.at}", record=line)
         return InputFault(what, place=place, remedy=remedy)
 

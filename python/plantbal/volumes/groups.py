@@ -66,9 +66,11 @@ class _Range:
     is_open: bool = False  # whether it begins above that density
 
     def holds(self, density: Decimal) -> bool:
+        """Say whether a density is in the range or above it."""
         return self.begin < density if self.is_open else self.begin <= density
 
     def expansion(self, density: Decimal) -> Expansion:
+        """Return the thermal expansion at a density, and its derivative."""
         alpha = self.a + self.k1 / density + self.k0 / density**2
         return Expansion(alpha, -self.k1 / density**2 - 2 * self.k0 / density**3)
 

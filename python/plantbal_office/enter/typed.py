@@ -27,7 +27,7 @@ _LOCALES = {"de": "de", "es": "es"}
 
 def typing_locale() -> str:
     """Return whose numbers a person types: as the language of the page writes them."""
-    return _LOCALES.get((get_language() or "en")[:2], "")
+    return _LOCALES.get((get_language() or "en")[:2], "en_US")
 
 
 def cells_of(text: str) -> list[dict[str, str]]:
