@@ -142,7 +142,7 @@ class _Reach:
             if calls:
                 fresh |= (words | things) - self._called
                 self._called |= words | things
-            for name in fresh & self._items.keys():
+            for name in sorted(fresh & self._items.keys()):
                 for item in self._items[name]:
                     if item not in self._taken and self._is_reached(item):
                         self._taken.add(item)
