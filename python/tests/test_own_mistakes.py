@@ -454,6 +454,8 @@ ELSEWHERE = {
     "book": "test_book.py",
     "archive": "test_audit.py",
     "audit": "test_audit.py",
+    "tell": "test_tell.py",
+    "across": "test_across.py",
     "pull": "test_database.py",
     "serve": "office/test_bad_input.py",
     "push": "test_database.py",
