@@ -86,12 +86,13 @@ impl Known {
         }
     }
 
-    /// Appends a new name.
+    /// Appends a new name. If memory runs out, the names are as they were.
     pub fn add(&mut self, text: &[u8]) -> Result<(), AllocError>
         requires form { is_name text.now ≡ true }
         requires room { length self.old < most_streams }
         requires new { is_among self.old text.now ≡ false }
-        ensures { OnOk result (self.new ≡ self.old ++ text.now ∷ []) }
+        ensures ok { OnOk result (self.new ≡ self.old ++ text.now ∷ []) }
+        ensures err { OnErr result (self.new ≡ self.old) }
     {
         if let Some(name) = Name::read(text) {
             insert(&mut self.names, name)?;

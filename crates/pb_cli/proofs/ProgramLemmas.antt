@@ -99,6 +99,7 @@ nothing_done seen_read seen_written words a c = record {
   idle = refl;
   source_faults_stay = omega arith;
   sink_faults_stay = omega arith;
+  stops = λ _. refl;
 }
 
 -- no run, if the arguments give no words or there was no memory for them

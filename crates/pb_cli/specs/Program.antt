@@ -3,7 +3,7 @@
 use Rattle.std.specs.Prelude.{◌≡◌, ◌≢◌, ◌⊎◌, ◌+◌, ◌≤◌, ℕ, Bool, true, false, List, [], ◌∷◌, ◌++◌, length, take, Result, Ok, Err}
 use Rattle.pb_io.specs.Counts.{Rose}
 use Rattle.pb_io.specs.Source.{SourceSeen, TakesSuch}
-use Rattle.pb_io.specs.Sink.{SinkSeen, Puts}
+use Rattle.pb_io.specs.Sink.{SinkSeen, Puts, StopsAtFault}
 use Rattle.pb_limits.specs.Limits.{most_bytes}
 use Rattle.pb_words.specs.declared.command.Command.{Command}
 use Rattle.pb_words.specs.declared.command.Command.TheVariants.{Make}
@@ -65,10 +65,11 @@ pub record Runs {R W : Type 0} (seen_read : R → SourceSeen) (seen_written : W 
       → (Rose (seen_written sink_old).faults (seen_written sink_new).faults → ⊥) → EndsAs command input status ⊎ (status ≡ NoMemory)
   pub make_unread : (number streams : ℕ) (summary : Bool) (gap sweeps : ℕ) → IsCommandOf words (Make number streams summary gap sweeps)
       → source_new ≡ source_old
-  -- No empty piece was put.
+  -- No empty piece was put, and none after a fault.
   pub idle : (seen_written sink_new).idle ≡ (seen_written sink_old).idle
   pub source_faults_stay : (seen_read source_old).faults ≤ (seen_read source_new).faults
   pub sink_faults_stay : (seen_written sink_old).faults ≤ (seen_written sink_new).faults
+  pub stops : StopsAtFault (seen_written sink_old) (seen_written sink_new)
 
 -- a run over the words that the arguments give; if they give no words, the status says why, and nothing is read or written
 abbrev pub RunsGiven : {R W : Type 0} → (R → SourceSeen) → (W → SinkSeen) → Result (List (List ℕ)) WordsRefused → R → R → W → W → Status → Type 0

@@ -1,7 +1,7 @@
 // Bytes in hand, and what is written for them.
 ghost use Rattle.std.specs.Prelude.{◌≡◌, ◌≢◌, ◌⊎◌, ◌^◌, ◌<◌, ◌≤◌, true, false, length, IfOk, OnOk, IfErr};
 ghost use Rattle.pb_io.specs.Counts.{Rose};
-ghost use Rattle.pb_io.specs.Sink.{PutsSuch};
+ghost use Rattle.pb_io.specs.Sink.{PutsSuch, StopsAtFault};
 ghost use Rattle.pb_limits.specs.Limits.{most_bytes};
 ghost use Rattle.pb_study.specs.Options.{AreOptions};
 ghost use Rattle.pb_rows.specs.Records.{records_of};
@@ -84,9 +84,10 @@ pub fn answer<W: Sink>(
     ensures answers { (result ≡ done_status (refuses options form input.now))
         ⊎ (result ≡ WriteFault) ⊎ (result ≡ NoMemory) }
 
-    // No empty piece was put.
+    // No empty piece was put, and none after a fault.
     ensures idle { (W.seen sink.new).idle ≡ (W.seen sink.old).idle }
     ensures faults_stay { (W.seen sink.old).faults ≤ (W.seen sink.new).faults }
+    ensures stops { StopsAtFault (W.seen sink.old) (W.seen sink.new) }
 {
     let mut records = Records::of(alloc, input);
     match answer_records(alloc, options, form, &mut records, sink) {
@@ -127,6 +128,7 @@ fn answer_records<W: Sink>(
         (W.seen sink.new).faults ≡ (W.seen sink.old).faults) }
     ensures idle { (W.seen sink.new).idle ≡ (W.seen sink.old).idle }
     ensures faults_stay { (W.seen sink.old).faults ≤ (W.seen sink.new).faults }
+    ensures stops { StopsAtFault (W.seen sink.old) (W.seen sink.new) }
 {
     let mut session = Session::new(alloc, options, form);
     let mut fields = Row::new(alloc);
@@ -162,6 +164,7 @@ fn answer_in<W: Sink>(
         (W.seen sink.new).faults ≡ (W.seen sink.old).faults) }
     ensures idle { (W.seen sink.new).idle ≡ (W.seen sink.old).idle }
     ensures faults_stay { (W.seen sink.old).faults ≤ (W.seen sink.new).faults }
+    ensures stops { StopsAtFault (W.seen sink.old) (W.seen sink.new) }
 {
     let mut some_refused = false;
     'turns: while records.fill(fields)? {
@@ -193,6 +196,7 @@ fn answer_record<W: Sink>(
     ensures no_fault { OnOk result ((W.seen sink.new).faults ≡ (W.seen sink.old).faults) }
     ensures idle { (W.seen sink.new).idle ≡ (W.seen sink.old).idle }
     ensures faults_stay { (W.seen sink.old).faults ≤ (W.seen sink.new).faults }
+    ensures stops { StopsAtFault (W.seen sink.old) (W.seen sink.new) }
 {
     let mut text = Vec::new(alloc);
     let refused = session.row(at, fields, &mut text)?;

@@ -1,7 +1,7 @@
 // Bytes in hand, and their judgement.
 ghost use Rattle.std.specs.Prelude.{◌≡◌, ◌≢◌, ◌⊎◌, ◌+◌, ◌^◌, ◌<◌, ◌≤◌, true, false, length, IfOk, OnOk, IfErr};
 ghost use Rattle.pb_io.specs.Counts.{Rose};
-ghost use Rattle.pb_io.specs.Sink.{PutsSuch};
+ghost use Rattle.pb_io.specs.Sink.{PutsSuch, StopsAtFault};
 ghost use Rattle.pb_limits.specs.Limits.{most_bytes};
 ghost use Rattle.pb_rows.specs.Records.{records_of};
 ghost use Rattle.pb_audit.specs.Judgement.{IsJudgement, IsJudgementPart};
@@ -47,9 +47,10 @@ pub fn judge<W: Sink>(alloc: Global, input: &[u8], sink: &mut W) -> Status
     ensures answers { EndsAs Check input.now result
         ⊎ ((result ≡ WriteFault) ⊎ (result ≡ NoMemory)) }
 
-    // No empty piece was put.
+    // No empty piece was put, and none after a fault.
     ensures idle { (W.seen sink.new).idle ≡ (W.seen sink.old).idle }
     ensures faults_stay { (W.seen sink.old).faults ≤ (W.seen sink.new).faults }
+    ensures stops { StopsAtFault (W.seen sink.old) (W.seen sink.new) }
 {
     let mut records = Records::of(alloc, input);
     match judge_records(alloc, &mut records, sink) {
@@ -82,6 +83,7 @@ fn judge_records<W: Sink>(
         (W.seen sink.new).faults ≡ (W.seen sink.old).faults) }
     ensures idle { (W.seen sink.new).idle ≡ (W.seen sink.old).idle }
     ensures faults_stay { (W.seen sink.old).faults ≤ (W.seen sink.new).faults }
+    ensures stops { StopsAtFault (W.seen sink.old) (W.seen sink.new) }
 {
     let mut some_wrong = false;
     'turns: loop {
@@ -111,6 +113,7 @@ fn judge_block<W: Sink>(
     ensures no_fault { OnOk result ((W.seen sink.new).faults ≡ (W.seen sink.old).faults) }
     ensures idle { (W.seen sink.new).idle ≡ (W.seen sink.old).idle }
     ensures faults_stay { (W.seen sink.old).faults ≤ (W.seen sink.new).faults }
+    ensures stops { StopsAtFault (W.seen sink.old) (W.seen sink.new) }
 {
     let mut row = Vec::new(alloc);
     let judged = judge_next(alloc, records, &mut row)?;

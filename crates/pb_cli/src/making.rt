@@ -1,7 +1,7 @@
 // A session made from a number, or its summary, and the writing of its text.
 ghost use Rattle.std.specs.Prelude.{◌≡◌, ◌≢◌, ◌⊎◌, ◌≤◌, IfOk};
 ghost use Rattle.pb_io.specs.Counts.{Rose};
-ghost use Rattle.pb_io.specs.Sink.{PutsSuch};
+ghost use Rattle.pb_io.specs.Sink.{PutsSuch, StopsAtFault};
 ghost use Rattle.pb_words.specs.Command.{IsMakeInRange};
 ghost use Rattle.pb_cli.specs.declared.status.Status.TheVariants.{Done, WriteFault, NoMemory};
 ghost use Rattle.pb_cli.specs.Prefix.{IsBeginningOf};
@@ -38,6 +38,7 @@ pub(crate) fn make_session<W: Sink>(
         (result ≡ Done) ⊎ (result ≡ NoMemory) }
     ensures idle { (W.seen sink.new).idle ≡ (W.seen sink.old).idle }
     ensures faults_stay { (W.seen sink.old).faults ≤ (W.seen sink.new).faults }
+    ensures stops { StopsAtFault (W.seen sink.old) (W.seen sink.new) }
 {
     let Ok(text) = made(alloc, number, streams, summary, gap, sweeps) else {
         return Status::NoMemory;

@@ -2,7 +2,7 @@
 ghost use Rattle.std.specs.Prelude.{◌≡◌, ◌<◌, ◌≤◌, ◌++◌, ◌∷◌, [], OnOk, OnErr};
 ghost use Rattle.std.specs.Process.{exit_status};
 ghost use Rattle.pb_io.specs.Counts.{Rose};
-ghost use Rattle.pb_io.specs.Sink.{Puts, PutsPrefix};
+ghost use Rattle.pb_io.specs.Sink.{Puts, PutsPrefix, StopsAtFault};
 ghost use Rattle.pb_words.specs.Args.{words_given};
 ghost use Rattle.pb_cli.specs.Status.{status_number};
 ghost use Rattle.pb_cli.specs.declared.status.Status.{Status};
@@ -33,10 +33,11 @@ pub fn run_program<R: Source, W: Sink, E: Sink>(
         × RunsGiven R.seen W.seen (words_given args) source.old source.new sink.old sink.new status
         × PutsUnlessFault (E.seen errors.old) (E.seen errors.new) (error_line status) }
 
-    // The third end isn't used after a success, and no empty piece is put.
+    // The third end isn't used after a success, and no empty piece is put, nor any after a fault.
     ensures silent { exit_status result < 2 → errors.new ≡ errors.old }
     ensures errors_idle { (E.seen errors.new).idle ≡ (E.seen errors.old).idle }
     ensures errors_faults_stay { (E.seen errors.old).faults ≤ (E.seen errors.new).faults }
+    ensures errors_stop { StopsAtFault (E.seen errors.old) (E.seen errors.new) }
 {
     let status = run_args(alloc, args, source, sink);
     report(status, errors);
@@ -65,6 +66,7 @@ fn report<E: Sink>(status: Status, errors: &mut E)
     ensures silent { status_number status < 2 → errors.new ≡ errors.old }
     ensures idle { (E.seen errors.new).idle ≡ (E.seen errors.old).idle }
     ensures faults_stay { (E.seen errors.old).faults ≤ (E.seen errors.new).faults }
+    ensures stops { StopsAtFault (E.seen errors.old) (E.seen errors.new) }
 {
     if status.number() < 2 {
         return;
@@ -81,6 +83,7 @@ fn write_line<E: Sink>(name: &str, errors: &mut E) -> Result<(), SinkFailed>
     ensures cause { OnErr result (Rose (E.seen errors.old).faults (E.seen errors.new).faults) }
     ensures idle { (E.seen errors.new).idle ≡ (E.seen errors.old).idle }
     ensures faults_stay { (E.seen errors.old).faults ≤ (E.seen errors.new).faults }
+    ensures stops { StopsAtFault (E.seen errors.old) (E.seen errors.new) }
 {
     write_all(errors, name.as_bytes())?;
     write_all(errors, b"\n")

@@ -1,6 +1,7 @@
 // A run of the command that the words give.
 ghost use Rattle.std.specs.Prelude.{◌≡◌, ◌≢◌, ◌⊎◌, ◌+◌, ◌≤◌, ℕ, Bool, List, Err, true, false, length, IfOk, IfErr, OnErr};
 ghost use Rattle.pb_io.specs.Counts.{Rose};
+ghost use Rattle.pb_io.specs.Sink.{StopsAtFault};
 ghost use Rattle.pb_io.specs.Source.{TakesSuch};
 ghost use Rattle.pb_limits.specs.Limits.{most_bytes};
 ghost use Rattle.pb_cli.specs.declared.status.Status.TheVariants.{Done, DoneRefused, Usage, ReadFault, WriteFault, TooLarge, NoMemory};
@@ -88,10 +89,11 @@ pub fn run<R: Source, W: Sink>(alloc: Global, words: &Words, source: &mut R, sin
         → IsCommandOf words.now (Make number streams summary gap sweeps)
         → source.new ≡ source.old }
 
-    // No empty piece was put.
+    // No empty piece was put, and none after a fault.
     ensures idle { (W.seen sink.new).idle ≡ (W.seen sink.old).idle }
     ensures source_faults_stay { (R.seen source.old).faults ≤ (R.seen source.new).faults }
     ensures sink_faults_stay { (W.seen sink.old).faults ≤ (W.seen sink.new).faults }
+    ensures stops { StopsAtFault (W.seen sink.old) (W.seen sink.new) }
 {
     let command = match read_words(alloc, words) {
         Ok(command) => command,

@@ -1,8 +1,8 @@
 -- Bytes put into a sink one piece after the other.
-use Rattle.std.proofs.Common.{ℕ, ◌+◌, List, [], ◌++◌, take, drop, arith, subst, sym, length-append}
+use Rattle.std.proofs.Common.{◌≡◌, ◌∙◌, ℕ, ◌+◌, List, [], ◌++◌, take, drop, arith, subst, sym, length-append}
 use Rattle.std.proofs.Math.Seq.{take-add}
 use Rattle.std.proofs.KnownBytes.{Appends-nil, Appends-trans}
-use Rattle.pb_io.specs.Sink.{SinkSeen, Puts}
+use Rattle.pb_io.specs.Sink.{SinkSeen, Puts, StopsAtFault}
 
 -- at first none were put
 pub puts_none : (a : SinkSeen) → Puts a a []
@@ -19,3 +19,7 @@ puts_more a b c xs ys first second = record {
 pub front_more : (a b c : SinkSeen) (done n : ℕ) (xs : List ℕ) → Puts a b (take done xs) → Puts b c (take n (drop done xs)) → Puts a c (take (done + n) xs)
 front_more a b c done n xs first second =
     subst (λ (front : List ℕ). Puts a c front) (sym (take-add done n xs)) (puts_more a b c _ _ first second)
+
+-- none was put after a fault in two steps, the first of which counted none
+pub stops_behind : (a b c : SinkSeen) → StopsAtFault a b → b.faults ≡ a.faults → StopsAtFault b c → StopsAtFault a c
+stops_behind a b c first same second = λ none. second (same ∙ none) ∙ first none

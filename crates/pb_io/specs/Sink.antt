@@ -4,13 +4,14 @@ use Rattle.std.specs.Io.KnownBytes.{Appends}
 use Rattle.pb_io.specs.Counts.{counted}
 
 -- What a sink has been seen to do: the bytes that it holds, if it shows them, how many were put, how often it was called,
--- how many of these calls took no byte, and how many failed.
+-- how many of these calls took no byte, how many failed, and how many came after one that failed.
 pub record SinkSeen : Type 0 where
   pub contents : Option (List ℕ)
   pub written : ℕ
   pub calls : ℕ
   pub idle : ℕ
   pub faults : ℕ
+  pub after_fault : ℕ
 
 -- these bytes were put: they stand after the bytes that were held, if these are shown, and the count went up by their number
 pub record Puts (old new : SinkSeen) (bytes : List ℕ) : Type 0 where
@@ -20,6 +21,10 @@ pub record Puts (old new : SinkSeen) (bytes : List ℕ) : Type 0 where
 -- a prefix of the bytes was put, and not all of them
 abbrev pub PutsPrefix : SinkSeen → SinkSeen → List ℕ → Type 0
 PutsPrefix old new bytes = (n : ℕ) × (n < length bytes) × Puts old new (take n bytes)
+
+-- if no call had failed before, none was made after one that failed: the first fault is the end
+abbrev pub StopsAtFault : SinkSeen → SinkSeen → Type 0
+StopsAtFault old new = old.faults ≡ 0 → new.after_fault ≡ old.after_fault
 
 -- bytes with this property were put
 abbrev pub PutsSuch : (List ℕ → Type 0) → SinkSeen → SinkSeen → Type 0

@@ -11,7 +11,7 @@ pub record SinkWithoutFault : Type 0 where
 
 -- what the sink has been seen to do: it shows no bytes, and no call failed
 abbrev pub counted_without_fault : SinkWithoutFault → SinkSeen
-counted_without_fault sink = record { contents = None; written = sink.written; calls = sink.calls; idle = sink.idle; faults = 0 }
+counted_without_fault sink = record { contents = None; written = sink.written; calls = sink.calls; idle = sink.idle; faults = 0; after_fault = 0 }
 
 -- the sink after a call that took n bytes
 abbrev pub after_dropping : SinkWithoutFault → ℕ → SinkWithoutFault

@@ -3,7 +3,7 @@ ghost use Rattle.std.specs.Prelude.{◌≡◌, ◌-◌, ◌<◌, ◌↔◌, [], 
 ghost use Rattle.pb_io.specs.Counts.{Rose};
 ghost use Rattle.pb_io.specs.MemSink.{RefusesNext, after_appending, sink_after_fault, sink_seen_in_memory};
 
-use crate::counts::{is_named, saturating_count};
+use crate::counts::{calls_after, is_named, saturating_count};
 use crate::writing::{Sink, SinkFailed};
 use std::alloc::{AllocError, Global};
 use std::marker::Model;
@@ -21,6 +21,7 @@ pub struct MemSink {
     calls: u64,
     idle: u64,
     faults: u64,
+    after_fault: u64,
 }
 
 impl Model for MemSink {
@@ -38,6 +39,7 @@ impl Model for MemSink {
       calls = a.calls;
       idle = a.idle;
       faults = a.faults;
+      after_fault = a.after_fault;
     } };
 
     ghost invariant = { λ a.
@@ -63,6 +65,7 @@ impl MemSink {
           calls = 0;
           idle = 0;
           faults = 0;
+          after_fault = 0;
         }) }
     {
         Ok(MemSink {
@@ -73,6 +76,7 @@ impl MemSink {
             calls: 0,
             idle: 0,
             faults: 0,
+            after_fault: 0,
         })
     }
 
@@ -101,6 +105,7 @@ impl Sink for MemSink {
         ensures ok { IfOk result (λ n. self.new ≡ after_appending self.old (take n piece.now)) }
     {
         self.calls = saturating_count(self.calls, 1);
+        self.after_fault = saturating_count(self.after_fault, calls_after(self.faults));
         if piece.is_empty() {
             self.idle = saturating_count(self.idle, 1);
             return Ok(0);

@@ -1,7 +1,7 @@
 // The readers and writers of std as sources and sinks: the edge of the program. They show as much of their bytes as std
 // shows of the reader and the writer, and std shows nothing of the bytes of standard input and output.
 
-use crate::counts::{idle_calls, saturating_count};
+use crate::counts::{calls_after, idle_calls, saturating_count};
 use crate::reading::{Source, SourceFailed};
 use crate::writing::{Sink, SinkFailed};
 use std::io::{Read, Write};
@@ -80,6 +80,7 @@ pub struct StdSink<W: Write> {
     calls: u64,
     idle: u64,
     faults: u64,
+    after_fault: u64,
 }
 
 impl<W: Write> Model for StdSink<W> {
@@ -93,6 +94,7 @@ impl<W: Write> Model for StdSink<W> {
       calls = a.calls;
       idle = a.idle;
       faults = a.faults;
+      after_fault = a.after_fault;
     } };
 }
 
@@ -107,6 +109,7 @@ impl<W: Write> StdSink<W> {
           calls = 0;
           idle = 0;
           faults = 0;
+          after_fault = 0;
         } }
     {
         StdSink {
@@ -115,6 +118,7 @@ impl<W: Write> StdSink<W> {
             calls: 0,
             idle: 0,
             faults: 0,
+            after_fault: 0,
         }
     }
 }
@@ -124,6 +128,7 @@ impl<W: Write> Sink for StdSink<W> {
 
     fn put(&mut self, piece: &[u8]) -> Result<usize, SinkFailed> {
         self.calls = saturating_count(self.calls, 1);
+        self.after_fault = saturating_count(self.after_fault, calls_after(self.faults));
         if piece.is_empty() {
             self.idle = saturating_count(self.idle, 1);
             return Ok(0);

@@ -1,7 +1,7 @@
 // Sinks of bytes, and writing a slice whole.
-ghost use Rattle.std.specs.Prelude.{◌≡◌, ◌-◌, ◌<◌, ◌≤◌, [], length, take, Ok, IfOk, IsOk, OnOk, OnErr};
+ghost use Rattle.std.specs.Prelude.{◌≡◌, ◌-◌, ◌<◌, ◌≤◌, [], length, min, take, Ok, IfOk, IsOk, OnOk, OnErr};
 ghost use Rattle.pb_io.specs.Counts.{counted, Rose};
-ghost use Rattle.pb_io.specs.Sink.{SinkSeen, Puts, PutsPrefix};
+ghost use Rattle.pb_io.specs.Sink.{SinkSeen, Puts, PutsPrefix, StopsAtFault};
 
 use thiserror::Error;
 
@@ -12,9 +12,9 @@ pub struct SinkFailed;
 
 /// Something that bytes are put into.
 ///
-/// A contract sees the bytes that are held, if a sink shows them, and four counts: of the bytes
-/// put, of the calls, of the calls that took no byte, and of the faults. Each count stays once it is
-/// the greatest u64.
+/// A contract sees the bytes that are held, if a sink shows them, and five counts: of the bytes
+/// put, of the calls, of the calls that took no byte, of the faults, and of the calls that came
+/// after a fault. Each count stays once it is the greatest u64.
 pub trait Sink {
     // What the sink has been seen to do.
     ghost seen: { Self → SinkSeen };
@@ -38,10 +38,14 @@ pub trait Sink {
         ensures not_idle { OnErr result ((seen self.new).idle ≡ (seen self.old).idle) }
 
         ensures faults_stay { (seen self.old).faults ≤ (seen self.new).faults }
-        ensures called { (seen self.new).calls ≡ counted (seen self.old).calls 1 };
+        ensures called { (seen self.new).calls ≡ counted (seen self.old).calls 1 }
+
+        // The call is counted as one after a fault iff a fault had been counted before it.
+        ensures after_fault { (seen self.new).after_fault
+            ≡ counted (seen self.old).after_fault (min 1 (seen self.old).faults) };
 }
 
-/// Puts all the bytes into a sink, without an empty piece. After a failure a prefix of them was put.
+/// Puts all the bytes into a sink, without an empty piece. After a failure a prefix of them was put, and no further piece is.
 #[tactic(auto, using(crate::proofs::PieceLemmas::puts_none))]
 pub fn write_all<W: Sink>(sink: &mut W, bytes: &[u8]) -> Result<(), SinkFailed>
     ensures whole { OnOk result (Puts (W.seen sink.old) (W.seen sink.new) bytes.now) }
@@ -52,6 +56,7 @@ pub fn write_all<W: Sink>(sink: &mut W, bytes: &[u8]) -> Result<(), SinkFailed>
     ensures complete { ¬ Rose (W.seen sink.old).faults (W.seen sink.new).faults → IsOk result }
     ensures no_fault { OnOk result ((W.seen sink.new).faults ≡ (W.seen sink.old).faults) }
     ensures faults_stay { (W.seen sink.old).faults ≤ (W.seen sink.new).faults }
+    ensures stops { StopsAtFault (W.seen sink.old) (W.seen sink.new) }
 
     // No piece is empty, so there are at most as many calls as bytes.
     ensures idle { (W.seen sink.new).idle ≡ (W.seen sink.old).idle }

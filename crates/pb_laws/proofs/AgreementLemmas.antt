@@ -20,11 +20,11 @@ use Rattle.pb_laws.specs.Agreement.{AreOfOneGraph, AreStreamsOf, BoundsMeetLaw, 
 
 -- ---- the statistic
 -- the printed flows balance
-flows_balance : (stage : Stage) → IsCertifiedStage stage → IsBalancedFractional stage.graph (whole_flows (printed_flows stage))
+pub flows_balance : (stage : Stage) → IsCertifiedStage stage → IsBalancedFractional stage.graph (whole_flows (printed_flows stage))
 flows_balance stage certified = record { positive = omega (arith, ints); balanced = certified.shown.balanced }
 
 -- the unit of weighted squares is above 0
-unit_positive : (graph : ProcessGraph) (x : Fractional) → pos 1 ≤ℤ variance_product graph.streams → pos 1 ≤ℤ x.denominator → pos 1 ≤ℤ squares_unit graph x
+pub unit_positive : (graph : ProcessGraph) (x : Fractional) → pos 1 ≤ℤ variance_product graph.streams → pos 1 ≤ℤ x.denominator → pos 1 ≤ℤ squares_unit graph x
 unit_positive graph x product_pos q_pos =
     let q = x.denominator in
     let square_is = mul_positive q q (omega (arith, ints, q_pos)) (omega (arith, ints, q_pos)) in

@@ -25,7 +25,7 @@ use Rattle.pb_stage.specs.Certified.{IsAsGood, IsCertifiedStage}
 use Rattle.pb_laws.specs.Flows.{IsFlowWithin, OwnBoundsLaw, OwnLeastBoundsLaw}
 
 -- ---- bounds
-flow_at : (stage : Stage) (j : ℕ) (r : StreamResult) → slice_get stage.streams j ≡ Some r → item (printed_flows stage) j ≡ r.flow
+pub flow_at : (stage : Stage) (j : ℕ) (r : StreamResult) → slice_get stage.streams j ≡ Some r → item (printed_flows stage) j ≡ r.flow
 flow_at stage j r at =
     let flow : StreamResult → ℤ = λ s. s.flow in
     get_or_from_slice_get (printed_flows stage) j r.flow (pos 0) (slice_get-map flow stage.streams j ∙ ap (option_map flow) at)

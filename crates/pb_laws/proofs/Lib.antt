@@ -7,3 +7,7 @@ mod AgreementLemmas
 mod MeteringLemmas
 mod OptionsLemmas
 mod WindowPartLemmas
+mod SquareLemmas
+mod DropOrderLemmas
+mod ApartLemmas
+mod BetweenLemmas

@@ -34,7 +34,7 @@ same_net node (s ∷ ss) (t ∷ ts) (flow ∷ flows) keep =
     (ap₂ (λ (to from : ℕ). brought_to node (let u : Stream = record { from = from; to = to; meas = None } in u) flow) keep.0.to keep.0.from)
     (same_net node ss ts flows keep.1)
 
-balanced_before : (graph more : ProcessGraph) (flows : List ℤ) → AddsMeters graph more → IsBalanced more flows → IsBalanced graph flows
+pub balanced_before : (graph more : ProcessGraph) (flows : List ℤ) → AddsMeters graph more → IsBalanced more flows → IsBalanced graph flows
 balanced_before graph more flows adds even = record {
   each = even.each ∙ same_length graph.streams more.streams adds.streams;
   even = λ n lt.

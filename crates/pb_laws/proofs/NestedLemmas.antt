@@ -74,7 +74,7 @@ one_variance g m limits is =
     let least = (subst (λ (o : Option Meas). IfSome o _) is.measured within).least in
     subst (λ (z : ℤ). pos 0 ≤ℤ z) (sym (ap (λ (o : Option Stream). option_map_or (λ (s : Stream). variance_of s.meas) o (pos 0)) is.is ∙ ap variance_of is.measured)) (omega (arith, ints, least))
 
-variances : (g : ProcessGraph) (ms : List Member) → IsProcessGraph g → AllByRecursion (IsSigned g) ms → pos 0 ≤ℤ variance_sum g.streams ms
+pub variances : (g : ProcessGraph) (ms : List Member) → IsProcessGraph g → AllByRecursion (IsSigned g) ms → pos 0 ≤ℤ variance_sum g.streams ms
 variances g [] limits is = omega (arith, ints)
 variances g (m ∷ ms) limits is = let one = one_variance g m limits is.0 in let rest = variances g ms limits is.1 in omega (arith, ints, one, rest)
 

@@ -5,6 +5,7 @@ use Rattle.std.specs.List.{enumerate_from, list_any, range_with_len}
 use Rattle.std.proofs.lemmas.Bool.{cases_Bool}
 use Rattle.pb_fixed.proofs.Lists.{some_same}
 use Rattle.pb_graph.specs.declared.records.Meas.{Meas}
+use Rattle.pb_graph.specs.declared.records.Stream.{Stream}
 use Rattle.pb_window.specs.declared.plant.Plant.{Plant}
 use Rattle.pb_window.specs.declared.plant.PlantArc.{PlantArc}
 use Rattle.pb_window.specs.declared.plant.Span.{Span}
@@ -33,9 +34,9 @@ use Rattle.pb_period.specs.declared.days.Days.{Days}
 use Rattle.pb_period.specs.Days.{days_of}
 use Rattle.pb_period.specs.Facts.{content_of}
 use Rattle.pb_period.specs.Measurement.{amount_of, change_of, measured, measurement}
-use Rattle.pb_period.specs.PeriodGraph.{measured_in}
+use Rattle.pb_period.specs.PeriodGraph.{graph_in, measured_in, stream_among, stream_with}
 use Rattle.pb_period.specs.WindowGraph.{content_measured, flow_measured, held_at}
-use Rattle.pb_laws.specs.WindowParts.{ContentsLaw, WindowPartsLaw, arcs_numbered, service_used}
+use Rattle.pb_laws.specs.WindowParts.{ContentsLaw, WindowMeasuresLaw, WindowPartsLaw, arcs_numbered, service_used}
 
 -- ---- lists
 filter_all : {A : Type 0} (p : A → Bool) (xs : List A) → ((x : A) → p x ≡ true) → filter p xs ≡ xs
@@ -148,6 +149,23 @@ difference base content (Some opening) None before after inventory from to chang
 difference base content (Some opening) (Some closing) before after inventory from to change =
     sym (ap (λ (m : Meas). m.value) (some_same change))
     ∙ ap₂ (λ (a b : ℤ). a -ℤ b) (ap (λ (m : Meas). m.value) (some_same to)) (ap (λ (m : Meas). m.value) (some_same from))
+
+-- ---- what is measured
+
+map_after : {A B C : Type 0} (f : A → B) (g : B → C) (xs : List A) → map g (map f xs) ≡ map (λ (x : A). g (f x)) xs
+map_after f g [] = refl
+map_after {C = C} f g (x ∷ xs) = ap (λ (ys : List C). g (f x) ∷ ys) (map_after f g xs)
+
+-- the streams of the graph of some days have what these days measured of the arcs in service
+measures_in : (version : Version) (rows : List StoredRow) (days : Days) → map (λ (stream : Stream). stream.meas) (graph_in version rows days).streams
+    ≡ map (λ (arc : Arc). measured_in version (declared_of rows) (live_facts (facts_of rows)) days arc) (arcs_on version (declared_of rows) days.first days.last)
+measures_in One rows days = map_after (stream_with (measured_in One (declared_of rows) (live_facts (facts_of rows)) days)) (λ (stream : Stream). stream.meas) (arcs_of (declared_of rows))
+measures_in Two rows days =
+    map_after (stream_among (nodes_on Two (declared_of rows) days.first days.last) (measured_in Two (declared_of rows) (live_facts (facts_of rows)) days)) (λ (stream : Stream). stream.meas)
+    (arcs_on Two (declared_of rows) days.first days.last)
+
+pub window_measures : WindowMeasuresLaw
+window_measures rows period = measures_in (version_of (declared_of rows)) rows (days_of period)
 
 pub contents : ContentsLaw
 contents rows arc period before after inventory is_tank from to change =

@@ -1,9 +1,15 @@
 -- Statement. The ends that a certified stage prints are in order, and two certified stages of one graph agree within their ends.
-use Rattle.std.specs.Prelude.{◌≡◌, ℕ, ℤ, ◌≤ℤ◌, Option, IfSome, slice_get, Some}
+use Rattle.std.specs.Prelude.{◌≡◌, ◌+◌, ◌^◌, ℕ, ℤ, pos, ◌-ℤ◌, ◌*ℤ◌, ◌≤ℤ◌, List, Option, IfSome, slice_get, Some}
+use Rattle.pb_graph.specs.declared.records.Member.{Member}
+use Rattle.pb_graph.specs.declared.records.Stream.{Stream}
 use Rattle.pb_study.specs.declared.results.Bounds.{Bounds}
 use Rattle.pb_study.specs.declared.results.StreamResult.{StreamResult}
 use Rattle.pb_study.specs.declared.results.Stage.{Stage}
-use Rattle.pb_stage.specs.Printed.{HasLeastBounds}
+use Rattle.pb_gap.specs.Bounds.{variance_sum}
+use Rattle.pb_gap.specs.declared.gap.Gap.{Gap}
+use Rattle.pb_gap.specs.Gap.{gap_size}
+use Rattle.pb_gap.specs.StreamBounds.{sum_for}
+use Rattle.pb_stage.specs.Printed.{HasLeastBounds, printed_gap}
 use Rattle.pb_stage.specs.Certified.{IsCertifiedStage}
 
 -- the low end of the statistic of a certified stage is at most its high end, if it has one
@@ -44,3 +50,17 @@ abbrev pub LeastBoundsMeetLaw : Type 0
 LeastBoundsMeetLaw =
     (one other : Stage) (j : ℕ) (r s : StreamResult) → AreOfOneGraph one other → AreStreamsOf one other j r s
     → HasLeastBounds one → HasLeastBounds other → MeetIfThere r.least s.least
+
+-- two sums of the flows of these measured streams are at most two gaps apart, one added to the other, in standard deviations of the sum
+abbrev pub AreGapsApart : List Stream → List Member → Gap → Gap → ℤ → ℤ → Type 0
+AreGapsApart streams members gap other a b =
+    (((a -ℤ b) *ℤ (a -ℤ b)) *ℤ pos (2 ^ 40))
+    ≤ℤ (variance_sum streams members *ℤ (pos (gap_size gap + gap_size other) *ℤ pos (gap_size gap + gap_size other)))
+
+-- The flow of a measured stream is its own, and that of an observable stream is a sum of measured ones. The two stages print flows of it
+-- that are at most the sum of their gaps apart, in standard deviations of that sum.
+abbrev pub FlowsMeetLaw : Type 0
+FlowsMeetLaw =
+    (one other : Stage) (j : ℕ) (r s : StreamResult) → AreOfOneGraph one other → AreStreamsOf one other j r s
+    → IfSome (sum_for j r.classified.class r.classified.witness)
+    (λ members. AreGapsApart one.graph.streams members (printed_gap one) (printed_gap other) r.flow s.flow)

@@ -1,7 +1,8 @@
--- Statement. A period has the same parts of the plant in a window as in its own graph, its tanks open and close on the same days, and the
--- contents of a tank before and after it differ by its inventory.
+-- Statement. A period has the same parts of the plant in a window as in its own graph, measured alike, its tanks open and close on the same
+-- days, and the contents of a tank before and after it differ by its inventory.
 use Rattle.std.specs.Prelude.{◌≡◌, ℕ, ◌-ℤ◌, List, ◌∷◌, map, Option, Some, None}
 use Rattle.pb_graph.specs.declared.records.Meas.{Meas}
+use Rattle.pb_graph.specs.declared.records.Stream.{Stream}
 use Rattle.pb_window.specs.declared.plant.PlantArc.{PlantArc}
 use Rattle.pb_window.specs.Plant.{NumberedArc, arcs_in, closing_day, nodes_in, opening_day}
 use Rattle.pb_site.specs.declared.declared.Arc.{Arc}
@@ -17,6 +18,8 @@ use Rattle.pb_periods.specs.declared.period.Period.{Period}
 use Rattle.pb_periods.specs.Windows.{arc_service, span_of_period, window_arc, window_plant}
 use Rattle.pb_kinds.specs.declared.rows.StoredRow.{StoredRow}
 use Rattle.pb_book.specs.Rows.{declared_of}
+use Rattle.pb_period.specs.Days.{days_of}
+use Rattle.pb_period.specs.PeriodGraph.{period_graph}
 use Rattle.pb_period.specs.WindowGraph.{content_measured, flow_measured}
 
 -- the days of service of an arc, as the graph of a period uses them; version 1 has none
@@ -41,6 +44,15 @@ pub record HasPartsOfItsOwn (declared : List Declared) (period : Period) : Type 
 -- this holds for each period, whatever is declared
 abbrev pub WindowPartsLaw : Type 0
 WindowPartsLaw = (declared : List Declared) (period : Period) → HasPartsOfItsOwn declared period
+
+-- In a window a period has the measurements of its own graph: what it measures of the arcs that are in service is what the streams of its
+-- graph have, in order.
+abbrev pub WindowMeasuresLaw : Type 0
+WindowMeasuresLaw =
+    (rows : List StoredRow) (period : Period)
+    → map (λ (stream : Stream). stream.meas) (period_graph rows (days_of period)).streams
+    ≡ map (λ (arc : Arc). flow_measured rows arc period)
+    (arcs_on (version_of (declared_of rows)) (declared_of rows) period.first period.last)
 
 -- If there are dips for what a tank holds before a period and after it, these contents differ by what the period measured of its inventory.
 abbrev pub ContentsLaw : Type 0

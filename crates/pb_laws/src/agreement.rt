@@ -1,7 +1,8 @@
 // What is proved of the ends that certified stages print. The functions are empty: the contract of each is a law.
 
-ghost use Rattle.pb_laws.specs.Agreement.{BoundsMeetLaw, LeastBoundsMeetLaw, StatisticOrderLaw, StatisticsMeetLaw};
+ghost use Rattle.pb_laws.specs.Agreement.{BoundsMeetLaw, FlowsMeetLaw, LeastBoundsMeetLaw, StatisticOrderLaw, StatisticsMeetLaw};
 
+use pb_gap::{schwarz_law, stream_law};
 use pb_least::some_least_law;
 
 /// The law that the low end of the statistic is at most its high end, also if the two come from different certified stages of one graph.
@@ -17,4 +18,14 @@ pub fn bounds_meet_law()
     ensures least { LeastBoundsMeetLaw }
 {
     some_least_law();
+}
+
+/// The law that two certified stages of one graph print flows of each determined stream that are at most the sum of their gaps apart, in
+/// standard deviations: both are within their gaps of one least vector.
+pub fn flows_meet_law()
+    ensures { FlowsMeetLaw }
+{
+    some_least_law();
+    schwarz_law();
+    stream_law();
 }

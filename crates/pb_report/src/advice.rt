@@ -17,7 +17,7 @@ use std::alloc::{AllocError, Global};
 
 /// Appends the rows of advice: `advise` with the number of streams to meter and the total cost of their meters, and one `meter`
 /// row for each meter, with its stream, its cost and the cycle that shows why the stream needs one.
-pub fn write_advice(
+pub fn write_advise(
     alloc: Global,
     names: &Names,
     advice: &Advice,

@@ -22,7 +22,7 @@ mod values;
 mod verdicts;
 mod window;
 
-pub use advice::write_advice;
+pub use advice::write_advise;
 pub use component::write_component;
 pub use design::write_design;
 pub use form::{Form, write_row};

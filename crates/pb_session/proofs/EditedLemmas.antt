@@ -356,11 +356,11 @@ moved state other at after accepted fields text here there so adds =
     subst (λ (a : Answer). AddsBy other after (named_costs fields) a text) (sym there) (so (subst (λ (a : Answer). AddsBy state at (named_costs fields) a text) here adds))
 
 -- what a record adds after the rows and after the plain rows
-record AddsAlike (state : SessionState) (plain : List StoredRow) (accepted : Accepted) (costs : List NamedCost) : Type 0 where
-  to : (text : List ℕ) → AddsAccepted state costs accepted text → AddsAccepted (with_rows state plain) costs accepted text
-  back : (text : List ℕ) → AddsAccepted (with_rows state plain) costs accepted text → AddsAccepted state costs accepted text
+pub record AddsAlike (state : SessionState) (plain : List StoredRow) (accepted : Accepted) (costs : List NamedCost) : Type 0 where
+  pub to : (text : List ℕ) → AddsAccepted state costs accepted text → AddsAccepted (with_rows state plain) costs accepted text
+  pub back : (text : List ℕ) → AddsAccepted (with_rows state plain) costs accepted text → AddsAccepted state costs accepted text
 
-reports_alike : (state : SessionState) (plain : List StoredRow) (i : ℕ) (costs : List NamedCost) → ArePlain state.rows plain → HaveSameGraphs state.rows plain → AddsAlike state plain (Report i) costs
+pub reports_alike : (state : SessionState) (plain : List StoredRow) (i : ℕ) (costs : List NamedCost) → ArePlain state.rows plain → HaveSameGraphs state.rows plain → AddsAlike state plain (Report i) costs
 reports_alike state plain i costs are graphs = record {
   to = λ text here.
       subst (λ (found : Option Period). Reports (with_rows state plain) found text) (sym (found_plain state.rows plain i are))
@@ -370,7 +370,7 @@ reports_alike state plain i costs are graphs = record {
       (subst (λ (found : Option Period). Reports (with_rows state plain) found text) (found_plain state.rows plain i are) there);
 }
 
-balances_alike : (state : SessionState) (plain : List StoredRow) (component : List ℕ) (i : ℕ) (costs : List NamedCost) → ArePlain state.rows plain → HaveSameGraphs state.rows plain
+pub balances_alike : (state : SessionState) (plain : List StoredRow) (component : List ℕ) (i : ℕ) (costs : List NamedCost) → ArePlain state.rows plain → HaveSameGraphs state.rows plain
     → AddsAlike state plain (Component component i) costs
 balances_alike state plain component i costs are graphs = record {
   to = λ text here.
@@ -381,7 +381,7 @@ balances_alike state plain component i costs are graphs = record {
       (subst (λ (found : Option Period). Balances (with_rows state plain) component found text) (found_plain state.rows plain i are) there);
 }
 
-windows_alike : (state : SessionState) (plain : List StoredRow) (first last : ℕ) (costs : List NamedCost) → ArePlain state.rows plain → AddsAlike state plain (Window first last) costs
+pub windows_alike : (state : SessionState) (plain : List StoredRow) (first last : ℕ) (costs : List NamedCost) → ArePlain state.rows plain → AddsAlike state plain (Window first last) costs
 windows_alike state plain first last costs are =
     let one = slice_get (periods_of state.rows) first in
     let other = slice_get (periods_of state.rows) last in
@@ -397,7 +397,7 @@ windows_alike state plain first last costs are =
           (subst (λ (o : Option Period). Windows (with_rows state plain) o (slice_get (periods_of plain) last) text) found.0 there));
     }
 
-design_alike : (state : SessionState) (plain : List StoredRow) (costs : List NamedCost) → ArePlain state.rows plain → HaveSameGraphs state.rows plain → AddsAlike state plain Design costs
+pub design_alike : (state : SessionState) (plain : List StoredRow) (costs : List NamedCost) → ArePlain state.rows plain → HaveSameGraphs state.rows plain → AddsAlike state plain Design costs
 design_alike state plain costs are graphs =
     let names = ap names_of are.declared in
     record {
@@ -405,7 +405,7 @@ design_alike state plain costs are graphs =
       back = λ text there. subst₂ (λ (n : Names) (g : ProcessGraph). IsDesign state n g text) names graphs.design (design_as state plain state.rows _ _ text there);
     }
 
-advice_alike : (state : SessionState) (plain : List StoredRow) (costs : List NamedCost) → ArePlain state.rows plain → HaveSameGraphs state.rows plain → AddsAlike state plain Advise costs
+pub advice_alike : (state : SessionState) (plain : List StoredRow) (costs : List NamedCost) → ArePlain state.rows plain → HaveSameGraphs state.rows plain → AddsAlike state plain Advise costs
 advice_alike state plain costs are graphs =
     let names = ap names_of are.declared in
     let costs_same = ap (λ (ds : List Declared). meter_costs ds costs) are.declared in

@@ -47,7 +47,7 @@ use Rattle.pb_period.specs.PeriodGraph.{assembly_of, period_graph, period_names}
 use Rattle.pb_session.specs.declared.kept.KeptStudy.{KeptStudy}
 use Rattle.pb_session.specs.declared.session.Reported.{Reported}
 use Rattle.pb_session.specs.Criticals.{critical_of, declared_critical}
-use Rattle.pb_session.specs.Kept.{Held, IsKeptAt, IsKeptBy, IsKeptOf, KeepsAccepted, KeepsBy, KeepsReport, KeepsReportOf, kept_behind, most_kept, reported_after, reported_behind, reported_by, reported_of, untouched, without}
+use Rattle.pb_session.specs.Kept.{Held, IsKeptAt, IsKeptBy, IsKeptOf, IsReportedStage, KeepsAccepted, KeepsBy, KeepsReport, KeepsReportOf, kept_behind, most_kept, reported_after, reported_behind, reported_by, reported_of, untouched, without}
 use Rattle.pb_session.specs.Keeping.{IsKeeping, IsKeptStudy, IsMade, IsReportedAt, IsReportedBy, IsReportedOf, held_of, is_of, last_stage, left_by, others_than, place_in, saved_by, saved_stage, settled, settled_by, settled_stage, stage_beside, studies_behind, untouched_studies}
 use Rattle.pb_session.specs.Session.{AreNamesOf, SessionState}
 use Rattle.pb_session.proofs.NamedLemmas.{period_names_are}
@@ -354,6 +354,11 @@ some_first : (stages : List Stage) (n : ℕ) → length stages ≡ n + 1 → IsS
 some_first [] n long = absurd (omega (arith, long))
 some_first (stage ∷ stages) n long = refl
 
+-- the first stage of a study, as it is reported
+first_reported : (graph : ProcessGraph) (options : Options) (critical : Critical) (study : Study) (stage : Stage) → IsProcessGraph graph → IsStudyOf graph options critical study
+    → slice_get study.stages 0 ≡ Some stage → IsReportedStage options stage
+first_reported graph options critical study stage limits is at = record { graph = graph; limits = limits; critical = critical; is_stage = is.rounds.each 0 stage at }
+
 -- a study has a first stage, which is that of its graph and has its classes
 record Begun (graph : ProcessGraph) (study : Study) : Type 0 where
   stage : Stage
@@ -389,6 +394,7 @@ settles_graph state i period graph reported kept last at is of keeping =
     let periods : periods_in (settled i reported.made kept) ≡ kept_behind i w.study (periods_in kept) = ap periods_in w.settled_is ∙ behind_periods i w.study kept in
     let keeps : KeepsReport state i (periods_in kept) (Ok graph) (periods_in (settled i reported.made kept)) = (w.study, w.is_study, periods) in
     let first = begun graph state.options (critical_of state.rows) w.study w.is_study in
+    let reported_is = first_reported graph state.options (critical_of state.rows) w.study first.stage of.limits w.is_study first.at in
     let stage : last_stage (settled i reported.made kept) (settled_stage i reported.made kept) ≡ Some first.stage =
     ap₂ last_stage w.settled_is w.stage_is ∙ stage_behind i w.study kept first.stage first.at in
     record {
@@ -399,6 +405,7 @@ settles_graph state i period graph reported kept last at is of keeping =
         studies = subst (AllByRecursion (IsKeptStudy state)) (sym w.settled_is) (all_behind (IsKeptStudy state) i w.study kept w.of keeping.studies);
         few = subst (λ (ks : List KeptStudy). length ks ≤ most_kept) (sym w.settled_is) (few_behind i w.study kept keeping.few);
         classes = subst (λ (o : Option Stage). IfSome o (λ (s : Stage). IsClassification s.graph (printed_classes s))) (sym stage) first.classes;
+        last_is = subst (λ (o : Option Stage). IfSome o (IsReportedStage state.options)) (sym stage) reported_is;
       };
     }
 

@@ -9,6 +9,7 @@ mod EditedWindowLemmas
 mod HistoryLemmas
 mod NamedLemmas
 mod WindowedLemmas
+mod RenumberedLemmas
 mod ReportLemmas
 mod RowLemmas
 mod SomeTextLemmas

@@ -9,9 +9,9 @@ use Rattle.pb_study.specs.declared.results.Study.{Study}
 use Rattle.pb_graph.specs.ProcessGraph.{ProcessGraph, IsProcessGraph}
 use Rattle.pb_study.specs.WellFormed.{IsWellFormedStudy}
 use Rattle.pb_classify.specs.Classification.{IsClassification}
+use Rattle.pb_stage.specs.Printed.{printed_classes}
 use Rattle.pb_stage.specs.Certified.{IsCertifiedStage, HasLeastThroughout, TestsEachRedundant}
 use Rattle.pb_study.specs.Options.{AreOptions}
-use Rattle.pb_stage.specs.Printed.{printed_classes}
 use Rattle.pb_elim.specs.Study.{IsStudyOf}
 use Rattle.pb_book.specs.declared.answer.Accepted.{Accepted}
 use Rattle.pb_book.specs.declared.answer.Accepted.TheVariants.{Stored}
@@ -26,7 +26,7 @@ use Rattle.pb_period.specs.PeriodGraph.{assembly_of}
 use Rattle.pb_session.specs.declared.kept.KeptStudy.{KeptStudy}
 use Rattle.pb_session.specs.declared.session.Reported.{Reported}
 use Rattle.pb_session.specs.Criticals.{critical_of}
-use Rattle.pb_session.specs.Kept.{Held, IsKeptAt, most_kept}
+use Rattle.pb_session.specs.Kept.{Held, IsKeptAt, IsReportedStage, most_kept}
 use Rattle.pb_session.specs.Session.{BalancesIn, SessionState}
 
 -- ---- the kept studies
@@ -158,12 +158,13 @@ abbrev pub IsKeptStudy : SessionState → KeptStudy → Type 0
 IsKeptStudy state kept = IsKeptAt state (slice_get (periods_of state.rows) kept.period) kept.study
 
 -- The kept studies are those of their periods by the rows stored so far, at most as many as are allowed, and the stage that was
--- reported last has the classes of its graph.
+-- reported last is the first one of a study, and has the classes of its graph.
 pub record IsKeeping (state : SessionState) (kept : List KeptStudy) (last : Option Stage) : Type 0 where
   pub options : AreOptions state.options
   pub studies : AllByRecursion (IsKeptStudy state) kept
   pub few : length kept ≤ most_kept
   pub classes : IfSome (last_stage kept last) (λ (stage : Stage). IsClassification stage.graph (printed_classes stage))
+  pub last_is : IfSome (last_stage kept last) (IsReportedStage state.options)
 
 -- what a session made of these holds
 abbrev pub held_of : SessionState → List KeptStudy → Option Stage → Held

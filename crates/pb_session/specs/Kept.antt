@@ -1,8 +1,12 @@
--- Statement. What a session keeps beside its rows: studies of periods, and the classes of its last report.
+-- Statement. What a session keeps beside its rows: studies of periods, and the first stage of its last report.
 use Rattle.std.specs.Prelude.{◌≡◌, ◌==◌, ℕ, ◌+◌, not, List, [], ◌∷◌, filter, length, take, All, Option, Some, None, slice_get, Result, Ok, Err, if◌then◌else◌}
+use Rattle.pb_study.specs.declared.results.Critical.{Critical}
+use Rattle.pb_study.specs.declared.results.Options.{Options}
+use Rattle.pb_study.specs.declared.results.Stage.{Stage}
 use Rattle.pb_study.specs.declared.results.Study.{Study}
 use Rattle.pb_graph.specs.ProcessGraph.{ProcessGraph, IsProcessGraph}
 use Rattle.pb_study.specs.WellFormed.{IsWellFormedStudy}
+use Rattle.pb_elim.specs.Stage.{IsStageOf}
 use Rattle.pb_elim.specs.Study.{IsStudyOf}
 use Rattle.pb_stage.specs.Certified.{IsCertifiedStage}
 use Rattle.pb_book.specs.declared.answer.Accepted.{Accepted}
@@ -98,7 +102,15 @@ abbrev pub IsKeptAt : SessionState → Option Period → Study → Type 0
 IsKeptAt state (Some period) study = IsKeptBy state (assembly_of state.rows (days_of period)) study
 IsKeptAt state None study = ⊥
 
--- ---- the graph of the last report
+-- ---- the last report
+
+-- A stage is the first of a study that was reported: the stage of the graph of the report, with all its measurements, by these options
+-- and by the critical values that were declared then. (It has this graph: a field of its reconciliation says so.)
+pub record IsReportedStage (options : Options) (stage : Stage) : Type 0 where
+  pub graph : ProcessGraph
+  pub limits : IsProcessGraph graph
+  pub critical : Critical
+  pub is_stage : IsStageOf graph options critical stage
 
 -- the graph of the last report, after a report of a period that has this graph or has none
 abbrev pub reported_by : Option ProcessGraph → Result ProcessGraph Assembly → Option ProcessGraph

@@ -6,6 +6,7 @@ pub mod FirstStage
 pub mod Laws
 pub mod Edited
 pub mod Agreeing
+pub mod Renumbered
 pub mod Kept
 pub mod KeptLaws
 pub mod Closed

@@ -4,6 +4,7 @@ ghost use Rattle.pb_session.specs.Agreeing.{AgreeingReportLaw, ClosingLaw};
 ghost use Rattle.pb_session.specs.Edited.{EditedFileLaw};
 ghost use Rattle.pb_session.specs.KeptLaws.{FewKeptLaw, KeptTextLaw, OneKeptLaw, SomeKeptLaw};
 ghost use Rattle.pb_session.specs.Laws.{CriticalsLaw, OneTextLaw, OneSessionTextLaw, SomeTextLaw, SomeSessionTextLaw};
+ghost use Rattle.pb_session.specs.Renumbered.{LeftOutLaw, RenumberedLaw};
 ghost use Rattle.pb_session.specs.VersionOne.{FirstPlantLaw, FirstRefusalLaw, FirstSessionTextLaw, FirstTextLaw, FirstWindowLaw};
 
 use pb_advise::{cheapest_law, one_advice_law, some_advice_law};
@@ -72,6 +73,18 @@ pub fn agreeing_report_law()
     ensures closing { ClosingLaw }
 {
     agreeing_law();
+    plain_graphs_law();
+}
+
+/// The law that blank and refused records may be left out of a session: every other record has the same answer and the same text, but
+/// for the numbers of records, which only refusals and histories print. What a session says depends on what its rows do, and not on
+/// their numbers.
+pub fn left_out_law()
+    ensures renumbered { RenumberedLaw }
+    ensures left_out { LeftOutLaw }
+{
+    accepted_law();
+    plain_law();
     plain_graphs_law();
 }
 

@@ -15,7 +15,7 @@ mod session;
 mod windows;
 
 pub use laws::{
-    agreeing_report_law, criticals_law, edited_file_law, kept_law, one_text_law, some_text_law,
-    version_one_text_law,
+    agreeing_report_law, criticals_law, edited_file_law, kept_law, left_out_law, one_text_law,
+    some_text_law, version_one_text_law,
 };
 pub use session::Session;

@@ -24,7 +24,7 @@ use pb_facts::Grade;
 use pb_graph::{Classified, Graph, List};
 use pb_period::{Assembly, assemble, assemble_window, design};
 use pb_report::{
-    Form, write_advice, write_component, write_design, write_history, write_over, write_refused,
+    Form, write_advise, write_component, write_design, write_history, write_over, write_refused,
     write_study, write_window,
 };
 use pb_rows::{Name, NameList, Names, Row};
@@ -84,7 +84,7 @@ impl Session {
     ghost use Rattle.pb_session.specs.Closed.{LeavesClosed};
     ghost use Rattle.pb_session.specs.FirstStage.{Begins, IsFirstStage, TellsAStream};
     ghost use Rattle.pb_session.specs.Keeping.{HasCountsOf, IsBalanceAt, IsReportedAt, IsReportedOf, IsStudied};
-    ghost use Rattle.pb_session.specs.Kept.{IsKeptAt, Keeps, KeepsAccepted, KeepsReportOf, most_kept, reported_after, reported_behind, reported_of};
+    ghost use Rattle.pb_session.specs.Kept.{IsKeptAt, IsReportedStage, Keeps, KeepsAccepted, KeepsReportOf, most_kept, reported_after, reported_behind, reported_of};
     ghost use Rattle.pb_session.specs.Session.{Adds, AddsAccepted, AreNamesOf, Balances, cause_in, IsAdviceText, IsBalanceOf, IsDesign, IsHistoryText, IsReport, IsTextOf, Reports, Windows, state_after, window_head};
     ghost use Rattle.pb_session.specs.Windowed.{IsWindowAt};
 
@@ -129,10 +129,13 @@ impl Session {
         }
     }
 
-    /// The first stage of the study that was reported last: it has the graph of that report, and the class of each stream with its
-    /// certificate. `None` iff no report was written. Allocates no memory.
+    /// The first stage of the study that was reported last, by the options of the session and the critical values that were declared
+    /// then: it has the graph of that report, and the class of each stream with its certificate. `None` iff no report was written.
+    /// Allocates no memory.
     pub fn classes(&self) -> Option<&Stage>
         ensures graph { option_map (λ stage. stage.now.graph) result ≡ self.now.reported }
+        ensures first { IfSome result
+            (λ stage. IsReportedStage self.now.state.options stage.now) }
         ensures list { IfSome result
             (λ stage. IsClassification stage.now.graph (printed_classes stage.now)) }
     {
@@ -233,7 +236,7 @@ impl Session {
             Accepted::Design => self.write_design(out),
             Accepted::Report(i) => self.write_report(i, out),
             Accepted::History(i) => self.write_history(i, out),
-            Accepted::Advise => self.write_advice(row, out),
+            Accepted::Advise => self.write_advise(row, out),
             Accepted::Window { first, last } => self.write_window(first, last, out),
             Accepted::Component { component, period } => {
                 self.write_balance(&component, period, out)
@@ -270,7 +273,7 @@ impl Session {
     }
 
     // Appends the rows of the cheapest metering of the stored plant, at the costs that a record names.
-    fn write_advice(&self, row: &Row, out: &mut Vec<u8>) -> Result<(), AllocError>
+    fn write_advise(&self, row: &Row, out: &mut Vec<u8>) -> Result<(), AllocError>
         requires { answer_of self.now.state.rows row.now ≡ Says Advise }
         ensures ok { OnOk result (AppendsText
             (AddsAccepted self.now.state (named_costs row.now) Advise) out.old out.new) }
@@ -299,7 +302,7 @@ impl Session {
         ensures err { OnErr result (KeepsText out.old out.new) }
     {
         let advice = advise(self.alloc, graph, costs)?;
-        write_advice(self.alloc, names, &advice, self.form, out)
+        write_advise(self.alloc, names, &advice, self.form, out)
     }
 
     // Appends the history of a period.

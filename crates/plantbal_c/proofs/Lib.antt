@@ -2,3 +2,4 @@ pub mod AsBox
 pub mod BlockLemmas
 pub mod FieldLemmas
 pub mod HandleSteps
+pub mod RecordLemmas

@@ -3,6 +3,7 @@ pub mod Status
 pub mod Asked
 pub mod Block
 pub mod Fields
+pub mod Graphs
 pub mod Made
 pub mod Opened
 -- Inside

@@ -9,7 +9,7 @@ done = 0
 abbrev pub done_refused : ℕ
 done_refused = 1
 
--- an argument is outside its limits, and nothing was done
+-- an argument is outside its limits, and nothing was done with it
 abbrev pub usage : ℕ
 usage = 2
 
@@ -32,3 +32,7 @@ small_buffer = 8
 -- there is nothing at this place, or nothing of this name, and nothing was written
 abbrev pub not_there : ℕ
 not_there = 9
+
+-- what is measured of a stream is above the limits of a graph
+abbrev pub bad_stream : ℕ
+bad_stream = 10

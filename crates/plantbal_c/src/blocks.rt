@@ -124,9 +124,8 @@ fn take_next(
     ensures many { IfErr result
         (λ why. why ≡ NotTaken.TooMany → session.new.taken ≡ most_records) }
 {
-    match records.fill(fields) {
-        Ok(true) => Ok(Some(session.take(fields)?)),
-        Ok(false) => Ok(None),
-        Err(AllocError) => Err(NotTaken::NoMemory),
+    if !records.fill(fields)? {
+        return Ok(None);
     }
+    Ok(Some(session.take(fields)?))
 }

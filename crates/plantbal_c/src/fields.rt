@@ -1,7 +1,7 @@
 // A session takes a record whose fields are already apart.
 ghost use Rattle.std.specs.Prelude.{◌≡◌, ◌≢◌, ◌≤◌, ◌<◌, true, false, length, IfOk, IsNone, IfSome};
 ghost use Rattle.plantbal_c.specs.Block.{TakesOne, most_records};
-ghost use Rattle.plantbal_c.specs.Fields.{AreFieldEnds, fields_between};
+ghost use Rattle.plantbal_c.specs.Fields.{AreFieldEnds, fields_between, last_end};
 ghost use Rattle.plantbal_c.specs.Status.{bad_handle, done, too_large, usage};
 
 use crate::handle::SessionHandle;
@@ -90,14 +90,34 @@ fn row_between(alloc: Global, text: &[u8], ends: &[usize]) -> Result<Option<Row>
     ensures none { IfOk result (λ row. IsNone row → AreFieldEnds text.now 0 ends.now → ⊥) }
 {
     let mut row = Row::new(alloc);
-    let mut from = 0;
+    match fill_between(&mut row, text, 0, ends)? {
+        Some(_) => Ok(Some(row)),
+        None => Ok(None),
+    }
+}
+
+/// Fills a row with the fields that end at these places, of which the first begins at `from`, if the places are in order and within
+/// the text. Returns where the last one ends.
+pub(crate) fn fill_between(
+    row: &mut Row,
+    text: &[u8],
+    from: usize,
+    ends: &[usize],
+) -> Result<Option<usize>, AllocError>
+    ensures fields { IfOk result (λ end.
+        IfSome end (λ _. row.new ≡ fields_between text.now from ends.now)) }
+    ensures last { IfOk result (λ end. IfSome end (λ end. end ≡ last_end from ends.now)) }
+    ensures none { IfOk result (λ end. IsNone end → AreFieldEnds text.now from ends.now → ⊥) }
+{
+    row.clear();
+    let mut begin = from;
     for i in 0..ends.len() {
         let end = ends[i];
-        if end < from || text.len() < end {
+        if end < begin || text.len() < end {
             return Ok(None);
         }
-        row.push(&text[from..end])?;
-        from = end;
+        row.push(&text[begin..end])?;
+        begin = end;
     }
-    Ok(Some(row))
+    Ok(Some(begin))
 }

@@ -5,8 +5,10 @@
 //! Records are judged by `pb_session`, runs and checks are those of `pb_cli`.
 #![tactic(auto)]
 
+mod apart;
 mod blocks;
 mod fields;
+mod graphs;
 mod handle;
 mod looks;
 mod made;
@@ -17,5 +19,6 @@ mod sessions;
 mod status;
 mod text_sink;
 
+pub use graphs::PlantbalGraphSize;
 pub use handle::SessionHandle;
 pub use options::PlantbalOptions;

@@ -9,7 +9,7 @@ use pb_report::Form;
 use pb_rows::Row;
 use pb_session::Session;
 use pb_study::Options;
-use std::alloc::Global;
+use std::alloc::{AllocError, Global};
 use std::marker::Model;
 
 /// A session, how many records it has taken, and the output that C hasn't taken yet.
@@ -38,6 +38,16 @@ pub(crate) enum NotTaken {
     /// The session has taken as many records as can be numbered.
     TooMany,
     NoMemory,
+}
+
+impl From<AllocError> for NotTaken {
+    ghost use Rattle.plantbal_c.specs.declared.opened.NotTaken.TheVariants.{NoMemory};
+
+    ghost from_gives = { λ _ why. why ≡ NoMemory };
+
+    fn from(_: AllocError) -> NotTaken {
+        NotTaken::NoMemory
+    }
 }
 
 impl OpenSession {

@@ -6,7 +6,7 @@ pub(crate) const DONE: u8 = 0;
 /// The same, and a record was refused or a block is wrong.
 pub(crate) const DONE_REFUSED: u8 = 1;
 
-/// An argument is outside its limits. Nothing was done.
+/// An argument is outside its limits. Nothing was done with it.
 pub(crate) const USAGE: u8 = 2;
 
 /// There are more bytes or more records than the limit.
@@ -23,3 +23,6 @@ pub(crate) const SMALL_BUFFER: u8 = 8;
 
 /// There is nothing at this place, or nothing of this name. Nothing was written.
 pub(crate) const NOT_THERE: u8 = 9;
+
+/// A stream isn't one of a process graph.
+pub(crate) const BAD_STREAM: u8 = 10;

@@ -13,6 +13,7 @@ pub(crate) struct TextSink {
     calls: u64,
     idle: u64,
     faults: u64,
+    after_fault: u64,
 }
 
 impl Model for TextSink {
@@ -27,6 +28,7 @@ impl Model for TextSink {
       calls = a.calls;
       idle = a.idle;
       faults = a.faults;
+      after_fault = a.after_fault;
     } };
 }
 
@@ -41,6 +43,7 @@ impl TextSink {
           calls = 0;
           idle = 0;
           faults = 0;
+          after_fault = 0;
         } }
     {
         TextSink {
@@ -49,6 +52,7 @@ impl TextSink {
             calls: 0,
             idle: 0,
             faults: 0,
+            after_fault: 0,
         }
     }
 
@@ -66,6 +70,7 @@ impl Sink for TextSink {
 
     fn put(&mut self, piece: &[u8]) -> Result<usize, SinkFailed> {
         self.calls = self.calls.saturating_add(1);
+        self.after_fault = self.after_fault.saturating_add(self.faults.min(1));
         if piece.is_empty() {
             self.idle = self.idle.saturating_add(1);
             return Ok(0);

@@ -12,7 +12,7 @@ ghost use Rattle.pb_report.specs.Names.{IsNamed};
 
 use pb_advise::{MOST_COST, advise};
 use pb_graph::{Class, Classified, Graph, List, MOST_NODES, Meas, Member, Step, Stream, Witness};
-use pb_report::{Form, write_advice, write_design, write_over, write_refused, write_study};
+use pb_report::{Form, write_advise, write_design, write_over, write_refused, write_study};
 use pb_rows::{Name, NameList, Names};
 use pb_study::{Bounds, Options, Stage, StreamResult, Study};
 use std::alloc::Global;
@@ -326,7 +326,7 @@ fn advice_of(
     }
     let advice = advise(alloc, plant, costs)?;
     let mut out = Vec::new(alloc);
-    write_advice(alloc, names, &advice, form, &mut out)?;
+    write_advise(alloc, names, &advice, form, &mut out)?;
     Ok(out)
 }
 

@@ -4,7 +4,7 @@ use Rattle.pb_book.specs.Answer.{answer_of, is_refused}
 use Rattle.pb_session.specs.Session.{Adds, SessionState, state_after}
 use Rattle.pb_cli.specs.declared.answers.Stopped.TheVariants.{OutOfMemory, SinkFault}
 use Rattle.pb_cli.specs.Prefix.{IsBeginningOf}
-use Rattle.pb_io.proofs.PieceLemmas.{puts_more, puts_none}
+use Rattle.pb_io.proofs.PieceLemmas.{puts_more, puts_none, stops_behind}
 use Rattle.pb_cli.proofs.TextLemmas.{Answered, all_answered, answered_more, answered_none, any_err, cut_short, next_at, none_left, stopped}
 use Rattle.pb_cli.proofs.answers.answer_in.Goals as goal
 
@@ -17,6 +17,7 @@ turns-init g c =
       left = ap (λ (k : ℕ). drop k rows) c.requires.none_taken;
       faults = refl;
       idle = refl;
+      stops = λ _. refl;
     }
 
 no_sink_fault : OutOfMemory ≡ SinkFault → ⊥
@@ -82,6 +83,10 @@ returns-in_err-some_refused-clause-some g c =
     rw (p.1, p.2) (λ e.
     (text, stopped c.args.session.now.state c.args.records.now.left c.turns.records.taken c.turns.session.state c.turns.some_refused text a, rw (c.in_err-some_refused.ensures.no_memory e) puts))
 
+-- no piece is put after a fault
+pub returns-in_err-some_refused-clause-stops : goal.returns-in_err-some_refused-clause-stops
+returns-in_err-some_refused-clause-stops g c = stops_behind (g.W.Sink.seen c.args.sink.now) (g.W.Sink.seen c.turns.sink) (g.W.Sink.seen c.answer_record.new.sink) c.turns.invariant.stops c.turns.invariant.faults c.answer_record.ensures.stops
+
 -- one more record is answered
 pub turns-preserved : goal.turns-preserved
 turns-preserved g c =
@@ -106,6 +111,7 @@ turns-preserved g c =
       left = next.behind;
       faults = c.in_ok-some_refused.ensures.no_fault ∙ c.turns.invariant.faults;
       idle = c.answer_record.ensures.idle ∙ c.turns.invariant.idle;
+      stops = stops_behind (g.W.Sink.seen c.args.sink.now) (g.W.Sink.seen c.turns.sink) (g.W.Sink.seen c.answer_record.new.sink) c.turns.invariant.stops c.turns.invariant.faults c.answer_record.ensures.stops;
     }
 
 -- all records are answered

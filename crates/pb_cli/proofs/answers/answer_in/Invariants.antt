@@ -1,5 +1,5 @@
 use Rattle.std.proofs.Common.{◌≡◌, drop, length}
-use Rattle.pb_io.specs.Sink.{PutsSuch}
+use Rattle.pb_io.specs.Sink.{PutsSuch, StopsAtFault}
 use Rattle.pb_cli.proofs.TextLemmas.{Answered}
 use Rattle.pb_cli.proofs.answers.answer_in.Given as goal
 
@@ -10,6 +10,7 @@ invariant-turns g l = record {
   left : drop l.records.taken l.fn.records.left ≡ l.records.left;
   faults : (g.W.Sink.seen l.sink).faults ≡ (g.W.Sink.seen l.fn.sink).faults;
   idle : (g.W.Sink.seen l.sink).idle ≡ (g.W.Sink.seen l.fn.sink).idle;
+  stops : StopsAtFault (g.W.Sink.seen l.fn.sink) (g.W.Sink.seen l.sink);
 }
 
 -- each turn takes a record

@@ -24,6 +24,7 @@ returns-in_err-refused g c =
       no_fault = rw p.1 tt;
       idle = refl;
       faults_stay = omega arith;
+      stops = λ _. refl;
     }
 
 -- the sink failed within it

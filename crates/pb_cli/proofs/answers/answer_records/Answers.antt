@@ -18,4 +18,5 @@ returns g c =
       memory_no_fault = answered.memory_no_fault;
       idle = answered.idle;
       faults_stay = answered.faults_stay;
+      stops = answered.stops;
     }

@@ -1,7 +1,7 @@
 use Rattle.std.proofs.Common.{◌≡◌, ◌∙◌, List, ℕ, ◌++◌, ap, subst, append-nil}
 use Rattle.std.proofs.lemmas.Result.{err_from_is_err_and}
 use Rattle.pb_io.specs.Sink.{Puts}
-use Rattle.pb_io.proofs.PieceLemmas.{puts_more}
+use Rattle.pb_io.proofs.PieceLemmas.{puts_more, stops_behind}
 use Rattle.pb_audit.proofs.AuditLaws.{fewer_behind, nothing_left, some_found}
 use Rattle.pb_cli.proofs.FindingLemmas.{fewer_failed, fewer_passed, found_all, found_cut, found_failed, found_passed, found_some, found_unreadable}
 use Rattle.pb_cli.proofs.checks.judge_records.Goals as goal
@@ -49,6 +49,16 @@ returns-in-None-clause-whole g c =
       subst (λ (t : List ℕ). Puts (g.W.Sink.seen c.args.sink.now) (g.W.Sink.seen c.judge_block.new.sink) t) same (puts_more _ _ _ text piece puts more),
     )
 
+-- no piece is put after a fault, whatever is found
+pub returns-in_err-judge_block-clause-stops : goal.returns-in_err-judge_block-clause-stops
+returns-in_err-judge_block-clause-stops g c = stops_behind (g.W.Sink.seen c.args.sink.now) (g.W.Sink.seen c.turns.sink) (g.W.Sink.seen c.judge_block.new.sink) c.turns.invariant.stops c.turns.invariant.faults c.judge_block.ensures.stops
+
+pub returns-in-Some-Unreadable-clause-stops : goal.returns-in-Some-Unreadable-clause-stops
+returns-in-Some-Unreadable-clause-stops g c = stops_behind (g.W.Sink.seen c.args.sink.now) (g.W.Sink.seen c.turns.sink) (g.W.Sink.seen c.judge_block.new.sink) c.turns.invariant.stops c.turns.invariant.faults c.judge_block.ensures.stops
+
+pub returns-in-None-clause-stops : goal.returns-in-None-clause-stops
+returns-in-None-clause-stops g c = stops_behind (g.W.Sink.seen c.args.sink.now) (g.W.Sink.seen c.turns.sink) (g.W.Sink.seen c.judge_block.new.sink) c.turns.invariant.stops c.turns.invariant.faults c.judge_block.ensures.stops
+
 -- a block passes
 pub turns-preserved-in-Some-Passed : goal.turns-preserved-in-Some-Passed
 turns-preserved-in-Some-Passed g c =
@@ -60,6 +70,7 @@ turns-preserved-in-Some-Passed g c =
       so_far = (text ++ piece, found_passed c.args.records.now.left c.turns.records c.judge_block.new.records c.turns.some_wrong text piece a next, puts_more _ _ _ text piece puts more);
       faults = c.in_ok-judge_block.ensures.no_fault ∙ c.turns.invariant.faults;
       idle = c.judge_block.ensures.idle ∙ c.turns.invariant.idle;
+      stops = stops_behind (g.W.Sink.seen c.args.sink.now) (g.W.Sink.seen c.turns.sink) (g.W.Sink.seen c.judge_block.new.sink) c.turns.invariant.stops c.turns.invariant.faults c.judge_block.ensures.stops;
       few = fewer.same ∙ c.turns.invariant.few;
     }
 
@@ -74,5 +85,6 @@ turns-preserved g c =
       so_far = (text ++ piece, found_failed c.args.records.now.left c.turns.records c.judge_block.new.records c.turns.some_wrong text piece a next, puts_more _ _ _ text piece puts more);
       faults = c.in_ok-judge_block.ensures.no_fault ∙ c.turns.invariant.faults;
       idle = c.judge_block.ensures.idle ∙ c.turns.invariant.idle;
+      stops = stops_behind (g.W.Sink.seen c.args.sink.now) (g.W.Sink.seen c.turns.sink) (g.W.Sink.seen c.judge_block.new.sink) c.turns.invariant.stops c.turns.invariant.faults c.judge_block.ensures.stops;
       few = fewer.same ∙ c.turns.invariant.few;
     }

@@ -30,6 +30,7 @@ returns-in-Ok g c =
       idle = said.idle;
       source_faults_stay = said.source_faults_stay;
       sink_faults_stay = said.sink_faults_stay;
+      stops = said.stops;
     }
 
 -- there are no words

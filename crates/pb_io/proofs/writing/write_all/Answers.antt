@@ -15,4 +15,5 @@ loop-done-preserved g c =
       turns = omega (arith, c.loop-done.invariant.turns, c.in_ok-done.ensures.called, rw piece at c.in_ok-done.ensures.some, length-drop c.loop-done.done c.args.bytes.now);
       idle = omega (arith, c.loop-done.invariant.idle, c.in_ok-done.ensures.idle, rw piece at c.in_ok-done.ensures.some, length-drop c.loop-done.done c.args.bytes.now);
       faults = c.in_ok-done.ensures.no_fault ∙ c.loop-done.invariant.faults;
+      stops = λ none. omega (arith, c.loop-done.invariant.stops none, c.loop-done.invariant.faults, c.in_ok-done.ensures.after_fault);
     }

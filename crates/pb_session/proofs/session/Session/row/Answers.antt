@@ -15,7 +15,7 @@ use Rattle.pb_period.proofs.GraphLaws.{closed_graphs_law, untouched_law}
 use Rattle.pb_session.specs.declared.kept.KeptStudy.{KeptStudy}
 use Rattle.pb_session.specs.Closed.{LeavesClosed}
 use Rattle.pb_session.specs.Keeping.{IsKeeping, IsKeptStudy, held_of, last_stage, left_by, saved_by}
-use Rattle.pb_session.specs.Kept.{Held, Keeps, KeepsAccepted, KeepsBy, most_kept, reported_after, reported_behind}
+use Rattle.pb_session.specs.Kept.{Held, IsReportedStage, Keeps, KeepsAccepted, KeepsBy, most_kept, reported_after, reported_behind}
 use Rattle.pb_session.specs.Session.{AddsBy, Adds, SessionState, cause_in, state_after}
 use Rattle.pb_session.proofs.KeepingLemmas.{graph_in, keeps_by, left_few, left_kept, left_other, left_stage, reported_still, said, said_ok, saved_other, state_with}
 use Rattle.pb_session.proofs.ClosedLemmas.{leaves_closed, none_joined}
@@ -75,6 +75,7 @@ invariant_of-self c =
       studies = subst (AllByRecursion (IsKeptStudy (state_with state rows))) (sym left) studies;
       few = subst (λ (ks : List KeptStudy). length ks ≤ most_kept) (sym left) (left_few accepted rows kept c.self.invariant.few);
       classes = subst (λ (o : Option Stage). IfSome o (λ (s : Stage). IsClassification s.graph (printed_classes s))) (sym stage) c.self.invariant.classes;
+      last_is = subst (λ (o : Option Stage). IfSome o (IsReportedStage state.options)) (sym stage) c.self.invariant.last_is;
     }
 
 -- a refused record doesn't change it

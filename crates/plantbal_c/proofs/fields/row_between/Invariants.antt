@@ -1,8 +1,0 @@
-use Rattle.plantbal_c.proofs.FieldLemmas.{IsSoFar}
-use Rattle.plantbal_c.proofs.fields.row_between.Given as goal
-
--- the first fields are in the row
-abbrev pub invariant-loop-i : goal.invariant-loop-i
-invariant-loop-i l = record {
-  so_far : IsSoFar l.fn.text l.fn.ends l.i l.from l.row;
-}

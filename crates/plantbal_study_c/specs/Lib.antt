@@ -1,0 +1,6 @@
+-- Statement
+pub mod StudyStatus
+pub mod Studied
+-- Inside
+pub mod Owned
+pub mod Reason
