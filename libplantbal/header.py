@@ -1,4 +1,4 @@
-"""What C and Python know of the library, out of the exports of the crate plantbal_c.
+"""What C and Python know of the library, out of the exports of its two crates.
 
 A prototype follows from an export's signature, its comment from the export's, the numbers of the
 statuses from the constants of status.rt, and those of the causes from pb_book. A slice is passed as
@@ -16,16 +16,23 @@ from pathlib import Path
 
 TOP = Path(__file__).resolve().parent.parent
 CRATE = TOP / "crates" / "plantbal_c" / "src"
-# What C reads of a book: structs that the exports write.
+STUDIES = TOP / "crates" / "plantbal_study_c" / "src"
+# What C reads of a book and of a study: structs that the exports write.
 SHOWN = TOP / "crates" / "pb_shown" / "src"
+ARRAYS = TOP / "crates" / "pb_arrays" / "src"
 HEADER = TOP / "libplantbal" / "plantbal.h"
 EXPORTS = TOP / "libplantbal" / "exports.map"
 PYTHON = TOP / "python" / "plantbal" / "_declarations.py"
 SYMBOLS = TOP / "packaging" / "libplantbal0.symbols"
-# The version of the symbols, and the release that brought them: functions that are added later get
-# the next ones.
-VERSION = "PLANTBAL_0"
-SINCE = "0.21.0"
+# The versions of the symbols, and the release that brought each. A function has the first one unless
+# it is named below.
+SINCE = {"PLANTBAL_0": "0.21.0", "PLANTBAL_1": "0.22.0"}
+ADDED = {
+    "plantbal_session_records": "PLANTBAL_1",
+    "plantbal_session_period_graph": "PLANTBAL_1",
+    "plantbal_session_period_names": "PLANTBAL_1",
+    "plantbal_session_classes": "PLANTBAL_1",
+}
 
 EXPORT = re.compile(
     r"((?:^/// .*\n)+)^#\[unsafe\(no_mangle\)\]\n"
@@ -51,8 +58,8 @@ NUMBERS = {
     "usize": "size_t",
     "bool": "bool",
 }
-# The handle: an array of one, so that C passes it by its place and can't assign it.
-HANDLE = "SessionHandle"
+# The handles: arrays of one, so that C passes them by their places and can't assign them.
+HANDLES = {"SessionHandle": "plantbal_session", "StudyHandle": "plantbal_study"}
 
 
 @dataclass(frozen=True)
@@ -95,8 +102,8 @@ def c_parameters(name: str, rust: str) -> list[str]:
         return []
     if rust in NUMBERS:
         return [f"{NUMBERS[rust]} {name}"]
-    if rust == f"&mut {HANDLE}":
-        return [f"plantbal_session {name}"]
+    if rust.removeprefix("&mut ") in HANDLES:
+        return [f"{HANDLES[rust.removeprefix('&mut ')]} {name}"]
     slice_of = re.fullmatch(r"&(mut )?\[(\w+)\]", rust)
     if slice_of:
         const = "" if slice_of[1] else "const "
@@ -126,34 +133,51 @@ def block(text: str, indent: str = "") -> str:
 def exports() -> list[Export]:
     """Return the exports in the order of the modules and of the functions in each."""
     found = []
-    for module in re.findall(r"(?m)^mod (\w+);", (CRATE / "lib.rt").read_text("utf-8")):
-        for path in [CRATE / f"{module}.rt", *sorted((CRATE / module).glob("*.rt"))]:
-            source = path.read_text("utf-8")
-            for comment, name, parameters, result in EXPORT.findall(source):
-                passed: list[str] = []
-                for parameter in re.split(r",\s*", parameters):
-                    passed += c_parameters(*parameter.split(": ", 1))
-                returned = NUMBERS[result] if result else "void"
-                found.append(Export(words(comment), name, passed, returned))
-            declared = len(re.findall(r"no_mangle", source))
-            if declared != len(EXPORT.findall(source)):
-                raise SystemExit(f"header: {path.name} has exports that can't be read")
+    for crate in (CRATE, STUDIES):
+        for module in re.findall(r"(?m)^mod (\w+);", (crate / "lib.rt").read_text("utf-8")):
+            for path in [crate / f"{module}.rt", *sorted((crate / module).glob("*.rt"))]:
+                found += exports_in(path)
     return found
+
+
+def exports_in(path: Path) -> list[Export]:
+    """Return the exports of a module."""
+    source = path.read_text("utf-8")
+    found = []
+    for comment, name, parameters, result in EXPORT.findall(source):
+        passed: list[str] = []
+        for parameter in re.split(r",\s*", parameters):
+            passed += c_parameters(*parameter.split(": ", 1))
+        returned = NUMBERS[result] if result else "void"
+        found.append(Export(words(comment), name, passed, returned))
+    if len(re.findall(r"no_mangle", source)) != len(found):
+        raise SystemExit(f"header: {path.name} has exports that can't be read")
+    return found
+
+
+def usual_numbers() -> str:
+    """Return the gap and the sweeps of a run if its words ask for nothing else, in C."""
+    source = (TOP / "crates" / "pb_limits" / "src" / "lib.rt").read_text("utf-8")
+    numbers = {name: int(number.replace("_", "")) for name, number in CONSTANT.findall(source)}
+    return f"{numbers['DEFAULT_GAP']}, {numbers['DEFAULT_SWEEPS']}"
 
 
 def usual() -> str:
     """Return the options that a run has if its words ask for nothing else, in C."""
-    source = (TOP / "crates" / "pb_limits" / "src" / "lib.rt").read_text("utf-8")
-    numbers = {name: int(number.replace("_", "")) for name, number in CONSTANT.findall(source)}
-    return f"{{{numbers['DEFAULT_GAP']}, {numbers['DEFAULT_SWEEPS']}, 0, 0, 0}}"
+    return f"{{{usual_numbers()}, 0, 0, 0}}"
+
+
+def usual_study() -> str:
+    """Return the same of a study."""
+    return f"{{{usual_numbers()}, 0, false, false, false, 0, 0}}"
 
 
 def structs() -> list[str]:
     """Return the declarations of the structs that C fills or reads, each after those in it."""
     found: dict[str, tuple[set[str], str]] = {}
-    for path in [*sorted(CRATE.rglob("*.rt")), *sorted(SHOWN.rglob("*.rt"))]:
+    for path in [path for crate in (CRATE, SHOWN, ARRAYS) for path in sorted(crate.rglob("*.rt"))]:
         for comment, name, body in STRUCT.findall(path.read_text("utf-8")):
-            if name == HANDLE:
+            if name in HANDLES:
                 continue
             fields = FIELD.findall(body)
             if len(fields) != len(re.findall(r"(?m)^ +pub ", body)):
@@ -163,15 +187,21 @@ def structs() -> list[str]:
                 lines.append(block(words(about), "    "))
                 lines.append(f"    {c_field(field, kind)}")
             held = {kind for _, _, kind in fields if kind not in NUMBERS and kind[0] != "["}
-            found[name] = held, "\n".join([*lines, f"}} {c_name(name)};"])
+            declared = held, "\n".join([*lines, f"}} {c_name(name)};"])
+            if found.setdefault(name, declared) != declared:
+                raise SystemExit(f"header: {name} is declared in two ways")
     order = TopologicalSorter({name: held for name, (held, _) in found.items()})
     return [found[name][1] for name in order.static_order()]
 
 
 def status_numbers() -> list[tuple[str, str, str]]:
-    """Return what each status says, its name and its number."""
-    found = STATUS.findall((CRATE / "status.rt").read_text("utf-8"))
-    return [(words(comment), name, number) for comment, name, number in found]
+    """Return what each status says, its name and its number; what both crates have is the same."""
+    found: dict[str, tuple[str, str, str]] = {}
+    for crate in (CRATE, STUDIES):
+        for comment, name, number in STATUS.findall((crate / "status.rt").read_text("utf-8")):
+            if found.setdefault(name, (words(comment), name, number))[2] != number:
+                raise SystemExit(f"header: the status {name} has two numbers")
+    return list(found.values())
 
 
 def statuses() -> str:
@@ -223,10 +253,20 @@ typedef struct plantbal_handle {
 } plantbal_session[1];
 """
 
+HELD_STUDY = """\
+typedef struct plantbal_study_handle {
+    void *at;
+    bool live;
+} plantbal_study[1];
+"""
+
 SESSION = f"""\
 /* What a caller holds of a session. It begins as PLANTBAL_SESSION, and the caller never reads or
    writes its words. As an array it is passed by its place, and can't be assigned. */
 {HELD}#define PLANTBAL_SESSION {{{{0, false}}}}
+
+/* The same of a study, which begins as PLANTBAL_STUDY. */
+{HELD_STUDY}#define PLANTBAL_STUDY {{{{0, false}}}}
 """
 
 TAIL = """\
@@ -246,19 +286,40 @@ def header() -> str:
         "/* The options that a run has if its words ask for nothing else. */\n"
         f"#define PLANTBAL_OPTIONS {usual()}\n"
     )
+    parts.append(
+        "/* The same of a study: no tests, and no critical values. */\n"
+        f"#define PLANTBAL_STUDY_OPTIONS {usual_study()}\n"
+    )
     parts += [f"{block(export.comment)}\n{export.prototype()}\n" for export in exports()]
     return "\n".join([*parts, TAIL])
 
 
+def versions() -> dict[str, list[str]]:
+    """Return the names of the exports by the versions of their symbols."""
+    found: dict[str, list[str]] = {version: [] for version in SINCE}
+    for name in sorted(it.name for it in exports()):
+        found[ADDED.get(name, next(iter(SINCE)))].append(name)
+    return found
+
+
 def export_map() -> str:
     """Return the text of exports.map: the version of each symbol, and nothing else is exported."""
-    names = "".join(f"        {name};\n" for name in sorted(it.name for it in exports()))
-    return f"{VERSION} {{\n    global:\n{names}    local:\n        *;\n}};\n"
+    text, before = "", ""
+    for version, named in versions().items():
+        names = "".join(f"        {name};\n" for name in named)
+        rest = "" if before else "    local:\n        *;\n"
+        text += f"{version} {{\n    global:\n{names}{rest}}}{before};\n"
+        before = f" {version}"
+    return text
 
 
 def declarations() -> str:
     """Return the text of the module of Python: what cffi reads, and the statuses."""
-    text = HELD + "".join(re.sub(r" */\*.*?\*/\n", "", it, flags=re.S) + "\n" for it in structs())
+    text = (
+        HELD
+        + HELD_STUDY
+        + "".join(re.sub(r" */\*.*?\*/\n", "", it, flags=re.S) + "\n" for it in structs())
+    )
     text += "".join(f"{export.prototype()}\n" for export in exports())
     statuses = "".join(
         f"    # {comment}\n    {name} = {number}\n" for comment, name, number in status_numbers()
@@ -273,8 +334,11 @@ def declarations() -> str:
 
 def symbols() -> str:
     """Return the text of Debian's list of symbols, with the release since which each is there."""
-    names = [VERSION, *sorted(it.name for it in exports())]
-    lines = "".join(f" {name}@{VERSION} {SINCE}\n" for name in names)
+    lines = "".join(
+        f" {name}@{version} {SINCE[version]}\n"
+        for version, named in versions().items()
+        for name in [version, *named]
+    )
     return f"libplantbal.so.0 libplantbal0 #MINVER#\n{lines}"
 
 

@@ -18,7 +18,7 @@ enum plantbal_status {
     PLANTBAL_DONE = 0,
     /* The same, and a record was refused or a block is wrong. */
     PLANTBAL_DONE_REFUSED = 1,
-    /* An argument is outside its limits. Nothing was done. */
+    /* An argument is outside its limits. Nothing was done with it. */
     PLANTBAL_USAGE = 2,
     /* There are more bytes or more records than the limit. */
     PLANTBAL_TOO_LARGE = 5,
@@ -31,6 +31,8 @@ enum plantbal_status {
     PLANTBAL_SMALL_BUFFER = 8,
     /* There is nothing at this place, or nothing of this name. Nothing was written. */
     PLANTBAL_NOT_THERE = 9,
+    /* A stream isn't one of a process graph. */
+    PLANTBAL_BAD_STREAM = 10,
 };
 
 /* The codes of records: why one is refused, or 0. The first cause that holds counts. */
@@ -74,6 +76,24 @@ typedef struct plantbal_handle {
 } plantbal_session[1];
 #define PLANTBAL_SESSION {{0, false}}
 
+/* The same of a study, which begins as PLANTBAL_STUDY. */
+typedef struct plantbal_study_handle {
+    void *at;
+    bool live;
+} plantbal_study[1];
+#define PLANTBAL_STUDY {{0, false}}
+
+/* How large a graph is. */
+typedef struct plantbal_graph_size {
+    /* How many nodes there are, the environment among them. */
+    uint32_t nodes;
+    /* The place of the first stream whose value is above 10^15 grams either way, or whose
+       variance is above 10^22 squared grams. */
+    uint32_t over;
+    /* How many streams there are. */
+    size_t streams;
+} plantbal_graph_size;
+
 /* The options of a run. */
 typedef struct plantbal_options {
     /* The gap in thousandths of a standard deviation. */
@@ -95,6 +115,12 @@ typedef struct plantbal_wide {
     /* The high word, with the sign. */
     int64_t high;
 } plantbal_wide;
+
+/* A name of a node or a stream. */
+typedef struct plantbal_name {
+    /* The name, with zeros after it. */
+    char name[33];
+} plantbal_name;
 
 /* How much there is of everything. What there are n of has the places from 0 to n - 1. */
 typedef struct plantbal_counts {
@@ -133,6 +159,56 @@ typedef struct plantbal_node {
     /* Whether it is a tank. */
     bool tank;
 } plantbal_node;
+
+/* What is asked of a study, with the critical values of the tests of nodes and of measurements. */
+typedef struct plantbal_study_options {
+    /* The gap in thousandths of a standard deviation. */
+    uint32_t gap;
+    /* The greatest number of sweeps. */
+    uint32_t sweeps;
+    /* How many rounds of elimination; with any, tests are made. */
+    uint32_t eliminate;
+    /* Whether tests are made. */
+    bool tests;
+    /* Whether there is a critical value for the tests of nodes. */
+    bool has_nodal;
+    /* Whether there is one for the tests of measurements. */
+    bool has_measure;
+    /* The critical value for the tests of nodes in thousandths, at most 10^12. */
+    int64_t nodal;
+    /* The critical value for the tests of measurements in thousandths, at most 10^12. */
+    int64_t measure;
+} plantbal_study_options;
+
+/* The critical value of the global test for some degrees of freedom, in thousandths. */
+typedef struct plantbal_critical_row {
+    /* The degrees of freedom. */
+    uint32_t dof;
+    /* The value, at most 10^12. */
+    int64_t value;
+} plantbal_critical_row;
+
+/* What there is of a study: stages, with the streams whose measurements were taken out between
+   them. What there are n of has the places from 0 to n - 1. */
+typedef struct plantbal_studied {
+    /* How many stages there are. */
+    uint64_t stages;
+    /* How many measurements were taken out, one between each stage and the next. */
+    uint64_t taken;
+    /* Why the elimination stopped: 0 if none was asked for, 1 if the global test accepts, 2 if
+       it is undecided, 3 for want of a critical value, 4 if there is nothing to test, 5 if no
+       measurement is a suspect, 6 if all rounds are done. */
+    uint8_t stop;
+} plantbal_studied;
+
+/* A stream of a certificate. */
+typedef struct plantbal_member {
+    /* The place of the stream. */
+    uint32_t stream;
+    /* Of a cut, 1 if the stream enters the side and -1 if it leaves it; of a cycle, 1 along the
+       stream's arrow and -1 against it. */
+    int32_t sign;
+} plantbal_member;
 
 /* An edit of the book. */
 typedef struct plantbal_edit {
@@ -196,8 +272,146 @@ typedef struct plantbal_stream {
     plantbal_wide base;
 } plantbal_stream;
 
+/* A stream of a process graph, from one node to another, measured or not. */
+typedef struct plantbal_measured_stream {
+    /* The place of the node from which it leads. Node 0 is the environment. */
+    uint32_t from;
+    /* The place of the node to which it leads. */
+    uint32_t to;
+    /* Whether it is measured. */
+    bool measured;
+    /* The measured grams, at most 10^15 either way. Without a meaning if it isn't measured. */
+    int64_t value;
+    /* The variance of the measurement in squared grams, from 1 to 10^22. Without a meaning if it
+       isn't measured. */
+    plantbal_wide variance;
+} plantbal_measured_stream;
+
+/* A stage of a study. */
+typedef struct plantbal_stage {
+    /* Whether the gap was met. */
+    bool converged;
+    /* Whether the weighted squares have a high end. */
+    bool has_high;
+    /* Whether there are tests. */
+    bool tested;
+    /* Whether there is a critical value of the global test. */
+    bool has_critical;
+    /* What the global test says: 0 reject, 1 accept, 2 undecided, 3 no critical value, 4 nothing
+       to test. */
+    uint8_t verdict;
+    /* The sweeps that were done. */
+    uint32_t sweeps;
+    /* The number h of the gap. */
+    uint32_t h;
+    /* The degrees of freedom. */
+    uint32_t dof;
+    /* The number g of the gap. */
+    uint64_t g;
+    /* How many tests of groups of nodes there are. */
+    uint64_t nodal;
+    /* How many tests of measurements there are. */
+    uint64_t measure;
+    /* The critical value of the global test in thousandths. */
+    int64_t critical;
+    /* The weighted squares in thousandths are at least this much. */
+    plantbal_wide low;
+    /* They are at most this much. */
+    plantbal_wide high;
+} plantbal_stage;
+
+/* A stream whose measurement was taken out as a suspect. */
+typedef struct plantbal_taken {
+    /* The place of the stream. */
+    uint32_t stream;
+    /* How far the weighted squares fall without it at least, in thousandths. */
+    plantbal_wide low;
+} plantbal_taken;
+
+/* What a stage says of a stream: its class with its certificate, its reconciled flow, and bounds
+   of that flow. */
+typedef struct plantbal_result {
+    /* 0 observable, 1 unobservable, 2 redundant, 3 nonredundant. */
+    uint8_t stream_class;
+    /* Whether its certificate is a cycle. If not, it is a cut. */
+    bool cycle;
+    /* Whether there are bounds. An unobservable stream has none. */
+    bool bounded;
+    /* Whether there are least bounds. */
+    bool least_bounded;
+    /* How many streams its certificate has. */
+    uint64_t members;
+    /* The reconciled flow in grams. */
+    plantbal_wide flow;
+    /* The flow is at least this much in each balanced vector that is no worse. */
+    plantbal_wide lo;
+    /* It is at most this much. */
+    plantbal_wide hi;
+    /* The flow is at least this much in each least vector. */
+    plantbal_wide least_lo;
+    /* It is at most this much. */
+    plantbal_wide least_hi;
+} plantbal_result;
+
+/* The test of the balance of a group of nodes. */
+typedef struct plantbal_nodal_test {
+    /* The place of the least node of the group. */
+    uint32_t node;
+    /* Whether there is a critical value. */
+    bool has_critical;
+    /* 0 reject, 1 accept, 2 undecided, 3 no critical value, 4 nothing to test. */
+    uint8_t verdict;
+    /* The critical value in thousandths. */
+    int64_t critical;
+    /* The net flow in grams. */
+    plantbal_wide net;
+    /* Its variance in squared grams. */
+    plantbal_wide variance;
+} plantbal_nodal_test;
+
+/* The test of one measurement: how far the least weighted squares fall without it. */
+typedef struct plantbal_measure_test {
+    /* The place of the stream. */
+    uint32_t stream;
+    /* Whether the fall has a high end. */
+    bool has_high;
+    /* Whether there is a critical value. */
+    bool has_critical;
+    /* 0 reject, 1 accept, 2 undecided, 3 no critical value, 4 nothing to test. */
+    uint8_t verdict;
+    /* The critical value in thousandths. */
+    int64_t critical;
+    /* The fall is at least this much, in thousandths. */
+    plantbal_wide low;
+    /* It is at most this much. */
+    plantbal_wide high;
+} plantbal_measure_test;
+
 /* The options that a run has if its words ask for nothing else. */
 #define PLANTBAL_OPTIONS {10, 5000, 0, 0, 0}
+
+/* The same of a study: no tests, and no critical values. */
+#define PLANTBAL_STUDY_OPTIONS {10, 5000, 0, false, false, false, 0, 0}
+
+/* Takes records whose fields are already apart, in order, and writes a code for each as
+   plantbal_session_rows does. The fields lie one after another in text: each ends at the place
+   that ends gives, counted in bytes from the beginning. counts has an item for each record: how
+   many fields there are up to its end, those of the records before it too. It stops when there
+   is no room for another code, and writes how many records it took to taken. PLANTBAL_USAGE: the
+   places of the next record aren't in order, or lie beyond the text; PLANTBAL_NO_MEMORY,
+   PLANTBAL_TOO_LARGE: with these too the records that were taken stay taken, and the next one
+   wasn't. PLANTBAL_BAD_HANDLE: the handle holds no session. */
+uint8_t plantbal_session_records(
+    plantbal_session session,
+    const void *text,
+    size_t text_length,
+    const size_t *ends,
+    size_t ends_length,
+    const size_t *counts,
+    size_t counts_length,
+    void *codes,
+    size_t codes_length,
+    size_t *taken);
 
 /* Takes the records of the bytes in order, after as many as skip says, and writes a code for
    each: 0 if the record is accepted, and else the number of the cause for which it is refused.
@@ -226,6 +440,43 @@ uint8_t plantbal_session_row(
     const size_t *ends,
     size_t ends_length,
     uint8_t *code);
+
+/* Writes the graph of the period at a place, from the facts that are live, as a report studies
+   it: its streams in order, with what was measured, and to size how many nodes and streams there
+   are. PLANTBAL_SMALL_BUFFER: there is no room for the streams; size says how many there are.
+   PLANTBAL_BAD_STREAM: what is measured of the stream at the place over is above the limits, so
+   there is no graph. PLANTBAL_NOT_THERE: there are no more than period periods.
+   PLANTBAL_BAD_HANDLE: the handle holds no session. */
+uint8_t plantbal_session_period_graph(
+    plantbal_session session,
+    uint32_t period,
+    plantbal_measured_stream *streams,
+    size_t streams_length,
+    plantbal_graph_size *size);
+
+/* Writes the names of the nodes and of the streams of the graph of the period at a place, in the
+   order of the graph, and how many there are. PLANTBAL_SMALL_BUFFER: there is no room for all of
+   them. PLANTBAL_NOT_THERE: there are no more than period periods. PLANTBAL_BAD_HANDLE: the
+   handle holds no session. */
+uint8_t plantbal_session_period_names(
+    plantbal_session session,
+    uint32_t period,
+    plantbal_name *nodes,
+    size_t nodes_length,
+    plantbal_name *streams,
+    size_t streams_length,
+    size_t *node_count,
+    size_t *stream_count);
+
+/* Writes the class of each stream of the plant in the order of declaration, before any reading,
+   as the rows of a design say it: 0 observable, 1 unobservable, 2 redundant, 3 nonredundant; and
+   to count how many there are. PLANTBAL_SMALL_BUFFER: there is no room for all of them.
+   PLANTBAL_BAD_HANDLE: the handle holds no session. */
+uint8_t plantbal_session_classes(
+    plantbal_session session,
+    void *classes,
+    size_t classes_length,
+    size_t *count);
 
 /* Writes how much there is of everything in the book. PLANTBAL_BAD_HANDLE: the handle holds no
    session. */
@@ -356,6 +607,91 @@ uint8_t plantbal_session_output(
 
 /* Frees the session that the handle holds, if it holds one. The handle may be used for another. */
 void plantbal_session_free(plantbal_session session);
+
+/* Writes how many stages there are, how many measurements were taken out between them, and why
+   the elimination stopped. PLANTBAL_BAD_HANDLE: the handle holds no study. */
+uint8_t plantbal_study_counts(plantbal_study study, plantbal_studied *counts);
+
+/* Writes the stage at a place. PLANTBAL_NOT_THERE: there is none, and nothing is written.
+   PLANTBAL_BAD_HANDLE: the handle holds no study. */
+uint8_t plantbal_study_stage(plantbal_study study, size_t stage, plantbal_stage *shown_stage);
+
+/* Writes which measurement was taken out after a stage. PLANTBAL_NOT_THERE: none was, and
+   nothing is written. PLANTBAL_BAD_HANDLE: the handle holds no study. */
+uint8_t plantbal_study_taken(plantbal_study study, size_t stage, plantbal_taken *taken);
+
+/* Writes what a stage says of a stream. PLANTBAL_NOT_THERE: there is no such stage or stream,
+   and nothing is written. PLANTBAL_BAD_HANDLE: the handle holds no study. */
+uint8_t plantbal_study_stream(
+    plantbal_study study,
+    size_t stage,
+    uint32_t stream,
+    plantbal_result *shown_result);
+
+/* Writes the stream at a place of the certificate of a stream. PLANTBAL_NOT_THERE: there is
+   none, and nothing is written. PLANTBAL_BAD_HANDLE: the handle holds no study. */
+uint8_t plantbal_study_member(
+    plantbal_study study,
+    size_t stage,
+    uint32_t stream,
+    size_t place,
+    plantbal_member *member);
+
+/* Writes whether a node is inside the cut that is the certificate of a stream.
+   PLANTBAL_NOT_THERE: the certificate is a cycle, or there is no such stage, stream or node, and
+   nothing is written. PLANTBAL_BAD_HANDLE: the handle holds no study. */
+uint8_t plantbal_study_inside(
+    plantbal_study study,
+    size_t stage,
+    uint32_t stream,
+    uint32_t node,
+    bool *inside);
+
+/* Writes the price of a node in a stage, in units of 2^-56. PLANTBAL_NOT_THERE: there is no such
+   stage or node, and nothing is written. PLANTBAL_BAD_HANDLE: the handle holds no study. */
+uint8_t plantbal_study_price(
+    plantbal_study study,
+    size_t stage,
+    uint32_t node,
+    plantbal_wide *price);
+
+/* Writes the test of a group of nodes at a place of a stage. PLANTBAL_NOT_THERE: there is none,
+   and nothing is written. PLANTBAL_BAD_HANDLE: the handle holds no study. */
+uint8_t plantbal_study_nodal(
+    plantbal_study study,
+    size_t stage,
+    size_t place,
+    plantbal_nodal_test *test);
+
+/* Writes the test of a measurement at a place of a stage. PLANTBAL_NOT_THERE: there is none, and
+   nothing is written. PLANTBAL_BAD_HANDLE: the handle holds no study. */
+uint8_t plantbal_study_measure(
+    plantbal_study study,
+    size_t stage,
+    size_t place,
+    plantbal_measure_test *test);
+
+/* Makes the study of a process graph of nodes nodes, of which node 0 is the environment, and
+   these streams: with the class of each stream, its certificate, its reconciled flow and bounds
+   of it, the statistic, and tests if they are asked for. limits are the critical values of the
+   global test; of two for the same degrees of freedom the first counts. PLANTBAL_USAGE: the
+   options or the critical values aren't within their limits, or there are no nodes, more than
+   1,001, or more than 4,000 streams. PLANTBAL_BAD_STREAM: the stream whose place is written to
+   wrong leads to no node or to where it begins, or its measurement is outside the limits.
+   PLANTBAL_BAD_HANDLE: the handle already holds a study, which stays. After these and
+   PLANTBAL_NO_MEMORY the handle is as it was. */
+uint8_t plantbal_study_new(
+    const plantbal_study_options *options,
+    const plantbal_critical_row *limits,
+    size_t limits_length,
+    uint32_t nodes,
+    const plantbal_measured_stream *streams,
+    size_t streams_length,
+    plantbal_study study,
+    size_t *wrong);
+
+/* Frees the study that the handle holds, if it holds one. The handle may be used for another. */
+void plantbal_study_free(plantbal_study study);
 
 #ifdef __cplusplus
 }

@@ -1,10 +1,10 @@
 // The program's runs and checks through the library: reads standard input, writes standard output, and ends with the status.
 //
-//     drive run|check|block|records|fields [gap sweeps eliminate tests form]
+//     drive run|check|block|records|fields|apart [gap sweeps eliminate tests form]
 //     drive many WORD..
 //
 // `run` and `check` are one call each. `block` hands all records over in one block, `records` in blocks of one code each, and
-// `fields` gives each line that has no quotes as fields. `many` reads sessions, each after its length in four bytes, and writes for each
+// `fields` gives each line that has no quotes as fields, and `apart` all of them in one block of fields. `many` reads sessions, each after its length in four bytes, and writes for each
 // of them and each word the status in four bytes, the length in four and the output: so a process serves any number of sessions.
 #include "plantbal.h"
 #include <stdio.h>
@@ -72,6 +72,31 @@ static int give_fields(plantbal_session session) {
     return refused != 0;
 }
 
+// Gives all lines as fields in one block, without their ends.
+static int give_apart(plantbal_session session) {
+    size_t *ends = malloc((length + 1) * sizeof *ends), *counts = malloc((length + 1) * sizeof *counts);
+    size_t fields = 0, size = 0, records = 0, taken = 0, refused = 0;
+    unsigned char *text = malloc(length + 1), *codes = malloc(length + 1);
+    for (unsigned char *at = input, *end = input + length; at < end; at++) {
+        size_t before = fields, begin = size;
+        for (; at < end && *at != '\n' && *at != '\r'; at++) {
+            if (*at == ',') ends[fields++] = size;
+            else text[size++] = *at;
+        }
+        if (fields == before && size == begin) continue;
+        ends[fields++] = size;
+        counts[records++] = fields;
+    }
+    if (plantbal_session_records(session, text, size, ends, fields, counts, records, codes, records, &taken)) exit(104);
+    if (taken != records) exit(105);
+    for (size_t i = 0; i < taken; i++) refused |= codes[i];
+    free(ends);
+    free(counts);
+    free(text);
+    free(codes);
+    return refused != 0;
+}
+
 // Does what a word says with the input, and leaves the output. Returns the status.
 static int answer(const char *word, const plantbal_options *options) {
     plantbal_session session = PLANTBAL_SESSION;
@@ -86,6 +111,7 @@ static int answer(const char *word, const plantbal_options *options) {
         if (status == PLANTBAL_DONE) {
             if (strcmp(word, "block") == 0) status = give_blocks(session, length + 1);
             else if (strcmp(word, "records") == 0) status = give_blocks(session, 1);
+            else if (strcmp(word, "apart") == 0) status = give_apart(session);
             else status = give_fields(session);
         }
     }

@@ -178,6 +178,57 @@ static void edits(plantbal_session session) {
     is("no edit", plantbal_session_edit(session, 4, &edit), PLANTBAL_NOT_THERE);
 }
 
+// The graph of a period from what is live, by hand; and the classes of the plant.
+static void graphs(plantbal_session session) {
+    static const struct {
+        const char *name;
+        unsigned from, to;
+        int measured;
+        long long value;
+        unsigned long long variance;
+    } wanted[] = {
+        {"SILO", 2, 0, 0, 0, 0},                                 // no dip at the end of February
+        {"ORE", 0, 1, 0, 0, 0},                                  // read on two days of March alone
+        {"BAGS", 2, 0, 1, 405000000, 400000000 + 500000000000},  // two of the transfer's four days
+        {"GRIT", 1, 2, 0, 0, 0},
+    };
+    static const char *nodes[] = {"env", "MILL", "SILO"};
+    plantbal_measured_stream streams[4];
+    plantbal_name node_names[3], stream_names[4];
+    plantbal_graph_size size = {0, 0, 0};
+    unsigned char classes[4] = {9, 9, 9, 9};
+    size_t node_count = 0, stream_count = 0, count = 0;
+    is("room for three", plantbal_session_period_graph(session, 0, streams, 3, &size), PLANTBAL_SMALL_BUFFER);
+    is("four", (long long)size.streams, 4);
+    is("a graph", plantbal_session_period_graph(session, 0, streams, 4, &size), PLANTBAL_DONE);
+    is("its nodes", size.nodes, 3);
+    is("its streams", (long long)size.streams, 4);
+    is("names without room", plantbal_session_period_names(session, 0, node_names, 3, stream_names, 3, &node_count, &stream_count), PLANTBAL_SMALL_BUFFER);
+    is("its names", plantbal_session_period_names(session, 0, node_names, 3, stream_names, 4, &node_count, &stream_count), PLANTBAL_DONE);
+    is("of nodes", (long long)node_count, 3);
+    is("of streams", (long long)stream_count, 4);
+    for (int i = 0; i < 3; i++) says("a node", node_names[i].name, nodes[i]);
+    for (int i = 0; i < 4; i++) {
+        says("a stream", stream_names[i].name, wanted[i].name);
+        is("from", streams[i].from, wanted[i].from);
+        is("to", streams[i].to, wanted[i].to);
+        is("measured", streams[i].measured, wanted[i].measured);
+        is("its value", streams[i].value, wanted[i].value);
+        if (wanted[i].measured) is("its variance", (long long)streams[i].variance.low, (long long)wanted[i].variance);
+    }
+    is("no period", plantbal_session_period_graph(session, 2, streams, 4, &size), PLANTBAL_NOT_THERE);
+    is("no names", plantbal_session_period_names(session, 2, node_names, 3, stream_names, 4, &node_count, &stream_count), PLANTBAL_NOT_THERE);
+    is("classes without room", plantbal_session_classes(session, classes, 3, &count), PLANTBAL_SMALL_BUFFER);
+    is("four of them", (long long)count, 4);
+    is("nothing is written", classes[0], 9);
+    is("classes", plantbal_session_classes(session, classes, 4, &count), PLANTBAL_DONE);
+    // before any reading three meters are on the streams round MILL and SILO; GRIT has none, and is what ORE shows
+    is("of SILO", classes[0], 2);
+    is("of ORE", classes[1], 2);
+    is("of BAGS", classes[2], 2);
+    is("of GRIT", classes[3], 0);
+}
+
 // Each look-up of a handle that holds nothing.
 static void nothing(void) {
     plantbal_session none = PLANTBAL_SESSION;
@@ -187,7 +238,11 @@ static void nothing(void) {
     plantbal_period period;
     plantbal_fact fact;
     plantbal_edit edit;
+    plantbal_graph_size size;
+    plantbal_measured_stream stream_of_graph;
+    plantbal_name name;
     uint32_t place;
+    size_t count, other;
     bool touches;
     const int got[] = {
         plantbal_session_counts(none, &counts),
@@ -202,6 +257,9 @@ static void nothing(void) {
         plantbal_session_stream_named(none, "env", 3, &place),
         plantbal_session_period_named(none, "env", 3, &place),
         plantbal_session_fact_named(none, "env", 3, &place),
+        plantbal_session_period_graph(none, 0, &stream_of_graph, 1, &size),
+        plantbal_session_period_names(none, 0, &name, 1, &name, 1, &count, &other),
+        plantbal_session_classes(none, &touches, 1, &count),
     };
     for (size_t i = 0; i < sizeof got / sizeof *got; i++) is("without a session", got[i], PLANTBAL_BAD_HANDLE);
 }
@@ -220,6 +278,7 @@ int main(void) {
     periods(session);
     facts(session);
     edits(session);
+    graphs(session);
     plantbal_session_free(session);
     nothing();
     return faults != 0;

@@ -93,6 +93,76 @@ static int starve_session(const plantbal_options *options) {
     }
 }
 
+// Refuses each allocation of a study in turn: nothing is held then, and the same call with memory says what it said before.
+static int starve_study(void) {
+    static const plantbal_measured_stream streams[] = {
+        {0, 1, true, 500, {1, 0}}, {0, 1, true, 500, {1, 0}}, {1, 2, true, 2000, {1, 0}}, {2, 0, true, 1000, {1, 0}}, {1, 2, false, 0, {0, 0}}};
+    static const plantbal_critical_row limits[] = {{1, 6635}, {2, 9210}};
+    plantbal_study_options options = PLANTBAL_STUDY_OPTIONS;
+    options.eliminate = 2;
+    for (long at = 1;; at++) {
+        plantbal_study study = PLANTBAL_STUDY;
+        plantbal_studied counts;
+        size_t wrong;
+        long before = live;
+        left = at;
+        int status = plantbal_study_new(&options, limits, 2, 3, streams, 5, study, &wrong);
+        int was_refused = left == 0;
+        left = -1;
+        if (status != (was_refused ? PLANTBAL_NO_MEMORY : PLANTBAL_DONE)) return fail("another status of a study", at);
+        if (was_refused && plantbal_study_counts(study, &counts) != PLANTBAL_BAD_HANDLE) return fail("a study is held", at);
+        plantbal_study_free(study);
+        plantbal_study_free(study);
+        if (live != before) return fail("blocks of a study are left", at);
+        if (!was_refused) {
+            printf("starve: %ld allocations of a study\n", at - 1);
+            return 0;
+        }
+    }
+}
+
+// Refuses each allocation of one look-up in turn: it says so, and the same call with memory finds what is there.
+static int starve_look(plantbal_session session, int (*look)(plantbal_session)) {
+    for (long at = 1;; at++) {
+        long before = live;
+        left = at;
+        int status = look(session);
+        int was_refused = left == 0;
+        left = -1;
+        if (status != (was_refused ? PLANTBAL_NO_MEMORY : PLANTBAL_DONE)) return fail("another status of a look-up", at);
+        if (live != before) return fail("blocks of a look-up are left", at);
+        if (!was_refused) return 0;
+    }
+}
+
+static plantbal_measured_stream streams[4000];
+static plantbal_name node_names[1001], stream_names[4000];
+
+static int graph(plantbal_session session) {
+    plantbal_graph_size size;
+    return plantbal_session_period_graph(session, 0, streams, 4000, &size);
+}
+
+static int names(plantbal_session session) {
+    size_t nodes, many;
+    return plantbal_session_period_names(session, 0, node_names, 1001, stream_names, 4000, &nodes, &many);
+}
+
+static int classes(plantbal_session session) {
+    size_t many;
+    return plantbal_session_classes(session, codes, 4000, &many);
+}
+
+static int starve_looks(const plantbal_options *options) {
+    plantbal_session session = PLANTBAL_SESSION;
+    size_t taken;
+    if (plantbal_session_new(options, session)) return fail("no session", 0);
+    if (plantbal_session_rows(session, input, length, 0, codes, sizeof codes, &taken)) return fail("no rows", 0);
+    int failed = starve_look(session, graph) || starve_look(session, names) || starve_look(session, classes);
+    plantbal_session_free(session);
+    return failed;
+}
+
 int main(int argc, char **argv) {
     plantbal_options options = PLANTBAL_OPTIONS;
     FILE *file = argc > 1 ? fopen(argv[1], "rb") : NULL;
@@ -100,5 +170,5 @@ int main(int argc, char **argv) {
     length = fread(input, 1, sizeof input, file);
     fclose(file);
     setvbuf(stdout, NULL, _IONBF, 0);
-    return starve_run(&options) || starve_session(&options);
+    return starve_run(&options) || starve_session(&options) || starve_looks(&options) || starve_study();
 }

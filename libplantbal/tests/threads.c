@@ -1,4 +1,4 @@
-// Threads, each with runs and sessions of its own, come to the same output as one thread.
+// Threads, each with runs, sessions and studies of its own, come to the same output as one thread.
 #include "plantbal.h"
 #include <pthread.h>
 #include <stdio.h>
@@ -7,7 +7,29 @@
 static unsigned char input[1 << 18];
 static size_t length;
 
-// A sum of the output of a run and of a session, from nothing.
+// The sum of the flows of a study, whose last stream closes the balance.
+static size_t study(void) {
+    static const plantbal_study_options options = PLANTBAL_STUDY_OPTIONS;
+    plantbal_measured_stream streams[40];
+    static const plantbal_critical_row none[1];
+    plantbal_study study = PLANTBAL_STUDY;
+    plantbal_result result;
+    size_t wrong, sum = 0;
+    for (uint32_t i = 0; i < 40; i++) {
+        plantbal_measured_stream one = {i % 20, i % 20 + 1, i % 7 != 0, 1000 + 37 * i, {1 + i, 0}};
+        if (one.to == 20) one.to = 0;
+        streams[i] = one;
+    }
+    if (plantbal_study_new(&options, none, 0, 20, streams, 40, study, &wrong)) abort();
+    for (uint32_t i = 0; i < 40; i++) {
+        if (plantbal_study_stream(study, 0, i, &result)) abort();
+        sum = sum * 31 + result.flow.low + result.stream_class;
+    }
+    plantbal_study_free(study);
+    return sum;
+}
+
+// A sum of the output of a run, of a session and of a study, from nothing.
 static void *work(void *answer) {
     static const plantbal_options options = PLANTBAL_OPTIONS;
     size_t room = 1 << 20, count, taken, sum = 0;
@@ -23,6 +45,7 @@ static void *work(void *answer) {
         if (plantbal_session_output(session, text, room, &count)) abort();
         for (size_t i = 0; i < count; i++) sum = sum * 31 + text[i];
         plantbal_session_free(session);
+        sum = sum * 31 + study();
     }
     free(text);
     free(codes);

@@ -18,10 +18,12 @@ static const char rows[] = "unit,A\nunit,A\nfrob\n";
 static void empty_handles(void) {
     plantbal_session none = PLANTBAL_SESSION;
     unsigned char codes[4], code = 9;
-    size_t count = 7, ends[] = {4, 5};
+    size_t count = 7, ends[] = {4, 5}, two = 2;
     is("rows without a session", plantbal_session_rows(none, rows, sizeof rows - 1, 0, codes, 4, &count), PLANTBAL_BAD_HANDLE);
     is("none is taken", (long)count, 0);
     is("a row without a session", plantbal_session_row(none, "unitA", 5, ends, 2, &code), PLANTBAL_BAD_HANDLE);
+    is("records without a session", plantbal_session_records(none, "unitA", 5, ends, 2, &two, 1, codes, 4, &count), PLANTBAL_BAD_HANDLE);
+    is("no record is taken", (long)count, 0);
     is("output without a session", plantbal_session_output(none, codes, 4, &count), PLANTBAL_BAD_HANDLE);
     plantbal_session_free(none);
     plantbal_session_free(none);
@@ -65,6 +67,41 @@ static void one_session(void) {
     plantbal_session_free(session);
 }
 
+// Blocks of records whose places aren't those of fields: what stands before the first wrong place is taken.
+static void records(void) {
+    static const struct {
+        const char *what;
+        size_t ends[4], counts[2], room;
+        int wanted;
+        size_t taken;
+    } cases[] = {
+        {"two records", {4, 5, 9, 10}, {2, 4}, 2, PLANTBAL_DONE, 2},
+        {"room for one", {4, 5, 9, 10}, {2, 4}, 1, PLANTBAL_DONE, 1},
+        {"no room", {4, 5, 9, 10}, {2, 4}, 0, PLANTBAL_DONE, 0},
+        {"no fields", {0, 0, 0, 0}, {0, 0}, 2, PLANTBAL_DONE, 2},
+        {"empty fields", {0, 0, 0, 0}, {2, 4}, 2, PLANTBAL_DONE, 2},
+        {"places that go back", {5, 4, 9, 10}, {2, 4}, 2, PLANTBAL_USAGE, 0},
+        {"places of the second that go back", {4, 5, 3, 10}, {2, 4}, 2, PLANTBAL_USAGE, 1},
+        {"a place beyond the text", {4, 5, 9, 11}, {2, 4}, 2, PLANTBAL_USAGE, 1},
+        {"all bits", {(size_t)-1, 5, 9, 10}, {2, 4}, 2, PLANTBAL_USAGE, 0},
+        {"counts that go back", {4, 5, 9, 10}, {2, 1}, 2, PLANTBAL_USAGE, 1},
+        {"more fields than there are", {4, 5, 9, 10}, {2, 5}, 2, PLANTBAL_USAGE, 1},
+        {"a count of all bits", {4, 5, 9, 10}, {(size_t)-1, 4}, 2, PLANTBAL_USAGE, 0},
+    };
+    for (size_t i = 0; i < sizeof cases / sizeof *cases; i++) {
+        plantbal_options options = PLANTBAL_OPTIONS;
+        plantbal_session session = PLANTBAL_SESSION;
+        unsigned char codes[2];
+        size_t taken = 9;
+        is("a session", plantbal_session_new(&options, session), PLANTBAL_DONE);
+        is(cases[i].what, plantbal_session_records(session, "unitAunitB", 10, cases[i].ends, 4, cases[i].counts, 2, codes, cases[i].room, &taken), cases[i].wanted);
+        is(cases[i].what, (long)taken, (long)cases[i].taken);
+        is("again", plantbal_session_records(session, "", 0, cases[i].ends, 0, cases[i].counts, 0, codes, 2, &taken), PLANTBAL_DONE);
+        is("none", (long)taken, 0);
+        plantbal_session_free(session);
+    }
+}
+
 static void limits(void) {
     static const struct {
         const char *what;
@@ -93,6 +130,7 @@ static void limits(void) {
 int main(void) {
     empty_handles();
     one_session();
+    records();
     limits();
     return faults != 0;
 }
