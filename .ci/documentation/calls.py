@@ -3,7 +3,7 @@
 from __future__ import annotations
 
 import re
-from dataclasses import dataclass
+from dataclasses import dataclass, replace
 
 from .rust import Function, Types, of_libraries
 from .sources import Sources, Unknown
@@ -51,13 +51,18 @@ def call_of(function: Function) -> Call:
 
 
 def standing(sources: Sources) -> dict[str, list[Call]]:
-    """Return the public calls of the libraries as they stand, by crate and name."""
+    """Return the public calls of the libraries as they stand, by crate and name.
+
+    A call is also one of each library that hands it on, or the type whose method it is.
+    """
     types = Types(sources)
     found: dict[str, list[Call]] = {}
     for function in of_libraries(sources):
         if types.is_public(function):
             call = call_of(function)
-            found.setdefault(call.named, []).append(call)
+            for crate in types.givers(call.crate, function.owner or function.name):
+                given = replace(call, crate=crate)
+                found.setdefault(given.named, []).append(given)
     return found
 
 
@@ -88,7 +93,11 @@ def wrong_with(call: Call, there: list[Call]) -> str | None:
     same = [one for one in there if one.head == call.head]
     if not same:
         return f"it is now {there[0].head}"
-    more = [name for name in same[0].requires if same[0].requires.count(name) > call.requires.count(name)]
+    more = [
+        name
+        for name in same[0].requires
+        if same[0].requires.count(name) > call.requires.count(name)
+    ]
     if more:
         return f"it now requires more: {', '.join(dict.fromkeys(more))}"
     gone = [name for name in call.ensures if call.ensures.count(name) > same[0].ensures.count(name)]

@@ -2,7 +2,21 @@
 
 from __future__ import annotations
 
-from . import answers, calls, citations, forms, guide, numbers, rows, second, statement
+from . import (
+    answers,
+    calls,
+    citations,
+    described,
+    forms,
+    guide,
+    links,
+    messages,
+    numbers,
+    rows,
+    second,
+    sheets,
+    statement,
+)
 from .sources import TOP, Sources
 
 
@@ -11,18 +25,23 @@ def made(sources: Sources) -> dict[str, str]:
     path = numbers.ASSURANCE
     assurance = guide.between(sources.text(path), numbers.NUMBERS, numbers.table(sources), path)
     assurance = guide.between(assurance, answers.ANSWERS, answers.table(sources), path)
+    times = numbers.times(sources)
+    times[described.ARCHITECTURE] = described.document(sources, times[described.ARCHITECTURE])
     return {
-        statement.STATEMENT: statement.document(sources),
+        **statement.documents(sources),
         path: assurance,
         **{page: guide.document(sources, page) for page in guide.PAGES},
         rows.SCHEMA: rows.text_of(guide.schema(sources)[0]),
-        **numbers.times(sources),
+        messages.MESSAGES: messages.document(sources),
+        sheets.PAGE: sheets.document(sources),
+        **times,
     }
 
 
 def write(sources: Sources) -> None:
     """Write the files that are made, and lower the numbers of forms that became fewer."""
     for path, text in {**made(sources), forms.AT_MOST: forms.document(sources)}.items():
+        (TOP / path).parent.mkdir(exist_ok=True)
         (TOP / path).write_text(text, encoding="utf-8")
 
 
@@ -45,7 +64,9 @@ def heads(sources: Sources) -> list[str]:
     for spec, definitions in statement.page_of(sources).files:
         if spec.kind == "Inside":
             name = definitions[0].name
-            found.append(f"{spec.path} is marked Inside, and the contract of the top call reaches {name}")
+            found.append(
+                f"{spec.path} is marked Inside, and the contract of the top call reaches {name}"
+            )
     return found
 
 
@@ -68,6 +89,7 @@ CHECKS = (
     citations.edits,
     citations.rows_of_examples,
     citations.lemmas,
+    links.complaints,
 )
 
 

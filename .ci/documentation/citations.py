@@ -23,13 +23,19 @@ INNER = (
 )
 OUTER = (
     "CHANGELOG.md",
+    "CONTRIBUTING.md",
     "docs/AUDIT.md",
+    "docs/CORE.md",
     "docs/FORMAT.md",
     "docs/GUIDE.md",
+    "docs/LIBRARY.md",
     "docs/MONTH_END.md",
+    "docs/OFFICE.md",
     "docs/OPERATIONS.md",
+    "docs/PAGE.md",
     "docs/PYTHON.md",
     "docs/REFERENCE.md",
+    "docs/STYLE.md",
 )
 # Folders of the repository: a path that begins with one of these is one of its files.
 FOLDERS = ("bench", "crates", "docs", "examples", "packaging", "python", ".ci")

@@ -1,8 +1,8 @@
 """Makes and checks the documents that follow from the sources.
 
-.ci/documents write        makes anew docs/STATEMENT.md and python/plantbal/schema.json, and the
-                           parts of docs/ASSURANCE.md, docs/GUIDE.md, docs/ARCHITECTURE.md and
-                           README.md that are made; lowers the numbers of .ci/at_most.txt
+.ci/documents write        makes anew docs/STATEMENT.md, docs/statement/ and python/plantbal/schema.json,
+                           and the parts of docs/ASSURANCE.md, docs/GUIDE.md, docs/ARCHITECTURE.md,
+                           docs/MESSAGES.md and README.md that are made; lowers the numbers of .ci/at_most.txt
 .ci/documents check        ends with 1 if one of these is stale, if a document cites what isn't
                            there, or if there is more of a form than .ci/at_most.txt says
 .ci/documents list NAME    prints what there is of a form of .ci/at_most.txt

@@ -11,6 +11,7 @@ from collections.abc import Callable, Iterator
 from functools import cache
 
 from .answers import unreached
+from .names import classes_twice, functions_twice
 from .rust import Function, of_libraries
 from .sources import Sources, Unknown
 from .statement import page_of, repeated, short
@@ -20,6 +21,11 @@ AT_MOST = ".ci/at_most.txt"
 OPERAND = r"[*&]?(?:([a-z_][a-z_0-9]*)|[0-9][0-9_]*|[A-Z][A-Z_0-9]*)"
 OPERATOR = r"[-+*/%&|^]|&&|\|\||[=!]=|[<>]=?|<<|>>"
 ONE_OPERATOR = re.compile(rf"(?:{OPERAND} (?:{OPERATOR}) |[-!]){OPERAND}")
+# How many places are shown of a form of which there are too many.
+SHOWN = 20
+# The most columns of a line of a definition, and a column that a definition names by its number.
+WIDE = 100
+COLUMN = re.compile(r"\b(?:values|row|kind) [0-9]+\b")
 LAWS = re.compile(r"\s*(?:(?:\w+(?:\.|::))*\w+_laws?\([^;]*\);?\s*)*")
 
 
@@ -121,9 +127,49 @@ def names_not_defined(sources: Sources) -> list[str]:
     return [f"{name}: {', '.join(map(short, found[name]))}" for name in sorted(found)]
 
 
+def definition_lines(sources: Sources, of: int | None = None) -> list[str]:
+    """Return the lines of the definitions that must be believed, or of those of the first chapters alone, without comments and blank ones."""
+    chapters = page_of(sources).chapters[:of]
+    return [
+        f"{short(spec.path)}: {one.name}: {line.strip()}"
+        for chapter in chapters
+        for spec, one in chapter.definitions
+        for line in one.lines
+        if line.strip()
+    ]
+
+
+def core_lines(sources: Sources) -> list[str]:
+    """Return the lines of the first chapter, which says what a certified stage means."""
+    return definition_lines(sources, 1)
+
+
+def wide_lines(sources: Sources) -> list[str]:
+    """Return the lines of definitions that are wider than a reader's page."""
+    chapters = page_of(sources).chapters
+    lines = [
+        (spec, line)
+        for chapter in chapters
+        for spec, one in chapter.definitions
+        for line in one.lines
+    ]
+    return [f"{short(spec.path)}: {line.strip()}" for spec, line in lines if len(line) > WIDE]
+
+
+def columns_by_number(sources: Sources) -> list[str]:
+    """Return the places of definitions that name a column by its number and not by its key."""
+    return [
+        line for line in definition_lines(sources) for _ in COLUMN.findall(line.split(": ", 2)[2])
+    ]
+
+
 FORMS: dict[str, Callable[[Sources], list[str]]] = {
     "names_in_two_statement_files": repeated_names,
     "names_defined_nowhere_on_the_page": names_not_defined,
+    "lines_of_definition_in_the_core": core_lines,
+    "lines_of_definition_on_all_pages": definition_lines,
+    "lines_of_definition_above_100_columns": wide_lines,
+    "columns_named_by_number": columns_by_number,
     "laws_called_in_bodies": laws_called,
     "calls_for_their_clause": calls_for_clauses,
     "unused_parameters": unused_parameters,
@@ -132,6 +178,8 @@ FORMS: dict[str, Callable[[Sources], list[str]]] = {
     "answers_that_nothing_reaches": unreached,
     "out_of_memory_where_no_failure_was_caught": out_of_memory_unasked,
     "out_of_memory_after_a_caught_failure": out_of_memory_after_failure,
+    "names_of_two_python_classes": classes_twice,
+    "names_of_two_python_functions": functions_twice,
 }
 
 
@@ -164,5 +212,7 @@ def complaints(sources: Sources) -> list[str]:
         there = FORMS[name](sources)
         if len(there) > most:
             found.append(f"{name}: {len(there)}, and {AT_MOST} says at most {most}:")
-            found += [f"    {one}" for one in there]
+            found += [f"    {one}" for one in there[:SHOWN]]
+            if len(there) > SHOWN:
+                found.append(f"    and {len(there) - SHOWN} more: .ci/documents list {name}")
     return found

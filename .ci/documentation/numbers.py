@@ -67,14 +67,17 @@ def table(sources: Sources) -> list[str]:
 
 def tried(sources: Sources) -> str:
     """Return how many planted edits stand refused, and how many wait."""
-    record = sources.text("planted.txt").splitlines()
+    record = sources.text(".ci/planted.txt").splitlines()
     waiting = sum(line.endswith(" untried") for line in record)
     refused = len(record) - waiting
     if not waiting:
-        return f"By `planted.txt` all {refused:,} edits in `planted/` were refused on these sources."
+        return (
+            f"By `.ci/planted.txt` all {refused:,} edits in `planted/` were refused on these"
+            " sources."
+        )
     return (
-        f"By `planted.txt`, {refused:,} of the {len(record):,} edits in `planted/` were refused on"
-        f" these sources. The other {waiting:,} are marked `untried`."
+        f"By `.ci/planted.txt`, {refused:,} of the {len(record):,} edits in `planted/` were"
+        f" refused on these sources. The other {waiting:,} are marked `untried`."
     )
 
 
@@ -135,6 +138,4 @@ def times(sources: Sources) -> dict[str, str]:
     """Return the documents that say how long things take."""
     parts = {"README.md": front, "docs/ARCHITECTURE.md": paragraphs}
     t = numbers(sources)
-    return {
-        path: between(sources.text(path), TIMES, part(t), path) for path, part in parts.items()
-    }
+    return {path: between(sources.text(path), TIMES, part(t), path) for path, part in parts.items()}

@@ -101,8 +101,13 @@ class Reach:
 
     def files(self) -> list[Reached]:
         """Return each file with what is reached of it, in the file's order."""
+        return self.by_file(self.definitions)
+
+    @staticmethod
+    def by_file(definitions: list[tuple[Spec, Definition]]) -> list[Reached]:
+        """Return the files of definitions, each with these in the file's order."""
         met: dict[str, tuple[Spec, set[Definition]]] = {}
-        for spec, definition in self.definitions:
+        for spec, definition in definitions:
             met.setdefault(spec.module, (spec, set()))[1].add(definition)
         return [(spec, [d for d in spec.definitions if d in some]) for spec, some in met.values()]
 

@@ -330,7 +330,8 @@ class Texts:
                 site
                 for site in re.finditer(rf"(\w+)?(\))?\??\s*\.{call.name}\(", body)
                 if site[1] in values
-                or site[2] and self.give(re.split(r"[;{}]", body[: site.end(2)])[-1], call.owner)
+                or site[2]
+                and self.give(re.split(r"[;{}]", body[: site.end(2)])[-1], call.owner)
             ]
         elif call.owner:
             found = list(re.finditer(rf"\b{call.owner}(?:::<[^>]*>)?::{call.name}\(", body))

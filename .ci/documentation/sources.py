@@ -113,7 +113,9 @@ class Spec:
         self.imports = imports(text)
         lines = text.splitlines()
         heading = list(itertools.takewhile(lambda line: line.startswith("--"), lines))
-        self.head = " ".join([*heading[:1], *(line.removeprefix("--").strip() for line in heading[1:])])
+        self.head = " ".join(
+            [*heading[:1], *(line.removeprefix("--").strip() for line in heading[1:])]
+        )
         self.definitions: list[Definition] = []
         self._read(lines[len(heading) :])
         self.names = {definition.name: definition for definition in self.definitions}

@@ -1,4 +1,8 @@
-"""docs/STATEMENT.md: what must be believed, from the contract of the call of `main` down."""
+"""docs/STATEMENT.md and docs/statement/: what must be believed, the core first.
+
+The chapters follow from their roots (`chapters.py`). The page of the first two ends with the heart
+of the rest and the contract of the call that `main` makes; the others have a page each.
+"""
 
 from __future__ import annotations
 
@@ -9,6 +13,7 @@ from dataclasses import dataclass
 from functools import cache
 
 from . import second, toolchain
+from .chapters import OPENINGS, Chapter, chapters
 from .guide import anchor_of
 from .reach import Part, Reach, Reached, part_of, words_in
 from .rust import Function, functions_in, item_of, of_libraries
@@ -23,17 +28,15 @@ MADE_OF_ARGUMENTS = ("Words",)
 IN_WORDS = ".ci/documentation/clauses.md"
 # How the signs of the contract and of the definitions are read.
 SIGNS = ".ci/documentation/signs.md"
-# The definitions that stand in front of the chapters, each with its file.
+# The definitions that carry most of what is claimed beside the core, each with its file.
 HEART = (
     ("pb_session/Session", "IsSessionText"),
     ("pb_book/Answer", "answer_of"),
     ("pb_session/Session", "IsReport"),
-    ("pb_stage/Certified", "IsCertifiedStage"),
 )
-# The chapters by the questions of a reader, and the paragraphs with which they open.
-CHAPTERS = ".ci/documentation/chapters.txt"
-OPENINGS = "docs/DEFINITIONS.md"
-HEART_TITLE = "The heart of it"
+# Where the mathematics stands in words.
+IN_FULL = "docs/DEFINITIONS.md"
+HEART_TITLE = "The heart of the rest"
 TOOLCHAIN_TITLE = "Words of the toolchain"
 # The calls of which the page speaks beside it, for bytes in memory.
 IN_MEMORY = ("pb_cli::answer", "pb_cli::judge")
@@ -47,6 +50,7 @@ LAWS = (
     "pb_check::right_law",
     "pb_session::edited_file_law",
     "pb_session::agreeing_report_law",
+    "pb_session::left_out_law",
     "pb_session::version_one_text_law",
     "pb_period::closed_graphs_law",
     "pb_period::agreeing_law",
@@ -58,12 +62,15 @@ LAWS = (
     "pb_laws::nested_bounds_law",
     "pb_laws::statistic_order_law",
     "pb_laws::bounds_meet_law",
+    "pb_laws::flows_meet_law",
+    "pb_laws::drop_order_law",
     "pb_laws::first_round_law",
     "pb_laws::untested_law",
     "pb_laws::more_meters_law",
     "pb_laws::metered_law",
     "pb_laws::window_parts_law",
     "pb_laws::contents_law",
+    "pb_laws::between_law",
     "pb_laws::nodal_order_law",
     "pb_laws::closed_law",
     "pb_laws::some_plain_text_law",
@@ -153,6 +160,8 @@ class Page:
         What these reach.
     files : list
         The files of definitions that are reached.
+    chapters : list of Chapter
+        The chapters, which have all of these definitions.
     repeated : dict
         The names that several files of statements define, with the files.
     """
@@ -163,6 +172,7 @@ class Page:
     laws: list[Part]
     reach: Reach
     files: list[Reached]
+    chapters: list[Chapter]
     repeated: dict[str, list[str]]
 
     @property
@@ -208,9 +218,11 @@ def page_of(sources: Sources) -> Page:
     taken = list(ends(sources, function))
     in_memory, beside = (list(contracts(sources, names)) for names in (IN_MEMORY, LAWS))
     reach = Reach(sources)
-    for part in [run, *taken, *in_memory, *beside]:
+    parts = [run, *taken, *in_memory, *beside]
+    for part in parts:
         reach.words(part.text, part.imports)
-    return Page(run, taken, in_memory, beside, reach, reach.files(), repeated(sources))
+    split = chapters(sources, parts, reach)
+    return Page(run, taken, in_memory, beside, reach, reach.files(), split, repeated(sources))
 
 
 @cache
@@ -245,46 +257,11 @@ def in_crate(spec: Spec) -> str:
     return f"{spec.crate}/{spec.path.partition('/specs/')[2].removesuffix('.antt')}"
 
 
-def plan(sources: Sources) -> dict[str, list[str]]:
-    """Return the titles of the chapters, each with the crates and files that it names."""
-    found = {}
-    for block in re.sub(r"(?m)^#.*\n", "", sources.text(CHAPTERS)).strip().split("\n\n"):
-        title, _, names = block.partition("\n")
-        found[title] = names.split()
-    return found
-
-
-def chapters(sources: Sources, page: Page) -> dict[str, list[Reached]]:
-    """Return the files of each chapter, in the order in which a reader meets them."""
-    named = {name: title for title, names in plan(sources).items() for name in names}
-    found: dict[str, list[Reached]] = {title: [] for title in plan(sources)}
-    used = set()
-    for reached in page.files:
-        spec = reached[0]
-        name = in_crate(spec) if in_crate(spec) in named else spec.crate
-        if name not in named:
-            raise Unknown(f"{CHAPTERS} has no chapter for {spec.path}")
-        found[named[name]].append(reached)
-        used.add(name)
-    if unused := sorted(set(named) - used):
-        raise Unknown(f"{CHAPTERS} names what isn't on the page: {', '.join(unused)}")
-    return found
-
-
-def opening(sources: Sources, title: str) -> list[str]:
-    """Return the paragraph of docs/DEFINITIONS.md with this title."""
-    head = rf"^\*\*{re.escape(title)}\.\*\* "
-    found = re.search(rf"{head}(.*?)\n\n", sources.text(OPENINGS), re.M | re.S)
-    if not found:
-        raise Unknown(f"{OPENINGS} has no paragraph '{title}'")
-    return paragraph(found[1])
-
-
-def in_words(sources: Sources, crates: set[str]) -> list[str]:
+def in_words(sources: Sources, crates: set[str], up: str) -> list[str]:
     """Return a line on where docs/DEFINITIONS.md has more of crates in words."""
-    headings = re.findall(r"^## (.*)$", sources.text(OPENINGS), re.M)
+    headings = re.findall(r"^## (.*)$", sources.text(IN_FULL), re.M)
     links = [
-        f"[{re.sub(r' [(]`.*?`[)]', '', heading)}](DEFINITIONS.md{anchor_of(heading)})"
+        f"[{re.sub(r' [(]`.*?`[)]', '', heading)}]({up}DEFINITIONS.md{anchor_of(heading)})"
         for heading in headings
         if crates & set(re.findall(r"`(\w+)`", heading))
     ]
@@ -292,7 +269,7 @@ def in_words(sources: Sources, crates: set[str]) -> list[str]:
 
 
 def heart(sources: Sources, page: Page) -> list[str]:
-    """Return the definitions that stand in front, each with its file."""
+    """Return the definitions of the heart, each with its file."""
     lines = []
     for place, name in HEART:
         found = [reached for reached in page.files if in_crate(reached[0]) == place]
@@ -305,41 +282,24 @@ def heart(sources: Sources, page: Page) -> list[str]:
     return lines
 
 
-def file_of(sources: Sources, page: Page, reached: Reached) -> list[str]:
-    """Return what a chapter shows of a file: its head, and what of it isn't in front."""
+def file_of(sources: Sources, page: Page, reached: Reached, heading: str) -> list[str]:
+    """Return what a chapter shows of a file: its head, and what of it isn't in the heart."""
     spec, definitions = reached
     head = re.sub(r"^-- (?:Statement\. |Inside\. )?", "", spec.head)
-    in_front = [name for place, name in HEART if place == in_crate(spec)]
-    lines = ["", f"### `{short(spec.path)}`", "", *([head, ""] if head else [])]
-    if in_front:
-        names = ", ".join(f"`{name}`" for name in in_front)
-        lines += [f"In front, in [{HEART_TITLE}]({anchor_of(HEART_TITLE)}): {names}.", ""]
+    apart = [
+        name
+        for place, name in HEART
+        if place == in_crate(spec) and name in {it.name for it in definitions}
+    ]
+    lines = ["", heading, "", *([head, ""] if head else [])]
+    if apart:
+        names = ", ".join(f"`{name}`" for name in apart)
+        lines += [f"In [{HEART_TITLE}](../STATEMENT.md{anchor_of(HEART_TITLE)}): {names}.", ""]
     lines += page.here(part_of(reached))
     if beside := second.beside(sources, in_crate(spec), {it.name for it in definitions}):
         lines += [*paragraph(beside), ""]
-    return lines + code_block(
-        "antt", "\n\n".join(it.text for it in definitions if it.name not in in_front)
-    )
-
-
-def contents(body: str) -> list[str]:
-    """Return the headings of a text as a list of links, those of files by their crates."""
-    lines: list[str] = []
-    crate = ""
-    for deep, title in re.findall(r"^##(#?) (.*)$", body, re.M):
-        link = f"[{title}]({anchor_of(title)})"
-        if not deep:
-            lines.append(f"- {link}")
-            crate = ""
-            continue
-        here, _, name = title.strip("`").removesuffix(".antt").partition("/specs/")
-        link = f"[{name}]({anchor_of(title)})"
-        if here == crate:
-            lines[-1] += f", {link}"
-        else:
-            lines.append(f"  - `{here}`: {link}")
-            crate = here
-    return lines
+    shown = [it.text for it in definitions if it.name not in apart]
+    return lines + code_block("antt", "\n\n".join(shown)) if shown else lines[:-1]
 
 
 def code_block(language: str, text: str) -> list[str]:
@@ -361,18 +321,133 @@ def shown(page: Page, parts: list[Part]) -> list[str]:
     return lines
 
 
-def body_of(sources: Sources, page: Page) -> list[str]:
-    """Return the page without its head."""
-    lines = []
-    lines += [*sources.text(IN_WORDS).rstrip().split("\n"), "", f"## {HEART_TITLE}", ""]
-    lines += paragraph(
-        "Four definitions carry most of what is claimed: the text of a session, the answer to a"
-        " record, the report of a period, and what is promised of each of its stages. The chapters"
-        " below say what their words mean."
+def chapter_of(sources: Sources, page: Page, chapter: Chapter, seen: set[str]) -> list[str]:
+    """Return a chapter below its heading: its opening, its files and the types that they name.
+
+    A file that an earlier chapter of the same page has, too, is told apart by its heading.
+    """
+    deep = "###" if chapter.path == STATEMENT else "##"
+    up = "" if chapter.path == STATEMENT else "../"
+    files = chapter.files()
+    lines = ["", *sources.text(f"{OPENINGS}/{chapter.opening}.md").rstrip().split("\n")]
+    lines += in_words(sources, {spec.crate for spec, _ in files}, up)
+    for reached in files:
+        path = short(reached[0].path)
+        again = ", more of it" if path in seen else ""
+        seen.add(path)
+        lines += file_of(sources, page, reached, f"{deep} `{path}`{again}")
+    if chapter.types:
+        lines += ["", f"{deep} The types that chapter {number_of(page, chapter)} names"]
+        for path, text in chapter.types:
+            lines += ["", f"In `{short(path)}`:", "", *code_block("rust", text)]
+    return lines
+
+
+def number_of(page: Page, chapter: Chapter) -> int:
+    """Return the number of a chapter."""
+    return page.chapters.index(chapter) + 1
+
+
+def titled(page: Page, chapter: Chapter) -> str:
+    """Return the title of a chapter with its number."""
+    return f"{number_of(page, chapter)}. {chapter.title}"
+
+
+def made_by() -> list[str]:
+    """Return the paragraph that says how a page is made."""
+    return paragraph(
+        "Made by `.ci/documents write` from the sources; `.ci/documents check` fails if it is stale."
     )
-    lines += [*heart(sources, page), "", *sources.text(SIGNS).rstrip().split("\n"), ""]
-    lines += [f"## The contract of `{TOP_CALL}`", "", f"In `{short(page.run.path)}`:", ""]
-    lines += [*page.here(page.run), *code_block("rust", page.run.text), "", "## What it takes", ""]
+
+
+def words_of(named: list[tuple[str, str]], deep: str) -> list[str]:
+    """Return the table of the toolchain's words that a page is the first to use."""
+    if not named:
+        return []
+    said = paragraph(
+        "These are the toolchain's words that this page is the first to use, as the kit's own files explain and define them. The words"
+        " that their definitions use in turn are in the same files."
+    )
+    return ["", f"{deep} {TOOLCHAIN_TITLE}", "", *said, "", *toolchain.table(dict.fromkeys(named))]
+
+
+def overview(page: Page) -> list[str]:
+    """Return the table of the chapters, with how much there is to read in each."""
+    lines = ["| chapter | definitions | their lines | types |", "|---|--:|--:|--:|"]
+    for chapter in page.chapters:
+        path = "" if chapter.path == STATEMENT else chapter.path.removeprefix("docs/")
+        link = f"{path}{anchor_of(titled(page, chapter))}" if not path else path
+        count = len(chapter.definitions)
+        lines.append(
+            f"| [{titled(page, chapter)}]({link}) | {count} | {chapter.lines()} | {len(chapter.types)} |"
+        )
+    return lines
+
+
+def core_page(sources: Sources, page: Page) -> list[str]:
+    """Return docs/STATEMENT.md: the chapters of the core, then the heart of the rest and the contract."""
+    core = [chapter for chapter in page.chapters if chapter.path == STATEMENT]
+    count = sum(len(definitions) for _, definitions in page.files)
+    lines = ["# What must be believed", "", *made_by(), ""]
+    lines += paragraph(
+        f"The program is proved to meet the contract of `pb_cli::{TOP_CALL}`, and a few laws are proved as well. To accept these claims, a"
+        " reader must believe that their words mean what they should. These pages have all of these words:"
+        f" {count} definitions in {len(page.files)} files, and the {len(page.reach.types)} types and constants of the code to which they"
+        " refer. Nothing else in the repository has to be read to know what is claimed: bodies, invariants, lemmas and the other contracts"
+        " only serve to prove it."
+    )
+    lines += [
+        "",
+        *paragraph(
+            "The chapters stand in the order in which a reader can stop. Each has the definitions on which its subject rests, less what an"
+            f" earlier chapter has. Chapters 1 and {len(core)} are below: they say what a certified report means. An afternoon is enough for them."
+        ),
+        "",
+        *overview(page),
+        "",
+    ]
+    lines += [*sources.text(SIGNS).rstrip().split("\n")]
+    seen: set[str] = set()
+    for chapter in core:
+        lines += ["", f"## {titled(page, chapter)}", *chapter_of(sources, page, chapter, seen)]
+    lines += [
+        "",
+        "## You may stop here",
+        "",
+        *paragraph(
+            "if you only ask what a `yes` means, or what a printed report promises. What follows says how the program chooses its numbers, how"
+            " the graph of a period comes about, which rows are refused, and which bytes are written."
+        ),
+        "",
+        *sources.text(IN_WORDS).rstrip().split("\n"),
+        "",
+        f"## {HEART_TITLE}",
+        "",
+    ]
+    lines += paragraph(
+        "With `IsCertifiedStage`, which is in chapter 1, three definitions carry most of what is claimed: the text of a session, the answer"
+        " to a record, and the report of a period. The other chapters say what their words mean."
+    )
+    lines += [*heart(sources, page), "", f"## The contract of `{TOP_CALL}`", ""]
+    lines += [
+        f"In `{short(page.run.path)}`:",
+        "",
+        *page.here(page.run),
+        *code_block("rust", page.run.text),
+    ]
+    lines += [
+        "",
+        *paragraph(
+            f"What it takes, the calls for bytes in memory and the laws beside it are in [chapter {len(page.chapters)}]"
+            f"({page.chapters[-1].path.removeprefix('docs/')})."
+        ),
+    ]
+    return lines + words_of([word for chapter in core for word in chapter.toolchain], "##")
+
+
+def beside_the_contract(page: Page) -> list[str]:
+    """Return what the last chapter shows in front: what the call takes, calls in memory, and laws."""
+    lines = ["", "## What the call takes", ""]
     lines += paragraph(
         "The contract refers to what the source and the sink have been seen to do, and to the value"
         " of the words. The traits say what every source and every sink guarantees. The blocks"
@@ -388,7 +463,7 @@ def body_of(sources: Sources, page: Page) -> list[str]:
     lines += ["", "## Laws beside it", ""]
     lines += paragraph(
         "These functions do nothing; what matters is their contracts, which are proved of the words"
-        " above and below. They say that words give one command, that each input has exactly one"
+        " of all chapters. They say that words give one command, that each input has exactly one"
         " text, that the program's own reports pass a check, that a block passes exactly when it is"
         " right, and that a report after edits is that of the edited file. A session of version 1"
         " writes what the same program writes without version 2. In version 2 a declaration changes"
@@ -399,49 +474,43 @@ def body_of(sources: Sources, page: Page) -> list[str]:
         " has the parts of its periods. The remaining laws say what follows for nodal tests, closed"
         " periods, plain rows and made sessions."
     )
-    lines += shown(page, page.laws)
-    for title, files in chapters(sources, page).items():
-        lines += ["", f"## {title}", "", *opening(sources, title)]
-        lines += in_words(sources, {spec.crate for spec, _ in files})
-        for reached in files:
-            lines += file_of(sources, page, reached)
-    lines += ["", "## Types of the code"]
-    for path, text in page.reach.types:
-        lines += ["", f"In `{short(path)}`:", "", *code_block("rust", text)]
-    lines += ["", f"## {TOOLCHAIN_TITLE}", ""]
-    lines += paragraph(
-        "These are the toolchain's words that the page uses, as the kit's own files explain and"
-        " define them. The words that their definitions use in turn are in the same files."
-    )
-    return [*lines, "", *toolchain.table(page.reach.toolchain)]
+    return lines + shown(page, page.laws)
 
 
-def document(sources: Sources) -> str:
-    """Return the text of the page."""
-    page = page_of(sources)
-    body = body_of(sources, page)
-    count = sum(len(definitions) for _, definitions in page.files)
-    head = [
-        "# What must be believed",
-        "",
-        *paragraph(
-            "Made by `.ci/documents write` from the sources; `.ci/documents check` fails if it is"
-            " stale."
-        ),
-        "",
-        *paragraph(
-            f"The program is proved to meet the contract of `pb_cli::{TOP_CALL}`, and a few laws"
-            " are proved as well. To accept these claims, a reader must believe that their words"
-            f" mean what they should. This page has all of these words: {count} definitions in"
-            f" {len(page.files)} files, in chapters by the questions of a reader, and then the"
-            f" {len(page.reach.types)} types and constants of the code to which they refer."
-            " Words of the toolchain's libraries stand in a table at the end. Nothing else in the repository has to be read to know what is claimed:"
-            " bodies, invariants, lemmas and the other contracts only serve to prove it."
-        ),
-        "",
-        "## Contents",
-        "",
-        *contents("\n".join(body)),
-        "",
+def other_page(sources: Sources, page: Page, chapter: Chapter) -> list[str]:
+    """Return the page of a chapter behind the core."""
+    at = page.chapters.index(chapter)
+    near = [
+        f"[{titled(page, one)}]({link_from(one)})"
+        for one in page.chapters[max(0, at - 1) : at + 2]
+        if one is not chapter
     ]
-    return "\n".join([*head, *body]) + "\n"
+    lines = [f"# {titled(page, chapter)}", "", *made_by(), ""]
+    lines += paragraph(
+        f"A chapter of [What must be believed](../STATEMENT.md). Beside it: {', '.join(near)}."
+    )
+    if chapter is not page.chapters[-1]:
+        return [
+            *lines,
+            *chapter_of(sources, page, chapter, set()),
+            *words_of(chapter.toolchain, "##"),
+        ]
+    below = chapter_of(sources, page, chapter, set())
+    first = next(at for at, line in enumerate(below) if line.startswith("## "))
+    lines += [*below[: first - 1], *beside_the_contract(page), *below[first - 1 :]]
+    return lines + words_of(chapter.toolchain, "##")
+
+
+def link_from(chapter: Chapter) -> str:
+    """Return the link to a chapter's page from another page of a chapter."""
+    return "../STATEMENT.md" if chapter.path == STATEMENT else chapter.path.rpartition("/")[2]
+
+
+def documents(sources: Sources) -> dict[str, str]:
+    """Return the text of each page."""
+    page = page_of(sources)
+    found = {STATEMENT: core_page(sources, page)}
+    for chapter in page.chapters:
+        if chapter.path != STATEMENT:
+            found[chapter.path] = other_page(sources, page, chapter)
+    return {path: "\n".join(lines) + "\n" for path, lines in found.items()}

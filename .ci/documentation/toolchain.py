@@ -133,11 +133,14 @@ def table(words: Iterable[tuple[str, str]]) -> Iterator[str]:
             types.append(name)
         else:
             rows[name, meant] = None
-    yield "| word | library | in words | defined as |"
-    yield "|---|---|---|---|"
+    if rows:
+        yield "| word | library | in words | defined as |"
+        yield "|---|---|---|---|"
     for name, meant in sorted(rows, key=lambda it: (it[0].lower(), it[0], it[1].library)):
         comment = meant.comment.replace("|", "\\|")
         yield f"| `{name}` | {meant.library} | {comment} | {in_code(meant.lines)} |"
-    names = ", ".join(f"`{name}`" for name in sorted(set(types)))
-    yield ""
-    yield from textwrap.wrap(f"Types of the toolchain's code, and their values: {names}.", 120)
+    if rows and types:
+        yield ""
+    if types:
+        names = ", ".join(f"`{name}`" for name in sorted(set(types)))
+        yield from textwrap.wrap(f"Types of the toolchain's code, and their values: {names}.", 120)
