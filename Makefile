@@ -5,13 +5,21 @@
 #   make wheel                                packaging/out/plantbal-*.whl, for pip: the package of Python with the program in it
 #   make audit                                packaging/out/plantbal-audit.pyz: the audit without the program, in one file for a bare Python
 #   make image                                packaging/out/root and the packages: what packaging/Containerfile makes its two images of
-#   make release                              the packages, the wheel, the audit, the build record and SHA256SUMS, in an empty packaging/out
+#   make release                              the packages, the wheel, the audit, the build record, the page (make page), SHA256SUMS and the tag's text (TAG)
 #   make check-packages                       all packages made, unpacked elsewhere and tried
 #   make install-verify VERIFY=..             plantbal-verify and its manual page, from coq/ (`make -C coq` proves and builds it)
 #   make fuzz SECONDS=3600 SEED=1             changed inputs to all subcommands; failures are kept in KEEP
 #   make install-library install-library-dev  what C calls, once ./build library has made it
+#   make library-tries SESSIONS=100000 SECONDS=3600   changed sessions through the library against the program, then its fuzzer
+#   make site                                 packaging/out/site/index.html: the documents as pages with search, with a gallery of plants
+#   make core                                 packaging/out/CORE.pdf: docs/CORE.md, what a certified report means as mathematics
 #   make page                                 the core in a web page: page/out/plantbal.html, and its module for other pages
+#   make office-times                         how long the desk's pages take, how much a worker takes, how the grid scrolls; and twenty people at work
+#   make office-kills N=200                   a worker, the database or a command of the office's service killed that often
+#   make office-cuts N=200                    its power cut that often, on a disk of its own (root)
+#   make office-people SECONDS=600            fifty people at work in it for so long
 #   make book-tries KILLS=400 PAIRS=200       commands on a book killed, failing and in pairs, at each system call that writes
+#   make cluster-tries PLANTS=10000 BOOKS=100 a night on three workers with disks of their own, one of which is killed
 VERSION := $(shell cat VERSION)
 PREFIX = /usr/local
 DESTDIR =
@@ -21,6 +29,7 @@ VERIFY = coq/plantbal-verify
 BUILT = $(PROGRAM)
 PYTHON = /usr/bin/python3
 DEBS = packaging/out
+SITE = packaging/out/site
 # The library as ./build library links it, and the folder below lib for it.
 LIBRARY_FROM = libplantbal/out
 TRIPLET =
@@ -37,7 +46,7 @@ LIBRARY = lib/$(PYTHON_FOLDER)/dist-packages
 # zsh looks into /usr/share/zsh/vendor-completions and, for what no package has, into /usr/local/share/zsh/site-functions.
 ZSH = $(SHARE)/zsh/$(if $(filter /usr,$(PREFIX)),vendor-completions,site-functions)
 
-PROGRAM_DOCUMENTS = README.md CHANGELOG.md docs/GUIDE.md docs/REFERENCE.md docs/AUDIT.md docs/FORMAT.md docs/DEFINITIONS.md docs/STATEMENT.md docs/ASSURANCE.md docs/DECISIONS.md docs/PAGE.md
+PROGRAM_DOCUMENTS = README.md CHANGELOG.md docs/GUIDE.md docs/REFERENCE.md docs/AUDIT.md docs/FORMAT.md docs/DEFINITIONS.md docs/CORE.md docs/STATEMENT.md docs/ASSURANCE.md docs/DECISIONS.md docs/PAGE.md
 VERIFY_DOCUMENTS = coq/README.md coq/Certified.v coq/Sound.v docs/ASSURANCE.md
 DESK_DOCUMENTS = docs/MONTH_END.md docs/OFFICE.md docs/PYTHON.md docs/OPERATIONS.md
 WORKBOOKS = examples/month_end examples/refinery_workbook examples/terminal_workbook examples/tank_farm_workbook
@@ -46,7 +55,13 @@ SECONDS = 600
 SEED = 0
 KEEP = /tmp/plantbal-fuzz
 
-.PHONY: install install-program install-desk install-office install-verify install-library install-library-dev deb wheel audit image release check-packages book-tries fuzz page clean
+.PHONY: office-times office-kills office-cuts office-people install install-program install-desk install-doc install-office install-verify install-library install-library-dev deb wheel audit image release check-packages book-tries cluster-tries library-tries fuzz kills page core site clean
+
+# The program is that of PLANTBAL.
+office-times:
+	set -e; room=$$(mktemp -d); trap 'rm -rf "$$room"' EXIT; $(PYTHON) python/tests/office/times.py make "$$room"; \
+	for what in pages grid; do $(PYTHON) python/tests/office/times.py $$what "$$room"; done
+	PLANTBAL_BOOKS=5 PLANTBAL_PEOPLE=4 $(PYTHON) -m pytest -q python/tests/office/test_bad_input.py -k at_once
 
 install: install-program install-desk
 
@@ -61,6 +76,7 @@ install-program: $(PROGRAM)
 	install -D -m 644 packaging/completions/plantbal.zsh $(ZSH)/_plantbal
 	install -D -m 644 packaging/completions/plantbal.fish $(SHARE)/fish/vendor_completions.d/plantbal.fish
 	install -D -m 644 -t $(SHARE)/doc/plantbal $(PROGRAM_DOCUMENTS)
+	install -D -m 644 -t $(SHARE)/doc/plantbal/statement docs/statement/*.md
 	install -D -m 644 -t $(SHARE)/doc/plantbal/pictures docs/pictures/*
 	install -D -m 644 -t $(SHARE)/doc/plantbal/examples examples/*.csv examples/*.jq
 	install -D -m 644 -t $(SHARE)/doc/plantbal/examples/concentrator examples/concentrator/*
@@ -97,6 +113,14 @@ install-desk:
 	    sed 's|@BIN@|$(PREFIX)/bin|; s|@LIBEXEC@|$(LIBEXEC)|; s|@DOC@|$(PREFIX)/share/doc/python3-plantbal|' "$$unit" >"$(DESTDIR)$(UNITS)/$$(basename "$$unit")"; \
 	    chmod 644 "$(DESTDIR)$(UNITS)/$$(basename "$$unit")"; \
 	done
+
+$(SITE)/index.html:
+	@echo "make: there is no $@: make site makes it" >&2; exit 1
+
+install-doc: $(SITE)/index.html
+	install -d $(SHARE)/doc/plantbal-doc
+	cp -r $(SITE) $(SHARE)/doc/plantbal-doc/html
+	chmod -R u=rwX,go=rX $(SHARE)/doc/plantbal-doc/html
 
 install-office:
 	install -D -m 755 packaging/office/plantbal-office $(BIN)/plantbal-office
@@ -145,14 +169,47 @@ check-packages: $(PROGRAM)
 page:
 	page/build page/out
 
+site:
+	packaging/site/build $(SITE)
+
+core:
+	packaging/core_pdf $(DEBS)/CORE.pdf
+
+# A pull and a push of a database, killed a hundred times each
+kills:
+	PLANTBAL_KILLS=100 /usr/bin/python3 -m pytest -q -s python/tests/test_database.py -k killed
+
 fuzz:
 	.ci/fuzz --seconds $(SECONDS) --seed $(SEED) --keep $(KEEP)
 
 clean:
-	rm -rf $(DEBS)
+	rm -rf $(DEBS) $(SITE)
 
 KILLS = 400
 PAIRS = 200
 
+N = 200
+OFFICE_TESTS = PATH=/usr/bin:$$PATH PYTHONDONTWRITEBYTECODE=1 PLANTBAL=$(abspath $(PROGRAM)) $(PYTHON) -m pytest -q -s -p no:logging python/tests/service
+
+office-kills: $(PROGRAM)
+	OFFICE_KILLS=$(N) $(OFFICE_TESTS)/test_stopped.py -k killed
+
+office-cuts: $(PROGRAM)
+	OFFICE_CUTS=$(N) $(OFFICE_TESTS)/test_stopped.py -k power
+
+office-people: $(PROGRAM)
+	OFFICE_SECONDS=$(SECONDS) $(OFFICE_TESTS)/test_many.py
+
 book-tries: $(PROGRAM)
 	.ci/book_tries $(PROGRAM) --kills $(KILLS) --pairs $(PAIRS) --steps all
+
+SESSIONS = 100000
+
+library-tries: $(PROGRAM) $(LIBRARY_FROM)/libplantbal.so.0
+	libplantbal/tests/tries $(PROGRAM) $(SESSIONS) $(SECONDS)
+
+PLANTS = 10000
+BOOKS = 100
+
+cluster-tries: $(PROGRAM)
+	.ci/cluster_tries $(PROGRAM) --plants $(PLANTS) --books $(BOOKS)

@@ -264,14 +264,14 @@ _plantbal_desk() {
         _plantbal_words '-h --help --out --locale --missing --skip --limits --mapping --design' ;;
     book)
         if [[ $here != -* ]]; then
-            if [[ ! " ${COMP_WORDS[*]:at + 1:COMP_CWORD - at - 1} " =~ ' '(new|add|show|amend|strike|estimate|report|window|close|submit|submitted|approve|reject|rules|signed|quiet|difference|posted|account|status|next|retire|verify|head|accept)' ' ]]; then
-                _plantbal_words 'new add show amend strike estimate report window close submit submitted approve reject rules signed quiet difference posted account status next retire verify head accept'
+            if [[ ! " ${COMP_WORDS[*]:at + 1:COMP_CWORD - at - 1} " =~ ' '(new|add|show|amend|strike|undo|estimate|report|window|close|submit|submitted|approve|reject|rules|signed|quiet|difference|posted|account|status|next|retire|verify|head|accept)' ' ]]; then
+                _plantbal_words 'new add show amend strike undo estimate report window close submit submitted approve reject rules signed quiet difference posted account status next retire verify head accept'
                 return
             fi
             _plantbal_files -f
             return
         fi
-        _plantbal_words '-h --help --program --locale --missing --skip --limits --mapping --book --who --key --why --strike --anyway --year --dry-run --json --density --error --take --session --gap --sweeps --no-tests --eliminate --report --head --text --signed --signers --revoked --stamps --off --csv --xlsx --postings --by --owner --tanks --page --title --all --plant --first' ;;
+        _plantbal_words '-h --help --program --locale --missing --skip --limits --mapping --book --who --key --json --why --strike --anyway --year --dry-run --density --error --take --session --gap --sweeps --no-tests --eliminate --report --head --text --signed --signers --revoked --stamps --off --csv --xlsx --postings --by --owner --tanks --page --title --all --plant --first' ;;
     pull)
         _plantbal_words '-h --help --book --who --from --to --dry-run' ;;
     push)
@@ -351,7 +351,7 @@ _plantbal_desk() {
             _plantbal_files -d
             return
         fi
-        _plantbal_words '-h --help --out --date --again --recursive --engine --jobs --timeout --retries --scheduler --send --program --lint --stale --level --forget --keep' ;;
+        _plantbal_words '-h --help --out --date --again --recursive --engine --jobs --timeout --retries --scheduler --send --program --lint --stale --level --forget --keep --pack' ;;
     across)
         if [[ $here != -* ]]; then
             _plantbal_files -d
