@@ -12,7 +12,9 @@ from dataclasses import dataclass
 from enum import IntEnum
 from typing import Any, TypeVar
 
-from plantbal._native import Session
+from plantbal._native import NativeSession
+from plantbal._studies import Class, whole
+from plantbal._studies import Stream as MeasuredStream
 
 FIRST_DAY = datetime.date(1970, 1, 1)
 Item = TypeVar("Item")
@@ -53,7 +55,7 @@ class Node:
 
 
 @dataclass(frozen=True)
-class Stream:
+class StreamLook:
     """A stream with the places of its nodes, its base variance and its days of service."""
 
     name: str
@@ -65,7 +67,7 @@ class Stream:
 
 
 @dataclass(frozen=True)
-class Period:
+class PeriodLook:
     """A period, with its first and its last day."""
 
     name: str
@@ -75,7 +77,7 @@ class Period:
 
 
 @dataclass(frozen=True)
-class Fact:
+class FactLook:
     """A fact with its last values: grams or a level, a dip's density, the variance."""
 
     id: str
@@ -90,7 +92,7 @@ class Fact:
 
 
 @dataclass(frozen=True)
-class Edit:
+class EditLook:
     """An edit: the number of its row, the period or the fact, and the values it has from then on."""
 
     record: int
@@ -115,16 +117,25 @@ class Counts:
     edits: int
 
 
+@dataclass(frozen=True)
+class Graph:
+    """The process graph of a period: the names of its nodes and streams, and the streams."""
+
+    nodes: list[str]
+    names: list[str]
+    streams: list[MeasuredStream]
+
+
 class Looks:
     """Look-ups in the book of a session.
 
     Parameters
     ----------
-    session : Session
+    session : NativeSession
         An open session. What it takes later is seen by the look-ups that follow.
     """
 
-    def __init__(self, session: Session) -> None:
+    def __init__(self, session: NativeSession) -> None:
         self._session = session
 
     def counts(self) -> Counts:
@@ -136,24 +147,24 @@ class Looks:
         """Return the nodes of the plant by their places, the environment first."""
         return self._each("node", lambda told: Node(_text(told.name), bool(told.tank)))
 
-    def streams(self) -> list[Stream]:
+    def streams(self) -> list[StreamLook]:
         """Return the streams and the tanks by their places."""
         return self._each("stream", _stream)
 
-    def periods(self) -> list[Period]:
+    def periods(self) -> list[PeriodLook]:
         """Return the periods in the order of their rows."""
         return self._each(
             "period",
-            lambda told: Period(
+            lambda told: PeriodLook(
                 _text(told.name), _day(told.first), _day(told.last), bool(told.closed)
             ),
         )
 
-    def facts(self) -> list[Fact]:
+    def facts(self) -> list[FactLook]:
         """Return the facts in the order of their rows, struck ones too."""
         return self._each("fact", _fact)
 
-    def edits(self) -> list[Edit]:
+    def edits(self) -> list[EditLook]:
         """Return the edits in the order of their rows."""
         return self._each("edit", _edit)
 
@@ -193,6 +204,45 @@ class Looks:
         """
         return self._touches("edit_touches", edit, period)
 
+    def graph(self, period: int) -> Graph:
+        """Return the graph of the period at a place with what was measured, as a report has it.
+
+        A study of it, `Study(len(graph.nodes), graph.streams)`, is that of the report.
+
+        Raises
+        ------
+        IndexError
+            If there is no such period.
+        ProgramFault
+            If what is measured of a stream is above the limits of a graph.
+        """
+        ffi = self._session.ffi
+        size = ffi.new("plantbal_graph_size *")
+        room = ffi.new("plantbal_measured_stream[]", 1)
+        if not self._session.read("period_graph", period, room, 0, size):
+            room = ffi.new("plantbal_measured_stream[]", int(size.streams))
+            self._session.read("period_graph", period, room, len(room), size)
+        nodes = ffi.new("plantbal_name[]", int(size.nodes))
+        names = ffi.new("plantbal_name[]", max(int(size.streams), 1))
+        counts = ffi.new("size_t[2]")
+        self._session.read(
+            "period_names", period, nodes, len(nodes), names, len(names), counts, counts + 1
+        )
+        return Graph(
+            [_text(one.name) for one in nodes[0 : counts[0]]],
+            [_text(one.name) for one in names[0 : counts[1]]],
+            [_measured(one) for one in room[0 : size.streams]],
+        )
+
+    def classes(self) -> list[Class]:
+        """Return the class of each stream of the plant before any reading, as a design has it."""
+        ffi = self._session.ffi
+        count = ffi.new("size_t *")
+        self._session.read("classes", count, 0, count)
+        codes = bytearray(int(count[0]))
+        self._session.read("classes", ffi.from_buffer(codes), len(codes), count)
+        return [Class(code) for code in codes]
+
     def _each(self, what: str, made: Callable[[Any], Item]) -> list[Item]:
         """Return what is at each place, until there is no more."""
         found: list[Item] = []
@@ -224,21 +274,24 @@ def _day(number: int) -> datetime.date:
     return FIRST_DAY + datetime.timedelta(days=int(number))
 
 
-def _wide(told: Any) -> int:
-    """Return a number in two words."""
-    return (int(told.high) << 64) + int(told.low)
+def _measured(told: Any) -> MeasuredStream:
+    """Return a stream of a graph."""
+    ends = int(getattr(told, "from")), int(told.to)
+    if not told.measured:
+        return MeasuredStream(*ends)
+    return MeasuredStream(*ends, int(told.value), whole(told.variance))
 
 
-def _stream(told: Any) -> Stream:
+def _stream(told: Any) -> StreamLook:
     """Return a stream."""
     service = (_day(told.since), _day(told.until)) if told.served else None
     ends = int(getattr(told, "from")), int(told.to)
-    return Stream(_text(told.name), StreamKind(told.kind), *ends, _wide(told.base), service)
+    return StreamLook(_text(told.name), StreamKind(told.kind), *ends, whole(told.base), service)
 
 
-def _fact(told: Any) -> Fact:
+def _fact(told: Any) -> FactLook:
     """Return a fact."""
-    return Fact(
+    return FactLook(
         id=_text(told.id),
         stream=_text(told.stream),
         kind=FactKind(told.kind),
@@ -247,18 +300,18 @@ def _fact(told: Any) -> Fact:
         last=_day(told.last),
         amount=int(told.amount),
         density=int(told.density),
-        variance=_wide(told.variance),
+        variance=whole(told.variance),
     )
 
 
-def _edit(told: Any) -> Edit:
+def _edit(told: Any) -> EditLook:
     """Return an edit."""
-    return Edit(
+    return EditLook(
         record=int(told.record),
         kind=EditKind(told.kind),
         id=_text(told.id),
         reason=_text(told.reason),
         amount=int(told.amount),
         density=int(told.density),
-        variance=_wide(told.variance),
+        variance=whole(told.variance),
     )

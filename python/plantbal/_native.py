@@ -8,18 +8,20 @@ thread's at a time; any number of them may be in use.
 from __future__ import annotations
 
 import os
+from array import array
 from collections.abc import Iterable
 from functools import lru_cache
 from itertools import accumulate
 from pathlib import Path
 from types import TracebackType
-from typing import Any
+from typing import Any, TypeAlias
 
 import cffi
 
 from plantbal._declarations import DECLARATIONS, Status
 from plantbal.faults import ProgramFault, ToolMissing
 
+Buffer: TypeAlias = "bytes | bytearray | memoryview | array[int]"
 SONAME = "libplantbal.so.0"
 CHECKOUT = Path(__file__).resolve().parents[2] / "libplantbal" / "out" / SONAME
 
@@ -152,7 +154,7 @@ def _answer(native: Library, handle: Any, status: int) -> tuple[int, bytes]:
     return status, native.output(handle)
 
 
-class Session:
+class NativeSession:
     """A session that takes rows, and answers each with the number of its refusal, or 0.
 
     Parameters
@@ -199,6 +201,79 @@ class Session:
             raise fault(Status(status))
         return bytes(memoryview(codes)[: taken[0]])
 
+    def records(self, records: Iterable[Iterable[bytes]]) -> bytes:
+        """Take a block of rows by their fields, and return a code for each, as `rows` does.
+
+        Raises
+        ------
+        ProgramFault
+            If memory ran out: the rows that were taken stay taken.
+        """
+        fields: list[bytes] = []
+        counts = array("Q")
+        for record in records:
+            fields.extend(record)
+            counts.append(len(fields))
+        return self.apart(b"".join(fields), array("Q", accumulate(map(len, fields))), counts)
+
+    def apart(self, text: Buffer, ends: Buffer, counts: Buffer) -> bytes:
+        """Take a block of rows whose fields are apart in arrays, and return a code for each.
+
+        Parameters
+        ----------
+        text : bytes or anything with a buffer
+            The fields, one after another.
+        ends, counts : anything with a buffer of unsigned 64-bit numbers
+            Where each field ends, in bytes from the beginning; and for each row how many fields
+            there are up to its end.
+
+        Raises
+        ------
+        ProgramFault
+            If places aren't in order, or lie beyond the text (status 2), or memory ran out: the
+            rows before stay taken.
+        """
+        ffi = self._native.ffi
+        given = ffi.from_buffer(text)
+        places = [ffi.from_buffer("size_t[]", numbers) for numbers in (ends, counts)]
+        codes = bytearray(len(places[1]))
+        taken = ffi.new("size_t *")
+        words = [word for each in (given, *places) for word in (each, len(each))]
+        status = self._native.functions.plantbal_session_records(
+            self._handle, *words, ffi.from_buffer(codes), len(codes), taken
+        )
+        if status != Status.DONE:
+            raise fault(Status(status))
+        return bytes(memoryview(codes)[: taken[0]])
+
+    def read(self, what: str, *words: Any) -> bool:
+        """Have a call of the library write to the arrays among its words.
+
+        Returns
+        -------
+        bool
+            Whether there was room; if not, the counts among the words say how much it takes.
+
+        Raises
+        ------
+        IndexError
+            If there is nothing at the place.
+        ProgramFault
+            If it ends otherwise.
+        """
+        function = getattr(self._native.functions, f"plantbal_session_{what}")
+        status = function(self._handle, *words)
+        if status == Status.NOT_THERE:
+            raise IndexError(f"{what}: nothing at this place")
+        if status not in (Status.DONE, Status.SMALL_BUFFER):
+            raise fault(Status(status))
+        return bool(status == Status.DONE)
+
+    @property
+    def ffi(self) -> Any:
+        """Return what makes values of C."""
+        return self._native.ffi
+
     def look(self, what: str, kind: str, *words: Any) -> Any | None:
         """Return what a look-up of the library finds, or None if there is nothing there.
 
@@ -240,7 +315,7 @@ class Session:
         """Free the session; it takes no more rows."""
         self._native.functions.plantbal_session_free(self._handle)
 
-    def __enter__(self) -> Session:
+    def __enter__(self) -> NativeSession:
         return self
 
     def __exit__(

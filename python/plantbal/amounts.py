@@ -8,10 +8,13 @@ from collections.abc import Sequence
 from decimal import ROUND_CEILING, Context, Decimal, Inexact, InvalidOperation
 from itertools import repeat
 from math import isqrt
+from numbers import Integral
+from operator import index
+from typing import SupportsIndex
 
 from plantbal.faults import Fault
 
-Tonnes = Decimal | int | str
+Tonnes = Decimal | SupportsIndex | str
 Day = datetime.date | str
 
 GRAMS_A_TONNE = 1_000_000
@@ -26,7 +29,7 @@ def decimal_of(amount: Tonnes, what: str) -> Decimal:
 
     Parameters
     ----------
-    amount : Decimal, int or str
+    amount : Decimal, whole number or str
         The number, with a decimal point if it has one.
     what : str
         What it is called in what is said.
@@ -38,24 +41,31 @@ def decimal_of(amount: Tonnes, what: str) -> Decimal:
     """
     if isinstance(amount, Decimal):
         number = amount
-    elif isinstance(amount, bool) or not isinstance(amount, (int, str)):
-        raise Fault(
-            f"{what} is {amount!r}, of type {type(amount).__name__}",
-            text=repr(amount),
-            remedy='say Decimal("12.5") or "12.5": floats are not exact',
-        )
-    else:
+    elif isinstance(amount, str):
         try:
             number = Decimal(amount)
         except InvalidOperation:
             raise Fault(
-                f"{what} is {amount!r}, which is no number",
-                text=amount if isinstance(amount, str) else "",
+                f"{what} is {amount!r}, which isn't a number",
+                text=amount,
                 remedy="digits with at most one decimal point",
             ) from None
+    else:
+        number = _whole_number(amount, what)
     if not number.is_finite():
-        raise Fault(f"{what} is {number}, which is no number", text=str(number))
+        raise Fault(f"{what} is {number}, which isn't a number", text=str(number))
     return number
+
+
+def _whole_number(amount: SupportsIndex, what: str) -> Decimal:
+    """Return a whole number of whatever type, numpy's too."""
+    if isinstance(amount, Integral) and not isinstance(amount, bool):
+        return Decimal(index(amount))
+    raise Fault(
+        f"{what} is {amount!r}, of type {type(amount).__name__}",
+        text=repr(amount),
+        remedy='say Decimal("12.5") or "12.5": floats are not exact',
+    )
 
 
 def grams_of(tonnes: Tonnes, what: str = "TONNES") -> int:

@@ -4,8 +4,8 @@
     python3 checker.py < report.csv
 
 It makes the tests that `plantbal check` makes, and writes the same rows: yes, no or unreadable. It
-is written from docs/AUDIT.md and docs/FORMAT.md, is a file by itself, and needs Python alone. Every
-number is a whole number or a fraction of two. The status is 0 if each block gets a yes, and 1 if
+is written from docs/AUDIT.md and docs/FORMAT.md, is a file by itself, and needs Python alone. The
+tests have the numbers of the table at the end of docs/CORE.md, where they are formulas. Every number is a whole number or a fraction of two. The status is 0 if each block gets a yes, and 1 if
 one doesn't, if a row can't be read, or if there is no block; 2 if words are given.
 """
 
@@ -77,7 +77,7 @@ def differ(name: str, *pairs: tuple[int | None, int | None]) -> Iterator[Found]:
 
 
 @dataclass
-class Block:
+class CheckedBlock:
     """The rows of a block. Each test gives the places where it fails, the first one first."""
 
     head: Row
@@ -126,7 +126,7 @@ class Block:
                 yield s, flow, dual, up(root * self.gap, PART**2) if listed else 0
 
     def test_class(self) -> Iterator[Found]:
-        """The class is that of a measured stream iff there is a value; bounds are there or not."""
+        """1. The class is that of a measured stream iff there is a value; bounds are there or not."""
         has_least = any(s.least_lo is not None for s in self.streams)
         for s in self.streams:
             there = [each is not None for each in (s.value, s.lo, s.least_lo)]
@@ -135,7 +135,7 @@ class Block:
                 yield s.name, 0, 0
 
     def test_witness(self) -> Iterator[Found]:
-        """The cut or cycle has the stream once, and shows its class."""
+        """2. The cut or cycle has the stream once, and shows its class."""
         have = {s.name for s in self.measured}  # a value
         for s in self.streams:
             others = [name for name, _ in s.parts if name != s.name]
@@ -148,7 +148,7 @@ class Block:
                 yield s.name, 0, 0
 
     def test_balance(self) -> Iterator[Found]:
-        """What comes in is what goes out, at each node."""
+        """3. What comes in is what goes out, at each node."""
         net = dict.fromkeys(self.nodes, 0)
         for s in self.streams:
             net[s.end] += s.flow
@@ -157,25 +157,25 @@ class Block:
             yield from differ(node, (0, net[node]))
 
     def test_price(self) -> Iterator[Found]:
-        """Nodes of a group share a price, which is 0 if the group isn't free."""
+        """4. Nodes of a group share a price, which is 0 if the group isn't free."""
         prices, free = [node.price for node in self.nodes.values()], set(self.free)
         for (name, group), price in zip(self.group.items(), prices):
             yield from differ(name, (price, prices[group]), (price, price if group in free else 0))
 
     def test_box(self) -> Iterator[Found]:
-        """Variance times rise of the price is at most 2^112 along a measured stream."""
+        """5. Variance times rise of the price is at most 2^112 along a measured stream."""
         for s in self.measured:
             if s.variance * abs(s.rise) > 2**112:
                 yield s.name, abs(s.rise), 2**112 // s.variance
 
     def test_dof(self) -> Iterator[Found]:
-        """There are as many degrees of freedom as groups, less one for each part of the plant."""
+        """6. There are as many degrees of freedom as groups, less one for each part of the plant."""
         parts = joined(self.nodes, self.streams)
         dof = len(set(self.group.values())) - len(set(parts.values()))
         yield from differ("", (self.solved.dof, dof))
 
     def test_gap(self) -> Iterator[Found]:
-        """The gap is that of the flows and of those that the prices give."""
+        """7. The gap is that of the flows and of those that the prices give."""
         deviations = [up(abs(s.flow * GRAM - s.dual), s.root * 2**16) for s in self.measured]
         h = 0
         while any(each > 2 ** (57 + h) for each in deviations):
@@ -185,7 +185,7 @@ class Block:
         yield from differ("", (self.solved.h, h), (self.solved.g, g))
 
     def test_state(self) -> Iterator[Found]:
-        """It has converged iff the gap is met, in as many sweeps as are allowed."""
+        """8. It has converged iff the gap is met, in as many sweeps as are allowed."""
         k, most = self.solved.k, self.head.sweeps
         if 1000 * self.gap <= self.head.gap * PART:
             holds = self.solved.state == "converged" and k <= most
@@ -195,12 +195,12 @@ class Block:
             yield "", k, most
 
     def test_bounds(self) -> Iterator[Found]:
-        """The bounds are those that the prices, the gap and the certificates give."""
+        """9. The bounds are those that the prices, the gap and the certificates give."""
         for s, _, dual, width in self.bounded():
             yield from differ(s.name, (s.lo, dual // GRAM - width), (s.hi, up(dual, GRAM) + width))
 
     def test_statistic(self) -> Iterator[Found]:
-        """The ends of the statistic are those of the flows, the values and the gap."""
+        """10. The ends of the statistic are those of the flows, the values and the gap."""
         most = 2**32 * PART
         sizes = [(abs(s.flow - s.value) * PART**2, s.root) for s in self.measured]
         below = sum(min(off // (root + 1), most) ** 2 for off, root in sizes)
@@ -211,7 +211,7 @@ class Block:
         yield from differ("", (self.solved.low, low), (self.solved.high, high))
 
     def test_nodal(self) -> Iterator[Found]:
-        """There is a nodal test of each free group, with its net flow and its variance."""
+        """11. There is a nodal test of each free group, with its net flow and its variance."""
         nodal = [test for test in self.tests if test.row == "nodal"]
         free = self.free if self.tests else []
         yield from differ("", (len(nodal), len(free)))
@@ -227,7 +227,7 @@ class Block:
             yield from differ(test.name, *zip(stated, (group, net[group], variance[group])))
 
     def test_verdict(self) -> Iterator[Found]:
-        """Each verdict follows from the numbers in its row."""
+        """12. Each verdict follows from the numbers in its row."""
         for test in self.tests:
             if test.row == "nodal":
                 test.low = test.high = Fraction(1000 * test.net**2, test.variance)
@@ -238,7 +238,7 @@ class Block:
                 yield test.name, 0, 0
 
     def test_least(self) -> Iterator[Found]:
-        """The least bounds reach half as far about the middle of the flow and the dual flow."""
+        """13. The least bounds reach half as far about the middle of the flow and the dual flow."""
         for s, flow, dual, width in self.bounded():
             if s.least_lo is not None:
                 low = (flow + dual // GRAM) // 2 - up(width, 2)
@@ -333,7 +333,7 @@ def parts_of(text: str) -> list[Part]:
     return [(sys.intern(step[1:]), 1 if step[0] == "+" else -1) for step in steps]
 
 
-class Rows:
+class ReadRows:
     """The rows of a report, one after the other, and the number of the one read last."""
 
     def __init__(self, data: bytes) -> None:
@@ -350,7 +350,7 @@ class Rows:
         ask(not kinds or fields[0] in kinds, "kind")
         return fields
 
-    def block(self, fields: list[str]) -> Block:
+    def block(self, fields: list[str]) -> CheckedBlock:
         """Return the block that a `report` row begins."""
         head = row_of(fields)
         ask(1 <= head.nodes <= MOST_NODES and 0 <= head.streams <= MOST_STREAMS, "count")
@@ -376,7 +376,7 @@ class Rows:
             fields = self.next("end", *AFTER[test.row])
         end = row_of(fields)
         ask((end.period, end.round) == (head.period, head.round), "unknown")
-        return Block(head, nodes, streams, solved, tests)
+        return CheckedBlock(head, nodes, streams, solved, tests)
 
     def streams(self, count: int, nodes: Collection[str]) -> dict[str, Row]:
         """Return the streams of a block; their rows have as many fields as the first."""
@@ -411,7 +411,7 @@ class Rows:
 
 def findings(data: bytes) -> Iterator[tuple[str, ...]]:
     """Give the row of each block of a report, and that of the first row that can't be read."""
-    rows = Rows(data)
+    rows = ReadRows(data)
     try:
         while fields := rows.next():
             if fields[0] not in PASSED_OVER:

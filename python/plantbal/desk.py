@@ -111,7 +111,7 @@ examples:
 """
 
 
-class Version(argparse.Action):
+class VersionAction(argparse.Action):
     """Writes the version, which is read only if it is asked for."""
 
     def __init__(self, option_strings: Sequence[str], dest: str, **_: object) -> None:
@@ -163,7 +163,7 @@ def desk_parser() -> argparse.ArgumentParser:
         epilog=EPILOG,
         formatter_class=argparse.RawDescriptionHelpFormatter,
     )
-    parser.add_argument("--version", action=Version)
+    parser.add_argument("--version", action=VersionAction)
     words = parser.add_subparsers(metavar="SUBCOMMAND", required=True)
     for command in COMMANDS:
         handler = command.handler()

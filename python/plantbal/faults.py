@@ -26,6 +26,8 @@ _UNREAD = {
 }
 # How much of a file is read at once.
 _PART = 1 << 20
+# How an archive of SQLite begins.
+_ARCHIVE = b"SQLite format 3\0"
 
 
 @dataclass(frozen=True, kw_only=True)
@@ -322,7 +324,18 @@ def read_beginning(path: str | Path, count: int) -> tuple[str, bytes]:
                     remedy="name a file, or `-` for standard input",
                 )
             data = file.read(min(found.st_size, count))
+            if data.startswith(_ARCHIVE) and str(path).endswith(".sqlar"):
+                remedy = f"name a file in it, such as {path}/PLANT/output.csv"
+                what = "these are all outputs of a night"
+                raise InputFault(what, place=Place(file=str(path)), remedy=remedy)
             return str(path), data + _read_from(file, count - len(data))
+    except (FileNotFoundError, NotADirectoryError) as error:
+        from plantbal.packed import read_inside
+
+        packed = read_inside(path, count)
+        if packed is None:
+            raise unread(path, error) from error
+        return str(path), packed
     except (OSError, ValueError) as error:  # a name with a NUL is a ValueError
         raise unread(path, error) from error
 
@@ -382,5 +395,5 @@ def decoded(source: str, data: bytes) -> str:
                 "this is UTF-16", place=Place(file=source), remedy='save it as "CSV UTF-8"'
             ) from error
         raise InputFault(
-            "this is no UTF-8 text", place=Place(file=source), remedy='save it as "CSV UTF-8"'
+            "this isn't UTF-8 text", place=Place(file=source), remedy='save it as "CSV UTF-8"'
         ) from error

@@ -16,4 +16,9 @@ def uncollected() -> Iterator[None]:
         yield
     finally:
         if was:
+            if not gc.get_freeze_count():
+                # all that was made is old from here on: a collection of what is young would go
+                # through it to no end
+                gc.freeze()
+                gc.unfreeze()
             gc.enable()

@@ -16,6 +16,8 @@ from typing import Any, TextIO, cast
 
 # Control characters but line feeds and tabs, and those that turn the direction of writing.
 _CONTROLS = re.compile("[\0-\x08\x0b-\x1f\x7f-\x9f\u200e\u200f\u2028-\u202e\u2066-\u2069]")
+# Those of them that JSON may have as they are.
+_LATE_CONTROLS = re.compile("[\x7f-\x9f\u200e\u200f\u2028-\u202e\u2066-\u2069]")
 _SURROGATES = re.compile("[\ud800-\udfff]")
 
 
@@ -23,6 +25,12 @@ def plain(text: str) -> str:
     """Return a text with a mark for each control character, and lone bytes as their numbers."""
     text = _CONTROLS.sub("\N{REPLACEMENT CHARACTER}", text)
     return _SURROGATES.sub(lambda found: f"\\x{ord(found.group()) & 0xFF:02x}", text)
+
+
+def escaped(text: str) -> str:
+    """Return JSON with control characters as JSON writes them, so that they are data and no more."""
+    text = _LATE_CONTROLS.sub(lambda found: f"\\u{ord(found.group()):04x}", text)
+    return _SURROGATES.sub(lambda found: f"\\u{ord(found.group()):04x}", text)
 
 
 class _Plain:

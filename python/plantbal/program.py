@@ -20,7 +20,7 @@ from plantbal.schema import schema
 
 # The statuses beside 0 and 1, and what to do about each.
 STATUSES = {
-    2: ("Usage", "these words are no command of this program: is it another version?"),
+    2: ("Usage", "this program has no such command: is it another version?"),
     3: ("ReadFault", "reading its input failed"),
     4: ("WriteFault", "writing its output failed"),
     5: ("TooLarge", "the input has more than 67,108,864 bytes: split it"),

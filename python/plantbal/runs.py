@@ -133,7 +133,7 @@ def _require_fallback(fallback: str, eliminate: int) -> None:
             f"there is no engine {fallback!r}", text=str(fallback), remedy="say 'scipy'"
         )
     if fallback and eliminate:
-        what = "elimination needs the program's own solver, so there is no fallback beside it"
+        what = "elimination needs the program's own solver, so it can't be combined with a fallback"
         raise InputFault(what, remedy="leave one of the two out")
 
 

@@ -13,7 +13,7 @@
 ``shares``
     What is split among owners, to the gram.
 ``difference``, ``posting``
-    What two states of a month have otherwise, why, and what is handed over.
+    How two states of a month differ, why, and what is handed over.
 ``trend``
     A month beside the months before it.
 

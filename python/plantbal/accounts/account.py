@@ -17,7 +17,7 @@ from dataclasses import dataclass, field
 from enum import Enum
 from fractions import Fraction
 
-from plantbal.accounts.entries import Entry, Line, entries_of
+from plantbal.accounts.entries import AccountLine, Entry, entries_of
 from plantbal.accounts.month import Basis, Month
 from plantbal.accounts.owned import Owned, owned
 from plantbal.accounts.sheet import Accounts
@@ -36,7 +36,7 @@ class Level(Enum):
 
 _DAY = datetime.timedelta(1)
 # What cancels in the whole plant by the balances of its units and tanks.
-_WITHIN = (Line.PRODUCTION, Line.PROCESSED, Line.REGRADED)
+_WITHIN = (AccountLine.PRODUCTION, AccountLine.PROCESSED, AccountLine.REGRADED)
 
 
 @dataclass(frozen=True)
@@ -78,7 +78,7 @@ class Unaccounted:
 
 
 @dataclass(frozen=True)
-class Table:
+class AccountTable:
     """An account.
 
     Attributes
@@ -89,7 +89,7 @@ class Table:
         The group, product or owner; empty of the plant.
     unit : str
         The sales unit of all that is in it; empty if they have several.
-    lines : dict of Line to Amount
+    lines : dict of AccountLine to Amount
         Its lines, the closing stock last; those that nothing is in are left out.
     entries : sequence of Entry
         What the lines are made of.
@@ -100,7 +100,7 @@ class Table:
     level: Level
     name: str
     unit: str
-    lines: Mapping[Line, Amount]
+    lines: Mapping[AccountLine, Amount]
     entries: Sequence[Entry]
     unaccounted: Unaccounted | None = None
 
@@ -110,18 +110,22 @@ class Table:
         return f"{self.level.value} {self.name}" if self.name else self.level.value
 
     @property
-    def moving(self) -> list[Line]:
+    def moving(self) -> list[AccountLine]:
         """The lines that add up to the closing stock.
 
         What is processed moves no owner's stock: it is said beside it.
         """
-        beside = (Line.CLOSING, Line.PROCESSED) if self.level is Level.OWNER else (Line.CLOSING,)
+        beside = (
+            (AccountLine.CLOSING, AccountLine.PROCESSED)
+            if self.level is Level.OWNER
+            else (AccountLine.CLOSING,)
+        )
         return [line for line in self.lines if line not in beside]
 
     @property
     def closing(self) -> int:
         """The closing stock in grams."""
-        found = self.lines.get(Line.CLOSING)
+        found = self.lines.get(AccountLine.CLOSING)
         return found.grams if found is not None else 0
 
     @property
@@ -135,7 +139,9 @@ class Table:
         amounts = [amount.sales for amount in self.lines.values()]
         if not self.unit or any(each is None for each in amounts):
             return None
-        closing = self.lines[Line.CLOSING].sales if Line.CLOSING in self.lines else None
+        closing = (
+            self.lines[AccountLine.CLOSING].sales if AccountLine.CLOSING in self.lines else None
+        )
         moved = [self.lines[line].sales or Fraction(0) for line in self.moving]
         rest = (closing or Fraction(0)) - sum(moved, Fraction(0))
         return rest or None
@@ -167,9 +173,9 @@ class MonthAccount:
     ----------
     month : Month
         The month.
-    plant : Table
+    plant : AccountTable
         The account of the whole plant.
-    groups, products, owners : list of Table
+    groups, products, owners : list of AccountTable
         The accounts by group, by product and by owner.
     tanks : list of TankAmounts
         The stocks by tank.
@@ -182,17 +188,17 @@ class MonthAccount:
     """
 
     month: Month
-    plant: Table
-    groups: list[Table]
-    products: list[Table]
-    owners: list[Table]
+    plant: AccountTable
+    groups: list[AccountTable]
+    products: list[AccountTable]
+    owners: list[AccountTable]
     tanks: list[TankAmounts]
     accounts: Accounts
     owned: Owned
     said: list[str] = field(default_factory=list)
 
     @property
-    def tables(self) -> list[Table]:
+    def tables(self) -> list[AccountTable]:
         """All accounts, that of the plant first."""
         return [self.plant, *self.groups, *self.products, *self.owners]
 
@@ -292,15 +298,15 @@ class _Draft:
     entries: Sequence[Entry]
 
     @property
-    def _lines(self) -> dict[Line, list[Entry]]:
-        found: dict[Line, list[Entry]] = {line: [] for line in Line}
+    def _lines(self) -> dict[AccountLine, list[Entry]]:
+        found: dict[AccountLine, list[Entry]] = {line: [] for line in AccountLine}
         for entry in self.entries:
             found[entry.line].append(entry)
         cancel = self.level is Level.PLANT
         return {
             line: some
             for line, some in found.items()
-            if some and not (cancel and line is Line.REGRADED)
+            if some and not (cancel and line is AccountLine.REGRADED)
         }
 
     def sums(self, month: Month, at: int) -> list[Across]:
@@ -308,7 +314,7 @@ class _Draft:
         lines = [summed(entry.sums for entry in some) for some in self._lines.values()]
         return [*lines, {at: self._left(month)[1]}]
 
-    def table(self, month: Month, found: Iterable[float | None]) -> Table:
+    def table(self, month: Month, found: Iterable[float | None]) -> AccountTable:
         """Return the account with its ±, which come in the order of `sums`."""
         each = iter(found)
         units = {entry.account.unit.label for entry in self.entries}
@@ -328,7 +334,7 @@ class _Draft:
                 basis,
                 sum(sales, Fraction(0)) if unit else None,
             )
-        return Table(
+        return AccountTable(
             self.level, self.name, unit, lines, self.entries, self._unaccounted(month, next(each))
         )
 
@@ -338,12 +344,12 @@ class _Draft:
             return 0, Sum()
         within = _WITHIN if self.level is Level.PLANT else ()
         weights: dict[str, int] = defaultdict(int)
-        losses = {entry.name for entry in self.entries if entry.line is Line.LOSS}
+        losses = {entry.name for entry in self.entries if entry.line is AccountLine.LOSS}
         for entry in self.entries:
             if entry.name in month.flows and entry.line not in within:
                 sign = next(iter(entry.sums.values())).flows[entry.name]
                 weights[entry.name] += round(sign)
-            elif entry.line is Line.CLOSING and entry.name in month.gains:
+            elif entry.line is AccountLine.CLOSING and entry.name in month.gains:
                 weights[entry.name] -= 1
         grams = 0
         values: dict[str, float] = {}
@@ -362,7 +368,7 @@ class _Draft:
         if self.level is Level.OWNER or deviation is None:
             return None
         grams, _ = self._left(month)
-        stays = (Line.OPENING, Line.ADJUSTMENT, Line.CLOSING)
+        stays = (AccountLine.OPENING, AccountLine.ADJUSTMENT, AccountLine.CLOSING)
         within = _WITHIN if self.level is Level.PLANT else ()
         moved = [each.grams for each in self.entries if each.line not in (*stays, *within)]
         came = sum(each for each in moved if each > 0)
@@ -398,7 +404,7 @@ def _said(
         elif flow.grams < 0 and any(entry.name == flow.name for entry in entries):
             yield f"{flow.name}: its flow is below 0, against its direction"
     for name, some in owners.items():
-        closing = sum(entry.grams for entry in some if entry.line is Line.CLOSING)
+        closing = sum(entry.grams for entry in some if entry.line is AccountLine.CLOSING)
         if not name:
             yield "some amounts have no owner: see the account of nobody"
         elif closing < 0:

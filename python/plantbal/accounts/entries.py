@@ -14,14 +14,14 @@ from collections.abc import Iterable, Iterator
 from dataclasses import dataclass
 from enum import StrEnum
 
-from plantbal.accounts.month import Basis, Flow, Month
-from plantbal.accounts.sheet import Account, Accounts, Kind
+from plantbal.accounts.month import Basis, Month, MonthFlow
+from plantbal.accounts.sheet import Account, AccountKind, Accounts
 from plantbal.accounts.spread import Across, Sum
 from plantbal.accounts.stock import Stock
 from plantbal.model.plant import ENV
 
 
-class Line(StrEnum):
+class AccountLine(StrEnum):
     """The lines of an account, in their order."""
 
     OPENING = "opening stock"
@@ -39,18 +39,18 @@ class Line(StrEnum):
 
 # The lines of what leaves the plant, by the kinds of streams.
 _OUT = {
-    Kind.SHIPMENT: Line.SHIPMENTS,
-    Kind.OWN_USE: Line.OWN_USE,
-    Kind.FLARE: Line.FLARE,
-    Kind.LOSS: Line.LOSS,
+    AccountKind.SHIPMENT: AccountLine.SHIPMENTS,
+    AccountKind.OWN_USE: AccountLine.OWN_USE,
+    AccountKind.FLARE: AccountLine.FLARE,
+    AccountKind.LOSS: AccountLine.LOSS,
 }
 
 
-def line_of_kind(kind: Kind | None, comes: bool) -> Line:
+def line_of_kind(kind: AccountKind | None, comes: bool) -> AccountLine:
     """Return the line of a stream that comes from outside, or goes there."""
     if comes:
-        return Line.RECEIPTS
-    return _OUT.get(kind, Line.SHIPMENTS) if kind is not None else Line.SHIPMENTS
+        return AccountLine.RECEIPTS
+    return _OUT.get(kind, AccountLine.SHIPMENTS) if kind is not None else AccountLine.SHIPMENTS
 
 
 @dataclass(frozen=True, slots=True)
@@ -59,7 +59,7 @@ class Entry:
 
     Attributes
     ----------
-    line : Line
+    line : AccountLine
         The line.
     name : str
         The stream or tank.
@@ -73,7 +73,7 @@ class Entry:
         It as a sum of what periods have.
     """
 
-    line: Line
+    line: AccountLine
     name: str
     account: Account
     grams: int
@@ -107,17 +107,19 @@ def _stock_entries(stocks: Iterable[Stock], accounts: Accounts) -> Iterator[Entr
         account = accounts.of_tank(stock.tank)
         opening, adjustment, closing = stock.sums
         basis = stock.opening_basis
-        yield Entry(Line.OPENING, stock.tank, account, stock.opening, basis, opening)
+        yield Entry(AccountLine.OPENING, stock.tank, account, stock.opening, basis, opening)
         if adjustment or stock.adjustment:  # one of 0 g has its ± all the same
             amount = stock.adjustment
-            yield Entry(Line.ADJUSTMENT, stock.tank, account, amount, basis, adjustment)
-        yield Entry(Line.CLOSING, stock.tank, account, stock.closing, stock.basis, closing)
+            yield Entry(AccountLine.ADJUSTMENT, stock.tank, account, amount, basis, adjustment)
+        yield Entry(AccountLine.CLOSING, stock.tank, account, stock.closing, stock.basis, closing)
 
 
-def _stream_entries(at: int, flow: Flow, tanks: set[str], accounts: Accounts) -> Iterator[Entry]:
+def _stream_entries(
+    at: int, flow: MonthFlow, tanks: set[str], accounts: Accounts
+) -> Iterator[Entry]:
     own = accounts.of_stream(flow.name, flow.start, flow.end)
 
-    def entry(line: Line, sign: int, account: Account = own) -> Entry:
+    def entry(line: AccountLine, sign: int, account: Account = own) -> Entry:
         sums = {at: Sum(flows={flow.name: sign})}
         return Entry(line, flow.name, account, sign * flow.grams, flow.basis, sums)
 
@@ -128,9 +130,9 @@ def _stream_entries(at: int, flow: Flow, tanks: set[str], accounts: Accounts) ->
         if end == ENV:
             yield entry(line_of_kind(own.kind, sign > 0), sign)
         elif end not in tanks:
-            yield entry(Line.PRODUCTION if sign > 0 else Line.PROCESSED, sign)
+            yield entry(AccountLine.PRODUCTION if sign > 0 else AccountLine.PROCESSED, sign)
         else:
             other = accounts.of_tank(end)
             if (other.product, other.group) != (own.product, own.group):
-                yield entry(Line.REGRADED, sign)
-                yield entry(Line.REGRADED, -sign, other)
+                yield entry(AccountLine.REGRADED, sign)
+                yield entry(AccountLine.REGRADED, -sign, other)

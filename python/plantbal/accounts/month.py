@@ -40,7 +40,7 @@ class Basis(StrEnum):
 
 
 @dataclass(frozen=True, slots=True)
-class Flow:
+class MonthFlow:
     """A stream in a period.
 
     Attributes
@@ -110,7 +110,7 @@ class Month:
         The period.
     first, last : date
         Its days.
-    flows : dict of str to Flow
+    flows : dict of str to MonthFlow
         Its streams.
     gains : dict of str to Gain
         Its tanks.
@@ -123,7 +123,7 @@ class Month:
     name: str
     first: datetime.date
     last: datetime.date
-    flows: Mapping[str, Flow]
+    flows: Mapping[str, MonthFlow]
     gains: Mapping[str, Gain] = field(default_factory=dict)
     block: Block | None = None
     is_closed: bool = False
@@ -148,7 +148,7 @@ class Month:
             else:
                 value = int(row["value"]) if row["value"] else None
                 ends = row["from"], row["to"]
-                flow = Flow(row["name"], *ends, int(row["flow"]), value, Basis.of(row))
+                flow = MonthFlow(row["name"], *ends, int(row["flow"]), value, Basis.of(row))
                 flows[flow.name] = flow
         period = seen.period
         days = _DAY(period.first), _DAY(period.last)

@@ -13,22 +13,22 @@ from collections.abc import Mapping, Sequence
 from dataclasses import replace
 from fractions import Fraction
 
-from plantbal.accounts.entries import Entry, Line
+from plantbal.accounts.entries import AccountLine, Entry
 from plantbal.accounts.month import Basis
 from plantbal.accounts.shares import NOBODY, split
-from plantbal.accounts.sheet import Account, Rule
+from plantbal.accounts.sheet import Account, SplitRule
 from plantbal.accounts.spread import Across, Sum
 
 # The entries of owners, by name.
 Owned = Mapping[str, Sequence[Entry]]
 # What passes through the plant's bounds; what is processed is only said beside it.
 _CROSSING = (
-    Line.ADJUSTMENT,
-    Line.RECEIPTS,
-    Line.SHIPMENTS,
-    Line.OWN_USE,
-    Line.FLARE,
-    Line.LOSS,
+    AccountLine.ADJUSTMENT,
+    AccountLine.RECEIPTS,
+    AccountLine.SHIPMENTS,
+    AccountLine.OWN_USE,
+    AccountLine.FLARE,
+    AccountLine.LOSS,
 )
 _STOCK = "stock"
 
@@ -41,7 +41,7 @@ def owned(months: Sequence[Sequence[Entry]]) -> list[Owned]:
     months : sequence of sequence of Entry
         The entries of each month, from the first on.
     """
-    if not any(entry.account.owner.rule is not Rule.NONE for some in months for entry in some):
+    if not any(entry.account.owner.rule is not SplitRule.NONE for some in months for entry in some):
         return [{} for _ in months]
     found: list[Owned] = []
     held: dict[str, tuple[int, Across]] = {}
@@ -71,27 +71,27 @@ class _Month:
         self._found: dict[str, list[Entry]] = defaultdict(list)
         self._stock: dict[str, Fraction | int] = {name: had for name, (had, _) in before.items()}
         self._receipts: dict[str, Fraction | int] = {}
-        receipts = [entry for entry in entries if entry.line is Line.RECEIPTS]
+        receipts = [entry for entry in entries if entry.line is AccountLine.RECEIPTS]
         for entry in receipts:
             for name, grams in split(entry.grams, entry.account.owner.parts).items():
                 self._receipts[name] = self._receipts.get(name, 0) + grams
         for name, (had, sums) in before.items():
-            self._found[name].append(_own(Line.OPENING, _STOCK, had, sums))
+            self._found[name].append(_own(AccountLine.OPENING, _STOCK, had, sums))
         for entry in entries if first else ():
-            if entry.line is Line.OPENING:
+            if entry.line is AccountLine.OPENING:
                 self._share(entry)
         if first:
             self._stock = {name: grams for name, (grams, _) in self.held().items()}
         for entry in entries:
-            if entry.line in (*_CROSSING, Line.PROCESSED):
+            if entry.line in (*_CROSSING, AccountLine.PROCESSED):
                 self._share(entry)
 
     def _weights(self, account: Account) -> Mapping[str, Fraction | int]:
         """Return by what an entry is split."""
         rule = account.owner.rule
-        if rule is Rule.BY_RECEIPTS:
+        if rule is SplitRule.BY_RECEIPTS:
             return self._receipts
-        return self._stock if rule is Rule.BY_STOCK else account.owner.parts
+        return self._stock if rule is SplitRule.BY_STOCK else account.owner.parts
 
     def _share(self, entry: Entry) -> None:
         """Split an entry."""
@@ -107,15 +107,19 @@ class _Month:
     def owned(self) -> Owned:
         """Return the entries of each owner, his closing stock last."""
         for name, (grams, sums) in self.held().items():
-            if not any(entry.line is Line.CLOSING for entry in self._found[name]):
-                self._found[name].append(_own(Line.CLOSING, _STOCK, grams, sums))
+            if not any(entry.line is AccountLine.CLOSING for entry in self._found[name]):
+                self._found[name].append(_own(AccountLine.CLOSING, _STOCK, grams, sums))
         return {name: self._found[name] for name in sorted(self._found, key=lambda n: (not n, n))}
 
     def held(self) -> dict[str, tuple[int, Across]]:
         """Return what each owner has in the end, and as which sum."""
         found = {}
         for name, entries in self._found.items():
-            stay = [each for each in entries if each.line not in (Line.PROCESSED, Line.CLOSING)]
+            stay = [
+                each
+                for each in entries
+                if each.line not in (AccountLine.PROCESSED, AccountLine.CLOSING)
+            ]
             sums: dict[int, Sum] = {}
             for entry in stay:
                 for at, each in entry.sums.items():
@@ -124,7 +128,7 @@ class _Month:
         return {name: each for name, each in found.items() if each[0] or name}
 
 
-def _own(line: Line, name: str, grams: int, sums: Across) -> Entry:
+def _own(line: AccountLine, name: str, grams: int, sums: Across) -> Entry:
     """Return an entry of an owner's stock."""
     of_all = Account(name, product="", group="")
     return Entry(line, name, of_all, grams, Basis.RECONCILED, sums)

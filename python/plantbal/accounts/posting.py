@@ -18,8 +18,8 @@ from collections.abc import Iterable, Iterator, Mapping, Sequence
 from dataclasses import dataclass, field
 
 from plantbal.accounts.account import MonthAccount
-from plantbal.accounts.entries import Line, line_of_kind
-from plantbal.accounts.month import Flow
+from plantbal.accounts.entries import AccountLine, line_of_kind
+from plantbal.accounts.month import MonthFlow
 from plantbal.accounts.sheet import Accounts
 from plantbal.amounts import tonnes_of
 from plantbal.faults import Fault, InputFault, Place
@@ -32,7 +32,7 @@ POSTING_HEADS = (
     *("posting", "line", "period", "account", "stream or tank", "product", "group", "t", "cause"),
 )
 _GRAMS = re.compile("-?[0-9]{1,40}")
-FLOW, OPENING, CLOSING = "flow", Line.OPENING.value, Line.CLOSING.value
+FLOW, OPENING, CLOSING = "flow", AccountLine.OPENING.value, AccountLine.CLOSING.value
 
 
 @dataclass(frozen=True, order=True)
@@ -78,7 +78,7 @@ def state_of(account: MonthAccount) -> State:
         held = _stock_account(stock.tank)
         for what, source, target, grams in (
             (OPENING, "", "", stock.opening),
-            (Line.ADJUSTMENT.value, Line.ADJUSTMENT.value, held, stock.adjustment),
+            (AccountLine.ADJUSTMENT.value, AccountLine.ADJUSTMENT.value, held, stock.adjustment),
             (CLOSING, "", "", stock.closing),
         ):
             found[Item(stock.tank, what, source, target, *words)] = grams
@@ -89,7 +89,7 @@ def _stock_account(tank: str) -> str:
     return f"stock {tank}"
 
 
-def _flow_item(flow: Flow, tanks: set[str], accounts: Accounts) -> Item:
+def _flow_item(flow: MonthFlow, tanks: set[str], accounts: Accounts) -> Item:
     own = accounts.of_stream(flow.name, flow.start, flow.end)
 
     def account(end: str) -> str:
@@ -101,8 +101,8 @@ def _flow_item(flow: Flow, tanks: set[str], accounts: Accounts) -> Item:
 
 
 @dataclass(frozen=True)
-class Change:
-    """What two states have otherwise.
+class PostingChange:
+    """How two states differ.
 
     Attributes
     ----------
@@ -125,10 +125,10 @@ class Change:
         return self.after - self.before
 
 
-def changes_of(before: State, after: State) -> list[Change]:
-    """Return what two states have otherwise, flows first."""
+def changes_of(before: State, after: State) -> list[PostingChange]:
+    """Return how two states differ, flows first."""
     items = dict.fromkeys([*after, *before])
-    found = [Change(item, before.get(item, 0), after.get(item, 0)) for item in items]
+    found = [PostingChange(item, before.get(item, 0), after.get(item, 0)) for item in items]
     return [change for change in found if change.grams]
 
 
@@ -154,7 +154,7 @@ class Posting:
     cause: str = ""
 
 
-def postings_of(changes: Iterable[Change]) -> list[Posting]:
+def postings_of(changes: Iterable[PostingChange]) -> list[Posting]:
     """Return the postings of changes: two of each that moves something between accounts."""
     found = []
     for change in changes:
@@ -182,7 +182,7 @@ def check_postings(postings: Sequence[Posting]) -> None:
         )
 
 
-def id_of(period: str, number: int, changes: Sequence[Change]) -> str:
+def id_of(period: str, number: int, changes: Sequence[PostingChange]) -> str:
     """Return the id of a posting: the period, how many there were, and a digest of what it says."""
     texts = [f"{change.item}{change.before}{change.after}" for change in changes]
     digest = hashlib.sha256("\n".join([period, str(number), *sorted(texts)]).encode()).hexdigest()
@@ -242,10 +242,10 @@ def parse_posted(name: str, text: str) -> Posted:
         rows = list(csv.reader(io.StringIO(text, newline=""), strict=True))
     except csv.Error as error:
         raise InputFault(
-            f"this is no CSV: {error}", place=Place(file=name), remedy=remedy
+            f"this isn't CSV: {error}", place=Place(file=name), remedy=remedy
         ) from error
     if not rows or tuple(rows[0]) != HEADS:
-        what = "this is no file of what was posted"
+        what = "this isn't a file of what was posted"
         raise InputFault(what, place=Place(file=name, line=1), remedy=remedy)
     state: dict[Item, int] = {}
     identity = rows[1][0] if len(rows) > 1 and rows[1] else ""
@@ -254,6 +254,6 @@ def parse_posted(name: str, text: str) -> Posted:
         is_read = item is not None and row[0] == identity and _GRAMS.fullmatch(row[8])
         if item is None or not is_read or item in state:
             place = Place(file=name, line=at)
-            raise InputFault("this is no row of what was posted", place=place, remedy=remedy)
+            raise InputFault("this isn't a row of what was posted", place=place, remedy=remedy)
         state[item] = int(row[8])
     return Posted(identity, state)

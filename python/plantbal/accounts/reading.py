@@ -9,30 +9,32 @@ from collections.abc import Collection, Iterable, Mapping
 from fractions import Fraction
 
 from plantbal.accounts.sheet import (
-    NO_ACCOUNT,
     NOBODY,
+    NO_ACCOUNT,
     OUTGOING,
     Account,
+    AccountKind,
     Accounts,
-    Kind,
     Ownership,
-    Rule,
     SalesUnit,
+    SplitRule,
 )
 from plantbal.book.meters import decimal
+from plantbal.causes import Case, CausedFault
+from plantbal.workbook.causes import SheetCause
 from plantbal.workbook.cells import Reader
 from plantbal.workbook.plant import PlantReader
 from plantbal.faults import InputFault, Place
 from plantbal.inert import is_computed
-from plantbal.model.plant import ENV, Plant, Stream
+from plantbal.model.plant import ENV, DeclaredPlant, Stream
 from plantbal.workbook.sheets import Cell, Sheet, Value
 from plantbal.workbook.tables import Tables
 from plantbal.workbook.units import DENSITIES, GRAMS, VOLUMES
 
 HEADS = ("name", "kind", "product", "group", "owner", "unit", "density")
 SHEET = "accounts"
-_KINDS = {kind.value: kind for kind in Kind}
-_RULES = {rule.value: rule for rule in (Rule.BY_RECEIPTS, Rule.BY_STOCK)}
+_KINDS = {kind.value: kind for kind in AccountKind}
+_RULES = {rule.value: rule for rule in (SplitRule.BY_RECEIPTS, SplitRule.BY_STOCK)}
 _PART = re.compile(r"\s*(.+?)\s+(?:([0-9][0-9.,]*)\s*%|([0-9]+)/([0-9]+))\s*(?:[;,+]\s*|$)")
 _LONGEST = 60  # letters of a product, a group or an owner
 _MOST_OWNERS = 50
@@ -45,11 +47,11 @@ class SheetReader:
     ----------
     reader : Reader
         How its cells are written.
-    plant : Plant or None
+    plant : DeclaredPlant or None
         The streams and tanks; None if names and ends were tested when the row was written.
     """
 
-    def __init__(self, reader: Reader, plant: Plant | None = None) -> None:
+    def __init__(self, reader: Reader, plant: DeclaredPlant | None = None) -> None:
         self.reader = reader
         self.plant = plant
         self.rows: dict[str, Account] = {}
@@ -68,11 +70,13 @@ class SheetReader:
         name = row["name"].text
         kind = "tank" if self.plant is None else self.plant.kind_of(name)
         if kind not in ("tank", "metered", "batch", "plain"):
-            what = f"there is no stream or tank {name!r}" if name else "there is no name"
+            what = (
+                SheetCause.NO_STREAM_OR_TANK(name=name) if name else SheetCause.NO_NAME_OF_ACCOUNT()
+            )
             raise self._fault(row["name"], what, "write a name of the sheet streams or tanks")
         if name in self._cells:
             other = str(self._cells[name].place()).rstrip(":")
-            what = f"{name} has two accounts ({other})"
+            what = SheetCause.ACCOUNT_TWICE(name=name, other=other)
             raise self._fault(row["name"], what, "leave one of both: each is in one account")
         self._cells[name] = row["name"]
         product = self._word(row["product"], "product")
@@ -88,12 +92,12 @@ class SheetReader:
             self._unit(row["unit"], row["density"]),
         )
 
-    def _fault(self, cell: Cell, what: str, remedy: str, head: str = "") -> InputFault:
+    def _fault(self, cell: Cell, what: Case, remedy: str, head: str = "") -> CausedFault:
         return self.reader.fault(cell, what, remedy, head)
 
     # ---- what a stream is
 
-    def _kind(self, cell: Cell, name: str) -> Kind | None:
+    def _kind(self, cell: Cell, name: str) -> AccountKind | None:
         """Return the kind of a stream; None of a tank."""
         stream = self.plant.stream(name) if self.plant is not None else None
         word = " ".join(cell.text.casefold().split())
@@ -101,7 +105,7 @@ class SheetReader:
             if self.plant is None:
                 return _KINDS.get(word)
             if not self.reader.is_missing(cell):
-                what = f"{name} is a tank, and its stock is no {cell.text}"
+                what = SheetCause.KIND_OF_TANK(name=name, text=cell.text)
                 raise self._fault(cell, what, "empty the cell: a tank has no kind", "kind")
             return None
         if self.reader.is_missing(cell):
@@ -109,9 +113,9 @@ class SheetReader:
         kind = _KINDS.get(word)
         if kind is None:
             named = [each for each in _KINDS if re.search(rf"\b{each}s?\b", word)]
-            what = f"{cell.text!r} is no kind of account"
+            what = SheetCause.NO_KIND_OF_ACCOUNT(text=cell.text)
             if len(named) > 1:
-                what = f"{name} is both {' and '.join(named)}"
+                what = SheetCause.TWO_KINDS_OF_ACCOUNT(name=name, kinds=" and ".join(named))
             remedy = f"write one of {', '.join(_KINDS)}"
             if len(named) > 1:
                 remedy = "write one of them: what does both is two streams"
@@ -119,26 +123,27 @@ class SheetReader:
         self._check_ends(cell, kind, stream)
         return kind
 
-    def _check_ends(self, cell: Cell, kind: Kind, stream: Stream) -> None:
+    def _check_ends(self, cell: Cell, kind: AccountKind, stream: Stream) -> None:
         """Refuse a kind that the ends of a stream can't have."""
         assert self.plant is not None
         name, start, end = stream.arc.name, stream.arc.from_, stream.arc.to
         comes, goes = start == ENV, end == ENV
         why = ""
-        if kind is Kind.RECEIPT and not comes:
+        if kind is AccountKind.RECEIPT and not comes:
             why = f"it comes from {start}, within the plant"
         elif kind in OUTGOING and not goes:
             why = f"it goes to {end}, within the plant"
-        elif kind in (Kind.PRODUCTION, Kind.INTERNAL) and (comes or goes):
+        elif kind in (AccountKind.PRODUCTION, AccountKind.INTERNAL) and (comes or goes):
             why = "it comes from outside" if comes else "it leaves the plant"
-        elif kind is Kind.PRODUCTION and self.plant.kind_of(end) != "tank":
-            why = f"it goes to {end}, which is no tank"
-        elif kind is Kind.PRODUCTION and self.plant.kind_of(start) != "unit":
-            why = f"it comes from {start}, which is no unit"
+        elif kind is AccountKind.PRODUCTION and self.plant.kind_of(end) != "tank":
+            why = f"it goes to {end}, which isn't a tank"
+        elif kind is AccountKind.PRODUCTION and self.plant.kind_of(start) != "unit":
+            why = f"it comes from {start}, which isn't a unit"
         if why:
             remedy = "receipts come from env, shipments, own use, flare and loss go there; "
             remedy += "production goes from a unit to a tank; write internal for all others"
-            raise self._fault(cell, f"{name} is no {kind.value}: {why}", remedy, "kind")
+            what = SheetCause.NOT_OF_KIND(name=name, kind=kind.value, why=why)
+            raise self._fault(cell, what, remedy, "kind")
 
     # ---- words
 
@@ -149,23 +154,26 @@ class SheetReader:
     def _spelling(self, cell: Cell, text: str, head: str) -> str:
         word = " ".join(text.split())
         if len(word) > _LONGEST or not word.isprintable():
-            what = f"this {head} has {len(word)} letters, or some that can't be printed"
+            what = SheetCause.NOT_SPELT(head=head, count=len(word))
             raise self._fault(cell, what, f"write at most {_LONGEST} letters", head)
         if is_computed(word):
-            what = f"a spreadsheet would compute {word!r}"
+            what = SheetCause.COMPUTED(word=word)
             raise self._fault(cell, what, "let it begin with a letter or a digit", head)
         if word.casefold() in (NO_ACCOUNT, NOBODY):
-            raise self._fault(cell, f"no {head} can be called {word!r}", "empty the cell", head)
+            what = SheetCause.NAME_TAKEN(head=head, word=word)
+            raise self._fault(cell, what, "empty the cell", head)
         was, where = self._spelt.setdefault((head, word.casefold()), (word, cell))
         if was != word:
-            what = f"{word!r} is {was!r} at {str(where.place()).rstrip(':')}"
+            at = str(where.place()).rstrip(":")
+            what = SheetCause.SPELT_IN_TWO_WAYS(word=word, was=was, where=at)
             raise self._fault(cell, what, "spell it in one way", head)
         return word
 
     def _check_group(self, product: str, group: str, cell: Cell) -> None:
         was, where = self._groups.setdefault(product, (group, cell))
         if was != group:
-            what = f"{product} is in the group {was!r} at {str(where.place()).rstrip(':')}"
+            at = str(where.place()).rstrip(":")
+            what = SheetCause.GROUP_DIFFERS(product=product, was=was, where=at)
             raise self._fault(cell, what, "a product is in one group", "group")
 
     # ---- owners
@@ -177,13 +185,15 @@ class SheetReader:
         rule = _RULES.get(" ".join(cell.text.casefold().split()))
         if rule is not None:
             stream = self.plant.stream(name) if self.plant is not None else None
-            if rule is Rule.BY_RECEIPTS and stream is not None and stream.arc.from_ == ENV:
-                what = f"{name} comes in, and can't be shared by what comes in"
+            if rule is SplitRule.BY_RECEIPTS and stream is not None and stream.arc.from_ == ENV:
+                what = SheetCause.SHARED_BY_ITSELF(name=name)
                 raise self._fault(cell, what, "write its owners", "owner")
             return Ownership(rule)
         if "%" not in cell.text and not re.search(r"\s[0-9]+/[0-9]+", cell.text):
-            return Ownership(Rule.FIXED, {self._spelling(cell, cell.text, "owner"): Fraction(1)})
-        return Ownership(Rule.FIXED, self._parts(cell))
+            return Ownership(
+                SplitRule.FIXED, {self._spelling(cell, cell.text, "owner"): Fraction(1)}
+            )
+        return Ownership(SplitRule.FIXED, self._parts(cell))
 
     def _parts(self, cell: Cell) -> dict[str, Fraction]:
         """Return the fixed parts of owners, by name."""
@@ -192,18 +202,19 @@ class SheetReader:
         while at < len(text):
             found = _PART.match(text, at)
             if found is None or len(parts) >= _MOST_OWNERS:
-                what = f"{cell.text!r} isn't a list of shares"
+                what = SheetCause.NOT_SHARES(text=cell.text)
                 remedy = "write `Alpha 60 %; Beta 40 %`, `Alpha 1/3; Beta 2/3`, one owner, "
                 raise self._fault(cell, what, f"{remedy}`by receipts` or `by stock`", "owner")
             part = self._part(cell, found)
             name = self._spelling(cell, found[1], "owner")
             if name in parts:
-                raise self._fault(cell, f"{name} stands here twice", "add both shares up", "owner")
+                what = SheetCause.SHARE_TWICE(name=name)
+                raise self._fault(cell, what, "add both shares up", "owner")
             parts[name] = part
             at = found.end()
         total = sum(parts.values(), Fraction(0))
         if total != 1:
-            what = f"these shares add up to {float(100 * total):.10g} %"
+            what = SheetCause.SHARES_NOT_WHOLE(percent=float(100 * total))
             raise self._fault(cell, what, "they have to add up to 100 %", "owner")
         return dict(sorted(parts.items()))
 
@@ -213,7 +224,7 @@ class SheetReader:
         else:
             part = Fraction(int(found[3]), int(found[4]) or 1) if int(found[4]) else Fraction(0)
         if part <= 0:
-            raise self._fault(cell, f"a share of {cell.text!r} is 0", "take it out", "owner")
+            raise self._fault(cell, SheetCause.SHARE_OF_0(text=cell.text), "take it out", "owner")
         return part
 
     # ---- units
@@ -226,7 +237,7 @@ class SheetReader:
             is_dry = cell.text.casefold() == "dmt"
             return SalesUnit("dmt" if is_dry else unit)
         if density is None:
-            what = f"the unit {unit} has no density"
+            what = SheetCause.UNIT_WITHOUT_DENSITY(unit=unit)
             raise self._fault(cell, what, "write one beside it, such as 862 (kg/m3)", "unit")
         return SalesUnit(unit, density)
 
@@ -304,7 +315,7 @@ def parse_accounts(name: str, text: str) -> Accounts:
     except csv.Error as error:
         remedy = "take the file as plantbal wrote it, or from a backup"
         raise InputFault(
-            f"this is no CSV: {error}", place=Place(file=name), remedy=remedy
+            f"this isn't CSV: {error}", place=Place(file=name), remedy=remedy
         ) from error
     values: list[list[Value]] = [[each or None for each in row] for row in rows]
     table = Sheet(name, SHEET, list(enumerate(values, 1)), is_csv=True)
@@ -313,7 +324,7 @@ def parse_accounts(name: str, text: str) -> Accounts:
     heads = tuple(cell.text for cell in lines[0]) if lines else ()
     if lines and heads != HEADS:
         remedy = f"its heads are {', '.join(HEADS)}"
-        raise InputFault("this is no file of accounts", place=table.place(1), remedy=remedy)
+        raise InputFault("this isn't a file of accounts", place=table.place(1), remedy=remedy)
     for cells in lines[1:]:
         row = {head: Cell(table, cells[0].line, 0, None) for head in HEADS}
         sheet.take(row | dict(zip(HEADS, cells)))

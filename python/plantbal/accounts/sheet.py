@@ -19,7 +19,7 @@ NO_ACCOUNT = "in no account"
 NOBODY = "nobody"
 
 
-class Kind(StrEnum):
+class AccountKind(StrEnum):
     """What a stream is to the account."""
 
     RECEIPT = "receipt"
@@ -32,10 +32,10 @@ class Kind(StrEnum):
 
 
 # The kinds of streams that leave the plant.
-OUTGOING = (Kind.SHIPMENT, Kind.OWN_USE, Kind.FLARE, Kind.LOSS)
+OUTGOING = (AccountKind.SHIPMENT, AccountKind.OWN_USE, AccountKind.FLARE, AccountKind.LOSS)
 
 
-class Rule(Enum):
+class SplitRule(Enum):
     """By what an amount is split among owners."""
 
     NONE = ""
@@ -50,17 +50,17 @@ class Ownership:
 
     Attributes
     ----------
-    rule : Rule
+    rule : SplitRule
         By what it is split.
     parts : dict of str to Fraction
         The fixed parts of the owners, which add up to 1; empty under another rule.
     """
 
-    rule: Rule = Rule.NONE
+    rule: SplitRule = SplitRule.NONE
     parts: Mapping[str, Fraction] = field(default_factory=dict)
 
     def __str__(self) -> str:
-        if self.rule is not Rule.FIXED:
+        if self.rule is not SplitRule.FIXED:
             return str(self.rule.value)
         if len(self.parts) == 1:
             return next(iter(self.parts))
@@ -111,7 +111,7 @@ class Account:
     ----------
     name : str
         The stream or tank.
-    kind : Kind or None
+    kind : AccountKind or None
         What a stream is; None of a tank.
     product, group : str
         Its product, and the product's group.
@@ -124,7 +124,7 @@ class Account:
     """
 
     name: str
-    kind: Kind | None = None
+    kind: AccountKind | None = None
     product: str = NO_ACCOUNT
     group: str = NO_ACCOUNT
     owner: Ownership = Ownership()
@@ -178,11 +178,11 @@ class Accounts(Mapping[str, Account]):
         return self._rows.get(name) or Account(name, is_told=False)
 
 
-def kind_by_ends(start: str, end: str) -> Kind:
+def kind_by_ends(start: str, end: str) -> AccountKind:
     """Return what a stream is by its ends alone."""
     if start == "env":
-        return Kind.RECEIPT
-    return Kind.SHIPMENT if end == "env" else Kind.INTERNAL
+        return AccountKind.RECEIPT
+    return AccountKind.SHIPMENT if end == "env" else AccountKind.INTERNAL
 
 
 def _kinded(account: Account, start: str, end: str) -> Account:

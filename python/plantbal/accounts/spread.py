@@ -25,7 +25,7 @@ from functools import cached_property
 from typing import Any
 
 from plantbal.accounts.month import Month
-from plantbal.study.plant import Plant
+from plantbal.study.plant import NumberedPlant
 from plantbal.study.uncertainty import answers_to, plant_in
 
 Terms = Mapping[str, float]
@@ -98,7 +98,7 @@ class Spread:
         self.variances: dict[Source, float] = {}
 
     @cached_property
-    def _plant(self) -> Plant | None:
+    def _plant(self) -> NumberedPlant | None:
         return None if self.month.block is None else plant_in(self.month.block)
 
     @cached_property
@@ -129,11 +129,26 @@ class Spread:
                         todo.append(other)
         return order
 
+    @cached_property
+    def _climbed(self) -> frozenset[int]:
+        """The places of the streams of the spanning forest."""
+        return frozenset(j for j, *_ in self._climb)
+
+    @cached_property
+    def _columns(self) -> dict[str, int]:
+        """The column of each measured stream."""
+        plant = self._plant
+        assert plant is not None
+        return {plant.streams[j]["name"]: at for at, j in enumerate(plant.measured)}
+
     def _measured(self, flows: Terms) -> dict[int, float] | None:
         """Return a sum of flows as one of measured streams, or None if nothing determines it."""
         plant = self._plant
         assert plant is not None
         weight = {plant.place[name]: number for name, number in flows.items()}
+        if self._climbed.isdisjoint(weight):  # no node has a price: the sum is one of these alone
+            some = {j: weight[j] for j in sorted(weight) if abs(weight[j]) >= 1e-9}
+            return None if any(plant.value[j] is None for j in some) else some
         price = [0.0] * len(plant.names)
         for j, node, other, sign in self._climb:
             price[other] = price[node] + sign * weight.get(j, 0.0)
@@ -176,7 +191,9 @@ class Spread:
         plant = self._plant
         assert plant is not None
         found: Slopes = defaultdict(float)
-        for at, j in enumerate(plant.measured):
+        places = {self._columns[name] for name in each.values if name in self._columns}
+        for at in sorted(places.union(answers.nonzero()[0].tolist())):
+            j = plant.measured[at]
             name = plant.streams[j]["name"]
             slope = float(answers[at]) + each.values.get(name, 0.0)
             if not slope:

@@ -7,8 +7,15 @@ from dataclasses import dataclass
 from decimal import ROUND_HALF_EVEN, Decimal
 from fractions import Fraction
 
-from plantbal.accounts.account import Amount, Level, MonthAccount, Table, TankAmounts, Unaccounted
-from plantbal.accounts.entries import Line
+from plantbal.accounts.account import (
+    AccountTable,
+    Amount,
+    Level,
+    MonthAccount,
+    TankAmounts,
+    Unaccounted,
+)
+from plantbal.accounts.entries import AccountLine
 from plantbal.accounts.sheet import NOBODY
 from plantbal.amounts import tonnes_of, tonnes_text
 
@@ -43,7 +50,7 @@ def percent_text(left: Unaccounted) -> str:
     return f"{float(left.percent):+.3f} %"
 
 
-def title_of(table: Table) -> str:
+def title_of(table: AccountTable) -> str:
     """Return what an account is called; what has no owner is nobody's."""
     if table.level is Level.OWNER and not table.name:
         return f"{table.level.value} {NOBODY}"
@@ -51,7 +58,7 @@ def title_of(table: Table) -> str:
 
 
 @dataclass(frozen=True)
-class Shown:
+class ShownLine:
     """A line of an account as it is shown.
 
     Attributes
@@ -78,19 +85,19 @@ class Shown:
     is_stock: bool = False
 
 
-def shown(table: Table) -> Iterator[Shown]:
+def shown(table: AccountTable) -> Iterator[ShownLine]:
     """Give the lines of an account: those that add up, their total, and what is beside."""
     for line in table.moving:
-        yield Shown(line.value, table.lines[line], is_stock=line is Line.OPENING)
-    if Line.CLOSING in table.lines:
-        yield Shown(Line.CLOSING.value, table.lines[Line.CLOSING], is_total=True)
-    if table.level is Level.OWNER and Line.PROCESSED in table.lines:
-        yield Shown("throughput", _turned(table.lines[Line.PROCESSED]), is_beside=True)
+        yield ShownLine(line.value, table.lines[line], is_stock=line is AccountLine.OPENING)
+    if AccountLine.CLOSING in table.lines:
+        yield ShownLine(AccountLine.CLOSING.value, table.lines[AccountLine.CLOSING], is_total=True)
+    if table.level is Level.OWNER and AccountLine.PROCESSED in table.lines:
+        yield ShownLine("throughput", _turned(table.lines[AccountLine.PROCESSED]), is_beside=True)
     left = table.unaccounted
     is_there = left is not None and bool(left.amount.grams or left.amount.deviation)
     if left is not None and is_there and table.level in (Level.PLANT, Level.GROUP):
         word = "unaccounted loss" if left.amount.grams >= 0 else "unaccounted gain"
-        yield Shown(word, left.amount, is_beside=True, percent=percent_text(left))
+        yield ShownLine(word, left.amount, is_beside=True, percent=percent_text(left))
 
 
 def _turned(amount: Amount) -> Amount:
@@ -98,7 +105,7 @@ def _turned(amount: Amount) -> Amount:
     return Amount(-amount.grams, amount.deviation, amount.basis, sales)
 
 
-def rows_of(table: Table) -> Iterator[tuple[str, ...]]:
+def rows_of(table: AccountTable) -> Iterator[tuple[str, ...]]:
     """Give an account as rows of texts, in tonnes with all digits."""
     for each in shown(table):
         basis = f"by the readings, {each.percent}" if each.percent else basis_text(each.amount)
@@ -129,7 +136,7 @@ def stock_row(tank: TankAmounts) -> tuple[str, ...]:
     )
 
 
-def text_of(account: MonthAccount, tables: Iterable[Table]) -> str:
+def text_of(account: MonthAccount, tables: Iterable[AccountTable]) -> str:
     """Return accounts as lines of text."""
     month = account.month
     state = "closed" if month.is_closed else "open"

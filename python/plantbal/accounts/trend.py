@@ -14,7 +14,7 @@ from math import sqrt
 from statistics import mean, stdev
 
 from plantbal.accounts.account import MonthAccount
-from plantbal.accounts.entries import Line
+from plantbal.accounts.entries import AccountLine
 from plantbal.accounts.tables import title_of
 
 LEAST_MONTHS = 3  # with fewer there is no spread to speak of
@@ -45,7 +45,7 @@ class Unusual:
 
 
 @dataclass(frozen=True)
-class Figure:
+class MonthFigure:
     """A figure of a month.
 
     Attributes
@@ -60,20 +60,20 @@ class Figure:
     deviation: float | None
 
 
-def figures_of(account: MonthAccount) -> dict[tuple[str, str], Figure]:
+def figures_of(account: MonthAccount) -> dict[tuple[str, str], MonthFigure]:
     """Return the figures of a month's accounts by account and line."""
     found = {}
     groups = account.groups if len(account.groups) > 1 else []
     for table in [account.plant, *groups]:
         for line, amount in table.lines.items():
-            if line not in (Line.OPENING, Line.CLOSING):
-                found[title_of(table), line.value] = Figure(amount.grams, amount.deviation)
+            if line not in (AccountLine.OPENING, AccountLine.CLOSING):
+                found[title_of(table), line.value] = MonthFigure(amount.grams, amount.deviation)
         if table.unaccounted is not None:
             left = table.unaccounted.amount
-            found[title_of(table), "unaccounted"] = Figure(left.grams, left.deviation)
+            found[title_of(table), "unaccounted"] = MonthFigure(left.grams, left.deviation)
     for tank in account.tanks:
-        figure = Figure(tank.stock.adjustment, tank.adjustment)
-        found[f"tank {tank.stock.tank}", Line.ADJUSTMENT.value] = figure
+        figure = MonthFigure(tank.stock.adjustment, tank.adjustment)
+        found[f"tank {tank.stock.tank}", AccountLine.ADJUSTMENT.value] = figure
     return found
 
 

@@ -12,9 +12,9 @@ from decimal import Decimal
 from pathlib import Path
 from typing import Any
 
-from plantbal.accounts.account import Level, MonthAccount, Table
-from plantbal.accounts.entries import Line
-from plantbal.accounts.posting import POSTING_HEADS, Change, postings_of
+from plantbal.accounts.account import AccountTable, Level, MonthAccount
+from plantbal.accounts.entries import AccountLine
+from plantbal.accounts.posting import POSTING_HEADS, PostingChange, postings_of
 from plantbal.accounts.tables import STOCK_HEADS, basis_text, percent_text, title_of
 from plantbal.amounts import tonnes_of
 from plantbal.faults import ToolMissing
@@ -26,7 +26,7 @@ _ACCOUNT = ("account", "line", "t", "± t", "sales unit", "unit", "basis", "chec
 _ENTRIES = ("row", "account", "line", "stream or tank", "product", "group", "t", "sales unit")
 
 
-def write_workbook(path: str | Path, account: MonthAccount, tables: Sequence[Table]) -> None:
+def write_workbook(path: str | Path, account: MonthAccount, tables: Sequence[AccountTable]) -> None:
     """Write accounts as a workbook, whole or not at all.
 
     Parameters
@@ -35,7 +35,7 @@ def write_workbook(path: str | Path, account: MonthAccount, tables: Sequence[Tab
         The file.
     account : MonthAccount
         The accounts of a month.
-    tables : sequence of Table
+    tables : sequence of AccountTable
         Those that are wanted.
     """
     try:
@@ -50,7 +50,7 @@ def write_workbook(path: str | Path, account: MonthAccount, tables: Sequence[Tab
 
 
 def put_sheets(
-    book: Any, account: MonthAccount, tables: Sequence[Table], number: int | None = None
+    book: Any, account: MonthAccount, tables: Sequence[AccountTable], number: int | None = None
 ) -> None:
     """Put the sheets of accounts into a workbook.
 
@@ -60,7 +60,7 @@ def put_sheets(
         The workbook.
     account : MonthAccount
         The accounts of a month.
-    tables : sequence of Table
+    tables : sequence of AccountTable
         Those that are wanted.
     number : int, optional
         What the sheets' names end with, if there are several months.
@@ -120,16 +120,16 @@ def _decimal(grams: float | None) -> Decimal | None:
     return None if grams is None else round(Decimal(grams) / 10**6, 6)
 
 
-def _put_table(sheet: Any, entries: Any, table: Table, count: int) -> None:
+def _put_table(sheet: Any, entries: Any, table: AccountTable, count: int) -> None:
     """Put an account below those that are there."""
     title, first = title_of(table), sheet.max_row + 1
-    lines = [*table.moving, Line.CLOSING]
+    lines = [*table.moving, AccountLine.CLOSING]
     for row, line in enumerate(lines, first):
         amount = table.lines.get(line)
         basis = basis_text(amount) if amount is not None else ""
         deviation = _decimal(amount.deviation) if amount is not None else None
         _row(sheet, row, (title, line.value, None, deviation, None, table.unit, basis))
-        is_total = line is Line.CLOSING
+        is_total = line is AccountLine.CLOSING
         for letter, source, column in (("C", "G", 3), ("E", "H", 5)):
             if column == 5 and (not table.unit or is_total):
                 continue
@@ -146,7 +146,7 @@ def _put_table(sheet: Any, entries: Any, table: Table, count: int) -> None:
         _row(sheet, sheet.max_row + 1, (title, "unaccounted", *figures, None, "", word))
 
 
-def _put_entries(entries: Any, table: Table, line: Line, row: int) -> None:
+def _put_entries(entries: Any, table: AccountTable, line: AccountLine, row: int) -> None:
     """Put the entries of a line."""
     for entry in table.entries:
         if entry.line is line:
@@ -183,7 +183,7 @@ def write_difference(
     path: str | Path,
     identity: str,
     period: str,
-    changes: Sequence[Change],
+    changes: Sequence[PostingChange],
     rows: Sequence[Sequence[str]],
 ) -> None:
     """Write a difference as a workbook: the changes, and the postings with their sum.
@@ -194,7 +194,7 @@ def write_difference(
         The file.
     identity, period : str
         The id of the postings, and the period.
-    changes : sequence of Change
+    changes : sequence of PostingChange
         The changes.
     rows : sequence of sequence of str
         Their table, with its heads first.

@@ -13,18 +13,21 @@ from pathlib import Path
 from plantbal.audit.believed import judge
 from plantbal.audit.bundle import (
     MANIFEST,
+    MEASURED,
     MOST_BYTES,
     OUTPUT,
     SESSION,
     SUMMARY,
     VERSION,
+    WITH_MEASURED,
     DIGESTS,
     Manifest,
     digests_text,
     packed,
 )
 from plantbal.audit.changed import digest, digests_of_parts
-from plantbal.audit.linked import named_book, named_bundle
+from plantbal.audit.linked import named_approvals, named_book, named_bundle
+from plantbal.audit.reckoned import measured_of
 from plantbal.audit.signed import add_signing, sign_bundle
 from plantbal.audit.summary import summary_text
 from plantbal.build import build_of
@@ -44,12 +47,14 @@ SESSION is a file; `-` is standard input. The program is run, and the bundle is 
 
   session.csv    the session, byte for byte
   output.csv     the program's output for it
-  summary.txt    what you need to know, and the flows of the period in tonnes
+  summary.txt    what you need to know, and the flows of the period in tonnes, with their ±
   manifest.json  the period, its days, the time, the words, the program's digest, its version
                  and where that is from, the digest of each file, and of each fifty lines of
-                 session and output, and, if they are named, the head of the book and the digest
-                 of the bundle before
+                 session and output, and, if they are named, the head of the book, who submitted,
+                 approved and signed the close, and the digest of the bundle before
   SHA256SUMS     the digests of all these, for `sha256sum --check`
+  measured.csv   with --book, if masses of the session were reckoned by temperatures, water,
+                 roofs or densities of days: what was measured and applied, a row for each
 
 The zip ends with a comment that has the digest of all bytes before it.
 
@@ -139,10 +144,14 @@ def period_of(output: Output, wanted: str | None) -> str:
     return wanted
 
 
-def bundle_files(session: bytes, output: bytes, stated: Manifest) -> dict[str, bytes]:
+def bundle_files(
+    session: bytes, output: bytes, stated: Manifest, measured: bytes | None = None
+) -> dict[str, bytes]:
     """Return the files of a bundle; plant, period, time, words, program and desk are stated."""
     ledger, report = Ledger(SESSION, session), parse_report(output.decode("utf-8"), OUTPUT)
     files = {SESSION: session, OUTPUT: output}
+    if measured is not None:
+        files[MEASURED] = measured
     first = manifest_of(stated, ledger, report, files)
     files[SUMMARY] = summary_text(first, ledger, report).encode("utf-8")
     files[MANIFEST] = manifest_of(stated, ledger, report, files).to_json()
@@ -259,8 +268,12 @@ def run(options: argparse.Namespace) -> int:
         files={},
         book=named_book(options.book),
         before=named_bundle(options.before),
+        approvals=named_approvals(options.book, period),
     )
-    files = _fits(bundle_files(session, written, stated))
+    measured = measured_of(options.book, session)
+    if measured is not None:
+        stated = replace(stated, archive=WITH_MEASURED)
+    files = _fits(bundle_files(session, written, stated, measured))
     path = options.out or f"{re.sub('[^A-Za-z0-9_.-]', '_', plant)}_{period}.zip"
     state = "" if _write(path, packed(files)) else ", as it was before"
     for made_too in sign_bundle(path, options.key, options.stamps):

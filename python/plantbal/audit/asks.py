@@ -127,7 +127,7 @@ def _witness(block: ReportBlock, row: Values) -> str:
     name, kind, shape = row["name"], row["class"], row["shape"]
     wanted = "cut" if kind in _CUT else "cycle"
     if shape != wanted:
-        return f"a {wanted} shows that a stream is {kind}, and a {shape} stands there"
+        return f"a {wanted} shows that a stream is {kind}, and this is a {shape}"
     measured = {each["name"]: bool(each["value"]) for each in block.all_of("stream")}
     members = [part[1:] for part in row["parts"].split(" ") if part]
     if shape == "cycle":
@@ -149,7 +149,7 @@ def _witness(block: ReportBlock, row: Values) -> str:
     if " ".join(cut) != row["parts"]:
         return (
             f"the streams with one end in the side are {' '.join(cut) or 'none'}, `+` for one that "
-            "enters it and `-` for one that leaves, and others stand there, or in another order"
+            "enters it and `-` for one that leaves, and these are others, or in another order"
         )
     others = [each for each in members if each != name and not measured.get(each)]
     if name not in members:
@@ -201,9 +201,7 @@ def _nodal(block: ReportBlock, verdict: Values) -> str:
     row, nodes = values_of(block.find("nodal", name, "node")), block.nodes
     if stated not in (row.get("net"), row.get("variance")) and found.isdecimal():
         wanted = nodes[int(found)] if int(found) < len(nodes) else "another node"
-        return (
-            f"the row of {wanted} is asked here, in the order of the nodes, and {name} is written"
-        )
+        return f"the row of {wanted} belongs here, in the order of the nodes, and {name} is written"
     return f"{found} follows from the values of the streams, and {stated} is written"
 
 

@@ -6,7 +6,7 @@ import json
 import struct
 import zipfile
 import zlib
-from collections.abc import Iterator, Mapping
+from collections.abc import Iterable, Iterator, Mapping
 from dataclasses import asdict, dataclass, field
 from io import BytesIO
 from pathlib import Path
@@ -20,21 +20,28 @@ from plantbal.limits import SESSION_BYTES
 SESSION, OUTPUT, SUMMARY = "session.csv", "output.csv", "summary.txt"
 MANIFEST, DIGESTS = "manifest.json", "SHA256SUMS"
 NAMES = (SESSION, OUTPUT, SUMMARY, MANIFEST, DIGESTS)
-VERSION = 4
+# How the masses of the session were reckoned, in a bundle of a book that has such.
+MEASURED = "measured.csv"
+VERSION = 6
 # What a manifest has of the program, by the version of its form.
 _BUILD = ("sha256", "version", "commit")
 _FROM = (*_BUILD, "from")
-_PROGRAM: dict[int, tuple[str, ...]] = {1: _BUILD, 2: _FROM, 3: _FROM, 4: _FROM}
+_PROGRAM: dict[int, tuple[str, ...]] = {1: _BUILD, **dict.fromkeys((2, 3, 4, 5, 6, 7), _FROM)}
 _SEALED = 3  # from this version on a manifest has the digests of parts, and a zip one of its own
 _CHAINED = 4  # from this version on a manifest names the head of a book, and the bundle before it
+_JUDGING = 5  # from this version on a summary has the ± of each flow
+APPROVED = 6  # from this version on a manifest has the approvals of the month
+WITH_MEASURED = 7  # the version of a bundle that has how masses were reckoned
 # What it has of these two, if anything.
 _HEAD = ("number", "head")
 _LINKS = {"book": _HEAD, "before": ("sha256", *_HEAD)}
+_NESTED = ("parts", "approvals")
 _SEAL = "SHA-256 of the bytes before this comment: "
 # The most bytes of a file: a session has no more for the program either.
 MOST_BYTES = {
     SESSION: SESSION_BYTES,
     OUTPUT: 1 << 28,
+    MEASURED: 1 << 28,
     SUMMARY: 1 << 26,
     MANIFEST: 1 << 26,
     DIGESTS: 1 << 16,
@@ -100,6 +107,9 @@ class Manifest:
     before : dict
         The ``sha256`` of the plant's bundle before this one, and the ``number`` and the ``head``
         that are in it; empty if none was named. Not before version 4.
+    approvals : dict
+        Lines of the book's ``journal`` that closed the period, and the ``files`` of its approvals;
+        empty without a book, or if the period is open. Not before version 6.
     """
 
     archive: int
@@ -117,11 +127,17 @@ class Manifest:
     parts: dict[str, list[str]] = field(default_factory=dict)
     book: dict[str, str] = field(default_factory=dict)
     before: dict[str, str] = field(default_factory=dict)
+    approvals: dict[str, dict[str, str]] = field(default_factory=dict)
 
     @property
     def is_sealed(self) -> bool:
         """Whether it has the digests of parts, and its zip one of its own."""
         return self.archive >= _SEALED
+
+    @property
+    def has_deviations(self) -> bool:
+        """Whether its summary has the ± of each flow."""
+        return self.archive >= _JUDGING
 
     def to_json(self) -> bytes:
         """Return it as JSON, an item a line."""
@@ -130,6 +146,8 @@ class Manifest:
             del items["parts"]
         if self.archive < _CHAINED:
             del items["book"], items["before"]
+        if self.archive < APPROVED:
+            del items["approvals"]
         return (json.dumps(items, indent=2) + "\n").encode("utf-8")
 
     @classmethod
@@ -160,11 +178,13 @@ class Manifest:
             wanted["parts"] = dict
         if isinstance(found, dict) and "book" in found:  # before version 4 it has none
             wanted |= dict.fromkeys(_LINKS, dict)
+        if isinstance(found, dict) and "approvals" in found:  # before version 5 it has none
+            wanted["approvals"] = dict
         if not isinstance(found, dict) or set(found) != set(wanted):
             said = ", ".join(wanted)
             raise InputFault("its items aren't those of a manifest", place=place, remedy=said)
         for name, type_ in wanted.items():
-            if not isinstance(found[name], type_) or not _has_texts(found[name], name == "parts"):
+            if not isinstance(found[name], type_) or not _has_texts(found[name], name in _NESTED):
                 raise InputFault(f"its item {name!r} isn't of its form", place=place)
         names = _PROGRAM.get(found["archive"])
         if names is None:
@@ -176,7 +196,7 @@ class Manifest:
             raise InputFault("its item 'program' isn't of its form", place=place, remedy=remedy)
         # In the order in which they are written, so that another order is a difference.
         found["program"] = {name: found["program"][name] for name in names}
-        since = {"parts": _SEALED, "book": _CHAINED}
+        since = {"parts": _SEALED, "book": _CHAINED, "approvals": APPROVED}
         if any((name in found) != (found["archive"] >= at) for name, at in since.items()):
             said = ", ".join(wanted)
             raise InputFault("its items aren't those of its version", place=place, remedy=said)
@@ -188,12 +208,17 @@ class Manifest:
         return cls(**found)
 
 
-def _has_texts(item: Any, lists: bool) -> bool:
-    """Return whether an item of a manifest has texts in it, or lists of texts."""
+def _has_texts(item: Any, nested: bool) -> bool:
+    """Return whether an item of a manifest has texts in it, or lists or tables of texts."""
     inner = item.values() if isinstance(item, dict) else item if isinstance(item, list) else []
-    if lists:
-        return all(isinstance(each, list) and _has_texts(each, False) for each in inner)
+    if nested:
+        return all(isinstance(each, (list, dict)) and _has_texts(each, False) for each in inner)
     return all(isinstance(each, str) for each in inner)
+
+
+def members_of(names: Iterable[str]) -> tuple[str, ...]:
+    """Return the files that a bundle has, in their order, by whether how masses were reckoned is."""
+    return (*NAMES[:2], MEASURED, *NAMES[2:]) if MEASURED in names else NAMES
 
 
 def digests_text(files: Mapping[str, bytes]) -> bytes:
@@ -219,7 +244,7 @@ def packed(files: Mapping[str, bytes], *, sealed: bool = True) -> bytes:
     """
     out = BytesIO()
     with zipfile.ZipFile(out, "w") as bundle:
-        for name in NAMES:
+        for name in members_of(files):
             bundle.writestr(_entry(name), files[name], compresslevel=9)
         bundle.comment = _seal(b"") if sealed else b""
     data = out.getvalue()
@@ -283,15 +308,15 @@ def unpacked(path: str | Path) -> Unpacked:
         with zipfile.ZipFile(BytesIO(data)) as bundle:
             entries = bundle.infolist()
             names = tuple(entry.filename for entry in entries)
-            if sorted(names) != sorted(NAMES):
+            if sorted(names) != sorted(members_of(names)):
                 raise InputFault(
                     f"this zip has {', '.join(names) or 'no file'}",
                     place=Place(file=source),
-                    remedy=f"a bundle has {', '.join(NAMES)}",
+                    remedy=f"a bundle has {', '.join(NAMES)}, and maybe {MEASURED}",
                 )
             comment = bundle.comment
             wrong = _comment_faults(comment, data)
-            other = [] if names == NAMES else ["its files are in another order"]
+            other = [] if names == members_of(names) else ["its files are in another order"]
             files = {}
             for entry in entries:
                 other += [f"{entry.filename}: its entry's {what}" for what in _entry_faults(entry)]
@@ -308,7 +333,7 @@ def unpacked(path: str | Path) -> Unpacked:
     if wrong or other or packed(files, sealed=bool(comment)) == data:
         return Unpacked(files, wrong, other, is_sealed=bool(comment))
     note = "the zip's own bytes aren't those that are packed here, but its files are the same for"
-    rest = "each reader of zips: nothing stands before, between or after them"
+    rest = "each reader of zips: there is nothing before, between or after them"
     return Unpacked(files, wrong, note=f"{note} {rest}", is_sealed=bool(comment))
 
 

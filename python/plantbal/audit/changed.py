@@ -78,7 +78,7 @@ def where(data: bytes, wanted: str, parts: Sequence[str] = ()) -> str:
         line = begin + text.count(b"\n", 0, place) + 1
         character = place - text.rfind(b"\n", 0, place)
         now_there = text[place : place + 1].decode("ascii")
-        return f"line {line}, character {character}: {now_there} stands there, and {digit} was archived"
+        return f"line {line}, character {character}: found {now_there}, archived {digit}"
     if parts:
         return f"lines {begin + 1} to {begin + LINES}: the first change is in these lines"
     return ""

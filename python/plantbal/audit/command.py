@@ -7,9 +7,9 @@ import argparse
 from plantbal.audit.contents import given_of_bundle, session_held
 from plantbal.audit.holding import check_twice, hold, run_again
 from plantbal.audit.runwords import words_read, words_shown
-from plantbal.audit.said import Audit, Given, Kind
+from plantbal.audit.said import Audit, Audited, SentenceKind
 from plantbal.audit.signed import add_signers
-from plantbal.commands.data import add_json, write_json
+from plantbal.commands.data import add_json, answer_with_json
 from plantbal.commands.options import add_program, add_timeout
 from plantbal.faults import Fault, InputFault, Place, read_bytes, ToolMissing, WordsFault
 from plantbal.limits import SESSION_BYTES
@@ -56,7 +56,9 @@ def add_arguments(parser: argparse.ArgumentParser) -> None:
     """Add the words of the command."""
     parser.add_argument("report", metavar="BUNDLE|REPORT")
     parser.add_argument("session", metavar="SESSION", nargs="?")
-    parser.add_argument("--words", metavar="WORDS", help="the words of the run, as one word")
+    parser.add_argument(
+        "--words", metavar="WORDS", help="the command line of the run, as one argument"
+    )
     parser.add_argument("--no-program", action="store_true", help="don't run the program")
     parser.add_argument("--strict", action="store_true", help="status 1 on notes too")
     add_json(parser)
@@ -69,7 +71,7 @@ def add_arguments(parser: argparse.ArgumentParser) -> None:
     add_program(parser)
 
 
-def given_of(audit: Audit, options: argparse.Namespace) -> Given:
+def given_of(audit: Audit, options: argparse.Namespace) -> Audited:
     """Return what is audited, by the words of the command: a bundle, or a report and its session."""
     report, output = read_bytes(options.report)
     if output.startswith(b"PK"):
@@ -82,7 +84,7 @@ def given_of(audit: Audit, options: argparse.Namespace) -> Given:
         return given
     if options.session is None or options.book or options.before or options.signers:
         raise Fault(  # it may have been one
-            f"{options.report} is no bundle",
+            f"{options.report} isn't a bundle",
             text=options.report,
             remedy="name its session too: plantbal-desk audit REPORT SESSION",
         )
@@ -92,17 +94,22 @@ def given_of(audit: Audit, options: argparse.Namespace) -> Given:
         try:
             parsed = parse_report(output.decode("utf-8"), report)
         except UnicodeDecodeError as error:
-            raise InputFault("this is no UTF-8 text", place=Place(file=report)) from error
+            raise InputFault("this isn't UTF-8 text", place=Place(file=report)) from error
     if parsed is not None and output.lstrip().startswith(b"{"):
         output = parsed.to_csv().encode("utf-8")
         report = f"{report} (as CSV)"
     words = words_read(options.words) if options.words else words_shown(parsed or Output([]))
-    return Given(report, report, session, output, data, words)
+    return Audited(report, report, session, output, data, words)
 
 
 def run(options: argparse.Namespace) -> int:
     """Audit, and return the status."""
-    audit = Audit(is_shown=not options.json)
+    return answer_with_json(_audit, options)
+
+
+def _audit(options: argparse.Namespace) -> int:
+    """Audit, say what holds and what doesn't, and return the status."""
+    audit = Audit()
     if not options.no_program:
         try:
             find_program(options.program)
@@ -115,20 +122,20 @@ def run(options: argparse.Namespace) -> int:
         what = (
             f"the report was asked for with {' '.join(given.words[1:])}, and {' '.join(usual[1:])}"
         )
-        audit.add(Kind.NOTE, f"{given.report}: {what} are usual: see whether this was meant")
+        audit.add(
+            SentenceKind.NOTE, f"{given.report}: {what} are usual: see whether this was meant"
+        )
     if options.no_program:
-        audit.add(Kind.NOTE, f"{given.report}: {NOT_COMPARED}")
+        audit.add(SentenceKind.NOTE, f"{given.report}: {NOT_COMPARED}")
     else:
         run_again(audit, given, options.program, options.prog, options.timeout)
     verdicts = check_twice(audit, given, options.program, not options.no_program, options.timeout)
     checks = "the checker in plain Python says yes" if options.no_program else "both checks say yes"
     hold(audit, given, verdicts, checks)
-    wrong, notes = audit.count(Kind.WRONG), audit.count(Kind.NOTE)
-    if options.json:
-        said = [{"kind": kind.value, "text": text} for kind, text in audit.said]
-        found = {"source": given.source, "holds": not wrong, "wrong": wrong, "notes": notes}
-        write_json({**found, "sha256": given.sum.rpartition(" ")[2], "said": said})
-        return looks(wrong or (options.strict and notes))
+    wrong, notes = audit.count(SentenceKind.WRONG), audit.count(SentenceKind.NOTE)
+    counts = {"holds": not wrong, "wrong": wrong, "notes": notes}
+    options.found = {"source": given.source, **counts, "sha256": given.sum.rpartition(" ")[2]}
+    options.found["said"] = [{"kind": kind.value, "text": text} for kind, text in audit.said]
     end = f"{wrong} thing{'' if wrong == 1 else 's'} wrong" if wrong else "everything holds"
     print(f"{given.source}: {end}, with {notes} note{'' if notes == 1 else 's'}{given.sum}")
     return looks(wrong or (options.strict and notes))

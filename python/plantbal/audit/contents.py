@@ -5,24 +5,27 @@ from __future__ import annotations
 from collections.abc import Collection, Iterator, Mapping
 from typing import TYPE_CHECKING
 
+from plantbal.audit.approved import approvals_held
 from plantbal.audit.archive import bundle_files
 from plantbal.audit.bundle import (
     DIGESTS,
     MANIFEST,
-    NAMES,
+    MEASURED,
     OUTPUT,
     SESSION,
     SUMMARY,
     Manifest,
     Unpacked,
     digests_text,
+    members_of,
     unpacked,
 )
 from plantbal.audit.changed import digest, where
 from plantbal.audit.linked import Linked
+from plantbal.audit.reckoned import reckoned
 from plantbal.audit.runwords import words_read, words_shown
 from plantbal.audit.signed import ANYBODY, Beside
-from plantbal.audit.said import SHORT, Audit, Given, Kind, differs_at
+from plantbal.audit.said import SHORT, Audit, Audited, SentenceKind, differs_at
 from plantbal.faults import Fault, read_bytes
 from plantbal.limits import SESSION_BYTES
 from plantbal.report.output import parse_report
@@ -31,14 +34,14 @@ if TYPE_CHECKING:
     import argparse
 
 
-def given_of_bundle(audit: Audit, path: str, options: argparse.Namespace) -> Given:
+def given_of_bundle(audit: Audit, path: str, options: argparse.Namespace) -> Audited:
     """Audit a bundle's own files and what it names, and return what it is a bundle of."""
     found = unpacked(path)
     files = found.files
     for what in found.wrong:
-        audit.add(Kind.WRONG, f"{path}: {what}; archive doesn't write it so")
+        audit.add(SentenceKind.WRONG, f"{path}: {what}; archive doesn't write it so")
     if found.note:
-        audit.add(Kind.NOTE, f"{path}: {found.note}")
+        audit.add(SentenceKind.NOTE, f"{path}: {found.note}")
     changed = set(_digest_faults(audit, path, files))
     there = _manifest_changed(files)
     if there:
@@ -54,20 +57,25 @@ def given_of_bundle(audit: Audit, path: str, options: argparse.Namespace) -> Giv
     holds = same and files[DIGESTS] == digests_text(files)
     if same and not holds:
         at = differs_at(files[DIGESTS], digests_text(files))
-        what = f"{at.one} stands there, and {at.other} follows from the other files"
-        audit.add(Kind.WRONG, f"{path}!{DIGESTS}: {at.place}: {what}")
+        what = f"found {at.one}, and {at.other} follows from the other files"
+        audit.add(SentenceKind.WRONG, f"{path}!{DIGESTS}: {at.place}: {what}")
     _say_packed(audit, path, found, manifest.is_sealed and not found.is_sealed, holds)
     if holds:
-        what = f"the digests of its {len(NAMES) - 1} files hold"
+        what = f"the digests of its {len(files) - 1} files hold"
         rest = "manifest and summary are those of the session and the output"
-        audit.add(Kind.GOOD, f"{path}: {what}, and {rest}")
+        audit.add(SentenceKind.GOOD, f"{path}: {what}, and {rest}")
+    for kind, said in reckoned(path, files):
+        audit.add(kind, said)
     for kind, said in Linked(path, manifest, files[SESSION]).held(options.book, options.before):
         audit.add(kind, said)
     beside = Beside(path, options.signature or f"{path}.sig")
     for kind, said in beside.held(options, manifest.made):
         audit.add(kind, said)
+    for kind, said in approvals_held(path, manifest, files, options):
+        if (kind, said) not in audit.said:  # a look at the book may have said it
+            audit.add(kind, said)
     if not any((options.signers, options.book, options.after, options.session)):
-        audit.add(Kind.NOTE, f"{path}: {ANYBODY}")
+        audit.add(SentenceKind.NOTE, f"{path}: {ANYBODY}")
     words = words_read(manifest.words)
     return _given(path, files, words, manifest.program.get("sha256", ""))
 
@@ -79,16 +87,16 @@ def _say_packed(audit: Audit, path: str, found: Unpacked, lacks_seal: bool, hold
         first, more = found.other[0], len(found.other) - 1
         rest = f" and {more} more of the kind" if more else ""
         what = f"another packer has zipped it again ({first}{rest}): its files are those of archive"
-        audit.add(Kind.NOTE, f"{path}: {what}, and each reader of zips finds them")
+        audit.add(SentenceKind.NOTE, f"{path}: {what}, and each reader of zips finds them")
         return
     seal = ["the zip has no digest of its own"] if lacks_seal else []
     for what in [*found.other, *seal]:
-        audit.add(Kind.WRONG, f"{path}: {what}; archive doesn't write it so")
+        audit.add(SentenceKind.WRONG, f"{path}: {what}; archive doesn't write it so")
 
 
-def _given(path: str, files: Mapping[str, bytes], words: list[str], program: str = "") -> Given:
+def _given(path: str, files: Mapping[str, bytes], words: list[str], program: str = "") -> Audited:
     """Return what a bundle has, as it is audited."""
-    return Given(
+    return Audited(
         path,
         f"{path}!{OUTPUT}",
         f"{path}!{SESSION}",
@@ -114,20 +122,20 @@ def _digest_faults(audit: Audit, path: str, files: Mapping[str, bytes]) -> Itera
     """Say of each file but the manifest whether its digest is another one, and give its name."""
     stated = _digests(files)
     for number, line in enumerate(files[DIGESTS].decode("ascii", "replace").split("\n"), 1):
-        if line and line.partition("  ")[2] not in NAMES[:-1]:
-            what = f"line {number}: {line[:SHORT]!r} is no digest of a file of the bundle"
-            audit.add(Kind.WRONG, f"{path}!{DIGESTS}: {what}")
+        if line and line.partition("  ")[2] not in members_of(files)[:-1]:
+            what = f"line {number}: {line[:SHORT]!r} isn't a digest of a file of the bundle"
+            audit.add(SentenceKind.WRONG, f"{path}!{DIGESTS}: {what}")
             yield DIGESTS
     inner = files[MANIFEST].decode("utf-8", "replace")
     parts = _parts(files)
-    for name in (SESSION, OUTPUT, SUMMARY):
+    for name in (each for each in members_of(files) if each not in (MANIFEST, DIGESTS)):
         found, (number, said) = digest(files[name]), stated.get(name, (0, ""))
         if said == found:
             continue
         if found in inner:
             what = f"line {number}: this isn't" if number else "there is no line with"
-            rest = f"the digest of {name}, which stands in the manifest"
-            audit.add(Kind.WRONG, f"{path}!{DIGESTS}: {what} {rest}: a digest was changed")
+            rest = f"the digest of {name}, which is in the manifest"
+            audit.add(SentenceKind.WRONG, f"{path}!{DIGESTS}: {what} {rest}: a digest was changed")
             yield DIGESTS
         else:
             # What the summary has to be is known: it is made again.
@@ -147,7 +155,7 @@ def _parts(files: Mapping[str, bytes]) -> dict[str, list[str]]:
 def _say_changed(audit: Audit, name: str, there: str, found: str, line: str, said: str) -> None:
     """Say of a file that it was changed, and where, as far as that is known."""
     what = f"its SHA-256 is {found}, and {line} says {said}: the file was changed"
-    audit.add(Kind.WRONG, f"{name}: {there}; {what}" if there else f"{name}: {what}")
+    audit.add(SentenceKind.WRONG, f"{name}: {there}; {what}" if there else f"{name}: {what}")
 
 
 def _manifest_changed(files: Mapping[str, bytes]) -> str:
@@ -173,7 +181,7 @@ def _manifest_digest(
     else:
         what = f"line {number}: this isn't" if number else "there is no line with"
         rest = f"the digest of {MANIFEST}, which agrees with all other files"
-        audit.add(Kind.WRONG, f"{path}!{DIGESTS}: {what} {rest}: a digest was changed")
+        audit.add(SentenceKind.WRONG, f"{path}!{DIGESTS}: {what} {rest}: a digest was changed")
     return False
 
 
@@ -184,7 +192,9 @@ def _manifest(audit: Audit, path: str, files: Mapping[str, bytes]) -> Manifest |
         words_read(manifest.words)
     except Fault as fault:
         said = str(fault).removeprefix(f"{MANIFEST}: ")
-        audit.add(Kind.WRONG, f"{path}!{MANIFEST}: {said}; the words are taken from the report")
+        audit.add(
+            SentenceKind.WRONG, f"{path}!{MANIFEST}: {said}; the words are taken from the report"
+        )
         return None
     return manifest
 
@@ -201,31 +211,31 @@ def _made_again(
     If they differ because another file was changed, this was said already.
     """
     try:
-        again = bundle_files(files[SESSION], files[OUTPUT], manifest)
+        again = bundle_files(files[SESSION], files[OUTPUT], manifest, files.get(MEASURED))
     except KeyError:
         what = f"the session has no period {manifest.period}"
-        audit.add(Kind.WRONG, f"{path}!{MANIFEST}: {what}, which is said to be archived")
+        audit.add(SentenceKind.WRONG, f"{path}!{MANIFEST}: {what}, which is said to be archived")
         return [MANIFEST]
     except (Fault, ValueError) as fault:
-        audit.add(Kind.WRONG, f"{path}!{OUTPUT}: {str(fault).removeprefix(OUTPUT + ': ')}")
+        audit.add(SentenceKind.WRONG, f"{path}!{OUTPUT}: {str(fault).removeprefix(OUTPUT + ': ')}")
         return [OUTPUT]
     differ = [name for name in (SUMMARY, MANIFEST) if files[name] != again[name]]
     causes = {SESSION, OUTPUT, MANIFEST} & set(changed)
     for name in differ:
         if name not in causes and (name in changed or not causes):
             found = differs_at(files[name], again[name])
-            what = f"{found.one} stands there, and {found.other} follows from the other files"
-            audit.add(Kind.WRONG, f"{path}!{name}: {found.place}: {what}")
+            what = f"found {found.one}, and {found.other} follows from the other files"
+            audit.add(SentenceKind.WRONG, f"{path}!{name}: {found.place}: {what}")
     return differ
 
 
-def session_held(audit: Audit, given: Given, path: str) -> None:
+def session_held(audit: Audit, given: Audited, path: str) -> None:
     """Hold the session of a bundle against that of the books, which may have gone on since."""
     source, data = read_bytes(path, SESSION_BYTES)
     if data.startswith(given.data):
         rest = "" if data == given.data else ", with which it begins"
-        audit.add(Kind.GOOD, f"{given.session}: it is that of the books, {source}{rest}")
+        audit.add(SentenceKind.GOOD, f"{given.session}: it is that of the books, {source}{rest}")
         return
     there = differs_at(given.data, data)
-    what = f"{there.one} stands there, and the session of the books, {source}, has {there.other}"
-    audit.add(Kind.WRONG, f"{given.session}: {there.place}: {what}")
+    what = f"found {there.one}, and the session of the books, {source}, has {there.other}"
+    audit.add(SentenceKind.WRONG, f"{given.session}: {there.place}: {what}")

@@ -58,7 +58,7 @@ def _design_differs(design: Design, declared: Declared) -> Iterator[Differs]:
         wanted = stream.arc.name, stream.arc.from_, stream.arc.to
         measured = "no" if stream.kind == "plain" else "yes"
         if (row.get("name"), row.get("from"), row.get("to")) != wanted:
-            what = f"stream {row.get('name')} stands where the session has {wanted[0]}"
+            what = f"found stream {row.get('name')} where the session has {wanted[0]}"
             yield Differs(record.line, f"{what} from {wanted[1]} to {wanted[2]}")
             return
         if row.get("measured") != measured or row.get("class") not in _KINDS[measured]:
@@ -77,7 +77,7 @@ def _design_differs(design: Design, declared: Declared) -> Iterator[Differs]:
         yield Differs(lines[name], f"the cut or cycle of {name} doesn't show its class")
 
 
-def _block(rows: list[dict[str, str]], declared: Declared) -> checker.Block:
+def _block(rows: list[dict[str, str]], declared: Declared) -> checker.CheckedBlock:
     """Return a design as a block in which each measured stream has nothing: that decides no class.
 
     Raises
@@ -103,7 +103,7 @@ def _block(rows: list[dict[str, str]], declared: Declared) -> checker.Block:
     checker.ask(
         _are_known((name for row in named.values() for name, _ in row.parts), named), "name"
     )
-    return checker.Block(Row(), nodes, named, Row(g=0, h=0), [])
+    return checker.CheckedBlock(Row(), nodes, named, Row(g=0, h=0), [])
 
 
 def _are_known(names: Iterable[str], known: dict[str, Row]) -> bool:

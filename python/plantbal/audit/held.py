@@ -7,7 +7,7 @@ from collections.abc import Iterator, Mapping
 from dataclasses import dataclass, field, replace
 
 from plantbal.model.ledger import Ledger
-from plantbal.model.studies import Measured, Study
+from plantbal.model.studies import MeasuredStream, Study
 from plantbal.records import Record, read_records
 from plantbal.schema import schema
 
@@ -18,7 +18,7 @@ PPM = 10**6
 
 
 @dataclass
-class Answer:
+class AnsweredRow:
     """What an output says of one row that asks for flows: the records of its blocks, or `over`.
 
     Attributes
@@ -65,9 +65,9 @@ class Answer:
         return found
 
 
-def answers_of(data: bytes) -> list[Answer]:
+def answers_of(data: bytes) -> list[AnsweredRow]:
     """Return what an output says of each report, window and balance, in order."""
-    found: list[Answer] = []
+    found: list[AnsweredRow] = []
     inside = False
     component, places = "", list[Record]()
     for record in read_records(data):
@@ -79,12 +79,12 @@ def answers_of(data: bytes) -> list[Answer]:
         elif fields[0] == "report":
             if fields[2] == "0" or not found:
                 last = (*places[0].fields, "", "")[2] if places else ""
-                answer = Answer(fields[1], component=component, last=last, places=places)
+                answer = AnsweredRow(fields[1], component=component, last=last, places=places)
                 found.append(answer)
                 component, places = "", []
             found[-1].blocks.append([record])
         elif fields[0] == "over":
-            found.append(Answer(fields[1], over=record))
+            found.append(AnsweredRow(fields[1], over=record))
         elif fields[0] == "taken" and found:
             found[-1].taken.append(fields[3])
         elif inside:
@@ -129,7 +129,7 @@ def number_of(text: str) -> int | None:
         return None
 
 
-def carried(seen: Study, flows: Mapping[str, tuple[int, bool]]) -> dict[str, Measured]:
+def carried(seen: Study, flows: Mapping[str, tuple[int, bool]]) -> dict[str, MeasuredStream]:
     """Return what the streams carry of a component, by the flows of the period's last round.
 
     Parameters
@@ -142,11 +142,11 @@ def carried(seen: Study, flows: Mapping[str, tuple[int, bool]]) -> dict[str, Mea
     found = {}
     for name, mass in seen.streams.items():
         grade, (flow, is_unobservable) = seen.grades.get(name), flows.get(name, (0, True))
-        found[name] = Measured(mass.arc, None, None)
+        found[name] = MeasuredStream(mass.arc, None, None)
         if grade is not None and not is_unobservable:
             value = flow * grade.ppm // PPM
             variance = -(-flow * flow * grade.variance // PPM**2) + 1
-            found[name] = Measured(mass.arc, value, variance, (grade.line,))
+            found[name] = MeasuredStream(mass.arc, value, variance, (grade.line,))
     return found
 
 
@@ -167,7 +167,7 @@ def block_differs(block: list[Record], seen: Study, taken: list[str]) -> Iterato
     for record, name in zip(nodes, seen.nodes):
         said = columns_of(record).get("name", "")
         if said != name:
-            yield Differs(record.line, f"node {said} stands where the session has {name}")
+            yield Differs(record.line, f"found node {said} where the session has {name}")
     if len(nodes) != len(seen.nodes):
         what = f"the block has {len(nodes)} nodes, and the session {len(seen.nodes)}"
         yield Differs(block[0].line, what)
@@ -180,7 +180,7 @@ def block_differs(block: list[Record], seen: Study, taken: list[str]) -> Iterato
 
 
 def _stream_differs(
-    record: Record, name: str, measured: Measured, taken: bool
+    record: Record, name: str, measured: MeasuredStream, taken: bool
 ) -> Iterator[Differs]:
     """Give the columns of a stream row that aren't those of the session."""
     row = columns_of(record)
@@ -188,7 +188,7 @@ def _stream_differs(
     ends = (row.get("name"), row.get("from"), row.get("to"))
     if ends != (name, arc.from_, arc.to):
         said = f"{ends[0]} from {ends[1]} to {ends[2]}"
-        what = f"stream {said} stands where the session has {name} from {arc.from_} to {arc.to}"
+        what = f"found stream {said} where the session has {name} from {arc.from_} to {arc.to}"
         yield Differs(record.line, what)
         return
     for column, found, unit in (
@@ -254,15 +254,15 @@ class Pair:
     ----------
     seen : Study
         What the row saw.
-    answer : Answer
+    answer : AnsweredRow
         What the output says.
-    mass : Answer or None
+    mass : AnsweredRow or None
         Of a balance, a report of the same facts of its period, by whose flows it can be held.
     """
 
     seen: Study
-    answer: Answer
-    mass: Answer | None = None
+    answer: AnsweredRow
+    mass: AnsweredRow | None = None
 
     def differ(self) -> Iterator[Differs]:
         """Give the places at which the answer isn't that of the session."""
@@ -298,7 +298,7 @@ class Pair:
         for record, wanted in zip(self.answer.places[1:], self.seen.places):
             if tuple(record.fields[1:]) != wanted:
                 said = ",".join(record.fields[1:])
-                what = f"the place {said} stands where the session has {','.join(wanted)}"
+                what = f"found the place {said} where the session has {','.join(wanted)}"
                 yield Differs(record.line, what)
         count = len(self.answer.places) - 1 if self.answer.places else 0
         if count != len(self.seen.places):
@@ -320,7 +320,7 @@ class Pair:
             yield from block_differs(block, seen, self.answer.taken[:number])
 
 
-def pairs_of(seen: list[Study], answers: list[Answer]) -> list[Pair]:
+def pairs_of(seen: list[Study], answers: list[AnsweredRow]) -> list[Pair]:
     """Return what a session asks for beside what an output says of it, in order."""
     found: list[Pair] = []
     for one, answer in zip(seen, answers):

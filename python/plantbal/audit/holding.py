@@ -10,7 +10,7 @@ from plantbal.audit.asks import some
 from plantbal.audit.changed import digest
 from plantbal.audit.designs import designs_differ
 from plantbal.audit.held import Pair, answers_of, pairs_of, refused_differ
-from plantbal.audit.said import Audit, Given, Kind, differs_at
+from plantbal.audit.said import Audit, Audited, SentenceKind, differs_at
 from plantbal.audit.summary import blocks_named, said_of
 from plantbal.audit.verdicts import explain_check
 from plantbal.audit.verify import second_verdict
@@ -24,7 +24,7 @@ from plantbal.report.output import parse_report
 
 
 def run_again(
-    audit: Audit, given: Given, program: str | None, prog: str, seconds: float | None = None
+    audit: Audit, given: Audited, program: str | None, prog: str, seconds: float | None = None
 ) -> None:
     """Run the program again, for some seconds at most, and compare what it writes."""
     found = find_program(program)
@@ -32,7 +32,8 @@ def run_again(
     if given.program and own != given.program:
         what = f"the program that is run here has the SHA-256 {own}, and that of the manifest has"
         audit.add(
-            Kind.NOTE, f"{given.source}: {what} {given.program}: it is another build or version"
+            SentenceKind.NOTE,
+            f"{given.source}: {what} {given.program}: it is another build or version",
         )
     try:
         with Progress(prog, given.data) as progress:
@@ -40,23 +41,21 @@ def run_again(
                 given.words, given.data, program=found, timeout=seconds, watch=progress.watch()
             )[1]
     except ProgramFault as fault:
-        audit.add(Kind.WRONG, f"{given.session}: {fault}")
+        audit.add(SentenceKind.WRONG, f"{given.session}: {fault}")
         return
     if written == given.output:
         what = f"plantbal {' '.join(given.words)} writes the same bytes of the session again"
-        audit.add(Kind.GOOD, f"{given.report}: {what}")
+        audit.add(SentenceKind.GOOD, f"{given.report}: {what}")
         return
     differs = differs_at(given.output, written)
-    what = (
-        f"{differs.one} stands there, and plantbal {' '.join(given.words)} writes {differs.other}"
-    )
+    what = f"found {differs.one}, and plantbal {' '.join(given.words)} writes {differs.other}"
     rest = "the report, the session or the words are others"
-    audit.add(Kind.WRONG, f"{given.report}: {differs.place}: {what}: {rest}")
+    audit.add(SentenceKind.WRONG, f"{given.report}: {differs.place}: {what}: {rest}")
 
 
 def check_twice(
     audit: Audit,
-    given: Given,
+    given: Audited,
     program: str | None,
     with_program: bool,
     seconds: float | None = None,
@@ -68,37 +67,40 @@ def check_twice(
         try:
             other = call(["check"], given.output, program=program, timeout=seconds)[1]
         except ProgramFault as fault:
-            audit.add(Kind.WRONG, f"{given.report}: {fault}")
+            audit.add(SentenceKind.WRONG, f"{given.report}: {fault}")
             other = said
         if other != said:
             found = differs_at(said, other)
             what = f"the checker in plain Python says {found.one}, and plantbal check {found.other}"
             audit.add(
-                Kind.WRONG, f"{given.report}: finding {found.line}: {what}: one of the two errs"
+                SentenceKind.WRONG,
+                f"{given.report}: finding {found.line}: {what}: one of the two errs",
             )
         same, sentence = second_verdict(given.output, said, seconds)
         if sentence:
-            audit.add(Kind.GOOD if same else Kind.WRONG, f"{given.report}: {sentence}")
+            audit.add(
+                SentenceKind.GOOD if same else SentenceKind.WRONG, f"{given.report}: {sentence}"
+            )
     if not rows and not any(answer.over for answer in answers_of(given.output)):
         what = "a report has blocks from `report` to `end`" if given.output else "the file is empty"
-        audit.add(Kind.WRONG, f"{given.report}: there is no block to check: {what}")
+        audit.add(SentenceKind.WRONG, f"{given.report}: there is no block to check: {what}")
     if any(row[0] != "yes" for row in rows):
         for told in explain_check(given.report, given.output, said=said).rows:
-            audit.add(Kind.WRONG, _at(given, told.line, told.sentence))
+            audit.add(SentenceKind.WRONG, _at(given, told.line, told.sentence))
     return [row[0] for row in rows]
 
 
-def hold(audit: Audit, given: Given, verdicts: list[str], checks: str) -> None:
+def hold(audit: Audit, given: Audited, verdicts: list[str], checks: str) -> None:
     """Hold a report against its session, and say of each block what holds."""
     ledger = Ledger(given.session, given.data)
     for each in chain(refused_differ(given.output, ledger), designs_differ(given.output, ledger)):
-        audit.add(Kind.WRONG, _at(given, each.line, each.text))
+        audit.add(SentenceKind.WRONG, _at(given, each.line, each.text))
     answers = answers_of(given.output)
     if len(ledger.seen) != len(answers):
         count = len(ledger.seen)
         asked = "1 report" if count == 1 else f"{count} reports"
         what = f"the session asks for {asked}, and the output has {len(answers)}"
-        audit.add(Kind.WRONG, f"{given.report}: {what}")
+        audit.add(SentenceKind.WRONG, f"{given.report}: {what}")
     held: list[bool] = []
     loose: list[bool] = []
     for pair in pairs_of(studies_of(ledger), answers):
@@ -112,7 +114,7 @@ def hold(audit: Audit, given: Given, verdicts: list[str], checks: str) -> None:
     good = [one == "yes" and other for one, other in zip(verdicts, held)]
     for holds, is_loose, (block, name, last) in zip(good, loose, blocks):
         if holds:
-            _block_holds(audit, block, Named(name, last, checks, is_loose))
+            _block_holds(audit, block, NamedBlock(name, last, checks, is_loose))
     reported = [
         period
         for block, _, _ in blocks
@@ -122,26 +124,26 @@ def hold(audit: Audit, given: Given, verdicts: list[str], checks: str) -> None:
     _refused(audit, given, ledger)
 
 
-def _pair_held(audit: Audit, given: Given, pair: Pair) -> list[bool]:
+def _pair_held(audit: Audit, given: Audited, pair: Pair) -> list[bool]:
     """Hold an answer against what its `report` row saw; return of each block whether it holds."""
     differ = list(pair.differ())
     for each in differ:
-        audit.add(Kind.WRONG, _at(given, each.line, each.text))
+        audit.add(SentenceKind.WRONG, _at(given, each.line, each.text))
     if pair.answer.over is not None:
         stream = pair.answer.over.fields[-1]
         subject = pair.seen.subject
         name = subject if pair.seen.component or pair.seen.last else f"period {subject}"
         what = f"{name} has no report: the total of {stream} is beyond"
-        audit.add(Kind.NOTE, f"{given.report}: {what} the limits")
+        audit.add(SentenceKind.NOTE, f"{given.report}: {what} the limits")
     elif pair.seen.component and pair.mass is None:
         what = f"{pair.seen.subject}: no report of the period before it has the same facts"
-        rest = "so its values aren't held against the assays: the row report before it would do"
-        audit.add(Kind.NOTE, f"{given.report}: {what}, {rest}")
+        rest = "so its values aren't compared with the assays: the row report before it would do"
+        audit.add(SentenceKind.NOTE, f"{given.report}: {what}, {rest}")
     return [not differ] * len(pair.answer.blocks)
 
 
 @dataclass(frozen=True, slots=True)
-class Named:
+class NamedBlock:
     """How a block is called, whether it is its period's last, and what the checks say of it.
 
     A balance whose values weren't held against the assays is loose.
@@ -153,7 +155,7 @@ class Named:
     is_loose: bool = False
 
 
-def _block_holds(audit: Audit, block: Block, named: Named) -> None:
+def _block_holds(audit: Audit, block: Block, named: NamedBlock) -> None:
     """Say of a block that it holds, and what is to be noted of it."""
     measured = sum(bool(row["value"]) for row in block.streams)
     tests = len(block.nodal) + len(block.measure) + (block.whole is not None)
@@ -170,32 +172,35 @@ def _block_holds(audit: Audit, block: Block, named: Named) -> None:
     if block.component and not named.is_loose:
         by = "those of the assays and of the period's flows"
     what = f"flows balance, and {named.checks}; {values} are {by}"
-    audit.add(Kind.GOOD, f"{named.name}: {what}; {said_of(block)}; {book}")
+    audit.add(SentenceKind.GOOD, f"{named.name}: {what}; {said_of(block)}; {book}")
     if named.last and (block.whole or {}).get("verdict") == "reject":
         what = "the global test rejects: the measurements don't fit together"
-        audit.add(Kind.NOTE, f"{named.name}: {what}")
+        audit.add(SentenceKind.NOTE, f"{named.name}: {what}")
 
 
 def _open_periods(audit: Audit, ledger: Ledger, reported: list[str]) -> None:
     """Note the reported periods that aren't closed."""
     still = [period for period in dict.fromkeys(reported) if period not in ledger.closed]
     if len(still) == 1:
-        audit.add(Kind.NOTE, f"period {still[0]} isn't closed: rows may still be added to it")
+        audit.add(
+            SentenceKind.NOTE, f"period {still[0]} isn't closed: rows may still be added to it"
+        )
     elif still:
         audit.add(
-            Kind.NOTE, f"periods {some(still)} aren't closed: rows may still be added to them"
+            SentenceKind.NOTE,
+            f"periods {some(still)} aren't closed: rows may still be added to them",
         )
 
 
-def _at(given: Given, line: int, text: str) -> str:
+def _at(given: Audited, line: int, text: str) -> str:
     """Return a sentence with its place in the report."""
     return f"{given.report}: line {line}: {text}" if line else f"{given.report}: {text}"
 
 
-def _refused(audit: Audit, given: Given, ledger: Ledger) -> None:
+def _refused(audit: Audit, given: Audited, ledger: Ledger) -> None:
     """Say how many rows of the session are refused."""
     if not ledger.refused:
-        audit.add(Kind.GOOD, f"{given.session}: 0 rows refused")
+        audit.add(SentenceKind.GOOD, f"{given.session}: 0 rows refused")
     for refusal in ledger.refused:
         refusal.place = Place(file=given.session, line=refusal.place.line)
-        audit.add(Kind.NOTE, f"{refusal}: the reports are made without this row")
+        audit.add(SentenceKind.NOTE, f"{refusal}: the reports are made without this row")

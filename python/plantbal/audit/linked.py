@@ -13,7 +13,7 @@ from typing import TYPE_CHECKING
 
 from plantbal.audit.bundle import MANIFEST, Manifest, unpacked
 from plantbal.audit.changed import digest
-from plantbal.audit.said import Kind
+from plantbal.audit.said import SentenceKind
 from plantbal.faults import InputFault, Place, read_bytes
 
 if TYPE_CHECKING:
@@ -57,6 +57,21 @@ def named_book(folder: str | None) -> dict[str, str]:
     return {"number": str(head.number), "head": head.digest}
 
 
+def named_approvals(folder: str | None, period: str) -> dict[str, dict[str, str]]:
+    """Return what a manifest has of the approvals of a period; nothing without a folder.
+
+    Raises
+    ------
+    Fault
+        If there is no book, or one of its files was changed.
+    """
+    if folder is None:
+        return {}
+    from plantbal.book.approval.carried import carried_approvals
+
+    return carried_approvals(folder, period)
+
+
 def named_bundle(path: str | None) -> dict[str, str]:
     """Return what a manifest says of the bundle before it; nothing without a bundle.
 
@@ -96,7 +111,7 @@ class Linked:
     manifest: Manifest
     session: bytes
 
-    def held(self, book: str | None, before: str | None) -> Iterator[tuple[Kind, str]]:
+    def held(self, book: str | None, before: str | None) -> Iterator[tuple[SentenceKind, str]]:
         """Give whether what it names is there: ``good``, ``note`` or ``wrong``, and a sentence.
 
         Parameters
@@ -111,14 +126,14 @@ class Linked:
             (self.manifest.before, before, "bundle before it", self._before, "--before BUNDLE"),
         ):
             if given is not None and not named:
-                yield Kind.WRONG, f"{self.path}: it names no {what}, and {given} is given"
+                yield SentenceKind.WRONG, f"{self.path}: it names no {what}, and {given} is given"
             elif given is not None:
                 yield from compare(given)
             elif named:
                 digest_ = named.get("sha256") or f"of action {named['number']} {named['head']}"
-                yield Kind.NOTE, f"{self.path}: it names the {what} {digest_}: {word} compares it"
+                yield SentenceKind.NOTE, f"{self.path}: it names the {what} {digest_}: {word} compares it"
 
-    def _book(self, folder: str) -> Iterator[tuple[Kind, str]]:
+    def _book(self, folder: str) -> Iterator[tuple[SentenceKind, str]]:
         """Give whether a book has the head, and whether it had the session's rows by then."""
         from plantbal.book.chain import state_of
         from plantbal.book.forms import is_year_file
@@ -130,7 +145,7 @@ class Linked:
             wrong = missing_head(book, self.path, f"{named['number']} {named['head']}")
             lines = book.journal()[: int(named["number"])] if not wrong else []
         for each in wrong:
-            yield Kind.WRONG, each
+            yield SentenceKind.WRONG, each
         years = [
             name
             for name, kept in state_of(lines).items()
@@ -139,13 +154,13 @@ class Linked:
         if years:
             what = f"{folder} has the head of action {named['number']} that it names"
             rest = f"its session begins with the rows of {years[0]} as they were by then"
-            yield Kind.GOOD, f"{self.path}: {what}, and {rest}"
+            yield SentenceKind.GOOD, f"{self.path}: {what}, and {rest}"
             yield from self._approved(book)
         elif not wrong:
             what = f"its session doesn't begin with the rows that a year of {folder} had by action"
-            yield Kind.WRONG, f"{self.path}: {what} {named['number']}"
+            yield SentenceKind.WRONG, f"{self.path}: {what} {named['number']}"
 
-    def _approved(self, book: Store) -> Iterator[tuple[Kind, str]]:
+    def _approved(self, book: Store) -> Iterator[tuple[SentenceKind, str]]:
         """Give who has submitted, approved and signed the close of its period, by the book."""
         from plantbal.book.approval.history import looked
         from plantbal.book.journal import Act
@@ -166,13 +181,13 @@ class Linked:
         """Say whether the session begins with a file that was left with this digest."""
         return size is not None and hashlib.sha256(self.session[:size]).hexdigest() == digest_
 
-    def _before(self, path: str) -> Iterator[tuple[Kind, str]]:
+    def _before(self, path: str) -> Iterator[tuple[SentenceKind, str]]:
         """Give whether a bundle is the one before, with the head that is named of it."""
         there = named_bundle(path)
         if there == self.manifest.before:
-            yield Kind.GOOD, f"{self.path}: {path} is the bundle before it that it names"
+            yield SentenceKind.GOOD, f"{self.path}: {path} is the bundle before it that it names"
             return
         stated = self.manifest.before
         what = f"it names the bundle {stated['sha256']} of action {stated['number'] or 'none'}"
         rest = f"{there['sha256']} of action {there['number'] or 'none'}"
-        yield Kind.WRONG, f"{self.path}: {what} as the one before it, and {path} is {rest}"
+        yield SentenceKind.WRONG, f"{self.path}: {what} as the one before it, and {path} is {rest}"

@@ -10,7 +10,7 @@ from os.path import commonprefix
 SHORT = 120  # characters of a line that are quoted
 
 
-class Kind(StrEnum):
+class SentenceKind(StrEnum):
     """What a sentence says: that something holds, that it may be looked at, or that it doesn't hold."""
 
     GOOD = "good"
@@ -24,28 +24,28 @@ class Audit:
 
     Attributes
     ----------
-    said : list of (Kind, str)
+    said : list of (SentenceKind, str)
         The sentences.
     is_shown : bool
         Whether each is shown at once, since an audit may take a while.
     """
 
-    said: list[tuple[Kind, str]] = field(default_factory=list)
+    said: list[tuple[SentenceKind, str]] = field(default_factory=list)
     is_shown: bool = True
 
-    def add(self, kind: Kind, text: str) -> None:
+    def add(self, kind: SentenceKind, text: str) -> None:
         """Say a sentence."""
         self.said.append((kind, text))
         if self.is_shown:
             print(f"{kind}: {text}", flush=True)
 
-    def count(self, kind: Kind) -> int:
+    def count(self, kind: SentenceKind) -> int:
         """Return how many sentences of a kind there are."""
         return sum(each is kind for each, _ in self.said)
 
 
 @dataclass(frozen=True)
-class Given:
+class Audited:
     """What is audited: how it is called, its session, its report, and the words of the run."""
 
     source: str
@@ -59,7 +59,7 @@ class Given:
 
 
 @dataclass(frozen=True, slots=True)
-class Difference:
+class TextDifference:
     """Where two texts differ first: the line, the character, and both texts about it."""
 
     line: int
@@ -73,14 +73,14 @@ class Difference:
         return f"line {self.line}, character {self.character}"
 
 
-def differs_at(one: bytes, other: bytes) -> Difference:
+def differs_at(one: bytes, other: bytes) -> TextDifference:
     """Return where two texts differ first."""
     for number, pair in enumerate(zip_longest(one.split(b"\n"), other.split(b"\n")), 1):
         if pair[0] != pair[1]:
             lines = [(line or b"").decode("utf-8", "backslashreplace") for line in pair]
             begin = len(commonprefix(lines))
-            return Difference(number, begin + 1, *(_shown(line, begin) for line in lines))
-    return Difference(0, 0, "", "")
+            return TextDifference(number, begin + 1, *(_shown(line, begin) for line in lines))
+    return TextDifference(0, 0, "", "")
 
 
 def _shown(line: str, at: int) -> str:

@@ -15,7 +15,7 @@ from pathlib import Path
 
 from plantbal.audit.changed import digest
 from plantbal.audit.linked import manifest_of
-from plantbal.audit.said import Kind
+from plantbal.audit.said import SentenceKind
 from plantbal.faults import Fault, WordsFault, decoded, read_bytes
 from plantbal.limits import RULES_BYTES, SIGNATURE_BYTES, STAMP_BYTES
 from plantbal.newfile import write_new
@@ -32,7 +32,7 @@ from plantbal.signing.signers import fingerprint, read_signers
 from plantbal.signing.stamps import Stamped, stamp, stamped
 
 ANYBODY = (
-    "nothing beside it was compared, so anybody could have written all of it, digests included: "
+    "nothing else was compared with it, so anybody could have written all of it, digests included: "
     "--signers, --book, --after or the session of the books says more"
 )
 
@@ -107,7 +107,7 @@ class Beside:
     path: str
     signature: str
 
-    def held(self, options: argparse.Namespace, made: str) -> Iterator[tuple[Kind, str]]:
+    def held(self, options: argparse.Namespace, made: str) -> Iterator[tuple[SentenceKind, str]]:
         """Give who has signed a bundle: ``good``, ``note`` or ``wrong``, and a sentence.
 
         Parameters
@@ -124,18 +124,19 @@ class Beside:
             remedy = "--signers FILE, of OpenSSH's form allowed_signers"
             raise WordsFault("whose a signature is follows from who may sign", remedy=remedy)
         elif is_there:
-            yield Kind.NOTE, f"{self.path}: {self.signature} has {_key_said(self.signature)}"
+            yield SentenceKind.NOTE, f"{self.path}: {self.signature} has {_key_said(self.signature)}"
         if options.after is not None:
             yield self._after(options.after)
 
     def _signed(
         self, options: argparse.Namespace, made: str, is_there: bool
-    ) -> Iterator[tuple[Kind, str]]:
+    ) -> Iterator[tuple[SentenceKind, str]]:
         """Give whose the signature is that has to be there."""
         if not is_there:
-            yield Kind.WRONG, f"{self.path}: nobody has signed it: there is no {self.signature}"
+            yield SentenceKind.WRONG, f"{self.path}: nobody has signed it: there is no {self.signature}"
             return
-        keys = Keys(read_signers(options.signers, _text(options.signers)), _text(options.revoked))
+        keys = given_keys(options)
+        assert keys is not None, "who may sign is given"
         signature = read_signature(self.signature)
         stamp_ = self._stamped(options.authority, signature)
         stated = datetime.datetime.strptime(made, "%Y-%m-%dT%H:%M:%SZ")
@@ -145,12 +146,12 @@ class Beside:
         found = verified(read_bytes(self.path)[1], signature, keys, BUNDLE, when)
         is_other = bool(options.signed_by and found.name and found.name != options.signed_by)
         rest = f", and {options.signed_by} has to have signed it" if is_other else ""
-        yield Kind.WRONG if is_other or not found.name else Kind.GOOD, f"{self.path}: {found.said()}{rest}"
+        yield SentenceKind.WRONG if is_other or not found.name else SentenceKind.GOOD, f"{self.path}: {found.said()}{rest}"
         if stamp_ is not None:
-            yield Kind.GOOD if stamp_.when else Kind.WRONG, f"{self.path}: {stamp_.said()}"
+            yield SentenceKind.GOOD if stamp_.when else SentenceKind.WRONG, f"{self.path}: {stamp_.said()}"
         else:
             what = "no time stamp was compared: that it was signed when it says is its own word"
-            yield Kind.NOTE, f"{self.path}: {what}"
+            yield SentenceKind.NOTE, f"{self.path}: {what}"
 
     def _stamped(self, authority: str | None, signature: str) -> Stamped | None:
         """Return what the time stamp says, or None if no authority is named."""
@@ -160,18 +161,27 @@ class Beside:
         if not token.is_file():
             return Stamped(None, f"there is no {token}")
         text = read_bytes(token, STAMP_BYTES)[1].decode("ascii", "replace")
-        return stamped(signature.encode("ascii"), text, _text(authority))
+        return stamped(signature.encode("ascii"), text, given_text(authority))
 
-    def _after(self, path: str) -> tuple[Kind, str]:
+    def _after(self, path: str) -> tuple[SentenceKind, str]:
         """Return whether a bundle after this one names it."""
         own, named = digest(read_bytes(self.path)[1]), manifest_of(path).before.get("sha256", "")
         if named == own:
-            return Kind.GOOD, f"{self.path}: {path} names it as the bundle before it"
+            return SentenceKind.GOOD, f"{self.path}: {path} names it as the bundle before it"
         what = f"{path} names {named or 'no bundle'} before it, and this one is {own}"
-        return Kind.WRONG, f"{self.path}: {what}"
+        return SentenceKind.WRONG, f"{self.path}: {what}"
 
 
-def _text(path: str | None) -> str:
+def given_keys(options: argparse.Namespace) -> Keys | None:
+    """Return who may sign by the words of a command, or None if they don't say it."""
+    if options.signers is None:
+        return None
+    return Keys(
+        read_signers(options.signers, given_text(options.signers)), given_text(options.revoked)
+    )
+
+
+def given_text(path: str | None) -> str:
     """Return the text of a file; nothing without a file."""
     return decoded(*read_bytes(path, RULES_BYTES)) if path is not None else ""
 

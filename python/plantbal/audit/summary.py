@@ -1,16 +1,22 @@
-"""The summary in a bundle: what was archived, what to look at, and the flows in tonnes."""
+"""The summary in a bundle: what was archived, what to look at, and the flows in tonnes with their ±."""
 
 from __future__ import annotations
 
-from collections.abc import Iterator, Sequence
+from collections.abc import Iterator, Mapping, Sequence
 
-from plantbal.amounts import tonnes_text
+from plantbal.amounts import GRAMS_A_TONNE, tonnes_text
 from plantbal.audit.bundle import OUTPUT, SESSION, Manifest
 from plantbal.model.ledger import Ledger
 from plantbal.report.blocks import Block, Values, last_blocks
 from plantbal.report.output import Output
+from plantbal.study.deviations import deviations_of
 
-_HEADS = ("stream", "from", "to", "measured t", "booked t", "adjusted t", "class")
+_HEADS = ("stream", "from", "to", "measured t", "booked t", "adjusted t", "± t", "class")
+_DEVIATION = _HEADS.index("± t")
+_ABOUT = (
+    "±: one standard deviation of the booked flow, by the variances of all meters.",
+    "Without ±: the plant is too entangled to say it here; plantbal-desk uncertainty does.",
+)
 
 
 def blocks_named(output: Output) -> list[tuple[Block, str, bool]]:
@@ -52,13 +58,28 @@ def one_line(text: str) -> str:
     return "".join(each if each.isprintable() else ascii(each)[1:-1] for each in text)
 
 
-def _columns(row: Values) -> tuple[str, ...]:
+def _flows(block: Block, has_deviations: bool) -> Iterator[str]:
+    """Give the lines of the flows of a block, with the ± of each if the form has it."""
+    found = deviations_of(block) if has_deviations else None
+    rows = [_HEADS, *(_columns(row, found or {}) for row in block.streams)]
+    if not found:
+        rows = [row[:_DEVIATION] + row[_DEVIATION + 1 :] for row in rows]
+    yield from table(rows)
+    if has_deviations:
+        yield ""
+        yield _ABOUT[not found]
+
+
+def _columns(row: Values, deviations: Mapping[str, float]) -> tuple[str, ...]:
     """Return what is said of a stream."""
     value, flow = row["value"], row["flow"]
     booked = "" if row["class"] == "unobservable" else tonnes_text(flow)
     adjusted = tonnes_text(int(flow) - int(value)) if value else ""
     measured = tonnes_text(value) if value else ""
-    return (row["name"], row["from"], row["to"], measured, booked, adjusted, row["class"])
+    found = deviations.get(row["name"])
+    deviation = "" if found is None else f"{found / GRAMS_A_TONNE:,.3f}"
+    ends = row["name"], row["from"], row["to"]
+    return (*ends, measured, booked, adjusted, deviation, row["class"])
 
 
 def table(rows: Sequence[tuple[str, ...]]) -> Iterator[str]:
@@ -66,7 +87,7 @@ def table(rows: Sequence[tuple[str, ...]]) -> Iterator[str]:
     widths = [max(map(len, column)) for column in zip(*rows)]
     for row in rows:
         fields = [
-            text.rjust(width) if 3 <= place <= 5 else text.ljust(width)
+            text.rjust(width) if 3 <= place < len(row) - 1 else text.ljust(width)
             for place, (text, width) in enumerate(zip(row, widths))
         ]
         yield "  ".join(fields).rstrip()
@@ -115,5 +136,5 @@ def summary_text(manifest: Manifest, ledger: Ledger, output: Output) -> str:
     for block, name, last in named:
         if last and not block.window and block.period == manifest.period:
             lines += ["", f"The flows of {name}:", ""]
-            lines += table([_HEADS, *map(_columns, block.streams)])
+            lines += _flows(block, manifest.has_deviations)
     return "".join(f"{one_line(line)}\n" for line in lines)

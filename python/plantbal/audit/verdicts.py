@@ -9,7 +9,7 @@ from difflib import get_close_matches
 from pathlib import Path
 
 from plantbal.audit.asks import ReportBlock, asked, places_of, some
-from plantbal.explain import Explanation, Field, Text, Told, picture, shown
+from plantbal.explain import ExplainedRow, Explanation, Field, Text, picture, shown
 from plantbal.faults import InputFault, Place, read_bytes
 from plantbal.program import call
 from plantbal.records import Record
@@ -103,12 +103,12 @@ def _fault_of(block: ReportBlock, verdict: Values) -> _At:
     return _At(nodal or measure, "verdict")
 
 
-def _told(text: Text, verdict: Values, at: _At, head: str, said: str) -> Told:
+def _told(text: Text, verdict: Values, at: _At, head: str, said: str) -> ExplainedRow:
     """Return what is said of a row of a report."""
     code = int(verdict["code"])
     if at.record is None:
         sentence = f"{head}: {said}; its row isn't found in this file"
-        return Told(text.source, 0, 0, code, verdict["word"], sentence)
+        return ExplainedRow(text.source, 0, 0, code, verdict["word"], sentence)
     record, places, fields = at.record, places_of(at.record), text.fields(at.record)
     label = at.first
     begin = places.get(at.first, 0)
@@ -123,7 +123,7 @@ def _told(text: Text, verdict: Values, at: _At, head: str, said: str) -> Told:
         labels = [name.upper() for name in list(places)[begin - 1 : places.get(at.last, begin)]]
         head += f": {some(labels)}" if at.last else f": {label.upper()} is {value!r}"
     sentence = f"{head}: {said}" + (f"; {at.note}" if at.note else "")
-    return Told(
+    return ExplainedRow(
         file=text.source,
         line=number,
         record=record.number,
@@ -136,7 +136,7 @@ def _told(text: Text, verdict: Values, at: _At, head: str, said: str) -> Told:
     )
 
 
-def _no(text: Text, blocks: list[ReportBlock], number: int, verdict: Values) -> Told:
+def _no(text: Text, blocks: list[ReportBlock], number: int, verdict: Values) -> ExplainedRow:
     """Return what is said of a `no`."""
     code = int(verdict["code"])
     at = _fault_of(blocks[number], verdict) if number < len(blocks) else _At(None)
@@ -222,7 +222,7 @@ class _Seen:
     def wanted(self) -> str:
         """Return which row may stand next."""
         if self.head is None:
-            return f"a report row, or one that may stand between blocks ({_PASSED_OVER}),"
+            return f"a report row, or one that may be between blocks ({_PASSED_OVER}),"
         fields = self.head.fields
         for kind, have, at in (("node", self.nodes, 3), ("stream", self.streams, 4)):
             count = whole_number(fields[at], 0, None) if at < len(fields) else None
@@ -372,7 +372,7 @@ def _said_of(text: Text, record: Record, code: int, seen: _Seen) -> tuple[_At, s
     return _At(record, "name"), "the first node of a block has to be env, the world outside"
 
 
-def _unreadable(text: Text, verdict: Values) -> Told:
+def _unreadable(text: Text, verdict: Values) -> ExplainedRow:
     """Return what is said of a row that can't be read."""
     at, code = int(verdict["at"]), int(verdict["code"])
     record = next((each for each in text.records if each.number == at), None)
@@ -383,14 +383,14 @@ def _unreadable(text: Text, verdict: Values) -> Told:
             "the file ends within a block: its end row is missing; it was cut on the way, so ask "
             "for it again"
         )
-        return Told(text.source, max(1, ends), 0, code, verdict["word"], sentence)
+        return ExplainedRow(text.source, max(1, ends), 0, code, verdict["word"], sentence)
     where, said = _said_of(text, record, code, _Seen(text, at))
     head = f"row {at} can't be read ({code} {verdict['word']}), and nothing after it is judged: "
     head += " ".join(filter(None, record.fields[:2]))
     return _told(text, verdict, where, head, said)
 
 
-def _whole(source: str, failed: int) -> list[Told]:
+def _whole(source: str, failed: int) -> list[ExplainedRow]:
     """Return what is to be done about blocks that fail."""
     if not failed:
         return []
@@ -399,7 +399,7 @@ def _whole(source: str, failed: int) -> list[Told]:
         f"{blocks}, and no report that plantbal writes does: it was changed since, or another "
         "program made it; run its session again, or send it back to whoever made it"
     )
-    return [Told(source, 0, 0, 0, "", said)]
+    return [ExplainedRow(source, 0, 0, 0, "", said)]
 
 
 def explain_check(
@@ -450,7 +450,7 @@ def explain_check(
         )
     judge_rows(rows, name, checks=True)
     text = Text(source, data)
-    blocks, found, number = _blocks(text), list[Told](), 0
+    blocks, found, number = _blocks(text), list[ExplainedRow](), 0
     for row in rows:
         if row["row"] == "no":
             found.append(_no(text, blocks, number, row))

@@ -33,7 +33,7 @@ _FIRST = "2000-01-01"
 
 
 @dataclass(frozen=True)
-class Pull:
+class AssayPull:
     """What assays say of a flow, as a measurement.
 
     Attributes
@@ -49,7 +49,7 @@ class Pull:
     variance: float
 
 
-def pulls_of(found: Solution, known: Known) -> list[Pull]:
+def pulls_of(found: Solution, known: Known) -> list[AssayPull]:
     """Return the measurements to which the assays amount.
 
     Parameters
@@ -80,7 +80,7 @@ def pulls_of(found: Solution, known: Known) -> list[Pull]:
             gain = _LEAST_GAIN / max(after, _LEAST_VARIANCE)
         variance = 1 / gain
         value = found.flow(flow.name) - variance * pull
-        rows.append(Pull(flow.name, value, variance))
+        rows.append(AssayPull(flow.name, value, variance))
     return rows
 
 
@@ -98,7 +98,7 @@ def _forces(found: Solution) -> Any:
     return jacobian.T @ multipliers
 
 
-def session_of(problem: Problem, pulls: list[Pull], period: str) -> str:
+def session_of(problem: Problem, pulls: list[AssayPull], period: str) -> str:
     """Return the session of the mass balance with what assays amount to.
 
     A stream that was measured and assayed has one figure: the mean of both by their weights. The id

@@ -8,7 +8,7 @@ from pathlib import Path
 from typing import Any
 
 from plantbal.balance.grades import Grade, Grades, unit_of
-from plantbal.balance.worth import Change
+from plantbal.balance.worth import SpreadChange
 from plantbal.report.chart import BAND, DARK, INK, begin_drawing, save
 
 # Rows of a panel take so many inches, and what is around them.
@@ -82,12 +82,12 @@ def _panel(axes: Any, component: str, rows: list[Grade]) -> None:
         axes.spines[side].set_visible(False)
 
 
-def write_worth(changes: Sequence[Change], out: Path, form: str) -> None:
+def write_worth(changes: Sequence[SpreadChange], out: Path, form: str) -> None:
     """Write the chart of the ± of all flows before and after a change.
 
     Parameters
     ----------
-    changes : sequence of Change
+    changes : sequence of SpreadChange
         The flows' ± before and after; those of grades aren't drawn.
     out : Path
         Where it goes.

@@ -15,7 +15,7 @@ from collections.abc import Callable, Sequence
 from dataclasses import dataclass
 
 from plantbal.balance.known import Class, Known
-from plantbal.balance.worth import Instrument, State, deviation_of
+from plantbal.balance.worth import Instrument, PeriodState, deviation_of
 from plantbal.faults import Fault
 
 Aim = Callable[[Sequence[Instrument]], bool]
@@ -47,7 +47,7 @@ class Choice:
         return self.cost <= self.bound + 0.5
 
 
-def within(state: State, wanted: dict[str, float]) -> Aim:
+def within(state: PeriodState, wanted: dict[str, float]) -> Aim:
     """Return the aim that the ± of each of some streams is at most what is wanted, in tonnes."""
 
     def reached(bought: Sequence[Instrument]) -> bool:
@@ -57,7 +57,7 @@ def within(state: State, wanted: dict[str, float]) -> Aim:
     return reached
 
 
-def redundant(state: State, streams: Sequence[str]) -> Aim:
+def redundant(state: PeriodState, streams: Sequence[str]) -> Aim:
     """Return the aim that streams are known even if any one meter or assay fails."""
 
     def knows(known: Known) -> bool:
@@ -153,13 +153,13 @@ def _hitting(
 
 
 def best_for(
-    state: State, offers: Sequence[Instrument], streams: Sequence[str], budget: int
+    state: PeriodState, offers: Sequence[Instrument], streams: Sequence[str], budget: int
 ) -> tuple[Choice, float]:
     """Return what a budget buys so that the greatest ± of some streams is as small as can be.
 
     Parameters
     ----------
-    state : State
+    state : PeriodState
         The plant.
     offers : sequence of Instrument
         What could be bought.
@@ -207,7 +207,7 @@ def best_for(
     return best, high
 
 
-def _ratio(state: State, choice: Choice, least: dict[str, float]) -> float:
+def _ratio(state: PeriodState, choice: Choice, least: dict[str, float]) -> float:
     """Return how many times the ± with all offers a choice has."""
     known = state.with_([*state.here, *choice.instruments])
     return max(deviation_of(known, name) / own if own else 1.0 for name, own in least.items())

@@ -12,10 +12,10 @@ from pathlib import Path
 from plantbal.balance.certify import pulls_of, session_of
 from plantbal.balance.known import Class, Known
 from plantbal.balance.pulps import with_water
-from plantbal.balance.reading import GRAMS, Asked, asked_of
+from plantbal.balance.reading import GRAMS, AskedPeriod, asked_of
 from plantbal.balance.solve import solve
 from plantbal.balance.stock import Held, held_of, lines_of_stocks, stocks_of, unknown_stocks
-from plantbal.balance.table import SOLIDS, Line, Unit, lines_of, recoveries_of, said_of
+from plantbal.balance.table import SOLIDS, BalanceLine, FigureUnit, lines_of, recoveries_of, said_of
 from plantbal.commands.options import add_program
 from plantbal.faults import Fault, read_bytes, WordsFault
 from plantbal.files import replacing, write_text
@@ -106,7 +106,7 @@ def add_arguments(parser: argparse.ArgumentParser) -> None:
     add_program(parser)
 
 
-def _asked(options: argparse.Namespace) -> Asked:
+def _asked(options: argparse.Namespace) -> AskedPeriod:
     """Return what is to be balanced."""
     source, data = read_bytes(options.session, SESSION_BYTES)
     plant_of(source, data)  # says what is wrong with the session
@@ -168,7 +168,9 @@ def _chart(path: str, known: Known) -> None:
         write_chart(of_known(known), made, form)
 
 
-def notes_of(asked: Asked, known: Known, lines: Iterable[Line], held: Held) -> Iterable[str]:
+def notes_of(
+    asked: AskedPeriod, known: Known, lines: Iterable[BalanceLine], held: Held
+) -> Iterable[str]:
     """Yield what is to be said of a balance beside its figures."""
     for said in asked.left_out:
         yield f"left out: {said}"
@@ -225,7 +227,9 @@ class Certificate:
             yield "proved: balance and bounds of mass; only computed: grades, ±, best fit"
 
 
-def certificate_of(lines: Iterable[Line], output: Output, program: str | None) -> Certificate:
+def certificate_of(
+    lines: Iterable[BalanceLine], output: Output, program: str | None
+) -> Certificate:
     """Return how far flows are from those that the program certified."""
     blocks = list(last_blocks(output.blocks_in_order).values())
     if not blocks or list(check(output, program=program)["verdict"]) != ["yes"]:
@@ -242,7 +246,7 @@ def certificate_of(lines: Iterable[Line], output: Output, program: str | None) -
     return Certificate(True, stream, tonnes, part)
 
 
-def _text(known: Known, lines: list[Line], feeds: Sequence[str]) -> Iterable[str]:
+def _text(known: Known, lines: list[BalanceLine], feeds: Sequence[str]) -> Iterable[str]:
     """Yield the table to be read."""
     alone, beside = known.system.problem.alone, {SOLIDS, *known.system.problem.ratios}
     wide = max(len(line.stream) for line in lines)
@@ -254,7 +258,7 @@ def _text(known: Known, lines: list[Line], feeds: Sequence[str]) -> Iterable[str
             and line.stream not in alone
         ):
             continue  # few streams have their water measured
-        is_part, is_own = line.unit is Unit.PART, not line.component or line.stream in alone
+        is_part, is_own = line.unit is FigureUnit.PART, not line.component or line.stream in alone
         factor, digits = (100.0, 4) if is_part else (1.0, 3)
         name = line.stream if is_own else line.component
         shown = [
@@ -276,7 +280,7 @@ def _text(known: Known, lines: list[Line], feeds: Sequence[str]) -> Iterable[str
         yield f"recovery of {part.component} in {part.stream}: {part.part:.2%} ±{part.sd:.2%}"
 
 
-def _csv(known: Known, lines: list[Line], feeds: Sequence[str]) -> Iterable[str]:
+def _csv(known: Known, lines: list[BalanceLine], feeds: Sequence[str]) -> Iterable[str]:
     """Yield the table in CSV."""
     heads = "stream component unit kind measured measured_sd value sd adjustment".split()
     yield ",".join([*heads, "evidence"])
@@ -285,7 +289,7 @@ def _csv(known: Known, lines: list[Line], feeds: Sequence[str]) -> Iterable[str]
         yield ",".join([*cells, " ".join(f"{c or 'mass'}@{node}" for c, node in line.evidence)])
 
 
-def _json(known: Known, lines: list[Line], feeds: Sequence[str]) -> Iterable[str]:
+def _json(known: Known, lines: list[BalanceLine], feeds: Sequence[str]) -> Iterable[str]:
     """Yield the table in JSON."""
     yield json.dumps([line.as_dict() for line in lines], indent=1)
 

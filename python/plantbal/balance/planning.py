@@ -8,12 +8,13 @@ from collections.abc import Iterator, Sequence
 from fractions import Fraction
 from pathlib import Path
 
+from plantbal.balance.causes import BalanceCause
 from plantbal.balance.choose import Choice, best_for, cheapest, redundant, within
 from plantbal.balance.known import Known
 from plantbal.balance.reading import GRAMS, MILLION, asked_of
 from plantbal.balance.solve import solve
 from plantbal.balance.table import lines_of
-from plantbal.balance.worth import Change, Instrument, State, changed, changes_of
+from plantbal.balance.worth import Instrument, PeriodState, SpreadChange, changed, changes_of
 from plantbal.faults import Fault, InputFault, Place, WordsFault
 from plantbal.files import replacing, write_text
 from plantbal.report.chart import ENDINGS
@@ -24,20 +25,20 @@ from plantbal.workbook.sheets import Cell, Sheet, read_workbook
 _HEADS = ("stream", "component", "cost", "error")
 
 
-def state_of(data: bytes, period: str, source: str, program: str | None) -> State:
+def state_of(data: bytes, period: str, source: str, program: str | None) -> PeriodState:
     """Return the flows and grades of a period, on which other measurements are put."""
     asked = asked_of(data, period, source=source, program=program, mass_alone=True)
-    return State(Known(solve(asked.problem)))
+    return PeriodState(Known(solve(asked.problem)))
 
 
-def offers_of(path: str, state: State, locale: str = "") -> list[Instrument]:
+def offers_of(path: str, state: PeriodState, locale: str = "") -> list[Instrument]:
     """Return what could be bought, by a table of stream, component, cost and error.
 
     Parameters
     ----------
     path : str
         The table, CSV or xlsx. Without a component an offer is a meter.
-    state : State
+    state : PeriodState
         The plant. An error in percent is one of its flow or grade.
     locale : str
         Whose numbers are read.
@@ -53,20 +54,22 @@ def offers_of(path: str, state: State, locale: str = "") -> list[Instrument]:
         stream, component = cells["stream"].text, cells["component"].text
         if stream not in state.problem.place:
             remedy = f"say one of {', '.join(state.problem.place)}"
-            raise reader.fault(cells["stream"], f"there is no stream {stream}", remedy, "stream")
+            what = BalanceCause.NO_STREAM(name=stream)
+            raise reader.fault(cells["stream"], what, remedy, "stream")
         if component and component not in state.problem.components:
             there = ", ".join(state.problem.components) or "none"
-            what = f"no grade of {component} is known in the period"
+            what = BalanceCause.NO_GRADE(component=component)
             raise reader.fault(cells["component"], what, f"there are those of {there}", "component")
         cost = reader.number(cells["cost"], "cost")
         if cost != int(cost) or cost < 0:
             remedy = "write a whole number from 0, in any unit, such as cents"
-            raise reader.fault(cells["cost"], f"{cells['cost'].text} is no cost", remedy, "cost")
+            what = BalanceCause.NOT_A_COST(text=cells["cost"].text)
+            raise reader.fault(cells["cost"], what, remedy, "cost")
         one = Instrument(
             stream, component, _deviation(reader, state, stream, component, cells["error"])
         )
         if any((each.stream, each.component) == (stream, component) for each in found):
-            what = f"{one.said} stands above too"
+            what = BalanceCause.OFFER_TWICE(offer=one.said)
             raise reader.fault(cells["stream"], what, "leave one of both out", "stream")
         found.append(Instrument(stream, component, one.deviation, int(cost)))
     return found
@@ -91,7 +94,9 @@ def _rows_of(path: str) -> Iterator[dict[str, Cell]]:
     raise InputFault(what, place=Place(file=path), remedy=remedy)
 
 
-def _deviation(reader: Reader, state: State, stream: str, component: str, cell: Cell) -> float:
+def _deviation(
+    reader: Reader, state: PeriodState, stream: str, component: str, cell: Cell
+) -> float:
     """Return an error as tonnes of the period, or as a fraction of a grade."""
     if component:
         grade = Fraction(state.grade(stream, component) * MILLION)
@@ -101,13 +106,14 @@ def _deviation(reader: Reader, state: State, stream: str, component: str, cell: 
         share = float(error.share) * abs(state.flow(stream))
         found = max(share, float(error.grams) / GRAMS)
     if not found > 0:
-        what = f"{cell.text} is no error of {component or 'a meter'} in {stream}"
+        of = component or "a meter"
+        what = BalanceCause.NOT_AN_ERROR_OF(text=cell.text, what=of, stream=stream)
         remedy = f"write one that isn't 0, such as {'2 %' if component else '1.5 % or 20 t'}"
         raise reader.fault(cell, what, remedy, "error")
     return found
 
 
-def named(text: str, state: State) -> Instrument:
+def named(text: str, state: PeriodState) -> Instrument:
     """Return what STREAM or STREAM:COMPONENT=ERROR names, with its error if there is one."""
     name, _, error = text.partition("=")
     stream, _, component = name.partition(":")
@@ -174,7 +180,7 @@ def run(options: argparse.Namespace, source: str, data: bytes) -> int:
     return ExitStatus.GOOD
 
 
-def _with_error(text: str, state: State) -> Instrument:
+def _with_error(text: str, state: PeriodState) -> Instrument:
     """Return what is to be added."""
     found = named(text, state)
     if not found.deviation:
@@ -184,7 +190,7 @@ def _with_error(text: str, state: State) -> Instrument:
 
 
 def _bought(
-    options: argparse.Namespace, state: State, offers: Sequence[Instrument]
+    options: argparse.Namespace, state: PeriodState, offers: Sequence[Instrument]
 ) -> tuple[Choice, str]:
     """Return what is bought for the aim, and the aim in words."""
     if not offers:
@@ -229,13 +235,13 @@ def _choice_lines(choice: Choice, said: str) -> Iterator[str]:
         yield f"  {each.said:{wide}}  {each.cost:>10,}  {error}"
 
 
-def _shown(change: Change, number: float) -> str:
+def _shown(change: SpreadChange, number: float) -> str:
     if number == float("inf"):
         return "unknown"
     return f"{number * 100:.4f} %" if change.component else f"{number:,.3f} t"
 
 
-def _text(changes: Sequence[Change], is_changed: bool) -> Iterator[str]:
+def _text(changes: Sequence[SpreadChange], is_changed: bool) -> Iterator[str]:
     """Give the table to be read."""
     heads = ("± now", "± then", "") if is_changed else ("± now", "", "")
     wide = max(len(each.stream) + 2 for each in changes)
@@ -251,7 +257,7 @@ def _text(changes: Sequence[Change], is_changed: bool) -> Iterator[str]:
         yield f"{name:{wide}}  {'':6}{now:>16}{then if is_changed else '':>16}{part:>8}  {kind}"
 
 
-def _csv(changes: Sequence[Change]) -> Iterator[str]:
+def _csv(changes: Sequence[SpreadChange]) -> Iterator[str]:
     """Give the table in CSV, with all digits; nothing for what isn't known."""
     yield "stream,component,before,after,class_before,class_after"
     for each in changes:
@@ -260,7 +266,7 @@ def _csv(changes: Sequence[Change]) -> Iterator[str]:
         yield ",".join([each.stream, each.component, *numbers, *kinds])
 
 
-def _draw(path: str, changes: Sequence[Change]) -> None:
+def _draw(path: str, changes: Sequence[SpreadChange]) -> None:
     """Draw the ± of the flows before and after."""
     from plantbal.balance.chart import write_worth
 

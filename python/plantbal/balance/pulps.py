@@ -13,6 +13,7 @@ from collections.abc import Iterator
 from dataclasses import replace
 from enum import Enum
 
+from plantbal.balance.causes import BalanceCause
 from plantbal.balance.problem import ENV, Flow, Measured, Problem, solids_of, water_of
 from plantbal.balance.reading import GRAMS, MILLION
 from plantbal.faults import InputFault, Place
@@ -54,8 +55,8 @@ def with_water(problem: Problem, path: str, period: str, locale: str = "") -> Pr
     """
     reader = Reader(check_locale(locale))
     if WATER in problem.components:
-        what = f"{WATER} is both assayed and in {path}"
-        raise InputFault(what, place=Place(file=path), remedy="leave one of both out")
+        both = f"{WATER} is both assayed and in {path}"
+        raise InputFault(both, place=Place(file=path), remedy="leave one of both out")
     flows = {flow.name: flow for flow in problem.flows}
     grades = dict(problem.grades)
     for cells in _rows_of(path):
@@ -63,17 +64,19 @@ def with_water(problem: Problem, path: str, period: str, locale: str = "") -> Pr
             continue
         name, measure = cells["stream"].text, _measure(reader, cells["measure"])
         if (name, WATER) in grades or (name in flows and flows[name].only):
-            what = f"the water of {name} stands above too"
+            what = BalanceCause.WATER_TWICE(name=name)
             raise reader.fault(cells["stream"], what, "leave one of both out", "stream")
         if measure is Measure.WATER:
             if name in flows:
                 remedy = "give water alone a name of its own, or write the solids of the pulp"
-                raise reader.fault(cells["stream"], f"{name} has solids", remedy, "stream")
+                what = BalanceCause.HAS_SOLIDS(name=name)
+                raise reader.fault(cells["stream"], what, remedy, "stream")
             flows[name] = _alone(reader, problem, name, cells)
             continue
         if name not in flows:
             remedy = f"say one of {', '.join(problem.place)}"
-            raise reader.fault(cells["stream"], f"there is no stream {name}", remedy, "stream")
+            what = BalanceCause.NO_STREAM(name=name)
+            raise reader.fault(cells["stream"], what, remedy, "stream")
         solids = _solids(reader, cells) if measure is Measure.SOLIDS else _by_density(reader, cells)
         grades[name, WATER] = water_of(solids)
     return replace(
@@ -111,7 +114,8 @@ def _measure(reader: Reader, cell: Cell) -> Measure:
         return Measure(cell.text.casefold())
     except ValueError:
         remedy = f"write one of {', '.join(each.value for each in Measure)}"
-        raise reader.fault(cell, f"{cell.text!r} is no measure", remedy, "measure") from None
+        what = BalanceCause.NO_MEASURE(text=cell.text)
+        raise reader.fault(cell, what, remedy, "measure") from None
 
 
 def _solids(reader: Reader, cells: dict[str, Cell]) -> Measured:
@@ -127,7 +131,7 @@ def _by_density(reader: Reader, cells: dict[str, Cell]) -> Measured:
     if pulp is None or solids is None:
         head = "value" if pulp is None else "solids density"
         remedy = "write that of the pulp as its value, and that of the dry solids beside it"
-        raise reader.fault(cells[head], "there is no density", remedy, head)
+        raise reader.fault(cells[head], BalanceCause.NO_DENSITY(), remedy, head)
     cell = cells["error"]
     if cell.text.endswith("%"):
         error = reader.error(cell).share * pulp
@@ -141,7 +145,7 @@ def _by_density(reader: Reader, cells: dict[str, Cell]) -> Measured:
 def _measured(reader: Reader, cells: dict[str, Cell], value: float, deviation: float) -> Measured:
     """Return a figure with its error, which must be one."""
     if not deviation > 0:
-        what = f"{cells['error'].text!r} is no error of what was measured"
+        what = BalanceCause.NO_ERROR_OF_MEASURE(text=cells["error"].text)
         raise reader.fault(cells["error"], what, "write one that isn't 0, such as 2 %", "error")
     return Measured(value, deviation**2, cells["value"].place("value"))
 
@@ -153,17 +157,17 @@ def _alone(reader: Reader, problem: Problem, name: str, cells: dict[str, Cell]) 
         node = cells[head].text or ENV
         if node != ENV and node not in problem.nodes:
             remedy = f"say one of {', '.join(problem.nodes)}, or leave it empty for outside"
-            raise reader.fault(cells[head], f"there is no unit {node}", remedy, head)
+            raise reader.fault(cells[head], BalanceCause.NO_UNIT(name=node), remedy, head)
         ends.append(node)
     if ends[0] == ends[1]:
-        what = f"{name} begins and ends at {ends[0]}"
+        what = BalanceCause.SAME_ENDS(name=name, node=ends[0])
         raise reader.fault(cells["from"], what, "write its ends into from and to", "from")
     if reader.is_missing(cells["value"]):
         return Flow(name, ends[0], ends[1], only=WATER)
     unit = reader.unit(cells["unit"], UNITS | VOLUMES, "t")
     grams = reader.grams(cells["value"], unit, DENSITIES["t/m3"], "value")
     if grams < 0:
-        what = f"{cells['value'].text} of water is below nothing"
+        what = BalanceCause.WATER_BELOW_0(text=cells["value"].text)
         raise reader.fault(cells["value"], what, "exchange its ends", "value")
     error = reader.error(cells["error"], DENSITIES["t/m3"])
     deviation = max(float(error.share) * grams, float(error.grams)) / GRAMS

@@ -17,7 +17,7 @@ MILLION = 1e6
 
 
 @dataclass(frozen=True)
-class Asked:
+class AskedPeriod:
     """A period of a session as a problem, with what the program says of its mass alone.
 
     Attributes
@@ -47,7 +47,7 @@ def asked_of(
     source: str = "session",
     program: str | None = None,
     mass_alone: bool = False,
-) -> Asked:
+) -> AskedPeriod:
     """Return a period of a session as a problem.
 
     Parameters
@@ -96,7 +96,7 @@ def asked_of(
             remedy="a balance of flows and grades needs assays: plantbal report balances mass alone",
         )
     problem = Problem(tuple(flows), tuple(named), grades, frozenset(closed))
-    return Asked(period, problem, mass, tuple(left_out))
+    return AskedPeriod(period, problem, mass, tuple(left_out))
 
 
 def flows_of(mass: Block) -> list[Flow]:

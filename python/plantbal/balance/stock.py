@@ -14,7 +14,7 @@ from dataclasses import dataclass
 from plantbal.balance.known import Class, Known
 from plantbal.balance.problem import Measured
 from plantbal.balance.reading import GRAMS, MILLION
-from plantbal.balance.table import Line, Unit
+from plantbal.balance.table import BalanceLine, FigureUnit
 from plantbal.faults import Fault
 from plantbal.workbook.cells import Reader
 from plantbal.workbook.sheets import Cell, Sheet
@@ -24,7 +24,7 @@ Held = dict[tuple[str, str], Measured]
 
 
 @dataclass(frozen=True)
-class Stock:
+class HeldStock:
     """What a tank holds after a period.
 
     Attributes
@@ -85,7 +85,7 @@ def held_of(texts: Sequence[str], known: Known) -> Held:
     return found
 
 
-def stocks_of(known: Known, held: Held) -> Iterator[Stock]:
+def stocks_of(known: Known, held: Held) -> Iterator[HeldStock]:
     """Yield what is known of the tanks' grades after the period.
 
     Raises
@@ -116,19 +116,19 @@ def stocks_of(known: Known, held: Held) -> Iterator[Stock]:
             mass.value / tonnes * math.sqrt(before.variance),
         )
         tonnes_sd = math.hypot(math.sqrt(mass.variance), known.deviation(flow))
-        yield Stock(tank, component, tonnes, tonnes_sd, grade, math.hypot(*parts))
+        yield HeldStock(tank, component, tonnes, tonnes_sd, grade, math.hypot(*parts))
 
 
-def lines_of_stocks(stocks: Iterable[Stock]) -> Iterator[Line]:
+def lines_of_stocks(stocks: Iterable[HeldStock]) -> Iterator[BalanceLine]:
     """Yield stocks as lines of a table: their tonnes, and below them the grades."""
     last, none = "", float("nan")
     for stock in stocks:
         name = f"stock of {stock.tank}"
-        figures = [(stock.component, Unit.PART, stock.grade, stock.grade_sd)]
+        figures = [(stock.component, FigureUnit.PART, stock.grade, stock.grade_sd)]
         if name != last:
-            figures.insert(0, ("", Unit.TONNES, stock.tonnes, stock.tonnes_sd))
+            figures.insert(0, ("", FigureUnit.TONNES, stock.tonnes, stock.tonnes_sd))
         for component, unit, value, sd in figures:
-            yield Line(name, component, unit, Class.OBSERVABLE, none, none, value, sd, none)
+            yield BalanceLine(name, component, unit, Class.OBSERVABLE, none, none, value, sd, none)
         last = name
 
 

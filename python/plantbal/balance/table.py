@@ -14,7 +14,7 @@ _NAN = float("nan")
 SOLIDS = "solids"
 
 
-class Unit(Enum):
+class FigureUnit(Enum):
     """What a figure is in."""
 
     TONNES = "t"
@@ -22,14 +22,14 @@ class Unit(Enum):
 
 
 @dataclass(frozen=True)
-class Line:
+class BalanceLine:
     """A flow or a grade.
 
     Attributes
     ----------
     stream, component : str
         Of what; the component is empty if it is the flow.
-    unit : Unit
+    unit : FigureUnit
         In what: a flow in tonnes, and so is what comes beside the mass, such as water.
     kind : Class
         What it rests on.
@@ -45,7 +45,7 @@ class Line:
 
     stream: str
     component: str
-    unit: Unit
+    unit: FigureUnit
     kind: Class
     measured: float
     measured_sd: float
@@ -60,7 +60,7 @@ class Line:
         return found | {"kind": self.kind.value, "unit": self.unit.value}
 
 
-def lines_of(known: Known) -> Iterator[Line]:
+def lines_of(known: Known) -> Iterator[BalanceLine]:
     """Yield the flows in the order of the streams, each followed by its grades.
 
     A component beside the mass, such as water, has two lines: the part that is solids, and tonnes.
@@ -79,7 +79,7 @@ class _Figure:
     stream: str
     component: str
     shown: str
-    unit: Unit
+    unit: FigureUnit
     kind: Class
     gradient: dict[int, float]
 
@@ -92,31 +92,31 @@ def _figures(known: Known) -> Iterator[_Figure]:
         if flow.only:
             gradient = known.carried_gradient(name, flow.only)
             kind = known.class_of(name, flow.only)
-            yield _Figure(name, flow.only, flow.only, Unit.TONNES, kind, gradient)
+            yield _Figure(name, flow.only, flow.only, FigureUnit.TONNES, kind, gradient)
             continue
-        yield _Figure(name, "", "", Unit.TONNES, known.class_of(name), known.gradient(name))
+        yield _Figure(name, "", "", FigureUnit.TONNES, known.class_of(name), known.gradient(name))
         for component in problem.components:
             kind, gradient = known.class_of(name, component), known.gradient(name, component)
             if component not in problem.ratios:
-                yield _Figure(name, component, component, Unit.PART, kind, gradient)
+                yield _Figure(name, component, component, FigureUnit.PART, kind, gradient)
                 continue
-            yield _Figure(name, component, SOLIDS, Unit.PART, kind, gradient)
+            yield _Figure(name, component, SOLIDS, FigureUnit.PART, kind, gradient)
             if kind is not Class.UNOBSERVABLE and known.class_of(name) is Class.UNOBSERVABLE:
                 kind = Class.UNOBSERVABLE
             elif kind is not Class.UNOBSERVABLE:
                 kind = Class.OBSERVABLE
             carried = known.carried_gradient(name, component)
-            yield _Figure(name, component, component, Unit.TONNES, kind, carried)
+            yield _Figure(name, component, component, FigureUnit.TONNES, kind, carried)
 
 
-def _line(known: Known, figure: _Figure, sd: float) -> Line:
+def _line(known: Known, figure: _Figure, sd: float) -> BalanceLine:
     """Return the line of a figure."""
     system, found = known.system, known.solution
     stream, component = figure.stream, figure.component
     head = (stream, figure.shown, figure.unit, figure.kind)
     if figure.kind is Class.UNOBSERVABLE:
-        return Line(*head, _NAN, _NAN, _NAN, _NAN, _NAN)
-    is_amount = figure.unit is Unit.TONNES
+        return BalanceLine(*head, _NAN, _NAN, _NAN, _NAN, _NAN)
+    is_amount = figure.unit is FigureUnit.TONNES
     if not component:
         value = found.flow(stream)
     else:
@@ -137,7 +137,7 @@ def _line(known: Known, figure: _Figure, sd: float) -> Line:
     if figure.shown == SOLIDS:  # of the ratio r: 1 / (1 + r), which falls if r rises
         measured, measured_sd = 1 / (1 + measured), measured_sd / (1 + measured) ** 2
         value, sd, adjusted = 1 / (1 + value), sd / (1 + value) ** 2, -adjusted
-    return Line(*head, measured, measured_sd, value, sd, adjusted, evidence)
+    return BalanceLine(*head, measured, measured_sd, value, sd, adjusted, evidence)
 
 
 @dataclass(frozen=True)

@@ -44,7 +44,7 @@ class Instrument:
 
 
 @dataclass(frozen=True)
-class Change:
+class SpreadChange:
     """The ± of a flow or a grade before and after.
 
     Attributes
@@ -66,7 +66,7 @@ class Change:
 
 
 @dataclass(frozen=True)
-class State:
+class PeriodState:
     """The flows and grades of a period, on which other measurements are put.
 
     Attributes
@@ -151,14 +151,14 @@ class Planned(Problem):
         """Refuse nothing: the plant was accepted with its present measurements."""
 
 
-def changes_of(state: State, before: Known, after: Known) -> list[Change]:
+def changes_of(state: PeriodState, before: Known, after: Known) -> list[SpreadChange]:
     """Return the ± of all flows and grades before and after."""
     found = []
     for flow in state.problem.flows:
         for component in ("", *state.problem.components):
             name = flow.name
             found.append(
-                Change(
+                SpreadChange(
                     name,
                     component,
                     deviation_of(before, name, component),
@@ -179,7 +179,7 @@ def deviation_of(known: Known, stream: str, component: str = "") -> float:
     return known.flow_deviation(stream)
 
 
-def changed(state: State, add: Iterable[Instrument], lose: Iterable[Instrument]) -> Known:
+def changed(state: PeriodState, add: Iterable[Instrument], lose: Iterable[Instrument]) -> Known:
     """Return what is known with some instruments more and some fewer.
 
     Raises

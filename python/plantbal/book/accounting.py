@@ -17,7 +17,7 @@ from plantbal.accounts.reading import accounts_text, parse_accounts
 from plantbal.accounts.sheet import Accounts
 from plantbal.accounts.trend import Unusual, unusual
 from plantbal.book.forms import ACCOUNTS, report_file, year_file
-from plantbal.book.journal import Line
+from plantbal.book.journal import JournalLine
 from plantbal.book.overview import report_state
 from plantbal.book.results import ReportState
 from plantbal.book.said import counted, waiting_said
@@ -67,7 +67,7 @@ def put_accounts(before: Accounts, new: Accounts, book: Store, action: Action) -
 
 
 @dataclass(frozen=True)
-class Version:
+class ReportVersion:
     """A report of a period, as it is or was.
 
     Attributes
@@ -78,7 +78,7 @@ class Version:
         The report.
     seen : int
         How many rows of the year it saw.
-    line : Line
+    line : JournalLine
         The line of the journal that says so.
     """
 
@@ -86,10 +86,10 @@ class Version:
     year: str
     text: str
     seen: int
-    line: Line
+    line: JournalLine
 
 
-def versions_of(book: Store) -> dict[str, Version]:
+def versions_of(book: Store) -> dict[str, ReportVersion]:
     """Return the report of each period that has one, in the order of the periods' last days."""
     found = {}
     for year in book.years:
@@ -101,7 +101,7 @@ def versions_of(book: Store) -> dict[str, Version]:
     return found
 
 
-def version_of(book: Store, period: str, year: str, text: str) -> Version:
+def version_of(book: Store, period: str, year: str, text: str) -> ReportVersion:
     """Return a text as a report of a period, with the rows that it saw.
 
     Raises
@@ -114,7 +114,7 @@ def version_of(book: Store, period: str, year: str, text: str) -> Version:
         kept = line.files.get(report_file(period))
         rows = line.files.get(year_file(year))
         if kept is not None and kept.digest == digest and rows is not None and rows.lines:
-            return Version(period, year, text, rows.lines, line)
+            return ReportVersion(period, year, text, rows.lines, line)
     raise InputFault(
         f"the journal doesn't say which rows the report of {period} saw",
         place=Place(file=str(book.path(report_file(period)))),
@@ -122,14 +122,14 @@ def version_of(book: Store, period: str, year: str, text: str) -> Version:
     )
 
 
-def months_of(book: Store, versions: Mapping[str, Version]) -> list[Month]:
+def months_of(book: Store, versions: Mapping[str, ReportVersion]) -> list[Month]:
     """Return the months of reports, in the order of their days.
 
     Parameters
     ----------
     book : Store
         The book.
-    versions : mapping of str to Version
+    versions : mapping of str to ReportVersion
         The reports by their periods.
     """
     found: list[Month] = []
@@ -140,7 +140,7 @@ def months_of(book: Store, versions: Mapping[str, Version]) -> list[Month]:
     return sorted(found, key=lambda month: month.last)
 
 
-def _months_of_year(book: Store, year: str, some: list[Version]) -> Iterator[Month]:
+def _months_of_year(book: Store, year: str, some: list[ReportVersion]) -> Iterator[Month]:
     """Give the months of a year's reports."""
     rows = book.text(year_file(year)).splitlines(keepends=True)
     parts, at = [], 0
@@ -154,7 +154,7 @@ def _months_of_year(book: Store, year: str, some: list[Version]) -> Iterator[Mon
         yield Month.of(_block_of(book, each), ledger, ledger.reported[each.period])
 
 
-def _block_of(book: Store, version: Version) -> Block:
+def _block_of(book: Store, version: ReportVersion) -> Block:
     """Return the round of a report that counts.
 
     Raises

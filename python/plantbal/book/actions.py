@@ -7,7 +7,7 @@ from fractions import Fraction
 
 from plantbal.book.forms import year_file
 from plantbal.book.journal import Act
-from plantbal.book.ledger import Ledger
+from plantbal.book.ledger import YearLedger
 
 
 @dataclass
@@ -38,7 +38,7 @@ class Action:
         Files that it has read and leaves as they are, such as the year of a report.
     gone : list of str
         Files that aren't there any more, which it accepts.
-    ledgers : list of Ledger
+    ledgers : list of YearLedger
         The ledgers whose rows it adds.
     anyway : bool
         Whether it is done although something speaks against it.
@@ -59,12 +59,12 @@ class Action:
     rows: list[str] = field(default_factory=list)
     seen: list[str] = field(default_factory=list)
     gone: list[str] = field(default_factory=list)
-    ledgers: list[Ledger] = field(default_factory=list)
+    ledgers: list[YearLedger] = field(default_factory=list)
     anyway: bool = False
     estimated: Fraction = Fraction(0)
     cleared: bool = False
 
-    def add(self, ledger: Ledger) -> None:
+    def add(self, ledger: YearLedger) -> None:
         """Take the rows that were added to a ledger."""
         if ledger.added:
             self.appended[year_file(ledger.name)] = ledger.added_text()

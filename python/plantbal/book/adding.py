@@ -2,34 +2,35 @@
 
 from __future__ import annotations
 
-import calendar
 import datetime
-from collections.abc import Callable, Mapping, Sequence
+from collections.abc import Callable, Iterator, Mapping, Sequence
+from dataclasses import dataclass
 from typing import Protocol
 
+from plantbal.accounts.sheet import Accounts
 from plantbal.book.accounting import accounts_of, put_accounts
 from plantbal.book.changes import Changes, compare, gone, strayed
 from plantbal.book.forms import MEASURES
-from plantbal.book.ledger import FACT_KINDS, PLANT_KINDS, Fact, Ledger, rows_text
+from plantbal.book.declaring import put_periods, put_plant
+from plantbal.book.ledger import FACT_KINDS, BookFact, YearLedger, rows_text
 from plantbal.book.measures import (
     density_changes,
     put_measures,
     put_trails,
     trails_of,
 )
-from plantbal.book.meters import Meter, meters_of, meters_text, read_meters
 from plantbal.book.mapping import mapping_of, put_reading
-from plantbal.book.reading import ANOTHER_VALUE, Given, Tabled, converted, name_of, raise_all
+from plantbal.book.meters import Meter, meters_of, meters_text, read_meters
+from plantbal.book.naming import Names
+from plantbal.book.reading import Given, Tabled, converted, name_of, raise_all
 from plantbal.book.results import Added, YearAdded
 from plantbal.book.said import closed_in, counted, doubts, lacking, odd
-from plantbal.book.forms import MEASURES
 from plantbal.book.store import METERS, PLANT, Act, Action, Store
+from plantbal.book.vanished import PulledSource, lost_of
 from plantbal.book.years import Years
 from plantbal.faults import Fault, InputFault, Refusal
 from plantbal.lint import Finding
-from plantbal.model.causes import Cause, Reason
-from plantbal.records import text_of
-from plantbal.session import Period
+from plantbal.model.causes import Cause
 from plantbal.workbook.converter import Converter
 from plantbal.workbook.options import ReadingOptions
 from plantbal.workbook.sheets import Cell
@@ -38,8 +39,8 @@ from plantbal.workbook.sheets import Cell
 class Reasoned(Protocol):
     """What has a reason for each fact that is changed."""
 
-    def reason_of(self, fact: Fact) -> str:
-        """Return why a booked fact is changed or struck."""
+    def reason_of(self, fact: BookFact, is_gone: bool) -> str:
+        """Return why a booked fact is changed, or struck since it is gone."""
 
 
 # Gives the reason of a change, by what is said of it, or by the fact.
@@ -57,9 +58,59 @@ class Unreasoned(Fault):
 
     def __init__(self, count: int, changes: Sequence[str]) -> None:
         are = "is" if count == 1 else "are"
-        what = f"{counted(count, 'fact')} {are} booked otherwise"
+        what = f"{counted(count, 'fact')} {are} booked with other values"
         super().__init__(what, remedy='say why: --why "typed a digit short"; nothing is booked')
         self.changes = tuple(changes)
+
+
+@dataclass
+class _ReadWorkbook:
+    """A workbook as it was read for a book.
+
+    Attributes
+    ----------
+    book : Store
+        The book, which is open.
+    workbook : str, Path or Tabled
+        The workbook.
+    years : Years
+        The ledgers of the book.
+    into : YearLedger
+        The year of its plant.
+    meters : dict of str to Meter
+        The meters of the book.
+    accounts : Accounts
+        The accounts of the book.
+    how : ReadingOptions
+        How it was read, with what the book keeps of that.
+    work : Converter
+        What it holds.
+    facts : list of BookFact
+        Its facts.
+    odd : dict of str to list of Finding
+        What looked wrong in each year before it.
+    """
+
+    book: Store
+    workbook: Given
+    years: Years
+    into: YearLedger
+    meters: dict[str, Meter]
+    accounts: Accounts
+    how: ReadingOptions
+    work: Converter
+    facts: list[BookFact]
+    odd: Mapping[str, list[Finding]]
+
+    @property
+    def source(self) -> PulledSource | None:
+        """Where its sheets come from, if that is no workbook."""
+        return self.workbook.source if isinstance(self.workbook, Tabled) else None
+
+    @property
+    def found(self) -> dict[str, Meter]:
+        """The meters of the book and those of the workbook."""
+        return self.meters | {meter.name: meter for meter in meters_of(self.work.plant)}
 
 
 def add(
@@ -77,64 +128,117 @@ def add(
     """Add a workbook; the parameters are those of `plantbal.Book.add`."""
     name = name_of(workbook)
     with book.opened(reading=dry_run):
-        before: dict[str, list[Finding]] = {}
-        years = Years(book, lambda ledger: before.update({ledger.name: odd(ledger)}))
-        into = years.named(year)
-        meters = read_meters(book.path(METERS))
-        wide = any(meter.base for meter in meters.values())
-        of_years = years.all() if wide else [into]  # periods are asked only for what they share
-        periods = [each for ledger in of_years for each in ledger.periods.values()]
-        accounts = accounts_of(book)
-        # what comes from a database isn't written as the workbooks of the book are
-        is_tabled = isinstance(workbook, Tabled)
-        kept = reading if is_tabled else reading.kept(mapping_of(book))
-        measures = book.text(MEASURES)
-        work = converted(workbook, kept, into.plant, meters, periods, accounts, measures)
-        facts = [Fact.of(row) for row in work.session if row[0] in (*FACT_KINDS, "late")]
-        raise_all(years.outside(facts))
-        plant = put_plant(into, work)
-        put_periods(years, work, facts)
-        changes = changes_of(years, work, facts, strike)
-        if strike and not anyway:
-            check_most(changes, name)
+        read = _read(book, workbook, year, reading)
+        plant = put_plant(read.into, read.work)
+        put_periods(read.years, read.work, read.facts)
+        changes, strike = _changed(read, strike, anyway)
+        check_reasons(changes, strike, why, [] if why else list(_causes(read, changes)))
         reasons = Reasons(why)
-        found = meters | {meter.name: meter for meter in meters_of(work.plant)}
-        trails = work.measuring.trails
-        causes: list[str] = []
-        if changes.changed and not why:
-            of = trails_of(book), changes.changed, trails, meters, found
-            causes += density_changes(*of)
-        check_reasons(changes, strike, why, causes)
         changes.put(reasons, strike)
-        raise_all(put_assays(years, work))
+        raise_all(put_assays(read.years, read.work))
 
-        action = Action(Act.ADD, what=name, why=reasons.said(), who=who)
+        action = _action(read, who, reasons.said())
         action.anyway = strike and anyway
-        for ledger in years.used:
-            action.add(ledger)
-        if plant and into is years.last:
-            action.written[PLANT] = rows_text(into.plant)
-        if meters_text(found.values()) != meters_text(meters.values()):
-            action.written[METERS] = meters_text(found.values())
-
-        told = put_accounts(accounts, work.accounts, book, action)
-        if reading.mapping is not None and not is_tabled and put_reading(book, kept, action):
-            told.append("mapping.toml: later workbooks are read by it")
-        told += put_measures(book, action, work.measures.found)
-        put_trails(book, action, changes, trails)
-        parts = tuple(_year_added(before, ledger, facts, found) for ledger in years.used)
+        if plant and read.into is read.years.last:
+            action.written[PLANT] = rows_text(read.into.plant)
+        told = _put(read, action, changes, reading)
+        ledgers = read.years.used
+        parts = tuple(_year_added(read.odd, each, read.facts, read.found) for each in ledgers)
         is_booked = not dry_run and bool(action.appended or action.written)
         if is_booked:
             book.do(action)
     closed = tuple(closed_in(changes.edited(strike)))
-    notes = tuple(work.notes)
+    notes = tuple(read.work.notes)
     return Added(name, parts, tuple(told), changes, strike, notes, is_booked, closed)
+
+
+def _read(book: Store, workbook: Given, year: str | None, reading: ReadingOptions) -> _ReadWorkbook:
+    """Read a workbook; what it doesn't have is the book's.
+
+    Raises
+    ------
+    Fault
+        If something is wrong with it, or a fact is of no year.
+    """
+    before: dict[str, list[Finding]] = {}
+    years = Years(book, lambda ledger: before.update({ledger.name: odd(ledger)}))
+    into = years.named(year)
+    meters = read_meters(book.path(METERS))
+    wide = any(meter.base for meter in meters.values())
+    of_years = years.all() if wide else [into]  # periods are asked only for what they share
+    periods = [each for ledger in of_years for each in ledger.periods.values()]
+    accounts = accounts_of(book)
+    # what comes from a database isn't written as the workbooks of the book are
+    how = reading if isinstance(workbook, Tabled) else reading.kept(mapping_of(book))
+    measures = book.text(MEASURES)
+    work = converted(workbook, how, into.plant, meters, periods, accounts, measures)
+    facts = [BookFact.of(row) for row in work.session if row[0] in (*FACT_KINDS, "late")]
+    raise_all(years.outside(facts))
+    return _ReadWorkbook(book, workbook, years, into, meters, accounts, how, work, facts, before)
+
+
+def _changed(read: _ReadWorkbook, strike: bool, anyway: bool) -> tuple[Changes, bool]:
+    """Return what a workbook changes, and whether what is gone is struck.
+
+    Raises
+    ------
+    Fault
+        If most of what is booked would be struck.
+    """
+    given = read.workbook
+    if isinstance(given, Tabled) and given.cleared is not None:
+        changes = changes_of(read.years, read.work, read.facts, False)
+        return without(read.years, changes, given.cleared, read.meters), bool(given.cleared)
+    changes = changes_of(read.years, read.work, read.facts, strike)
+    if read.source is not None:
+        lost = lost_of(read.book, read.years, read.source, read.facts)
+        changes.gone, changes.asked = lost.struck, lost.asked
+        strike = bool(changes.gone)
+    if strike and not anyway:
+        check_most(changes, name_of(given))
+    return changes, strike
+
+
+def _causes(read: _ReadWorkbook, changes: Changes) -> Iterator[str]:
+    """Give the densities by which booked facts would change."""
+    if changes.changed:
+        trails = read.work.measuring.trails
+        of = changes.changed, trails, read.meters, read.found
+        yield from density_changes(trails_of(read.book), *of)
+
+
+def _action(read: _ReadWorkbook, who: str, why: str) -> Action:
+    """Return the action that books what was put to the years."""
+    source = read.source
+    if source is None:
+        action = Action(Act.ADD, what=name_of(read.workbook), why=why, who=who)
+    else:
+        action = Action(Act.PULL, source.name, f"{source.first} to {source.last}", why, who)
+    for ledger in read.years.used:
+        action.add(ledger)
+    return action
+
+
+def _put(
+    read: _ReadWorkbook, action: Action, changes: Changes, reading: ReadingOptions
+) -> list[str]:
+    """Have an action write what a book keeps beside its years, and return what is said of it."""
+    book, work = read.book, read.work
+    if meters_text(read.found.values()) != meters_text(read.meters.values()):
+        action.written[METERS] = meters_text(read.found.values())
+    told = put_accounts(read.accounts, work.accounts, book, action)
+    is_told = reading.mapping is not None and not isinstance(read.workbook, Tabled)
+    if is_told and put_reading(book, read.how, action):
+        told.append("mapping.toml: later workbooks are read by it")
+    told += put_measures(book, action, work.measures.found)
+    put_trails(book, action, changes, work.measuring.trails)
+    return told
 
 
 def _year_added(
     before: Mapping[str, list[Finding]],
-    ledger: Ledger,
-    facts: list[Fact],
+    ledger: YearLedger,
+    facts: list[BookFact],
     meters: dict[str, Meter],
 ) -> YearAdded:
     """Return what was put to a year, what of it looks wrong, and what is missing beside it."""
@@ -143,7 +247,7 @@ def _year_added(
     return YearAdded(ledger.name, tuple(ledger.added), tuple(found), tuple(missing))
 
 
-def changes_of(years: Years, work: Converter, facts: list[Fact], strike: bool) -> Changes:
+def changes_of(years: Years, work: Converter, facts: list[BookFact], strike: bool) -> Changes:
     """Return what a workbook changes.
 
     Raises
@@ -155,6 +259,25 @@ def changes_of(years: Years, work: Converter, facts: list[Fact], strike: bool) -
     raise_all(list(strayed(years, changes, facts)))
     if work.sheets["readings"] or strike:
         changes.gone = gone(years, work, facts)
+    return changes
+
+
+def without(
+    years: Years,
+    changes: Changes,
+    cleared: Sequence[tuple[str, datetime.date]],
+    meters: Mapping[str, Meter],
+) -> Changes:
+    """Return changes with the facts of some places and days gone, and no others.
+
+    Raises
+    ------
+    Fault
+        If one of them has no fact.
+    """
+    names = Names(years, dict(meters))
+    found = [names.find(name, day) for name, day in cleared]
+    changes.gone = [place for each in found if not each.struck for place in each.places]
     return changes
 
 
@@ -194,16 +317,16 @@ class Reasons:
         self.why = why
         self.given: dict[str, str] = {}
 
-    def __call__(self, fact: Fact, said: str) -> str:
+    def __call__(self, fact: BookFact, said: str, *, is_gone: bool = False) -> str:
         """Return the reason of a change."""
         if fact.id not in self.given:
-            self.given[fact.id] = self._reason(fact, said)
+            self.given[fact.id] = self._reason(fact, said, is_gone)
         return self.given[fact.id]
 
-    def _reason(self, fact: Fact, said: str) -> str:
+    def _reason(self, fact: BookFact, said: str, is_gone: bool) -> str:
         if isinstance(self.why, str):
             return self.why
-        return self.why(said) if callable(self.why) else self.why.reason_of(fact)
+        return self.why(said) if callable(self.why) else self.why.reason_of(fact, is_gone)
 
     def said(self) -> str:
         """Return the reasons, each once."""
@@ -280,113 +403,4 @@ def _put_assay(years: Years, row: tuple[str, ...], cells: Mapping[str, Cell]) ->
             f"{int(row[4]):,} ppm in the workbook, or another error",
             place=cells["ppm"].place(),
             remedy=remedy,
-        )
-
-
-# ---- the plant and the periods
-
-
-def put_plant(ledger: Ledger, work: Converter) -> int:
-    """Put what is new of the plant to a ledger, and return how many rows are.
-
-    Raises
-    ------
-    Fault
-        If something of it is otherwise in the book, or a period is closed already.
-    """
-    if not any(work.sheets[kind] for kind in ("streams", "rows", "critical", "settings")):
-        return 0
-    there = set(ledger.plant)
-    others = ("version", "strap", "critical")
-    names = {row[1]: row for row in ledger.plant if row[0] not in others}
-    count = 0
-    for row in work.session:
-        if row[0] not in PLANT_KINDS or row in there:
-            continue
-        if row[1] in names and row[0] != "strap":
-            was = text_of(names[row[1]])
-            raise Fault(
-                f"{row[1]} is {text_of(row)} in the workbook and {was} in {ledger.name}.csv",
-                text=text_of(row),
-                remedy="what is declared stays to the end of a year: begin the next one by "
-                "plantbal-desk book next YEAR --plant WORKBOOK",
-            )
-        try:
-            ledger.put(*row)
-        except Refusal as refusal:
-            refusal.remedy = _instead(row, refusal)
-            raise
-        count += 1
-    return count
-
-
-def _instead(row: tuple[str, ...], refusal: Refusal) -> str:
-    """Return what to do if a year doesn't take a row of the plant any more."""
-    then = "plantbal-desk book next YEAR --plant WORKBOOK"
-    if row[0] == "version":
-        return f"dates of service and boundaries come with the next year: {then}"
-    if row[0] == "critical":
-        return ANOTHER_VALUE
-    if refusal.refused.reason is Reason.DAYS_SEALED:
-        return "write a day after the closed periods into its column since"
-    return f"what is new of the plant comes before the first close, or with the next year: {then}"
-
-
-def put_periods(years: Years, work: Converter, facts: list[Fact]) -> None:
-    """Declare the periods that a workbook names, or else the months of its facts.
-
-    Raises
-    ------
-    Fault
-        If one is otherwise in the book, or goes over the end of a year.
-    """
-    if work.sheets["periods"] or work.sheets["rows"]:
-        for row in work.session:
-            if row[0] == "period":
-                _put_period(years, row[1], *map(datetime.date.fromisoformat, row[2:]))
-        return
-    days = {fact.first for fact in facts if fact.kind == "reading"}
-    days = days or {fact.first for fact in facts if fact.kind == "transfer"}
-    for day in sorted(days):
-        ledger = years.of_day(day)
-        if ledger is None or any(_within(period, day) for period in ledger.session.periods):
-            continue
-        first = day.replace(day=1)
-        last = day.replace(day=calendar.monthrange(day.year, day.month)[1])
-        _put_period(years, f"{day:%Y-%m}", first, last)
-
-
-def _within(period: Period, day: datetime.date) -> bool:
-    return period.first <= day.toordinal() <= period.last
-
-
-def _put_period(years: Years, name: str, first: datetime.date, last: datetime.date) -> None:
-    ledger = years.of_day(last)
-    if ledger is None or years.of_day(first) is not ledger:
-        raise Fault(
-            f"the period {name} goes from {first} to {last}, and isn't within a year of this book",
-            text=name,
-            remedy="cut it where the year ends, or begin the next: plantbal-desk book next",
-        )
-    others = [span.name for span in years.spans if name in span.periods]
-    if others and ledger.name not in others:
-        raise Fault(
-            f"{others[0]} has a period {name} already",
-            text=name,
-            remedy=f"give it another name, such as {ledger.name}-{name}",
-        )
-    there = ledger.periods.get(name)
-    if there is None:
-        try:
-            ledger.put("period", name, str(first), str(last))
-        except Refusal as refusal:
-            refusal.remedy += ", or write the periods into a sheet periods"
-            raise
-    elif (there.first, there.last) != (first.toordinal(), last.toordinal()):
-        day = datetime.date.fromordinal
-        raise Fault(
-            f"the period {name} goes from {first} to {last} in the workbook, "
-            f"and from {day(there.first)} to {day(there.last)} in the book",
-            text=name,
-            remedy="correct the sheet periods",
         )

@@ -10,7 +10,7 @@ from __future__ import annotations
 from collections.abc import Iterable, Mapping, Sequence
 from dataclasses import dataclass, field
 
-from plantbal.book.journal import Act, Line
+from plantbal.book.journal import Act, JournalLine
 from plantbal.faults import Fault
 from plantbal.gates import Gate, about
 from plantbal.lint.findings import RULES, Finding
@@ -78,7 +78,7 @@ def what_of(reasons: Mapping[Gate, str]) -> tuple[str, str]:
     return " ".join((ANYWAY, *reasons)), BETWEEN.join(reasons.values())
 
 
-def answered(journal: Iterable[Line], period: str) -> Answered:
+def answered(journal: Iterable[JournalLine], period: str) -> Answered:
     """Return how a period was closed."""
     found = Answered()
     for line in journal:
@@ -118,7 +118,7 @@ class Quiet:
         return code == self.code and bool(names) and set(names) <= set(self.names)
 
 
-def quieted(journal: Iterable[Line]) -> list[Quiet]:
+def quieted(journal: Iterable[JournalLine]) -> list[Quiet]:
     """Return which rules are quieted, in the order in which that was done."""
     found: dict[tuple[str, frozenset[str]], Quiet] = {}
     for line in journal:
@@ -141,7 +141,7 @@ def checked_rule(code: str, names: Sequence[str]) -> None:
     """
     if code not in RULES or RULES[code].severity == "error":
         words = ", ".join(code for code, rule in RULES.items() if rule.severity != "error")
-        raise Fault(f"{code!r} is no rule that can be quieted", text=code, remedy=f"say {words}")
+        raise Fault(f"{code!r} isn't a rule that can be quieted", text=code, remedy=f"say {words}")
     if code in list(Gate) and not Gate(code).is_of_names:
         remedy = f"say it at each close: --anyway '{code}=REASON'"
         raise Fault(f"{code}: {about(Gate(code))} is of a single month", text=code, remedy=remedy)

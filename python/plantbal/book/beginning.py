@@ -31,7 +31,7 @@ from plantbal.workbook.sheetforms import Stage
 from plantbal.workbook.sheetkinds import PLANT_SHEETS
 
 # Of the sessions of a book: with it a day of service can be given at any time.
-VERSION: tuple[tuple[str, ...], ...] = ()
+VERSION = (("version", "2"),)
 
 
 def begin(
@@ -99,7 +99,7 @@ def check_year(name: str) -> None:
     """
     if not is_year(name) or (len(name) == 4 and calendar_year(name) is None):
         remedy = f"say four digits, {FIRST_DAY.year} to {LAST_DAY.year}, or more: 2024, 2024-2"
-        raise Fault(f"{name!r} is no year", text=name, remedy=remedy)
+        raise Fault(f"{name!r} isn't a year", text=name, remedy=remedy)
 
 
 def plant_of(

@@ -1,7 +1,7 @@
 """Which facts a report has that another of the same period hadn't: who booked them, when, why.
 
 A report saw the rows up to some number. The facts that the rows between two of these numbers book,
-amend or strike are what both reports have otherwise; the journal says whose action each row is.
+amend or strike are where the reports differ; the journal says whose action each row is.
 """
 
 from __future__ import annotations
@@ -10,13 +10,13 @@ from collections.abc import Iterator, Mapping, Sequence
 from dataclasses import dataclass, replace
 
 from plantbal.accounts.month import Month
-from plantbal.accounts.posting import FLOW, Change
-from plantbal.accounts.entries import Line
+from plantbal.accounts.posting import FLOW, PostingChange
+from plantbal.accounts.entries import AccountLine
 from plantbal.accounts.spread import Slopes, Spread, Sum
 from plantbal.amounts import tonnes_of, tonnes_text
-from plantbal.book.accounting import Version
+from plantbal.book.accounting import ReportVersion
 from plantbal.book.forms import year_file
-from plantbal.book.ledger import Fact
+from plantbal.book.ledger import BookFact
 from plantbal.book.store import Store
 from plantbal.model.ledger import Ledger
 from plantbal.model.facts import Fact as Booked
@@ -27,7 +27,7 @@ _WORDS = {"late": "late", "amend": "amended", "strike": "struck"}
 
 
 @dataclass(frozen=True)
-class Cause:
+class DifferingFact:
     """A fact that one report has otherwise than another.
 
     Attributes
@@ -60,7 +60,9 @@ class Cause:
         return f"{self.short}, {self.said}, {self.when} by {self.who}{why}"
 
 
-def causes_of(book: Store, before: Version | None, after: Version) -> list[Cause]:
+def causes_of(
+    book: Store, before: ReportVersion | None, after: ReportVersion
+) -> list[DifferingFact]:
     """Return the facts that a report has otherwise than one before it."""
     name = year_file(after.year)
     first = before.seen if before is not None and before.year == after.year else 0
@@ -76,7 +78,7 @@ def causes_of(book: Store, before: Version | None, after: Version) -> list[Cause
         said = " becomes ".join(_said(each) for each in (edit.before, edit.after) if each)
         who, when, why = actions.get(edit.at.line, ("", "", ""))
         word = _WORDS[edit.word]
-        found.append(Cause(fact.id, fact.of, word, said, who, when, edit.reason or why))
+        found.append(DifferingFact(fact.id, fact.of, word, said, who, when, edit.reason or why))
     late = {cause.id for cause in found if cause.word == "late"}
     every = list(ledger.state.facts) if first else []
     for each in every:
@@ -84,12 +86,12 @@ def causes_of(book: Store, before: Version | None, after: Version) -> list[Cause
             continue
         if period in ledger.state.periods_of(each):
             who, when, why = actions.get(each.booked, ("", "", ""))
-            found.append(Cause(each.id, each.of, "booked", _said(each), who, when, why))
+            found.append(DifferingFact(each.id, each.of, "booked", _said(each), who, when, why))
     return found
 
 
 def _said(fact: Booked) -> str:
-    return Fact.booked(fact).said()
+    return BookFact.booked(fact).said()
 
 
 def _actions(book: Store, year: str) -> Mapping[int, tuple[str, str, str]]:
@@ -102,8 +104,11 @@ def _actions(book: Store, year: str) -> Mapping[int, tuple[str, str, str]]:
 
 
 def with_causes(
-    changes: Sequence[Change], causes: Sequence[Cause], before: Month | None, after: Month
-) -> list[Change]:
+    changes: Sequence[PostingChange],
+    causes: Sequence[DifferingFact],
+    before: Month | None,
+    after: Month,
+) -> list[PostingChange]:
     """Return changes with the facts that caused each.
 
     What a fact changes of a flow is what it changes of the reading of its stream, times how the
@@ -111,14 +116,14 @@ def with_causes(
 
     Parameters
     ----------
-    changes : sequence of Change
+    changes : sequence of PostingChange
         The changes.
-    causes : sequence of Cause
+    causes : sequence of DifferingFact
         The facts that are otherwise.
     before, after : Month
         The month by the first and by the second report.
     """
-    by_stream: dict[str, list[Cause]] = {}
+    by_stream: dict[str, list[DifferingFact]] = {}
     for cause in causes:
         by_stream.setdefault(cause.of, []).append(cause)
     moved = _moved(by_stream, before, after)
@@ -134,7 +139,7 @@ def with_causes(
 
 
 def _moved(
-    by_stream: Mapping[str, Sequence[Cause]], before: Month | None, after: Month
+    by_stream: Mapping[str, Sequence[DifferingFact]], before: Month | None, after: Month
 ) -> dict[str, int | None]:
     """Return by how much the reading of each stream with a fact has changed; None if it is new."""
     found: dict[str, int | None] = {}
@@ -150,19 +155,19 @@ def _moved(
 
 
 def _cause(
-    change: Change,
-    by_stream: Mapping[str, Sequence[Cause]],
+    change: PostingChange,
+    by_stream: Mapping[str, Sequence[DifferingFact]],
     moved: Mapping[str, int | None],
     slopes: Slopes | None,
     period: str,
 ) -> str:
     """Return the facts that caused a change, in words."""
     item = change.item
-    if item.what == Line.OPENING.value:
-        return "the month before is booked otherwise"
+    if item.what == AccountLine.OPENING.value:
+        return "the month before is booked differently"
     if item.what != FLOW and item.name not in by_stream:
-        if item.what == Line.ADJUSTMENT.value:
-            return "the month before is booked otherwise"
+        if item.what == AccountLine.ADJUSTMENT.value:
+            return "the month before is booked differently"
     weight = {}
     for name, grams in moved.items():
         slope = (slopes or {}).get((period, name))
@@ -180,19 +185,19 @@ def _cause(
     return "; ".join(_some(facts))
 
 
-def _some(facts: Sequence[Cause]) -> Iterator[str]:
+def _some(facts: Sequence[DifferingFact]) -> Iterator[str]:
     for cause in facts[:_MOST]:
         yield str(cause)
     if len(facts) > _MOST:
         yield f"and {len(facts) - _MOST:,} more"
 
 
-def change_row(change: Change, plain: bool = False) -> tuple[str, ...]:
+def change_row(change: PostingChange, plain: bool = False) -> tuple[str, ...]:
     """Return a change as a row of texts, in tonnes.
 
     Parameters
     ----------
-    change : Change
+    change : PostingChange
         The change.
     plain : bool
         Whether the figures are to be read by a program, without commas and signs.

@@ -18,7 +18,7 @@ from dataclasses import dataclass
 from pathlib import Path
 
 from plantbal.book.forms import JOURNAL, REPORTS, is_own, is_year_file
-from plantbal.book.journal import Act, Kept, Line
+from plantbal.book.journal import Act, JournalLine, Kept
 from plantbal.faults import InputFault, Place
 
 _DIGITS = re.compile(r"(?:[0-9a-f]{8})+")  # of the lines of a file
@@ -28,7 +28,7 @@ _MOST_BYTES = 1 << 26  # of a file in a bundle
 Read = Callable[[str], bytes | None]  # the bytes of a file of the book, or None if it isn't there
 
 
-def state_of(lines: Iterable[Line]) -> dict[str, Kept]:
+def state_of(lines: Iterable[JournalLine]) -> dict[str, Kept]:
     """Return how the last action that names it left each file."""
     found: dict[str, Kept] = {}
     for line in lines:
@@ -39,7 +39,7 @@ def state_of(lines: Iterable[Line]) -> dict[str, Kept]:
 
 
 @dataclass(frozen=True)
-class Difference:
+class FileDifference:
     """A file that isn't as the journal says.
 
     Attributes
@@ -95,7 +95,7 @@ class Chain:
 
     Parameters
     ----------
-    lines : sequence of Line
+    lines : sequence of JournalLine
         The journal.
     read : callable
         Returns the bytes of a file of the book, or None.
@@ -106,14 +106,14 @@ class Chain:
     """
 
     def __init__(
-        self, lines: Sequence[Line], read: Read, checks: Callable[[], str], folder: Path
+        self, lines: Sequence[JournalLine], read: Read, checks: Callable[[], str], folder: Path
     ) -> None:
         self.lines = lines
         self._read = read
         self._checks = checks
         self.folder = folder
 
-    def differences(self, whole: bool = False) -> Iterable[Difference]:
+    def differences(self, whole: bool = False) -> Iterable[FileDifference]:
         """Give the files that aren't as the journal says.
 
         Parameters
@@ -126,7 +126,7 @@ class Chain:
         for name, kept in state_of(self.lines).items():
             data = self._read(name)
             if data is None:
-                yield Difference(name, None, f"it is gone; {self._last(name).said()} left it")
+                yield FileDifference(name, None, f"it is gone; {self._last(name).said()} left it")
             elif len(data) != kept.size or hashlib.sha256(data).hexdigest() != kept.digest:
                 yield self._difference(name, data)
             elif whole and is_year_file(name):
@@ -134,20 +134,20 @@ class Chain:
                 if at is not None:
                     line, _, now = at
                     what = f"{line.said()} names other rows up to {now.lines}"
-                    yield Difference(name, now.lines, what)
+                    yield FileDifference(name, now.lines, what)
 
-    def _cut(self) -> Iterable[Difference]:
+    def _cut(self) -> Iterable[FileDifference]:
         """Say that the journal is cut, if `.checks` has the digits of more of its lines."""
         had = len(read_checks(self._checks()).get(JOURNAL, "")) // 8 - 1
         there = len(self.lines) + 1
         if had > there:
             gone = "a line is" if had == there + 1 else f"{had - there:,} lines are"
             what = f"it is cut here: {gone} gone that the last command left"
-            yield Difference(JOURNAL, there + 1, what)
+            yield FileDifference(JOURNAL, there + 1, what)
 
-    def _history(self, name: str) -> list[tuple[Line, Kept]]:
+    def _history(self, name: str) -> list[tuple[JournalLine, Kept]]:
         """Return how actions left a file, from the last on that wrote or accepted it as a whole."""
-        found: list[tuple[Line, Kept]] = []
+        found: list[tuple[JournalLine, Kept]] = []
         for line in self.lines:
             kept = line.files.get(name)
             if kept is None or not (kept.digest or kept.is_gone):
@@ -158,10 +158,10 @@ class Chain:
                 found.append((line, kept))
         return found
 
-    def _last(self, name: str) -> Line:
+    def _last(self, name: str) -> JournalLine:
         return self._history(name)[-1][0]
 
-    def _first_wrong(self, name: str, data: bytes) -> tuple[Line, Kept, Kept] | None:
+    def _first_wrong(self, name: str, data: bytes) -> tuple[JournalLine, Kept, Kept] | None:
         """Return the first action up to which a file differs, and how it was before and then."""
         before, at, so_far = Kept(0, 0, ""), 0, hashlib.sha256()
         for line, kept in self._history(name):
@@ -173,16 +173,16 @@ class Chain:
             before = kept
         return None
 
-    def _difference(self, name: str, data: bytes) -> Difference:
+    def _difference(self, name: str, data: bytes) -> FileDifference:
         """Return where a file differs from what an action left."""
         wrong = self._first_wrong(name, data)
         if wrong is None:
             last, left_then = self._history(name)[-1]
             at = (left_then.lines or 0) + 1
             more = data.count(b"\n") + 1 - at
-            stand = "1 line stands" if more == 1 else f"{more:,} lines stand"
-            what = f"{stand} after what {last.said()} left"
-            return Difference(name, at, f"{what}: {_shown(data, at)}")
+            more_said = "there is 1 line" if more == 1 else f"there are {more:,} lines"
+            what = f"{more_said} after what {last.said()} left"
+            return FileDifference(name, at, f"{what}: {_shown(data, at)}")
         line, before, kept = wrong
         first, last_line = (before.lines or 0) + 1, kept.lines or 0
         number = self._line_by_checks(name, data, first, last_line)
@@ -192,14 +192,14 @@ class Chain:
             there = data.count(b"\n")
             less = f", and has {there:,} lines in place of {kept.lines:,}"
             what = f"it isn't {left}{place}{less if there < last_line else ''}"
-            return Difference(name, first if first == last_line else None, what)
+            return FileDifference(name, first if first == last_line else None, what)
         stood = self._stood(name, kept, number)
         if number > data.count(b"\n"):
             gone = last_line - number + 1
             lines = "the last line is" if gone == 1 else f"the last {gone:,} lines are"
             what = f"it is cut here: {lines} gone of {left}"
-            return Difference(name, number, what, stood)
-        return Difference(name, number, f"this isn't {left}: {_shown(data, number)}", stood)
+            return FileDifference(name, number, what, stood)
+        return FileDifference(name, number, f"this isn't {left}: {_shown(data, number)}", stood)
 
     def _line_by_checks(self, name: str, data: bytes, first: int, last: int) -> int | None:
         """Return the first line of some that differs, by the digits of each."""

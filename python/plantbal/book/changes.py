@@ -2,10 +2,11 @@
 
 from __future__ import annotations
 
-from collections.abc import Callable, Iterator
+from collections.abc import Iterator
 from dataclasses import dataclass, field, replace
+from typing import Protocol
 
-from plantbal.book.ledger import Fact, Ledger
+from plantbal.book.ledger import BookFact, YearLedger
 from plantbal.book.years import Years
 from plantbal.estimates import is_marked
 from plantbal.faults import Fault
@@ -19,15 +20,15 @@ class Change:
 
     Attributes
     ----------
-    ledger : Ledger
+    ledger : YearLedger
         The year.
-    old, new : Fact
+    old, new : BookFact
         The fact as it is booked, and as it is in the workbook.
     """
 
-    ledger: Ledger
-    old: Fact
-    new: Fact
+    ledger: YearLedger
+    old: BookFact
+    new: BookFact
 
     @property
     def moved(self) -> bool:
@@ -44,8 +45,15 @@ class Change:
         return f"{self.old.id}: {self.old.said()} becomes {self.new.said()}"
 
 
-def _days(fact: Fact) -> str:
+def _days(fact: BookFact) -> str:
     return str(fact.first) if fact.first == fact.last else f"{fact.first} to {fact.last}"
+
+
+class ReasonGiver(Protocol):
+    """Gives the reason of a change, by the fact and what is said of the change."""
+
+    def __call__(self, fact: BookFact, said: str, *, is_gone: bool = False) -> str:
+        """Return the reason; of a fact that is gone from where it came from, that of its strike."""
 
 
 @dataclass
@@ -54,48 +62,51 @@ class Changes:
 
     Attributes
     ----------
-    new : list of (Ledger, Fact)
+    new : list of (YearLedger, BookFact)
         Facts that aren't booked.
     changed : list of Change
         Facts that are booked otherwise.
     left : list of Change
         Tickets that are booked in a year which their days in the workbook don't touch.
-    gone : list of (Ledger, Fact)
+    gone : list of (YearLedger, BookFact)
         Facts that are booked and might stand in the workbook, and don't.
+    asked : list of (YearLedger, BookFact)
+        Facts that were pulled from a source and have vanished there: are they to be struck?
     stale : list of Change
         Facts that a command has amended or struck, and that the workbook has as they were before.
     same : int
         How many are booked as they stand there.
-    rows : list of (Ledger, int, str, str)
+    rows : list of (YearLedger, int, str, str)
         Of each fact that was put to a year the number of its row, its id in the workbook, and the
         one under which it is booked.
     """
 
-    new: list[tuple[Ledger, Fact]] = field(default_factory=list)
+    new: list[tuple[YearLedger, BookFact]] = field(default_factory=list)
     changed: list[Change] = field(default_factory=list)
     left: list[Change] = field(default_factory=list)
-    gone: list[tuple[Ledger, Fact]] = field(default_factory=list)
+    gone: list[tuple[YearLedger, BookFact]] = field(default_factory=list)
+    asked: list[tuple[YearLedger, BookFact]] = field(default_factory=list)
     stale: list[Change] = field(default_factory=list)
     same: int = 0
-    rows: list[tuple[Ledger, int, str, str]] = field(default_factory=list)
+    rows: list[tuple[YearLedger, int, str, str]] = field(default_factory=list)
 
-    def edited(self, strike: bool) -> list[tuple[Ledger, Fact]]:
+    def edited(self, strike: bool) -> list[tuple[YearLedger, BookFact]]:
         """Return the booked facts that are changed or struck, with their years."""
         pairs = [(change.ledger, change.old) for change in [*self.changed, *self.left]]
         return [*pairs, *(self.gone if strike else ())]
 
-    def put(self, reason: Callable[[Fact, str], str], strike: bool) -> None:
+    def put(self, reason: ReasonGiver, strike: bool) -> None:
         """Put the rows to the ledgers.
 
         Parameters
         ----------
-        reason : callable
-            Returns the reason of a change, by the fact and what changes.
+        reason : ReasonGiver
+            Returns the reason of a change.
         strike : bool
             Whether facts that are gone are struck.
         """
         for ledger, fact in self.gone if strike else ():
-            ledger.put("strike", fact.id, reason(fact, f"{fact.id} is struck"))
+            ledger.put("strike", fact.id, reason(fact, f"{fact.id} is struck", is_gone=True))
         for change in self.left:
             change.ledger.put("strike", change.old.id, reason(change.old, change.said()))
         for change in self.changed:
@@ -113,7 +124,7 @@ class Changes:
             self.rows.append((ledger, ledger.count, fact.id, identity))
 
 
-def compare(years: Years, facts: list[Fact]) -> Changes:
+def compare(years: Years, facts: list[BookFact]) -> Changes:
     """Return what facts change; what is gone isn't looked for."""
     found = Changes()
     own = frozenset(fact.id for fact in facts)
@@ -145,13 +156,13 @@ def compare(years: Years, facts: list[Fact]) -> Changes:
     return found
 
 
-def _estimated(years: Years, ledger: Ledger, old: Fact, fact: Fact) -> bool:
+def _estimated(years: Years, ledger: YearLedger, old: BookFact, fact: BookFact) -> bool:
     """Say whether a fact is booked as an estimate that a command put in the place of this one."""
     lost = ledger.lost(fact) if is_marked(old.id) else None
     return lost is not None and _before(years, ledger, lost, fact)
 
 
-def _before(years: Years, ledger: Ledger, was: Fact, fact: Fact) -> bool:
+def _before(years: Years, ledger: YearLedger, was: BookFact, fact: BookFact) -> bool:
     """Say whether a fact says what one said before a command amended or struck it."""
     for number, before in reversed(ledger.edits.get(was.id, [])):
         if number not in years.typed[ledger.name]:
@@ -161,7 +172,7 @@ def _before(years: Years, ledger: Ledger, was: Fact, fact: Fact) -> bool:
     return False
 
 
-def scope_of(years: Years, facts: list[Fact]) -> list[tuple[Ledger, Period]]:
+def scope_of(years: Years, facts: list[BookFact]) -> list[tuple[YearLedger, Period]]:
     """Return the periods of which a workbook has readings or, if it has none, other facts."""
     days = {fact.first for fact in facts if fact.kind == "reading"}
     days = days or {fact.first for fact in facts}
@@ -174,7 +185,7 @@ def scope_of(years: Years, facts: list[Fact]) -> list[tuple[Ledger, Period]]:
     ]
 
 
-def strayed(years: Years, changes: Changes, facts: list[Fact]) -> Iterator[Fault]:
+def strayed(years: Years, changes: Changes, facts: list[BookFact]) -> Iterator[Fault]:
     """Give what is to be said of tickets that have the id of one of another period."""
     scope = scope_of(years, facts)
     for change in [*changes.changed, *changes.left]:
@@ -188,7 +199,7 @@ def strayed(years: Years, changes: Changes, facts: list[Fact]) -> Iterator[Fault
             )
 
 
-def gone(years: Years, work: Converter, facts: list[Fact]) -> list[tuple[Ledger, Fact]]:
+def gone(years: Years, work: Converter, facts: list[BookFact]) -> list[tuple[YearLedger, BookFact]]:
     """Return the facts that are booked and might stand in a workbook, and don't.
 
     These are, in the periods of which the workbook has readings (or, if it has none, other facts):
@@ -200,7 +211,7 @@ def gone(years: Years, work: Converter, facts: list[Fact]) -> list[tuple[Ledger,
     scope = scope_of(years, facts)
     own = frozenset(fact.id for fact in facts)
     slots = {(fact.place, fact.first) for fact in facts if fact.kind != "transfer"}
-    found: dict[tuple[str, str], tuple[Ledger, Fact]] = {}
+    found: dict[tuple[str, str], tuple[YearLedger, BookFact]] = {}
     for ledger in {ledger.name: ledger for ledger, _ in scope}.values():
         kept = {fact.id for fact in (ledger.ticket(each, own) for each in own) if fact is not None}
         for fact in ledger.within(period for _, period in scope):
@@ -214,21 +225,23 @@ def gone(years: Years, work: Converter, facts: list[Fact]) -> list[tuple[Ledger,
     return list(found.values())
 
 
-def _begins_elsewhere(ledger: Ledger, fact: Fact, scope: list[tuple[Ledger, Period]]) -> bool:
+def _begins_elsewhere(
+    ledger: YearLedger, fact: BookFact, scope: list[tuple[YearLedger, Period]]
+) -> bool:
     """Say whether the first day of a fact is one of another year, or of a period out of scope."""
     day = fact.first.toordinal()
     within = (each for each in ledger.periods.values() if each.first <= day <= each.last)
     return fact.first < ledger.first or any((ledger, each) not in scope for each in within)
 
 
-def _in_sheets(work: Converter, fact: Fact) -> bool:
+def _in_sheets(work: Converter, fact: BookFact) -> bool:
     """Say whether a workbook has a sheet in which a fact might stand."""
     if fact.kind == "reading":
         return bool(work.sheets["readings"]) and fact.place in work.readings.listed
     return bool(work.sheets["dips" if fact.kind == "dip" else "tickets"])
 
 
-def _touches(fact: Fact, period: Period) -> bool:
+def _touches(fact: BookFact, period: Period) -> bool:
     eve = 1 if fact.kind == "dip" else 0
     first, last = fact.first.toordinal(), fact.last.toordinal()
     return first <= period.last and last >= period.first - eve

@@ -5,6 +5,7 @@ from __future__ import annotations
 from collections.abc import Mapping, Sequence
 from dataclasses import dataclass
 from fractions import Fraction
+from typing import TypedDict
 
 from plantbal.audit.believed import program_digest
 from plantbal.book.approval import submitting as submission
@@ -81,17 +82,45 @@ def submit(
         found = prepared(book, name, anyway=anyway, settings=settings, who=who)
         if found is None:
             return Closed(name, None)
-        found.action.written[report_file(name)] = found.text
-        wants = list(wants_of(book, found.action, rules_of(book) or Rules())) or [Want.CLOSE]
-        done = submission.submit(
-            book,
-            found.action,
-            wants,
-            periods=[name],
-            reasons=found.reasons,
-            settings=settings,
-        )
+        done = submission.submit(book, *_submitted(book, found), **_about(found, settings))
         return Closed(name, found.report, done.head, found.reasons)
+
+
+def close_to_sign(
+    book: Store,
+    name: str,
+    *,
+    anyway: Mapping[Gate, str],
+    settings: RunSettings = RunSettings(),
+    who: str = "",
+) -> str:
+    """Return what the submission of a close signs; the parameters are those of `Book.submit`."""
+    with book.opened(reading=True):
+        found = prepared(book, name, anyway=anyway, settings=settings, who=who)
+        if found is None:
+            raise Fault(f"{name} is closed already", remedy="there is nothing to sign")
+        return submission.submission_to_sign(
+            book, *_submitted(book, found), **_about(found, settings)
+        )
+
+
+def _submitted(book: Store, found: PreparedClose) -> tuple[Action, list[Want]]:
+    """Return the action of a close as it is submitted, with its report, and why it has to wait."""
+    found.action.written[report_file(found.report.period)] = found.text
+    wants = list(wants_of(book, found.action, rules_of(book) or Rules()))
+    return found.action, wants or [Want.CLOSE]
+
+
+def _about(found: PreparedClose, settings: RunSettings) -> _About:
+    return {"periods": [found.report.period], "reasons": found.reasons, "settings": settings}
+
+
+class _About(TypedDict):
+    """What a submission says of a close beside its action."""
+
+    periods: Sequence[str]
+    reasons: Mapping[Gate, str]
+    settings: RunSettings
 
 
 def closing(book: Store, name: str, settings: RunSettings = RunSettings()) -> Reported | None:
@@ -103,7 +132,7 @@ def closing(book: Store, name: str, settings: RunSettings = RunSettings()) -> Re
 
 
 @dataclass(frozen=True)
-class Prepared:
+class PreparedClose:
     """A close that has yet to be done.
 
     Attributes
@@ -126,7 +155,7 @@ class Prepared:
 
 def prepared(
     book: Store, name: str, *, anyway: Mapping[Gate, str], settings: RunSettings, who: str
-) -> Prepared | None:
+) -> PreparedClose | None:
     """Return the close of a period, which isn't done; None if it is closed.
 
     Raises
@@ -158,7 +187,7 @@ def prepared(
     action.estimated = estimated_part(report)
     action.add(ledger)
     keep(book, action, ledger, name, written, closed=False)
-    return Prepared(action, report, reasons, written)
+    return PreparedClose(action, report, reasons, written)
 
 
 def estimated_part(report: Reported) -> Fraction:

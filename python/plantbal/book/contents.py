@@ -6,7 +6,7 @@ import datetime
 from collections.abc import Iterable
 from pathlib import Path
 
-from plantbal.book.ledger import Fact, rows_text
+from plantbal.book.ledger import BookFact, rows_text
 from plantbal.faults import Fault
 from plantbal.program import call
 from plantbal.records import text_of
@@ -18,7 +18,7 @@ _MOST = schema().limits["most_units_and_tanks"]
 
 
 def contents_of(
-    plant: Iterable[tuple[str, ...]], dips: Iterable[Fact], program: str | Path | None = None
+    plant: Iterable[tuple[str, ...]], dips: Iterable[BookFact], program: str | Path | None = None
 ) -> dict[str, int]:
     """Return the grams in tanks by their dips, reckoned by the program.
 
@@ -30,7 +30,7 @@ def contents_of(
     ----------
     plant : iterable of tuple of str
         The rows of the plant, with the tables.
-    dips : iterable of Fact
+    dips : iterable of BookFact
         A dip a tank, all of one day.
     program : str, optional
         The program.
@@ -52,7 +52,7 @@ def contents_of(
 
 
 def _reckoned(
-    tables: dict[str, list[tuple[int, int]]], dips: list[Fact], program: str | Path | None
+    tables: dict[str, list[tuple[int, int]]], dips: list[BookFact], program: str | Path | None
 ) -> dict[str, int]:
     rows: list[tuple[object, ...]] = []
     for at, dip in enumerate(dips):
@@ -75,5 +75,5 @@ def _reckoned(
     refused = [row for row in answer if row["row"] == "refused"]
     if status or refused:
         said = text_of(texts[int(refused[0]["at"]) - 1]) if refused else "a row"
-        raise Fault(f"the contents of tanks can't be reckoned: {said} is refused", text=said)
+        raise Fault(f"the contents of tanks can't be calculated: {said} is refused", text=said)
     return {row["name"]: int(row["value"]) for row in answer if row["row"] == "stream"}

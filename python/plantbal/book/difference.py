@@ -1,4 +1,4 @@
-"""What two reports of a period, or a report and what was posted, have otherwise, and why.
+"""How two reports of a period, or a report and what was posted, differ, and why.
 
 A state is the number of an earlier report, `posted` for what was handed over last, or `now` for the
 report that the book has. Without states it is what was posted against now, or, if nothing was, the
@@ -13,24 +13,18 @@ from dataclasses import dataclass, replace
 from plantbal.accounts.account import MonthAccount, Rolled
 from plantbal.accounts.month import Month
 from plantbal.accounts.posting import (
-    Change,
     Posted,
+    PostingChange,
     changes_of,
     id_of,
     parse_posted,
     posted_text,
     state_of,
 )
-from plantbal.book.accounting import (
-    Version,
-    accounts_of,
-    months_of,
-    version_of,
-    versions_of,
-)
-from plantbal.book.causes import Cause, causes_of, with_causes
+from plantbal.book.accounting import ReportVersion, accounts_of, months_of, version_of, versions_of
+from plantbal.book.causes import DifferingFact, causes_of, with_causes
 from plantbal.book.forms import earlier_file, posted_file, report_file, year_file
-from plantbal.book.journal import Kept, Line
+from plantbal.book.journal import JournalLine, Kept
 from plantbal.book.overview import report_state
 from plantbal.book.results import ReportState
 from plantbal.book.said import behind_said
@@ -49,7 +43,7 @@ class Side:
     ----------
     word : str
         What it is called.
-    version : Version or None
+    version : ReportVersion or None
         The report; None of nothing, if nothing was posted.
     state : dict
         What it hands over.
@@ -58,14 +52,14 @@ class Side:
     """
 
     word: str
-    version: Version | None
+    version: ReportVersion | None
     posted: Posted
     month: Month | None = None
 
 
 @dataclass(frozen=True)
 class Difference:
-    """What two states of a period have otherwise.
+    """How two states of a period differ.
 
     Attributes
     ----------
@@ -73,9 +67,9 @@ class Difference:
         The period.
     sides : tuple of str
         What the states are called.
-    changes : list of Change
+    changes : list of PostingChange
         What is otherwise, each with its cause.
-    causes : list of Cause
+    causes : list of DifferingFact
         The facts that are otherwise.
     id : str
         The id of the postings, if they are against what was posted.
@@ -87,8 +81,8 @@ class Difference:
 
     period: str
     sides: tuple[str, str]
-    changes: list[Change]
-    causes: list[Cause]
+    changes: list[PostingChange]
+    causes: list[DifferingFact]
     id: str = ""
     is_first: bool = False
     report: ReportState = ReportState.CURRENT
@@ -112,7 +106,7 @@ def last_posted(book: Store, period: str) -> Posted:
 
 
 def difference_of(book: Store, period: str, words: Sequence[str]) -> Difference:
-    """Return what two states of a period have otherwise.
+    """Return how two states of a period differ.
 
     Raises
     ------
@@ -130,7 +124,7 @@ def difference_of(book: Store, period: str, words: Sequence[str]) -> Difference:
     sides = [_side(book, versions, period, word) for word in (one, other)]
     before, after = sides
     changes = changes_of(before.posted.state, after.posted.state)
-    causes: list[Cause] = []
+    causes: list[DifferingFact] = []
     is_first = before.word == POSTED and before.version is None
     if after.version is not None and after.month is not None:
         if not is_first:
@@ -139,6 +133,11 @@ def difference_of(book: Store, period: str, words: Sequence[str]) -> Difference:
     number = posted_numbers(book, period) + 1
     identity = id_of(period, number, changes) if (one, other) == (POSTED, NOW) else ""
     return Difference(period, (one, other), changes, causes, identity, is_first)
+
+
+def has_before(book: Store, period: str) -> bool:
+    """Say whether a period has a state before its report: one that was posted, or another report."""
+    return bool(posted_numbers(book, period) or _earlier(book, period))
 
 
 def _default(book: Store, period: str) -> str:
@@ -157,7 +156,7 @@ def _earlier(book: Store, period: str) -> int:
     return number
 
 
-def _side(book: Store, versions: dict[str, Version], period: str, word: str) -> Side:
+def _side(book: Store, versions: dict[str, ReportVersion], period: str, word: str) -> Side:
     """Return a state of a period.
 
     Raises
@@ -178,17 +177,19 @@ def _side(book: Store, versions: dict[str, Version], period: str, word: str) -> 
     return _of_version(book, versions, version_of(book, period, year, book.text(name)), word)
 
 
-def _of_version(book: Store, versions: dict[str, Version], version: Version, word: str) -> Side:
+def _of_version(
+    book: Store, versions: dict[str, ReportVersion], version: ReportVersion, word: str
+) -> Side:
     account = account_by(book, versions | {version.period: version}, version.period)
     return Side(word, version, Posted("", state_of(account)), account.month)
 
 
-def account_by(book: Store, versions: dict[str, Version], period: str) -> MonthAccount:
+def account_by(book: Store, versions: dict[str, ReportVersion], period: str) -> MonthAccount:
     """Return the account of a period by some reports."""
     return Rolled(months_of(book, versions), accounts_of(book)).account(period)
 
 
-def line_of_posting(journal: Sequence[Line], period: str, number: int) -> Line:
+def line_of_posting(journal: Sequence[JournalLine], period: str, number: int) -> JournalLine:
     """Return the line of the journal by which a file of what was posted was made.
 
     Raises
@@ -205,7 +206,7 @@ def line_of_posting(journal: Sequence[Line], period: str, number: int) -> Line:
     raise InputFault(what, place=Place(file=name), remedy=remedy)
 
 
-def _posted_side(book: Store, versions: dict[str, Version], period: str) -> Side:
+def _posted_side(book: Store, versions: dict[str, ReportVersion], period: str) -> Side:
     """Return what was posted last, with the report that it was made of."""
     number = posted_numbers(book, period)
     if not number:
@@ -222,7 +223,7 @@ def _posted_side(book: Store, versions: dict[str, Version], period: str) -> Side
             return Side(POSTED, version, posted, side.month)
     # Its report wasn't kept: which facts are otherwise is known by the rows that were there.
     seen = rows.lines if rows is not None else None
-    version = Version(period, year, "", seen or versions[period].seen, line)
+    version = ReportVersion(period, year, "", seen or versions[period].seen, line)
     return Side(POSTED, version, posted)
 
 
@@ -230,7 +231,7 @@ def _posted_side(book: Store, versions: dict[str, Version], period: str) -> Side
 
 
 def difference(book: Store, period: str, states: Sequence[str] = ()) -> Difference:
-    """Say what two states have otherwise; the parameters are those of `plantbal.Book.difference`."""
+    """Say how two states differ; the parameters are those of `plantbal.Book.difference`."""
     with book.opened(reading=True):
         ledger = Years(book).of_period(period)
         state = report_state(book, ledger, book.journal(), period)

@@ -1,4 +1,4 @@
-"""Changes of single facts: other values, or none."""
+"""Changes of single facts: other values, or none, and what they were before."""
 
 from __future__ import annotations
 
@@ -8,7 +8,7 @@ from dataclasses import dataclass, replace
 from fractions import Fraction
 
 from plantbal.book.forms import report_file
-from plantbal.book.ledger import Fact, Ledger
+from plantbal.book.ledger import BookFact, YearLedger
 from plantbal.book.measures import check_measured, trails_of
 from plantbal.book.meters import Meter, read_meters, taken
 from plantbal.book.naming import Names, cell_of
@@ -17,7 +17,7 @@ from plantbal.book.said import closed_in, touched_by
 from plantbal.book.store import METERS, Act, Action, Store
 from plantbal.book.years import Years
 from plantbal.faults import Fault, Refusal
-from plantbal.workbook.base import Span, share_at
+from plantbal.workbook.base import PeriodDays, share_at
 from plantbal.workbook.cells import Reader, check_locale
 from plantbal.workbook.plant import TankRow
 from plantbal.workbook.units import AMOUNTS, VOLUMES
@@ -52,7 +52,7 @@ class Other:
             Reader(check_locale(self.locale)).split(cell, AMOUNTS, "")[1] or meter.unit
         ) in VOLUMES
 
-    def of(self, fact: Fact, meter: Meter, tank: TankRow | None, born: int = 0) -> Fact:
+    def of(self, fact: BookFact, meter: Meter, tank: TankRow | None, born: int = 0) -> BookFact:
         """Return a fact with these values, its variance by the error of its meter.
 
         What its day bears of a wide systematic error is added.
@@ -93,12 +93,12 @@ class Other:
         return replace(fact, values=values, variance=variance + born)
 
 
-def born(ledger: Ledger, fact: Fact, meter: Meter) -> int:
+def born(ledger: YearLedger, fact: BookFact, meter: Meter) -> int:
     """Return what the day of a reading bears of a systematic error that is wider than a row."""
     excess = meter.stream("metered", cell_of("")).excess
     if not excess or fact.kind != "reading":
         return 0
-    spans = [Span(each.first, each.last) for each in ledger.periods.values()]
+    spans = [PeriodDays(each.first, each.last) for each in ledger.periods.values()]
     service = ledger.session.service(fact.place)
     return share_at(excess, spans, service, fact.first.toordinal())
 
@@ -157,7 +157,53 @@ def strike(book: Store, name: str, day: datetime.date | None, *, why: str, who: 
         )
 
 
-def _put(ledger: Ledger, row: tuple[str, ...]) -> None:
+# ---- undo
+
+
+def undo(book: Store, name: str, day: datetime.date | None, *, why: str, who: str = "") -> Edited:
+    """Give a fact back what it was; the parameters are those of `plantbal.Book.undo`."""
+    with book.opened():
+        meters = read_meters(book.path(METERS))
+        named = Names(Years(book), meters).find(name, day)
+        fact = named.fact
+        places = [(ledger, there) for ledger, there in named.places if there.slot == fact.slot]
+        for closed in closed_in(places):
+            remedy = "amend it instead, or add it by a workbook: the difference is then handed over"
+            raise Fault(f"{closed} is closed", text=name, remedy=remedy)
+        changed = _restored(places) if named.struck else _reverted(places, why)
+        if not changed:
+            raise Fault(f"{fact.id} wasn't changed", text=name, remedy="strike it if it is wrong")
+        action = Action(Act.AMEND, changed[-1].id, changed[-1].said(), why, who)
+        for ledger in {ledger.name: ledger for ledger, _ in places}.values():
+            action.add(ledger)
+        book.do(action)
+        return Edited(fact, changed[-1], True, tuple(_older(book, places)))
+
+
+def _reverted(places: list[tuple[YearLedger, BookFact]], why: str) -> list[BookFact]:
+    """Put the amendments that give a fact its values before the last one; none if there is none."""
+    found = []
+    for ledger, there in places:
+        for _, before in ledger.edits.get(there.id, [])[-1:]:
+            _put(ledger, before.amendment(there.id, why))
+            found.append(before)
+    return found
+
+
+def _restored(places: list[tuple[YearLedger, BookFact]]) -> list[BookFact]:
+    """Book a struck fact again, under a free id, and return it as each year has it."""
+    found = []
+    for ledger, there in {ledger.name: (ledger, there) for ledger, there in places}.values():
+        again = replace(there, id=ledger.free(there.id))
+        try:
+            ledger.put_fact(again)
+        except Refusal as refusal:
+            raise Fault(refusal.said, text=refusal.text, remedy=refusal.remedy) from refusal
+        found.append(again)
+    return found
+
+
+def _put(ledger: YearLedger, row: tuple[str, ...]) -> None:
     """Put a row to a ledger; what is refused is a word of the command."""
     try:
         ledger.put(*row)
@@ -165,7 +211,7 @@ def _put(ledger: Ledger, row: tuple[str, ...]) -> None:
         raise Fault(refusal.said, text=refusal.text, remedy=refusal.remedy) from refusal
 
 
-def _older(book: Store, places: list[tuple[Ledger, Fact]]) -> Iterator[str]:
+def _older(book: Store, places: list[tuple[YearLedger, BookFact]]) -> Iterator[str]:
     """Give the periods with a report that doesn't have the last values of a fact."""
     for ledger, fact in places:
         for name in touched_by(ledger, fact):

@@ -9,7 +9,7 @@ from collections.abc import Iterator
 from plantbal.book.answers import checked
 from plantbal.book.editing import born
 from plantbal.book.forms import report_file
-from plantbal.book.ledger import Fact, Ledger
+from plantbal.book.ledger import BookFact, YearLedger
 from plantbal.book.meters import Meter, read_meters
 from plantbal.book.naming import cell_of
 from plantbal.book.results import Estimated
@@ -20,7 +20,7 @@ from plantbal.diagnosis.proposal import Proposal, Proposals
 from plantbal.estimates import estimate_id
 from plantbal.faults import Fault, Refusal
 from plantbal.gates import Gate
-from plantbal.gates.look import Facts, Look
+from plantbal.gates.look import Look, LookFacts
 from plantbal.gates.readings import odd_readings
 from plantbal.model.ledger import View, view_of
 from plantbal.model.state import State
@@ -71,20 +71,24 @@ def _stream_of(view: View, meters: dict[str, Meter], name: str) -> str:
     known = {each.arc.name for each in view.streams if each.kind == "metered"}
     if found not in known:
         remedy = f"the metered streams are {', '.join(sorted(known)) or 'none'}"
-        raise Fault(f"{name} is no metered stream in service in {view.period.name}", remedy=remedy)
+        raise Fault(
+            f"{name} isn't a metered stream in service in {view.period.name}", remedy=remedy
+        )
     return found
 
 
 def _dead_days(state: State, view: View, names: list[str]) -> dict[str, set[int]]:
     """Return the days of some streams whose readings look like those of a dead meter."""
     found: dict[str, set[int]] = defaultdict(set)
-    for stop in odd_readings(Look(Facts(state), view)):
+    for stop in odd_readings(Look(LookFacts(state), view)):
         if stop.gate in _DEAD and len(stop.names) == 1 and stop.names[0] in names:
             found[stop.names[0]].update(stop.days)
     return found
 
 
-def _put(ledger: Ledger, proposal: Proposal, meters: dict[str, Meter], why: str) -> Iterator[Fact]:
+def _put(
+    ledger: YearLedger, proposal: Proposal, meters: dict[str, Meter], why: str
+) -> Iterator[BookFact]:
     """Put the days of a proposal to a year, and give their facts; readings there are struck."""
     meter = meters.get(proposal.stream, Meter(proposal.stream))
     label = meter.stream("metered", cell_of("")).label
@@ -96,9 +100,11 @@ def _put(ledger: Ledger, proposal: Proposal, meters: dict[str, Meter], why: str)
                 ledger.put("strike", there.id, why)
             identity = ledger.free(estimate_id(label, str(day)))
             values = (proposal.grams,)
-            fact = Fact("reading", identity, proposal.stream, day, day, values, proposal.variance)
+            fact = BookFact(
+                "reading", identity, proposal.stream, day, day, values, proposal.variance
+            )
             variance = proposal.variance + born(ledger, fact, meter)
-            fact = Fact("reading", identity, proposal.stream, day, day, values, variance)
+            fact = BookFact("reading", identity, proposal.stream, day, day, values, variance)
             ledger.put_fact(fact)
         except Refusal as refusal:
             raise Fault(refusal.said, text=refusal.text, remedy=refusal.remedy) from refusal

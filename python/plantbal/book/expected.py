@@ -5,7 +5,7 @@ from __future__ import annotations
 from collections.abc import Sequence
 from dataclasses import dataclass
 
-from plantbal.book.journal import Line
+from plantbal.book.journal import JournalLine
 from plantbal.faults import Fault
 
 # How many actions of others are said.
@@ -13,7 +13,7 @@ _MOST = 3
 
 
 @dataclass(frozen=True)
-class Version:
+class BookVersion:
     """A state of a book, by the end of its journal.
 
     Attributes
@@ -31,12 +31,12 @@ class Version:
         return f"{self.number} {self.digest}".strip()
 
     @classmethod
-    def of(cls, lines: Sequence[Line]) -> Version:
+    def of(cls, lines: Sequence[JournalLine]) -> BookVersion:
         """Return the version of a book with these lines in its journal."""
         return cls(len(lines), lines[-1].digest if lines else "")
 
     @classmethod
-    def read(cls, text: str) -> Version | None:
+    def read(cls, text: str) -> BookVersion | None:
         """Return the version that a text says, or None if it says none."""
         number, _, digest = text.partition(" ")
         is_one = number.isascii() and number.isdigit() and len(number) <= 9
@@ -48,11 +48,11 @@ class Moved(Fault):
 
     Attributes
     ----------
-    since : tuple of Line
+    since : tuple of JournalLine
         What was done since, as the journal has it; empty if the journal was put back.
     """
 
-    def __init__(self, since: Sequence[Line]) -> None:
+    def __init__(self, since: Sequence[JournalLine]) -> None:
         said = "; ".join(line.said() for line in since[:_MOST])
         said += f"; and {len(since) - _MOST:,} more" if len(since) > _MOST else ""
         what = "the book was changed since you were shown it, and nothing was booked"
@@ -60,7 +60,7 @@ class Moved(Fault):
         self.since = tuple(since)
 
 
-def check(lines: Sequence[Line], expected: Version | None) -> None:
+def check(lines: Sequence[JournalLine], expected: BookVersion | None) -> None:
     """Raise if a book isn't as expected.
 
     Raises
@@ -68,7 +68,7 @@ def check(lines: Sequence[Line], expected: Version | None) -> None:
     Moved
         If its journal ends otherwise.
     """
-    if expected is None or Version.of(lines) == expected:
+    if expected is None or BookVersion.of(lines) == expected:
         return
-    is_before = Version.of(lines[: expected.number]) == expected
+    is_before = BookVersion.of(lines[: expected.number]) == expected
     raise Moved(lines[expected.number :] if is_before else ())

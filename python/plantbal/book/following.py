@@ -16,7 +16,7 @@ from plantbal.audit.believed import program_digest
 from plantbal.book.accounting import accounts_of, put_accounts
 from plantbal.book.beginning import check_year, classes_of, plant_of
 from plantbal.book.contents import contents_of
-from plantbal.book.ledger import Fact, Ledger, plain, rows_text
+from plantbal.book.ledger import BookFact, YearLedger, plain, rows_text
 from plantbal.book.mapping import mapping_of, put_reading
 from plantbal.book.measures import keep_measures, put_measures
 from plantbal.book.meters import meters_of, meters_text, read_meters
@@ -43,7 +43,7 @@ def follow(
 ) -> Begun:
     """Begin the next year; the parameters are those of `plantbal.Book.next`."""
     check_year(year)
-    return _follow(book, year, Plant(plant, reading), first, program, who)
+    return _follow(book, year, NextPlant(plant, reading), first, program, who)
 
 
 def retire(
@@ -60,11 +60,11 @@ def retire(
         with book.opened(reading=True):
             year = next_part(Years(book).last.name)
     check_year(year)
-    return _follow(book, year, Plant(retired=name, until=until), None, program, who)
+    return _follow(book, year, NextPlant(retired=name, until=until), None, program, who)
 
 
 @dataclass(frozen=True)
-class Plant:
+class NextPlant:
     """The plant of a next year.
 
     Attributes
@@ -88,7 +88,7 @@ class Plant:
 def _follow(
     book: Store,
     year: str,
-    plant: Plant,
+    plant: NextPlant,
     first: datetime.date | None,
     program: str | Path | None,
     who: str,
@@ -115,7 +115,7 @@ def _follow(
     return Begun(year, len(new.plant), classes, tuple(notes), first, contents, unopened)
 
 
-def first_day(name: str, wanted: datetime.date | None, text: str, old: Ledger) -> datetime.date:
+def first_day(name: str, wanted: datetime.date | None, text: str, old: YearLedger) -> datetime.date:
     """Return the first day of the next year: the one after the last period of the year before it.
 
     Raises
@@ -143,9 +143,9 @@ def begun(
     book: Store,
     action: Action,
     year: str,
-    plant: Plant,
+    plant: NextPlant,
     first: datetime.date,
-) -> tuple[Ledger, list[str]]:
+) -> tuple[YearLedger, list[str]]:
     """Return the next year with its plant alone, and what is passed over of another plant.
 
     An action has that other plant written.
@@ -176,11 +176,11 @@ def begun(
         keep_measures(work, book)
         told = put_measures(book, action, work.measures.found)
         notes = [*told, *put_accounts(accounts, work.accounts, book, action), *work.notes]
-    new = Ledger.read(year, file, text, first, datetime.date.max)
+    new = YearLedger.read(year, file, text, first, datetime.date.max)
     for record in read_records(text.encode("utf-8")):
         if record.fields not in new.plant:
             place = Place(file=file, line=record.line)
-            raise InputFault(f"a row {record.fields[0]} is none of a plant", place=place)
+            raise InputFault(f"a plant file can't contain a {record.fields[0]} row", place=place)
     return new, notes
 
 
@@ -222,7 +222,7 @@ def dated(
 
 
 def carry(
-    old: Ledger, new: Ledger, eve: datetime.date, program: str | Path | None
+    old: YearLedger, new: YearLedger, eve: datetime.date, program: str | Path | None
 ) -> dict[str, int]:
     """Put to a year what goes over from the one before it, and return the contents of its tanks.
 
@@ -247,7 +247,7 @@ def carry(
     return opening
 
 
-def _put(new: Ledger, fact: Fact) -> None:
+def _put(new: YearLedger, fact: BookFact) -> None:
     try:
         new.put(*fact.row())
     except Refusal as refusal:
@@ -256,7 +256,7 @@ def _put(new: Ledger, fact: Fact) -> None:
         ) from refusal
 
 
-def _other(old: Ledger, new: Ledger, name: str, closing: int, opening: int | None) -> Fault:
+def _other(old: YearLedger, new: YearLedger, name: str, closing: int, opening: int | None) -> Fault:
     """Return what is to be said of a tank whose contents would change."""
     said = f"{name} holds {plain(tonnes_of(closing))} t as {old.name} ends"
     if opening is None:

@@ -28,7 +28,7 @@ _MADE = (Act.REPORT, Act.CLOSE, Act.POSTED)
 
 
 @dataclass(frozen=True)
-class Figure:
+class HandedFigure:
     """A figure that is handed over.
 
     Attributes
@@ -76,7 +76,7 @@ class Handed:
         Whether it is closed.
     posting : str
         The id of what was posted of it last; empty if nothing was.
-    figures : tuple of Figure
+    figures : tuple of HandedFigure
         The figures.
     """
 
@@ -86,7 +86,7 @@ class Handed:
     last: datetime.date
     closed: bool
     posting: str
-    figures: tuple[Figure, ...]
+    figures: tuple[HandedFigure, ...]
 
 
 def handed(book: Store, period: str) -> Handed:
@@ -110,18 +110,20 @@ def handed(book: Store, period: str) -> Handed:
         return _handed(ledger.periods[period], posted.id, figures, made[-1:])
 
 
-def _handed(period: Period, posting: str, figures: tuple[Figure, ...], made: list[str]) -> Handed:
+def _handed(
+    period: Period, posting: str, figures: tuple[HandedFigure, ...], made: list[str]
+) -> Handed:
     first, last = map(datetime.date.fromordinal, (period.first, period.last))
     whole = [period.name, period.closed, posting, made, *map(astuple, figures)]
     digest = hashlib.sha256(json.dumps(whole).encode("ascii")).hexdigest()
     return Handed(digest, period.name, first, last, period.closed, posting, figures)
 
 
-def _figures(account: MonthAccount, posted: Posted) -> Iterator[Figure]:
+def _figures(account: MonthAccount, posted: Posted) -> Iterator[HandedFigure]:
     """Give the flows, the stock and what was posted."""
     for flow in account.month.flows.values():
         own = "", flow.start, flow.end, "", ""
-        yield Figure("flow", flow.name, *own, flow.grams, flow.value)
+        yield HandedFigure("flow", flow.name, *own, flow.grams, flow.value)
     for tank in account.tanks:
         stock = tank.stock
         for what, grams in (
@@ -130,7 +132,7 @@ def _figures(account: MonthAccount, posted: Posted) -> Iterator[Figure]:
             ("gain", stock.gain),
             ("closing", stock.closing),
         ):
-            yield Figure("stock", stock.tank, what, "", "", "", "", grams)
+            yield HandedFigure("stock", stock.tank, what, "", "", "", "", grams)
     for item, grams in posted.state.items():
         ends = item.source, item.target, item.product, item.group
-        yield Figure("posting", item.name, item.what, *ends, grams)
+        yield HandedFigure("posting", item.name, item.what, *ends, grams)

@@ -53,6 +53,7 @@ class Act(StrEnum):
 
     NEW = "new"
     ADD = "add"
+    PULL = "pull"
     AMEND = "amend"
     STRIKE = "strike"
     ESTIMATE = "estimate"
@@ -119,7 +120,7 @@ class Kept:
 
 
 @dataclass(frozen=True)
-class Line:
+class JournalLine:
     """A line of the journal.
 
     Attributes
@@ -234,7 +235,7 @@ def printable(text: str) -> str:
 # ---- reading
 
 
-def read_journal(file: str, text: str) -> tuple[list[Line], bool]:
+def read_journal(file: str, text: str) -> tuple[list[JournalLine], bool]:
     """Return the lines of a journal, and whether it is of an older version's form.
 
     Parameters
@@ -268,6 +269,26 @@ def read_journal(file: str, text: str) -> tuple[list[Line], bool]:
     _check_begin(file, lines)
     _check_chain(file, lines)
     return lines, False
+
+
+def read_line(file: str, text: str) -> JournalLine:
+    """Return a line of a journal that stands elsewhere than in its journal.
+
+    Raises
+    ------
+    InputFault
+        If it isn't one, or its digest is another.
+    """
+    rows = _rows(file, _lines(file, text))
+    if len(rows) != 1:
+        raise _no_line(file, 1)
+    line = _line(file, 1, rows[0])
+    if (
+        line.text != text
+        or _digest(text.rstrip("\n").removesuffix(f",{line.digest}")) != line.digest
+    ):
+        raise _no_line(file, 1)
+    return line
 
 
 def _lines(file: str, text: str) -> list[str]:
@@ -314,7 +335,7 @@ def _no_line(file: str, at: int) -> InputFault:
     return InputFault("this isn't a line of a journal", place=place, remedy=_REMEDY)
 
 
-def _line(file: str, at: int, row: Sequence[str]) -> Line:
+def _line(file: str, at: int, row: Sequence[str]) -> JournalLine:
     """Return a line of the journal of its cells.
 
     Raises
@@ -331,7 +352,7 @@ def _line(file: str, at: int, row: Sequence[str]) -> Line:
     if _ACTS[act] in (Act.NEW, Act.NEXT) and not is_year(of):
         raise _no_line(file, at)
     stated = (when, user, who, _ACTS[act], of, what, why, rows, program, files, before, digest)
-    return Line(int(number), *stated)
+    return JournalLine(int(number), *stated)
 
 
 def _files(cell: str) -> dict[str, Kept] | None:
@@ -346,7 +367,7 @@ def _files(cell: str) -> dict[str, Kept] | None:
     return files
 
 
-def _check_begin(file: str, lines: list[Line]) -> None:
+def _check_begin(file: str, lines: list[JournalLine]) -> None:
     """Raise if a journal doesn't begin with the first year.
 
     Raises
@@ -359,7 +380,7 @@ def _check_begin(file: str, lines: list[Line]) -> None:
         raise InputFault(what, place=Place(file=file, line=2), remedy=_REMEDY)
 
 
-def _check_chain(file: str, lines: list[Line]) -> None:
+def _check_chain(file: str, lines: list[JournalLine]) -> None:
     """Raise if a line isn't at its place, or doesn't follow the line before it.
 
     Raises
@@ -378,7 +399,7 @@ def _check_chain(file: str, lines: list[Line]) -> None:
         if other.number != one.number + 1 or other.before != one.digest:
             place = Place(file=file, line=at)
             what = (
-                f"action {other.number:,} doesn't follow action {one.number:,}, which stands "
+                f"action {other.number:,} doesn't follow action {one.number:,}, which is "
                 "before it: a line was taken out, put in or changed"
             )
             raise InputFault(what, place=place, remedy=_REMEDY)
@@ -387,7 +408,7 @@ def _check_chain(file: str, lines: list[Line]) -> None:
 # ---- journals of older versions
 
 
-def _old_lines(file: str, text: str) -> Iterator[Line]:
+def _old_lines(file: str, text: str) -> Iterator[JournalLine]:
     """Give the lines of a journal that has sentences and no digests.
 
     Raises
@@ -411,18 +432,18 @@ def _old_lines(file: str, text: str) -> Iterator[Line]:
         seen = _SEEN.search(added)
         files = {f"{seen[1]}.csv": Kept(int(seen[2]), None, "")} if seen else {}
         shown = "; ".join(each for each in added.split("; ") if not _SEEN.fullmatch(each))
-        yield Line(at, when, "", who, act, of, what, why, shown, "", files)
+        yield JournalLine(at, when, "", who, act, of, what, why, shown, "", files)
 
 
-def chained(lines: Iterable[Line]) -> list[Line]:
+def chained(lines: Iterable[JournalLine]) -> list[JournalLine]:
     """Return lines with their places, each bound to the one before it."""
-    found: list[Line] = []
+    found: list[JournalLine] = []
     for line in lines:
         found.append(following(found, line))
     return found
 
 
-def following(lines: Sequence[Line], line: Line) -> Line:
+def following(lines: Sequence[JournalLine], line: JournalLine) -> JournalLine:
     """Return a line with its place after others, and bound to the last of them."""
     before = lines[-1].digest if lines else FIRST_BEFORE
     line = replace(line, number=len(lines) + 1, before=before)

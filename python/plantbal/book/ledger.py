@@ -14,7 +14,7 @@ from plantbal.book.reasons import in_ascii
 from plantbal.faults import Fault, InputFault, Place, Refusal
 from plantbal.memory import uncollected
 from plantbal.model import facts
-from plantbal.model.booking import Amends, Books, BooksAssay, Strikes
+from plantbal.model.booking import Amends, BooksAssay, BooksFact, Strikes
 from plantbal.model.causes import Cause
 from plantbal.model.effects import DeclaresStream, DeclaresTank, Effect
 from plantbal.model.file import Rows, Step
@@ -30,7 +30,7 @@ _AGAIN = re.compile(r"\.[0-9]+$")  # how the id ends of what was struck and came
 
 
 @dataclass(frozen=True)
-class Fact:
+class BookFact:
     """A reading, a transfer or a dip.
 
     Attributes
@@ -54,14 +54,14 @@ class Fact:
     variance: int
 
     @classmethod
-    def booked(cls, fact: facts.Fact) -> Fact:
+    def booked(cls, fact: facts.Fact) -> BookFact:
         """Return a fact of a session's model."""
         days = datetime.date.fromordinal(fact.first), datetime.date.fromordinal(fact.last)
         values = (fact.mm, fact.density) if fact.kind == "dip" else (fact.grams,)
         return cls(fact.kind, fact.id, fact.of, *days, values, fact.variance)
 
     @classmethod
-    def of(cls, row: Sequence[str]) -> Fact:
+    def of(cls, row: Sequence[str]) -> BookFact:
         """Return the fact of a row of a session, with ``late`` in front of it or without."""
         kind, identity, place, *rest = row[1:] if row[0] == "late" else row
         count = 2 if kind == "transfer" else 1
@@ -90,7 +90,7 @@ class Fact:
         """What an amendment doesn't change: its kind, stream or tank, and days."""
         return self.kind, self.place, self.first, self.last
 
-    def says(self, other: Fact) -> bool:
+    def says(self, other: BookFact) -> bool:
         """Say whether another fact says the same, whatever its id."""
         return replace(self, id="") == replace(other, id="")
 
@@ -118,7 +118,7 @@ def plain(number: Decimal) -> str:
     return text.rstrip("0").rstrip(".") if "." in text else text
 
 
-class Booked(Mapping[str, Fact]):
+class Booked(Mapping[str, BookFact]):
     """The facts of a session that aren't struck, by their ids.
 
     A year has many, of which a command looks at few: each is made when it is asked for.
@@ -127,11 +127,11 @@ class Booked(Mapping[str, Fact]):
     def __init__(self, there: facts.Facts) -> None:
         self._there = there
 
-    def __getitem__(self, identity: str) -> Fact:
+    def __getitem__(self, identity: str) -> BookFact:
         found = self._there.find(identity)
         if found is None or found.struck:
             raise KeyError(identity)
-        return Fact.booked(found)
+        return BookFact.booked(found)
 
     def __iter__(self) -> Iterator[str]:
         return (fact.id for fact in self._there.live())
@@ -140,7 +140,7 @@ class Booked(Mapping[str, Fact]):
         return len(self._there) - self._there.struck
 
 
-class Ledger:
+class YearLedger:
     """A year of a book.
 
     Parameters
@@ -158,9 +158,9 @@ class Ledger:
         The rows that declare the plant.
     facts : Booked
         The facts that aren't struck, by their ids, with their last values.
-    struck : dict of str to Fact
+    struck : dict of str to BookFact
         Those that are.
-    edits : dict of str to list of (int, Fact)
+    edits : dict of str to list of (int, BookFact)
         Of each fact that was amended or struck the numbers of these rows, and what it was before.
     added : list of tuple of str
         The rows that were put after those that were read.
@@ -173,11 +173,11 @@ class Ledger:
         self.session = Session()
         self.plant: list[tuple[str, ...]] = []
         self.facts = Booked(self.session.state.facts)
-        self.struck: dict[str, Fact] = {}
-        self.edits: dict[str, list[tuple[int, Fact]]] = {}
+        self.struck: dict[str, BookFact] = {}
+        self.edits: dict[str, list[tuple[int, BookFact]]] = {}
         self.added: list[tuple[str, ...]] = []
         self.count = 0
-        self._lost: dict[tuple[str, datetime.date], list[Fact]] = {}
+        self._lost: dict[tuple[str, datetime.date], list[BookFact]] = {}
         self._declared: list[tuple[Service, int]] = []
         self._latest: dict[int, int] = {}
         self._latest_dip: dict[int, int] = {}
@@ -186,7 +186,7 @@ class Ledger:
     @classmethod
     def read(
         cls, name: str, file: str, text: str, first: datetime.date, last: datetime.date
-    ) -> Ledger:
+    ) -> YearLedger:
         """Return the ledger of a year's session.
 
         Parameters
@@ -238,7 +238,7 @@ class Ledger:
         self.added.append(without_empty_end(fields))
         self._keep(effect, self.added[-1])
 
-    def put_fact(self, fact: Fact) -> bool:
+    def put_fact(self, fact: BookFact) -> bool:
         """Add a fact, and return whether it comes late."""
         try:
             self.put(*fact.row())
@@ -263,7 +263,7 @@ class Ledger:
 
     def _keep(self, effect: Effect, fields: tuple[str, ...]) -> None:
         """Keep what a row does, as the row of the last number."""
-        if isinstance(effect, Books):
+        if isinstance(effect, BooksFact):
             self._touch(effect.fact)
         elif isinstance(effect, BooksAssay):
             self._latest_assay[effect.period] = self.count
@@ -276,7 +276,7 @@ class Ledger:
 
     def _edit(self, edit: facts.Edit) -> None:
         assert edit.before is not None
-        fact = Fact.booked(edit.before)
+        fact = BookFact.booked(edit.before)
         self.edits.setdefault(fact.id, []).append((self.count, fact))
         self._touch(edit.before)
         if edit.after is None:
@@ -318,7 +318,7 @@ class Ledger:
         """Whether a period is closed, so that the plant can't change any more."""
         return any(period.closed for period in self.session.periods)
 
-    def within(self, periods: Iterable[Period]) -> Iterator[Fact]:
+    def within(self, periods: Iterable[Period]) -> Iterator[BookFact]:
         """Give the facts that aren't struck from the eve of some periods to their end.
 
         A year has many facts, and only these are made.
@@ -329,14 +329,14 @@ class Ledger:
         first, last = min(day for day, _ in days), max(day for _, day in days)
         for fact in self.session.state.facts.live():
             if fact.first <= last and fact.last >= first:
-                yield Fact.booked(fact)
+                yield BookFact.booked(fact)
 
-    def on(self, place: str, day: datetime.date) -> Fact | None:
+    def on(self, place: str, day: datetime.date) -> BookFact | None:
         """Return the reading or the dip of a day, or None."""
         found = self.session.state.facts.on(place, day.toordinal())
-        return None if found is None else Fact.booked(found)
+        return None if found is None else BookFact.booked(found)
 
-    def ticket(self, identity: str, others: frozenset[str] = frozenset()) -> Fact | None:
+    def ticket(self, identity: str, others: frozenset[str] = frozenset()) -> BookFact | None:
         """Return the transfer of a ticket; if it was struck, the one that was booked in its place.
 
         Parameters
@@ -349,7 +349,7 @@ class Ledger:
         chain = self._chain(identity, others)
         return next((fact for fact in chain if fact.id in self.facts), None)
 
-    def _chain(self, identity: str, others: frozenset[str]) -> Iterator[Fact]:
+    def _chain(self, identity: str, others: frozenset[str]) -> Iterator[BookFact]:
         """Give the transfers that were booked for a ticket one after the other, struck or not."""
         for name in self._names(identity):
             if name == identity or name not in others:
@@ -359,7 +359,7 @@ class Ledger:
                 if fact.kind == "transfer":
                     yield fact
 
-    def origin(self, fact: Fact) -> str:
+    def origin(self, fact: BookFact) -> str:
         """Return the id of a transfer's ticket, which another had before it if that was struck."""
         for identity, before in self.struck.items():
             if before.kind == "transfer" and _AGAIN.search(fact.id):
@@ -367,7 +367,7 @@ class Ledger:
                     return identity
         return fact.id
 
-    def lost(self, fact: Fact, others: frozenset[str] = frozenset()) -> Fact | None:
+    def lost(self, fact: BookFact, others: frozenset[str] = frozenset()) -> BookFact | None:
         """Return the struck fact that says the same as a fact, or None."""
         if fact.kind == "transfer":
             found = [each for each in self._chain(fact.id, others) if each.id in self.struck]

@@ -9,14 +9,15 @@ import datetime
 from dataclasses import dataclass
 
 from plantbal.book.answers import Quiet, quieted
-from plantbal.book.expected import Version
+from plantbal.book.expected import BookVersion
 from plantbal.book.forms import EARLIER, report_file, window_file, year_file
-from plantbal.book.journal import Line
-from plantbal.book.ledger import Fact, Ledger
+from plantbal.book.journal import JournalLine
+from plantbal.book.ledger import BookFact, YearLedger
+from plantbal.book.mapping import mapping_of
 from plantbal.book.meters import Meter, read_meters
 from plantbal.book.overview import report_state, seen_by
 from plantbal.book.reporting import rows_asking
-from plantbal.book.results import ReportState, Shown
+from plantbal.book.results import ReportState, ShownFact
 from plantbal.book.said import touched_by
 from plantbal.book.store import METERS, Act, Store
 from plantbal.book.years import Years
@@ -24,10 +25,11 @@ from plantbal.faults import Fault
 from plantbal.model.periods import period_days
 from plantbal.model.plant import Service
 from plantbal.model.state import State
+from plantbal.workbook.mapping.form import WorkbookMapping
 
 
 @dataclass(frozen=True)
-class Flow:
+class BookStream:
     """A stream as a book has it.
 
     Attributes
@@ -60,7 +62,7 @@ class Vessel:
 
 
 @dataclass(frozen=True)
-class Month:
+class BookMonth:
     """A period as a book has it: its year, its days, whether it is closed, how old its report is."""
 
     name: str
@@ -78,11 +80,11 @@ class Contents:
 
     Attributes
     ----------
-    version : Version
+    version : BookVersion
         Its version.
-    months : tuple of Month
+    months : tuple of BookMonth
         Its periods in the order of their days.
-    flows : dict of str to tuple of Flow
+    flows : dict of str to tuple of BookStream
         The streams by the years.
     vessels : dict of str to tuple of Vessel
         The tanks by the years.
@@ -90,19 +92,19 @@ class Contents:
         The windows that have a report.
     quiets : tuple of Quiet
         The rules that are quieted.
-    lines : tuple of Line
+    lines : tuple of JournalLine
         The journal.
     """
 
-    version: Version
-    months: tuple[Month, ...]
-    flows: dict[str, tuple[Flow, ...]]
+    version: BookVersion
+    months: tuple[BookMonth, ...]
+    flows: dict[str, tuple[BookStream, ...]]
     vessels: dict[str, tuple[Vessel, ...]]
     windows: tuple[tuple[str, str], ...]
     quiets: tuple[Quiet, ...]
-    lines: tuple[Line, ...]
+    lines: tuple[JournalLine, ...]
 
-    def month(self, name: str) -> Month | None:
+    def month(self, name: str) -> BookMonth | None:
         """Return a period by its name."""
         return next((month for month in self.months if month.name == name), None)
 
@@ -143,13 +145,13 @@ class MonthFacts:
 
     Attributes
     ----------
-    facts : tuple of Shown
+    facts : tuple of ShownFact
         The facts, with those that were struck.
     state : State
         The session as it is in the end.
     """
 
-    facts: tuple[Shown, ...]
+    facts: tuple[ShownFact, ...]
     state: State
 
 
@@ -170,21 +172,21 @@ def contents(book: Store) -> Contents:
         months.sort(key=lambda month: (month.first, month.last))
         quiets = tuple(quieted(journal))
         return Contents(
-            Version.of(journal), tuple(months), flows, vessels, windows, quiets, tuple(journal)
+            BookVersion.of(journal), tuple(months), flows, vessels, windows, quiets, tuple(journal)
         )
 
 
-def _month(book: Store, ledger: Ledger, journal: list[Line], name: str) -> Month:
+def _month(book: Store, ledger: YearLedger, journal: list[JournalLine], name: str) -> BookMonth:
     """Return a period of a year."""
     period = ledger.periods[name]
     state = report_state(book, ledger, journal, name)
     earlier = 0
     while book.has(f"{EARLIER}/{name}.{earlier + 1}.csv"):
         earlier += 1
-    return Month(name, ledger.name, *period_days(period), period.closed, state, earlier)
+    return BookMonth(name, ledger.name, *period_days(period), period.closed, state, earlier)
 
 
-def _flows(ledger: Ledger, meters: dict[str, Meter]) -> list[Flow]:
+def _flows(ledger: YearLedger, meters: dict[str, Meter]) -> list[BookStream]:
     """Return the streams of a year."""
     found = []
     for name, stream in ledger.session.state.plant.streams.items():
@@ -192,11 +194,11 @@ def _flows(ledger: Ledger, meters: dict[str, Meter]) -> list[Flow]:
             continue
         ends = (stream.arc.from_, stream.arc.to)
         from_, to = (stream.boundary or "env" if end == "env" else end for end in ends)
-        found.append(Flow(name, stream.kind, from_, to, meters.get(name), stream.service))
+        found.append(BookStream(name, stream.kind, from_, to, meters.get(name), stream.service))
     return found
 
 
-def _vessels(ledger: Ledger, meters: dict[str, Meter]) -> list[Vessel]:
+def _vessels(ledger: YearLedger, meters: dict[str, Meter]) -> list[Vessel]:
     """Return the tanks of a year."""
     tanks = [name for name, kind in ledger.session.nodes.items() if kind == "tank"]
     return [Vessel(name, meters.get(name), ledger.session.service(name)) for name in tanks]
@@ -263,7 +265,7 @@ def facts_of(book: Store, period: str) -> MonthFacts:
     with book.opened(reading=True):
         ledger = Years(book).of_period(period)
         found = [
-            Shown(fact, struck, tuple(was for _, was in ledger.edits.get(fact.id, [])))
+            ShownFact(fact, struck, tuple(was for _, was in ledger.edits.get(fact.id, [])))
             for some, struck in ((ledger.facts, False), (ledger.struck, True))
             for fact in some.values()
             if period in touched_by(ledger, fact)
@@ -272,7 +274,13 @@ def facts_of(book: Store, period: str) -> MonthFacts:
     return MonthFacts(tuple(found), ledger.session.state)
 
 
-def line_of(lines: tuple[Line, ...], year: str, row: int) -> Line | None:
+def mapping(book: Store) -> WorkbookMapping | None:
+    """Return how the workbooks of a book are read, as it keeps that, or None."""
+    with book.opened(reading=True):
+        return mapping_of(book)
+
+
+def line_of(lines: tuple[JournalLine, ...], year: str, row: int) -> JournalLine | None:
     """Return the line of a journal that added a row of a year."""
     return next((line for line in lines if row in line.added.get(year, ())), None)
 
@@ -283,7 +291,7 @@ class FactLine:
 
     Attributes
     ----------
-    shown : Shown
+    shown : ShownFact
         The fact, with what it was.
     year : str
         The year whose file has it.
@@ -293,21 +301,21 @@ class FactLine:
         The periods that it touches.
     closed : tuple of str
         Those that are closed.
-    booked : Line or None
+    booked : JournalLine or None
         The line of the journal that booked it.
-    edits : tuple of (Line, Fact)
+    edits : tuple of (JournalLine, BookFact)
         The lines that amended or struck it, each with what it was before.
     meter : Meter or None
         Its meter or gauge.
     """
 
-    shown: Shown
+    shown: ShownFact
     year: str
     row: int
     periods: tuple[str, ...]
     closed: tuple[str, ...]
-    booked: Line | None
-    edits: tuple[tuple[Line | None, Fact], ...]
+    booked: JournalLine | None
+    edits: tuple[tuple[JournalLine | None, BookFact], ...]
     meter: Meter | None
 
 
@@ -333,7 +341,7 @@ def fact_line(book: Store, year: str, identity: str) -> FactLine:
         edits = tuple((line_of(lines, year, number), was) for number, was in edited)
         touched = touched_by(ledger, fact)
         meters = read_meters(book.path(METERS))
-        shown = Shown(fact, struck, tuple(was for _, was in edited))
+        shown = ShownFact(fact, struck, tuple(was for _, was in edited))
         closed = tuple(name for name, each in touched.items() if each.closed)
         booked = line_of(lines, year, row)
         return FactLine(

@@ -17,9 +17,9 @@ from plantbal.book.forms import MEASURED, MEASURES
 from plantbal.book.meters import Meter, decimal
 from plantbal.book.said import counted
 from plantbal.book.store import Action, Store
-from plantbal.book.ledger import Fact, Ledger
+from plantbal.book.ledger import BookFact, YearLedger
 from plantbal.faults import Fault, Faults
-from plantbal.volumes.liquid import Measured, Product, Sample
+from plantbal.volumes.liquid import MeasuredFigure, Product, Sample
 from plantbal.volumes.trail import Trail, plain, read_trails, text_of
 from plantbal.workbook.cells import Reader
 from plantbal.workbook.converter import Converter
@@ -68,12 +68,12 @@ def _gauge(gauge: Gauge) -> tuple[str, ...]:
     if gauge.roof is None:
         return (gauge.product, *errors, "", "", "", "", "")
     roof = gauge.roof
-    masses = _kilograms(roof.mass), _kilograms(Measured(roof.mass.sd))
-    zone = _kilograms(Measured(roof.zone)) if roof.zone is not None else ""
+    masses = _kilograms(roof.mass), _kilograms(MeasuredFigure(roof.mass.sd))
+    zone = _kilograms(MeasuredFigure(roof.zone)) if roof.zone is not None else ""
     return (gauge.product, *errors, *masses, plain(roof.rests), plain(roof.floats), zone)
 
 
-def _kilograms(mass: Measured) -> str:
+def _kilograms(mass: MeasuredFigure) -> str:
     return f"{plain(mass.value)} kg"
 
 
@@ -138,7 +138,9 @@ def trails_of(book: Store) -> dict[tuple[str, str], Trail]:
 
 
 def check_measured(
-    trails: Mapping[tuple[str, str], Trail], places: Sequence[tuple[Ledger, Fact]], is_volume: bool
+    trails: Mapping[tuple[str, str], Trail],
+    places: Sequence[tuple[YearLedger, BookFact]],
+    is_volume: bool,
 ) -> None:
     """Refuse another level or volume for a fact of which more was measured than that.
 
@@ -150,7 +152,7 @@ def check_measured(
     for ledger, fact in places:
         if (ledger.name, fact.id) in trails and (fact.kind == "dip" or is_volume):
             of = "level" if fact.kind == "dip" else "volume"
-            what = f"{fact.id} was reckoned from more than its {of} ({MEASURED})"
+            what = f"{fact.id} was calculated from more than its {of} ({MEASURED})"
             remedy = (
                 "correct the workbook, with its density, temperature and water, and add it again"
             )

@@ -6,7 +6,7 @@ import datetime
 from collections.abc import Iterator
 from dataclasses import dataclass
 
-from plantbal.book.ledger import Fact, Ledger
+from plantbal.book.ledger import BookFact, YearLedger
 from plantbal.book.meters import Meter
 from plantbal.book.years import Years
 from plantbal.faults import Fault, Place
@@ -35,21 +35,21 @@ def day_of(text: str | None, locale: str) -> datetime.date | None:
 
 
 @dataclass(frozen=True)
-class Named:
+class NamedFact:
     """A fact that a command names.
 
     Attributes
     ----------
-    fact : Fact
+    fact : BookFact
         The fact.
-    places : list of (Ledger, Fact)
+    places : list of (YearLedger, BookFact)
         The years that it stands in, each with the fact there.
     struck : bool
         Whether it was struck.
     """
 
-    fact: Fact
-    places: list[tuple[Ledger, Fact]]
+    fact: BookFact
+    places: list[tuple[YearLedger, BookFact]]
     struck: bool
 
 
@@ -72,7 +72,7 @@ class Names:
         """Return the stream of a tag; another name stays."""
         return self.tags.get(name, name)
 
-    def find(self, name: str, day: datetime.date | None) -> Named:
+    def find(self, name: str, day: datetime.date | None) -> NamedFact:
         """Return the fact of a tag, stream or tank and its day, or of an id.
 
         Raises
@@ -85,26 +85,28 @@ class Names:
         if live:
             # An id may be that of another fact in another year.
             ledger, fact = live[-1]
-            return Named(fact, self.years.twins(ledger, fact), struck=False)
+            return NamedFact(fact, self.years.twins(ledger, fact), struck=False)
         struck = [(each, fact) for each in ledgers for fact in self._struck(each, name, day)]
         if struck:
-            return Named(struck[-1][1], struck, struck=True)
+            return NamedFact(struck[-1][1], struck, struck=True)
         raise self._none(name, day)
 
-    def _ledgers(self, day: datetime.date | None) -> list[Ledger]:
+    def _ledgers(self, day: datetime.date | None) -> list[YearLedger]:
         """Return the years in which a day may stand: two, if it is an eve."""
         if day is None:
             return self.years.all()
         found = {each.name: each for each in map(self.years.of_day, (day, day + _DAY)) if each}
         return list(found.values())
 
-    def _live(self, ledger: Ledger, name: str, day: datetime.date | None) -> Iterator[Fact]:
+    def _live(self, ledger: YearLedger, name: str, day: datetime.date | None) -> Iterator[BookFact]:
         fact = ledger.on(self.place(name), day) if day is not None else None
         fact = fact or ledger.facts.get(name) or ledger.ticket(name)
         if fact is not None and (day is None or fact.first <= day <= fact.last):
             yield fact
 
-    def _struck(self, ledger: Ledger, name: str, day: datetime.date | None) -> Iterator[Fact]:
+    def _struck(
+        self, ledger: YearLedger, name: str, day: datetime.date | None
+    ) -> Iterator[BookFact]:
         for fact in ledger.struck.values():
             if day is None and fact.id == name:
                 yield fact

@@ -6,18 +6,18 @@ import datetime
 from collections.abc import Iterator
 
 from plantbal.book.forms import old_window_file, report_file, window_file, year_file
-from plantbal.book.ledger import Ledger
+from plantbal.book.ledger import YearLedger
 from plantbal.book.meters import Meter, read_meters
-from plantbal.book.results import PeriodStatus, ReportState, Status, TankApart, YearStatus
+from plantbal.book.results import BookStatus, PeriodStatus, ReportState, TankApart, YearStatus
 from plantbal.book.said import lacks, unassayed, waiting_said
-from plantbal.book.store import METERS, Act, Line, Store
+from plantbal.book.store import METERS, Act, JournalLine, Store
 from plantbal.book.years import Years
 from plantbal.session import Period
 
 _DAY = datetime.timedelta(1)
 
 
-def status(book: Store) -> Status:
+def status(book: Store) -> BookStatus:
     """Return how the book stands."""
     with book.opened(reading=True):
         years = Years(book)
@@ -26,10 +26,12 @@ def status(book: Store) -> Status:
         found = [_year(book, ledger, book.journal(), meters) for ledger in years.all()]
         ends = zip(years.all(), years.all()[1:])
         between = [each for old, new in ends for each in apart(old, new)]
-    return Status(tuple(waiting), tuple(found), tuple(between))
+    return BookStatus(tuple(waiting), tuple(found), tuple(between))
 
 
-def _year(book: Store, ledger: Ledger, journal: list[Line], meters: dict[str, Meter]) -> YearStatus:
+def _year(
+    book: Store, ledger: YearLedger, journal: list[JournalLine], meters: dict[str, Meter]
+) -> YearStatus:
     """Return how a year stands."""
     periods = tuple(
         PeriodStatus(
@@ -51,20 +53,20 @@ def _year(book: Store, ledger: Ledger, journal: list[Line], meters: dict[str, Me
     return YearStatus(ledger.name, facts, periods, windows)
 
 
-def _missing(ledger: Ledger, period: Period, meters: dict[str, Meter]) -> list[str]:
+def _missing(ledger: YearLedger, period: Period, meters: dict[str, Meter]) -> list[str]:
     """Return what is missing in an open period, in sentences."""
     lines = lacks(ledger, period, meters)
     return lines + [line for line in unassayed(ledger, period, none=True) if line not in lines]
 
 
-def windows_of(journal: list[Line]) -> list[tuple[str, str]]:
+def windows_of(journal: list[JournalLine]) -> list[tuple[str, str]]:
     """Return the first and the last period of each window that was asked for."""
     of = [line.of.partition(" ") for line in journal if line.act == Act.WINDOW]
     return [(first, last) for first, _, last in of]
 
 
 def is_window_older(
-    book: Store, ledger: Ledger, journal: list[Line], first: str, last: str
+    book: Store, ledger: YearLedger, journal: list[JournalLine], first: str, last: str
 ) -> bool:
     """Say whether something was booked since the report of a window, if it has one."""
     if not any(book.has(name(first, last)) for name in (window_file, old_window_file)):
@@ -75,7 +77,7 @@ def is_window_older(
     return max(ledger.touched(period, assays=False) for period in inside) > before
 
 
-def seen_by(journal: list[Line], ledger: Ledger, of: str, *acts: Act) -> int:
+def seen_by(journal: list[JournalLine], ledger: YearLedger, of: str, *acts: Act) -> int:
     """Return how many rows of a year the last report of something has seen."""
     found = 0
     for line in journal:
@@ -84,7 +86,9 @@ def seen_by(journal: list[Line], ledger: Ledger, of: str, *acts: Act) -> int:
     return found
 
 
-def report_state(book: Store, ledger: Ledger, journal: list[Line], name: str) -> ReportState:
+def report_state(
+    book: Store, ledger: YearLedger, journal: list[JournalLine], name: str
+) -> ReportState:
     """Return how old a period's report is."""
     if not book.has(report_file(name)):
         return ReportState.MISSING
@@ -93,7 +97,7 @@ def report_state(book: Store, ledger: Ledger, journal: list[Line], name: str) ->
     return ReportState.OLDER if is_older else ReportState.CURRENT
 
 
-def apart(old: Ledger, new: Ledger) -> Iterator[TankApart]:
+def apart(old: YearLedger, new: YearLedger) -> Iterator[TankApart]:
     """Give the dips of the eve of a year that aren't the same in both years."""
     eve = new.first - _DAY
     for name, kind in new.session.nodes.items():

@@ -20,7 +20,7 @@ from plantbal.faults import InputFault, Place, unread
 
 
 @dataclass(frozen=True)
-class Entry:
+class PendingFile:
     """What an action does to a file.
 
     Attributes
@@ -66,7 +66,7 @@ class Entry:
         return whole
 
 
-def pending_text(entries: Sequence[Entry]) -> bytes:
+def pending_text(entries: Sequence[PendingFile]) -> bytes:
     """Return the text of `.pending`."""
     items = [
         {"file": each.file, "from": each.start, "text": each.data.decode("utf-8")}
@@ -75,7 +75,7 @@ def pending_text(entries: Sequence[Entry]) -> bytes:
     return json.dumps(items).encode("ascii")
 
 
-def read_pending(folder: Path) -> list[Entry]:
+def read_pending(folder: Path) -> list[PendingFile]:
     """Return what waits in a book's folder; nothing if no action does.
 
     Raises
@@ -105,7 +105,7 @@ def read_pending(folder: Path) -> list[Entry]:
     return _entries(folder, items)
 
 
-def _entries(folder: Path, items: Any) -> list[Entry]:
+def _entries(folder: Path, items: Any) -> list[PendingFile]:
     """Return the entries of JSON.
 
     Raises
@@ -125,11 +125,11 @@ def _entries(folder: Path, items: Any) -> list[Entry]:
         if not whole or not isinstance(name, str) or not isinstance(text, str):
             raise _foreign(path, "it isn't what a command writes")
         if not is_own(name):
-            raise _foreign(path, f"it names {name!r}, which is no file of a book")
+            raise _foreign(path, f"it names {name!r}, which isn't a file of a book")
         if link_in(folder, name) is not None and not is_trusted(folder):
             raise _foreign(path, f"it names {name}, where a link leads elsewhere")
         try:
-            entries.append(Entry(name, start, text.encode("utf-8")))
+            entries.append(PendingFile(name, start, text.encode("utf-8")))
         except UnicodeEncodeError:
             raise _foreign(path, "it isn't what a command writes") from None
     return entries

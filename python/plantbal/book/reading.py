@@ -3,6 +3,7 @@ book's."""
 
 from __future__ import annotations
 
+import datetime
 from collections.abc import Collection, Iterable, Iterator, Sequence
 from dataclasses import dataclass, replace
 from pathlib import Path
@@ -11,10 +12,11 @@ from plantbal.book.forms import MEASURES
 from plantbal.book.measures import take_measures
 from plantbal.book.meters import Meter, taken
 from plantbal.book.said import counted, listed
+from plantbal.book.vanished import PulledSource
 from plantbal.faults import Fault, Faults, InputFault, Refusal
 from plantbal.memory import uncollected
 from plantbal.session import Period
-from plantbal.workbook.base import Span
+from plantbal.workbook.base import PeriodDays
 from plantbal.workbook.conversion import Conversion
 from plantbal.workbook.converter import Converter
 from plantbal.workbook.options import ReadingOptions
@@ -42,10 +44,18 @@ class Tabled:
         What the journal calls them.
     sheets : list of Sheet
         The sheets.
+    cleared : tuple of (str, date), optional
+        The booked facts that aren't wanted any more, by their tags, streams or tanks and their
+        days: these are struck, and no others. None if the sheets say what is gone, as a workbook
+        does.
+    source : PulledSource, optional
+        Where they are read from again and again; then what has vanished there is gone.
     """
 
     name: str
     sheets: list[Sheet]
+    cleared: tuple[tuple[str, datetime.date], ...] | None = None
+    source: PulledSource | None = None
 
 
 Given = str | Path | Tabled
@@ -136,7 +146,7 @@ def converted(
     with uncollected():
         work = Converter(sheets_of(workbook, reading), reading.reader, reading.skip)
         work.readings.whole = False
-        work.periods.spans = [Span(each.first, each.last) for each in periods]
+        work.periods.spans = [PeriodDays(each.first, each.last) for each in periods]
         work.known = accounts
         _read_plant(work, plant, meters)
         work.read_accounts()
@@ -213,5 +223,5 @@ def _edits(work: Converter) -> Iterator[Fault]:
         for cells in sheet.rows():
             if cells[0].text in ("amend", "strike", "close"):
                 remedy = f"take it out, and type plantbal-desk book {cells[0].text}"
-                what = f"a row {cells[0].text} stands in a sheet rows"
+                what = f"a row {cells[0].text} is in a sheet rows"
                 yield InputFault(what, place=cells[0].place(), remedy=remedy)

@@ -11,7 +11,7 @@ from plantbal.book.accounting import accounts_of
 from plantbal.book.answers import Quiet, quieted
 from plantbal.book.forms import earlier_file, old_earlier_file, report_file, year_file
 from plantbal.book.journal import Kept
-from plantbal.book.ledger import Ledger, plain
+from plantbal.book.ledger import YearLedger, plain
 from plantbal.book.meters import read_meters
 from plantbal.book.results import Reported
 from plantbal.book.said import lacks
@@ -168,7 +168,9 @@ def holes_said(
     return [f"{first[0].subject}: {line}" for line in said]
 
 
-def keep(book: Store, action: Action, ledger: Ledger, period: str, text: str, closed: bool) -> bool:
+def keep(
+    book: Store, action: Action, ledger: YearLedger, period: str, text: str, closed: bool
+) -> bool:
     """Have an action write a report, and keep the one before it if it has gone out.
 
     It has if its period was closed then, or if it was posted.
@@ -195,7 +197,7 @@ def _is_posted(book: Store, period: str, text: str) -> bool:
     return any(name in line.files and line.files[name].digest == digest for line in lines)
 
 
-def keep_as(book: Store, action: Action, ledger: Ledger, name: str, text: str) -> bool:
+def keep_as(book: Store, action: Action, ledger: YearLedger, name: str, text: str) -> bool:
     """Have an action write a report under a name.
 
     Returns
@@ -239,7 +241,7 @@ def reports(
         meters = read_meters(book.path(METERS))
         periods = list(names) or years.open_periods()
         if not periods:
-            raise Fault("no period is open", remedy="name the periods whose reports are wanted")
+            raise Fault("no period is open", remedy="name the periods to report")
         for name in periods:
             ledger = years.of_period(name)
             components = ledger.session.components_in(name)

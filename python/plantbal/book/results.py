@@ -9,7 +9,7 @@ from enum import Enum
 from pathlib import Path
 
 from plantbal.book.changes import Changes
-from plantbal.book.ledger import Fact
+from plantbal.book.ledger import BookFact
 from plantbal.book.store import Head
 from plantbal.diagnosis.proposal import Proposal
 from plantbal.gates import Gate, Stop
@@ -113,9 +113,9 @@ class Edited:
 
     Attributes
     ----------
-    old : Fact
+    old : BookFact
         The fact as it was booked.
-    new : Fact or None
+    new : BookFact or None
         The fact as it is; None if it is struck.
     is_booked : bool
         Whether that was booked now: not if it was so already.
@@ -125,8 +125,8 @@ class Edited:
         Those of its periods that are closed.
     """
 
-    old: Fact
-    new: Fact | None
+    old: BookFact
+    new: BookFact | None
     is_booked: bool
     older_reports: tuple[str, ...] = ()
     closed: tuple[str, ...] = ()
@@ -306,19 +306,19 @@ class TankApart:
         The tank.
     old_year, new_year : str
         The years.
-    old, new : Fact
+    old, new : BookFact
         The dip in each.
     """
 
     tank: str
     old_year: str
     new_year: str
-    old: Fact
-    new: Fact
+    old: BookFact
+    new: BookFact
 
 
 @dataclass(frozen=True)
-class Status:
+class BookStatus:
     """How a book stands.
 
     Attributes
@@ -365,7 +365,7 @@ class Verified:
 
 
 @dataclass(frozen=True)
-class Accepted:
+class AcceptedFile:
     """A file that was taken as it is.
 
     Attributes
@@ -381,19 +381,19 @@ class Accepted:
 
 
 @dataclass(frozen=True)
-class Shown:
+class ShownFact:
     """A fact of a book, with what it was.
 
     Attributes
     ----------
-    fact : Fact
+    fact : BookFact
         The fact, as it is or as it was struck.
     struck : bool
         Whether it was struck.
-    before : tuple of Fact
+    before : tuple of BookFact
         What it was before each edit.
     """
 
-    fact: Fact
+    fact: BookFact
     struck: bool
-    before: tuple[Fact, ...]
+    before: tuple[BookFact, ...]

@@ -8,7 +8,7 @@ from collections.abc import Collection, Iterable
 
 from plantbal.book.changes import Changes
 from plantbal.book.forms import JOURNAL, year_file
-from plantbal.book.ledger import PLANT_KINDS, Fact, Ledger
+from plantbal.book.ledger import PLANT_KINDS, BookFact, YearLedger
 from plantbal.book.meters import Meter
 from plantbal.book.results import ReportState, YearAdded
 from plantbal.book.store import Store
@@ -75,6 +75,9 @@ def added(year: YearAdded) -> str:
     return f"{year.name}.csv: {'; '.join(parts) or 'nothing new'}"
 
 
+_ASKED = "is booked, and isn't in {} any more: plantbal-desk book strike takes it out"
+
+
 def changed(changes: Changes, name: str, struck: bool) -> list[str]:
     """Return what a workbook changes, a line each, and what it leaves.
 
@@ -106,10 +109,15 @@ def changed(changes: Changes, name: str, struck: bool) -> list[str]:
         are = "is" if len(changes.gone) == 1 else "are"
         what = f"{counted(len(changes.gone), 'fact')} {are} booked and not in {name}: {ids}"
         lines.append(f"{what}; struck" if struck else f"{what}; kept, and --strike takes them out")
+    lines += [
+        f"{fact.id}: {fact.said()} {_ASKED.format(name)}" for _, fact in changes.asked[:FIRST]
+    ]
+    if len(changes.asked) > FIRST:
+        lines.append(f"{len(changes.asked) - FIRST:,} more aren't in {name} any more")
     return lines
 
 
-def touched_by(ledger: Ledger, fact: Fact) -> dict[str, Period]:
+def touched_by(ledger: YearLedger, fact: BookFact) -> dict[str, Period]:
     """Return the periods of a year that a fact touches; a dip closes one and opens the next."""
     eve = 1 if fact.kind == "dip" else 0
     first, last = fact.first.toordinal(), fact.last.toordinal()
@@ -117,7 +125,7 @@ def touched_by(ledger: Ledger, fact: Fact) -> dict[str, Period]:
     return {n: each for n, each in periods if first <= each.last and last >= each.first - eve}
 
 
-def closed_in(facts: Iterable[tuple[Ledger, Fact]]) -> list[str]:
+def closed_in(facts: Iterable[tuple[YearLedger, BookFact]]) -> list[str]:
     """Return the closed periods that facts touch."""
     touched = [touched_by(ledger, fact) for ledger, fact in facts]
     return list(dict.fromkeys(n for some in touched for n, each in some.items() if each.closed))
@@ -129,7 +137,7 @@ def reopened_said(period: str) -> str:
     return f"{period} is closed, and this changes it: {then}"
 
 
-def odd(ledger: Ledger) -> list[Finding]:
+def odd(ledger: YearLedger) -> list[Finding]:
     """Return what of a year looks wrong by its names and values: another unit, another size.
 
     Its rows aren't judged again: the rules look at the session that the ledger has.
@@ -139,7 +147,7 @@ def odd(ledger: Ledger) -> list[Finding]:
     return sorted(found, key=lambda each: (SEVERITIES.index(each.severity), each.place.line or 0))
 
 
-def doubts(before: Iterable[Finding], ledger: Ledger) -> list[Finding]:
+def doubts(before: Iterable[Finding], ledger: YearLedger) -> list[Finding]:
     """Return what looks wrong in a year that has had rows added, and didn't before."""
     if not ledger.added:
         return []
@@ -147,7 +155,7 @@ def doubts(before: Iterable[Finding], ledger: Ledger) -> list[Finding]:
     return [each for each in odd(ledger) if (each.text, each.remedy) not in known]
 
 
-def lacking(ledger: Ledger, facts: Iterable[Fact], meters: dict[str, Meter]) -> list[str]:
+def lacking(ledger: YearLedger, facts: Iterable[BookFact], meters: dict[str, Meter]) -> list[str]:
     """Return what is missing in the periods in which some facts are."""
     days = {fact.first.toordinal() for fact in facts}
     periods = ledger.periods.values()
@@ -155,7 +163,7 @@ def lacking(ledger: Ledger, facts: Iterable[Fact], meters: dict[str, Meter]) -> 
     return [line for period in found for line in lacks(ledger, period, meters)]
 
 
-def lacks(ledger: Ledger, period: Period, meters: dict[str, Meter]) -> list[str]:
+def lacks(ledger: YearLedger, period: Period, meters: dict[str, Meter]) -> list[str]:
     """Return which readings and dips of a period are missing, those of the same days in a line."""
     first, last = period_days(period)
     days = days_of(first, last)
@@ -185,12 +193,12 @@ def lacks(ledger: Ledger, period: Period, meters: dict[str, Meter]) -> list[str]
     return lines + unassayed(ledger, period)
 
 
-def unassayed(ledger: Ledger, period: Period, none: bool = False) -> list[str]:
+def unassayed(ledger: YearLedger, period: Period, none: bool = False) -> list[str]:
     """Return which streams the period before has assays of and an open period hasn't, in lines.
 
     Parameters
     ----------
-    ledger : Ledger
+    ledger : YearLedger
         The year.
     period : Period
         The period.
@@ -218,7 +226,7 @@ def unassayed(ledger: Ledger, period: Period, none: bool = False) -> list[str]:
 
 
 def _by_window(
-    ledger: Ledger, tank: str, period: Period, missing: Collection[datetime.date]
+    ledger: YearLedger, tank: str, period: Period, missing: Collection[datetime.date]
 ) -> str:
     """Return which window has what a tank held on a day without a dip, or nothing."""
     service = ledger.session.service(tank)

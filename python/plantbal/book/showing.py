@@ -4,10 +4,10 @@ from __future__ import annotations
 
 import datetime
 
-from plantbal.book.ledger import Fact, Ledger
+from plantbal.book.ledger import BookFact, YearLedger
 from plantbal.book.meters import Meter, read_meters
 from plantbal.book.naming import Names
-from plantbal.book.results import Shown
+from plantbal.book.results import ShownFact
 from plantbal.book.said import waiting_said
 from plantbal.book.store import METERS, Store
 from plantbal.book.years import Years
@@ -16,7 +16,7 @@ from plantbal.faults import Fault
 
 def show(
     book: Store, name: str, first: datetime.date | None, last: datetime.date | None
-) -> tuple[list[Shown], Meter | None, list[str]]:
+) -> tuple[list[ShownFact], Meter | None, list[str]]:
     """Return what is booked of a stream or tank, its meter, and what waits in the book.
 
     Raises
@@ -42,6 +42,6 @@ def show(
     return [found[key] for key in sorted(found)], meters.get(place), waiting
 
 
-def _shown(ledger: Ledger, fact: Fact) -> Shown:
+def _shown(ledger: YearLedger, fact: BookFact) -> ShownFact:
     before = tuple(was for _, was in ledger.edits.get(fact.id, []))
-    return Shown(fact, fact.id in ledger.struck, before)
+    return ShownFact(fact, fact.id in ledger.struck, before)

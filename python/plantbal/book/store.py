@@ -40,8 +40,8 @@ from plantbal.book.forms import (
 from plantbal.book.journal import (
     HEAD_TEXT,
     Act,
+    JournalLine,
     Kept,
-    Line,
     following,
     now,
     printable,
@@ -49,12 +49,12 @@ from plantbal.book.journal import (
 )
 from plantbal.book.lock import locked
 from plantbal.book.owners import check_folder, check_links, link_in, user_said
-from plantbal.book.pending import Entry, pending_text, read_pending
+from plantbal.book.pending import PendingFile, pending_text, read_pending
 from plantbal.book.writing import Writing, sync
 from plantbal.faults import decoded, Fault, FileFault, InputFault, Place, read_bytes
 from plantbal.files import unwritten
 
-__all__ = ["METERS", "PLANT", "REPORTS", "Act", "Action", "Head", "Line", "Store"]
+__all__ = ["METERS", "PLANT", "REPORTS", "Act", "Action", "Head", "JournalLine", "Store"]
 
 _MOST_FILES = 500  # that one line of the journal names
 _LOST = "its journal is lost: put back journal.csv, from a backup"
@@ -78,7 +78,7 @@ class Store:
 
     Attributes
     ----------
-    waits : list of Entry
+    waits : list of PendingFile
         What an action that was stopped has yet to do, while the book is only read.
     """
 
@@ -86,7 +86,7 @@ class Store:
         self,
         folder: str | Path,
         seconds: float = 10,
-        expected: expecting.Version | None = None,
+        expected: expecting.BookVersion | None = None,
         *,
         key: str | Path | None = None,
         given: tuple[str, str] | None = None,
@@ -96,8 +96,8 @@ class Store:
         self.expected = expected
         self.key = key
         self.given = given
-        self.waits: list[Entry] = []
-        self._journal: list[Line] | None = None
+        self.waits: list[PendingFile] = []
+        self._journal: list[JournalLine] | None = None
         self._is_old = False
 
     # ---- opening
@@ -247,7 +247,7 @@ class Store:
         """Return what is kept of a file: its lines, bytes and digest."""
         return Kept.of(self._bytes(name))
 
-    def journal(self) -> list[Line]:
+    def journal(self) -> list[JournalLine]:
         """Return the lines of the journal.
 
         Raises
@@ -263,7 +263,7 @@ class Store:
                 text = data.decode("utf-8")
             except UnicodeDecodeError as error:
                 place = Place(file=str(self.path(JOURNAL)))
-                what = "this is no UTF-8 text"
+                what = "this isn't UTF-8 text"
                 raise InputFault(what, place=place, remedy="put it back, from a backup") from error
             self._journal, self._is_old = read_journal(str(self.path(JOURNAL)), text)
         return self._journal
@@ -322,13 +322,13 @@ class Store:
         finally:
             writing.drop()
 
-    def _entries_of(self, action: Action) -> list[Entry]:
+    def _entries_of(self, action: Action) -> list[PendingFile]:
         """Return what an action does to each file, with its line in the journal."""
         appended = {name: text.encode("utf-8") for name, text in action.appended.items()}
         written = {name: text.encode("utf-8") for name, text in action.written.items()}
         sizes = {name: len(self._bytes(name) or b"") for name in appended}
-        entries = [Entry(name, sizes[name], data) for name, data in appended.items()]
-        entries += [Entry(name, None, data) for name, data in written.items()]
+        entries = [PendingFile(name, sizes[name], data) for name, data in appended.items()]
+        entries += [PendingFile(name, None, data) for name, data in written.items()]
         whole = {each.file: each.whole(self._bytes(each.file) or b"", Path()) for each in entries}
         files = {name: Kept.of(data) for name, data in whole.items()}
         files |= {name: Kept.of(self._bytes(name)) for name in action.seen if name not in files}
@@ -340,15 +340,17 @@ class Store:
         texts = (action.of, action.what, action.why, "; ".join(action.rows), action.program)
         of, what, why, rows, program = map(printable, texts)
         who = printable(action.who)
-        last = Line(0, now(), user_said(), who, action.act, of, what, why, rows, program, files)
+        last = JournalLine(
+            0, now(), user_said(), who, action.act, of, what, why, rows, program, files
+        )
         lines.append(following(lines, last))
         data = self._bytes(JOURNAL)
         if is_new or self._is_old or data is None:
             journal = HEAD_TEXT + "".join(line.text for line in lines)
-            return [*entries, Entry(JOURNAL, None, journal.encode("utf-8"))]
-        return [*entries, Entry(JOURNAL, len(data), lines[-1].text.encode("utf-8"))]
+            return [*entries, PendingFile(JOURNAL, None, journal.encode("utf-8"))]
+        return [*entries, PendingFile(JOURNAL, len(data), lines[-1].text.encode("utf-8"))]
 
-    def _beginning(self, before: list[Line]) -> list[Line]:
+    def _beginning(self, before: list[JournalLine]) -> list[JournalLine]:
         """Return the lines with which the chain of an older version's book begins."""
         names = [name for name in there(self.folder) if name != JOURNAL]
         check_links(self.folder, names)
@@ -357,11 +359,11 @@ class Store:
             files = {name: Kept.of(self._bytes(name)) for name in names[at : at + _MOST_FILES]}
             what = f"the digests begin here: nothing before this was kept by them, {len(before):,} "
             what += "actions of an older version"
-            line = Line(0, now(), user_said(), "", Act.BEGIN, what=what, files=files)
+            line = JournalLine(0, now(), user_said(), "", Act.BEGIN, what=what, files=files)
             lines.append(following(lines, line))
         return lines[len(before) :]
 
-    def _check_known(self, entries: list[Entry]) -> None:
+    def _check_known(self, entries: list[PendingFile]) -> None:
         """Refuse to write over a file that the journal doesn't know.
 
         Raises
@@ -380,7 +382,7 @@ class Store:
                     remedy="move it away, and type this again",
                 )
 
-    def _writing(self, entries: list[Entry]) -> Writing:
+    def _writing(self, entries: list[PendingFile]) -> Writing:
         """Write what files are to have beside them, with the digits of their lines."""
         contents: dict[Path, bytes] = {}
         digits = read_checks(self._checks())

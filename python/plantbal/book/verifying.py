@@ -11,7 +11,7 @@ from plantbal.audit.changed import digest
 from plantbal.audit.linked import manifest_of
 from plantbal.book.chain import state_of
 from plantbal.book.forms import JOURNAL, there
-from plantbal.book.results import Accepted, Verified
+from plantbal.book.results import AcceptedFile, Verified
 from plantbal.book.said import waiting_said
 from plantbal.book.store import Act, Action, Head, Store
 from plantbal.faults import Fault, read_bytes
@@ -87,7 +87,7 @@ def missing_head(book: Store, source: str, text: str) -> list[str]:
     found = _DIGEST.fullmatch(text.strip())
     if found is None:
         remedy = "it has 64 hexadecimal digits, as plantbal-desk book head prints them"
-        raise Fault(f"{text!r} is no head of a book", text=text, remedy=remedy)
+        raise Fault(f"{text!r} isn't a head of a book", text=text, remedy=remedy)
     lines = [line for line in book.journal() if line.digest == found[2]]
     if lines and found[1] in (None, str(lines[0].number)):
         return []
@@ -114,16 +114,16 @@ def apart(paths: Sequence[str]) -> Iterator[str]:
             yield f"{path}: it doesn't name {before} as the bundle before it"
 
 
-def accept(book: Store, file: str, *, why: str, who: str = "") -> Accepted:
+def accept(book: Store, file: str, *, why: str, who: str = "") -> AcceptedFile:
     """Take a file as it is; the parameters are those of `plantbal.Book.accept`."""
     with book.opened(tested=False):
         name = file.removeprefix("./")
         found = {each.file: each for each in book.chain().differences()}
         if name not in found:
             if name in state_of(book.journal()):
-                return Accepted(name, "")
+                return AcceptedFile(name, "")
             known = f"these are: {', '.join(found)}" if found else "all files are as it says"
-            what = f"{name} is no file of this book that differs from its journal"
+            what = f"{name} isn't a file of this book that differs from its journal"
             raise Fault(what, text=name, remedy=known)
         action = Action(Act.ACCEPT, name, found[name].said(), why, who)
         if name == JOURNAL:
@@ -133,4 +133,4 @@ def accept(book: Store, file: str, *, why: str, who: str = "") -> Accepted:
         else:
             action.gone = [name]
         book.do(action)
-    return Accepted(name, found[name].said())
+    return AcceptedFile(name, found[name].said())

@@ -104,7 +104,7 @@ def _found(target: Path) -> os.stat_result | None:
         return None
     if not stat.S_ISREG(found.st_mode):
         raise InputFault(
-            "it is no file", place=Place(file=str(target)), remedy="move it away: a book's is one"
+            "it isn't a file", place=Place(file=str(target)), remedy="move it away: a book's is one"
         )
     return found
 

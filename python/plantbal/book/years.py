@@ -7,7 +7,7 @@ from collections import defaultdict
 from collections.abc import Callable, Iterable
 from dataclasses import dataclass
 
-from plantbal.book.ledger import Fact, Ledger
+from plantbal.book.ledger import BookFact, YearLedger
 from plantbal.book.store import Act, Store
 from plantbal.faults import Fault, InputFault, Place
 from plantbal.model.forms import FIRST_DAY, LAST_DAY, day_number, day_of_number
@@ -20,7 +20,7 @@ _TYPED = (Act.AMEND, Act.STRIKE, Act.ESTIMATE)
 
 
 @dataclass(frozen=True)
-class Span:
+class YearSpan:
     """The days of a year.
 
     Attributes
@@ -81,14 +81,14 @@ def periods_of(file: str, text: str) -> dict[str, tuple[bool, datetime.date]]:
     return found
 
 
-def spans_of(book: Store) -> list[Span]:
+def spans_of(book: Store) -> list[YearSpan]:
     """Return the days of each year, in order.
 
     A year begins on the day after the last period of the year before it, and goes up to the next.
     The last year ends with the calendar year if its name is one.
     """
     names = book.years
-    found: list[Span] = []
+    found: list[YearSpan] = []
     for at, name in enumerate(names):
         year = calendar_year(name)
         file = f"{name}.csv"
@@ -102,7 +102,7 @@ def spans_of(book: Store) -> list[Span]:
         else:
             last = datetime.date.max if year is None else datetime.date(year, 12, 31)
         closed = {period: closed for period, (closed, _) in periods.items()}
-        found.append(Span(name, first, last, closed))
+        found.append(YearSpan(name, first, last, closed))
     return found
 
 
@@ -118,47 +118,47 @@ class Years:
 
     Attributes
     ----------
-    spans : list of Span
+    spans : list of YearSpan
         The years and their days.
     typed : dict of str to set of int
         Of each year the rows that the commands `amend`, `strike` and `estimate` have written.
     """
 
     def __init__(
-        self, book: Store, on_read: Callable[[Ledger], None] = lambda ledger: None
+        self, book: Store, on_read: Callable[[YearLedger], None] = lambda ledger: None
     ) -> None:
         self.book = book
         self._on_read = on_read
         self.spans = spans_of(book)
         self.typed: defaultdict[str, set[int]] = defaultdict(set)
-        self._ledgers: dict[str, Ledger] = {}
+        self._ledgers: dict[str, YearLedger] = {}
         for line in book.journal():
             if line.act in _TYPED:
                 for name, numbers in line.added.items():
                     self.typed[name].update(numbers)
 
-    def __getitem__(self, name: str) -> Ledger:
+    def __getitem__(self, name: str) -> YearLedger:
         """Return the ledger of a year."""
         if name not in self._ledgers:
             span = next(span for span in self.spans if span.name == name)
             file = f"{name}.csv"
-            self._ledgers[name] = Ledger.read(
+            self._ledgers[name] = YearLedger.read(
                 name, str(self.book.path(file)), self.book.text(file), span.first, span.last
             )
             self._on_read(self._ledgers[name])
         return self._ledgers[name]
 
     @property
-    def used(self) -> list[Ledger]:
+    def used(self) -> list[YearLedger]:
         """The ledgers that were read, in order."""
         return [self._ledgers[span.name] for span in self.spans if span.name in self._ledgers]
 
     @property
-    def last(self) -> Ledger:
+    def last(self) -> YearLedger:
         """The last year's ledger."""
         return self[self.spans[-1].name]
 
-    def named(self, name: str | None) -> Ledger:
+    def named(self, name: str | None) -> YearLedger:
         """Return the ledger of a year by its name, or the last one without a name.
 
         Raises
@@ -173,18 +173,18 @@ class Years:
             raise Fault(f"there is no year {name}", text=name, remedy=f"say {', '.join(names)}")
         return self[name]
 
-    def all(self) -> list[Ledger]:
+    def all(self) -> list[YearLedger]:
         """Return all ledgers."""
         return [self[span.name] for span in self.spans]
 
-    def of_day(self, day: datetime.date) -> Ledger | None:
+    def of_day(self, day: datetime.date) -> YearLedger | None:
         """Return the ledger of the year that has a day, or None."""
         for span in self.spans:
             if span.first <= day <= span.last:
                 return self[span.name]
         return None
 
-    def of_fact(self, fact: Fact) -> list[Ledger]:
+    def of_fact(self, fact: BookFact) -> list[YearLedger]:
         """Return the ledgers that a fact belongs to: two, if it touches two years."""
         found = []
         for span in self.spans:
@@ -193,7 +193,7 @@ class Years:
                 found.append(self[span.name])
         return found
 
-    def twins(self, ledger: Ledger, fact: Fact) -> list[tuple[Ledger, Fact]]:
+    def twins(self, ledger: YearLedger, fact: BookFact) -> list[tuple[YearLedger, BookFact]]:
         """Return a fact of a ledger in each year that it stands in, under its id there."""
         found = []
         for other in self.of_fact(fact):
@@ -205,7 +205,7 @@ class Years:
                 found.append((other, twin))
         return found or [(ledger, fact)]
 
-    def of_period(self, name: str) -> Ledger:
+    def of_period(self, name: str) -> YearLedger:
         """Return the ledger that has a period.
 
         Raises
@@ -224,7 +224,7 @@ class Years:
         """Return the periods that aren't closed, in the order in which they were declared."""
         return [name for span in self.spans for name, closed in span.periods.items() if not closed]
 
-    def outside(self, facts: Iterable[Fact]) -> list[Fault]:
+    def outside(self, facts: Iterable[BookFact]) -> list[Fault]:
         """Return what is to be said of facts that belong to no year."""
         faults = []
         for fact in facts:

@@ -7,7 +7,7 @@ import sys
 
 from plantbal.book.library import Book
 from plantbal.commands.book.adding import lines_of as added_lines
-from plantbal.database.mapping import read_mapping
+from plantbal.database.queries import read_queries
 from plantbal.database.pulling import lines_of, pull
 from plantbal.database.pushing import push, tables_sql
 from plantbal.faults import WordsFault
@@ -16,15 +16,18 @@ from plantbal.statuses import ExitStatus
 
 
 class Pull:
-    """Reads the facts of some days from a database into a book, by the queries of a mapping."""
+    """Reads the facts of some days from a database into a book, by the queries of a file."""
 
     HELP = """
-MAPPING is a TOML file with the database and the queries, each with the sheet of a workbook that it
+QUERIES is a TOML file with the database and the queries, each with the sheet of a workbook that it
 gives (docs/PYTHON.md, "Databases"). All figures of the days are read, and the book says what is new,
 changed or late, as `book add` does; so what was pulled already is booked once. What is changed is
 amended, with the time at which the source changed it as the reason.
 
-A password is never a word here: it comes from the environment or a file of mode 600, as the mapping
+What was pulled and isn't at the source any more is a question: it is said, and the status is 1. With
+vanished = "strike" under its query it is struck, and with "keep" it stays without a word.
+
+A password is never a word here: it comes from the environment or a file of mode 600, as QUERIES
 says, or from .pgpass. The transaction is read only.
 
 examples:
@@ -51,7 +54,7 @@ examples:
         days = [day_of(each, "") if each else None for each in (options.first, options.last)]
         found = pull(
             Book(options.book, who=options.who),
-            read_mapping(options.database),
+            read_queries(options.queries),
             first=days[0],
             last=days[1],
             dry_run=options.dry_run,
@@ -59,14 +62,14 @@ examples:
         print("\n".join([*lines_of(found), *added_lines(found.added)]))
         if options.dry_run:
             print("nothing is booked, as --dry-run says")
-        return ExitStatus.GOOD
+        return ExitStatus.LOOK if found.added.changes.asked else ExitStatus.GOOD
 
 
 class PushCommand:
     """Writes the flows, the stock and the postings of periods to tables of a database, once."""
 
     HELP = """
-MAPPING is a TOML file with the database and a part [push] (docs/PYTHON.md, "Databases"). What is
+QUERIES is a TOML file with the database and a part [push] (docs/PYTHON.md, "Databases"). What is
 handed over of a period has an id. All of it is written in one transaction, or nothing; if the
 database has the id, nothing is written, and the status is 0 too. A report that is made again has
 another id, and its figures come beside those of the one before.
@@ -88,15 +91,15 @@ examples:
     @staticmethod
     def run(options: argparse.Namespace) -> int:
         """Push each period, and say what that was."""
-        mapping = read_mapping(options.database)
+        queries = read_queries(options.queries)
         if options.tables:
-            sys.stdout.write(tables_sql(mapping))
+            sys.stdout.write(tables_sql(queries))
             return ExitStatus.GOOD
         if not options.period:
             raise WordsFault("there is no period to push", remedy="name one, such as 2024-04")
         book = Book(options.book, who=options.who)
         for period in options.period:
-            found = push(book, mapping, period)
+            found = push(book, queries, period)
             count, identity = len(found.handed.figures), found.handed.id[:12]
             if found.is_new:
                 print(f"{period}: {count} figures are written, as {identity}")
@@ -106,9 +109,9 @@ examples:
 
 
 def _add_common(parser: argparse.ArgumentParser) -> None:
-    parser.add_argument("database", metavar="MAPPING")
+    parser.add_argument("queries", metavar="QUERIES")
     parser.add_argument("--book", metavar="FOLDER", default=".", help="the book's folder")
-    who = "who does it, beside the user's own name"
+    who = "who does it, in addition to the user's own name"
     parser.add_argument("--who", metavar="NAME", default="", help=who)
 
 

@@ -91,7 +91,7 @@ def add_reading(parser: argparse.ArgumentParser) -> None:
         metavar="TEXT",
         action="append",
         default=[],
-        help="a further text that stands for a missing figure",
+        help="a further text that means a missing figure",
     )
     parser.add_argument(
         "--skip",

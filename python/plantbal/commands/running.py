@@ -13,7 +13,7 @@ from types import SimpleNamespace
 from typing import TYPE_CHECKING
 
 from plantbal import schema
-from plantbal.commands.data import add_json, write_json
+from plantbal.commands.data import add_json, answer_with_json
 from plantbal.commands.options import add_program, add_run, add_sweeps, add_timeout
 from plantbal.commands.progress import Progress
 from plantbal.faults import InputFault, ProgramFault, WordsFault, decoded, read_bytes
@@ -246,9 +246,7 @@ def _check(options: argparse.Namespace) -> int:
     blocks = verdicts[verdicts["verdict"] != "unreadable"]
     subjects = dict(zip(blocks.index, _subjects(source, text, list(blocks["period"]))))
     last = {subject: index for index, subject in subjects.items()}
-    if options.json:
-        write_json(list(_verdicts_said(verdicts, subjects)))
-        return looks(not (verdicts["verdict"] == "yes").all())
+    options.found = list(_verdicts_said(verdicts, subjects))
     for row in verdicts.itertuples():
         subject = subjects.get(row.Index, "")
         if row.verdict == "yes":
@@ -326,7 +324,7 @@ examples:
   plantbal-desk check report.jsonl
 """,
     add_arguments=_add_check,
-    run=_check,
+    run=lambda options: answer_with_json(_check, options),
 )
 REPORT = SimpleNamespace(
     __doc__="Turns a report into CSV, an SQLite database, or a workbook with one table a sheet.",

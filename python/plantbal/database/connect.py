@@ -1,6 +1,6 @@
 """A database that is reached through SQLAlchemy, within limits of time, rows and bytes.
 
-Queries run in a transaction that is read only, so that no query of a mapping can change the source.
+Queries run in a transaction that is read only, so that no query can change the source.
 Names of tables are quoted by the dialect. The driver gets the password as a parameter of its own;
 without one libpq looks into `.pgpass`.
 """
@@ -15,7 +15,8 @@ from contextlib import contextmanager
 from pathlib import Path
 from typing import Any
 
-from plantbal.database.mapping import DatabaseMapping
+from plantbal.database import oracle
+from plantbal.database.queries import Queries
 from plantbal.database.secret import Password, password_of
 from plantbal.faults import InputFault, Place, ToolMissing
 
@@ -23,22 +24,25 @@ from plantbal.faults import InputFault, Place, ToolMissing
 _PACKAGES = {
     "postgresql": "python3-psycopg2",
     "mssql": "python3-pyodbc",
-    "oracle": "python3-cx-oracle",
+    "oracle": "python3-oracledb",
+    "odbc": "python3-pyodbc",
     "mysql": "python3-mysqldb",
 }
 _CONNECT_SECONDS = 15
 _LONGEST = 300  # characters of what a driver says
 # Where a connection's words may have a password of their own.
-_PASSWORDS = re.compile(r"(?i)((?:password|pwd)\s*=\s*)[^\s;&]+")
+_PASSWORDS = re.compile(r"(?i)((?:password|pwd)\s*=\s*)(?:\{[^}]*\}|[^\s;&]+)")
+# What in a url's own words is a password, or its place.
+_HAS_PASSWORD = re.compile(r"(?i)pass(?:word|wd)?|\bpwd\b")
 
 
 @contextmanager
-def connected(mapping: DatabaseMapping, *, writing: bool = False) -> Iterator[Any]:
+def connected(queries: Queries, *, writing: bool = False) -> Iterator[Any]:
     """Give a connection in one transaction, which is committed in the end if it is to write.
 
     Parameters
     ----------
-    mapping : DatabaseMapping
+    queries : Queries
         Where the database is.
     writing : bool
         Whether it is written to; else the transaction is read only, and rolled back.
@@ -53,13 +57,13 @@ def connected(mapping: DatabaseMapping, *, writing: bool = False) -> Iterator[An
         import sqlalchemy
     except ImportError as error:
         raise ToolMissing("sqlalchemy", "python3-sqlalchemy") from error
-    password = password_of(mapping.password)
+    password = password_of(queries.password)
     said = ""
     try:
-        engine = _engine(mapping, password)
+        engine = _engine(queries, password, writing)
         try:
             with engine.connect() as connection:
-                _limit(connection, mapping, writing)
+                _limit(connection, queries, writing)
                 connection.commit()
                 with connection.begin() as transaction:
                     _begin(connection, writing)
@@ -72,7 +76,7 @@ def connected(mapping: DatabaseMapping, *, writing: bool = False) -> Iterator[An
         said = _said(error, password)
     if said:
         # The driver's exception is dropped here: its traceback has the connection's parameters.
-        raise InputFault(said, place=Place(file=mapping.file), remedy=_REMEDY)
+        raise InputFault(said, place=Place(file=queries.file), remedy=_REMEDY)
 
 
 _REMEDY = "look at the url, the query and the rights of its user"
@@ -85,7 +89,7 @@ def _said(error: Exception, password: Password) -> str:
     return f"the database says: {said[:_LONGEST]}"
 
 
-def _engine(mapping: DatabaseMapping, password: Password) -> Any:
+def _engine(queries: Queries, password: Password, writing: bool) -> Any:
     """Return an engine with one connection.
 
     Raises
@@ -96,25 +100,19 @@ def _engine(mapping: DatabaseMapping, password: Password) -> Any:
     import sqlalchemy
     from sqlalchemy.pool import NullPool
 
-    place = Place(file=mapping.file)
+    place = Place(file=queries.file)
     try:
-        url = sqlalchemy.engine.make_url(mapping.url)
+        url = sqlalchemy.engine.make_url(queries.url)
         dialect = url.get_backend_name()
     except (sqlalchemy.exc.ArgumentError, ValueError):
         remedy = 'write it as "postgresql://USER@HOST/DATABASE", or "sqlite:///FILE"'
         raise InputFault("[source] url is none", place=place, remedy=remedy) from None
-    if url.password is not None or any("pass" in key.lower() for key in url.query):
+    words = [*url.query, *(f"{each}" for each in url.query.values())]
+    if url.password is not None or any(_HAS_PASSWORD.search(word) for word in words):
         remedy = 'take it out, change it, and write password = "env NAME" or "file PATH"'
         raise InputFault("[source] url has a password", place=place, remedy=remedy)
-    given: dict[str, Any] = {}
-    if dialect == "sqlite":
-        given = _sqlite(mapping, url)
-    elif password:
-        given = {"connect_args": {"password": password.reveal()}}
-    if dialect == "postgresql":
-        more = {"connect_timeout": _CONNECT_SECONDS, "application_name": "plantbal"}
-        given["connect_args"] = {**more, **given.get("connect_args", {})}
     try:
+        given = _arguments(queries, url, password, writing)
         return sqlalchemy.create_engine(
             url, poolclass=NullPool, hide_parameters=True, future=True, **given
         )
@@ -126,11 +124,36 @@ def _engine(mapping: DatabaseMapping, password: Password) -> Any:
         raise InputFault(f"there is no database {dialect!r}", place=place, remedy=remedy) from None
 
 
-def _sqlite(mapping: DatabaseMapping, url: Any) -> dict[str, Any]:
+def _arguments(queries: Queries, url: Any, password: Password, writing: bool) -> dict[str, Any]:
+    """Return what the engine of a dialect is given beside its url.
+
+    Raises
+    ------
+    ImportError
+        If there is no driver.
+    """
+    from plantbal.database import odbc
+
+    dialect = url.get_backend_name()
+    if dialect == "sqlite":
+        return _sqlite(queries, url)
+    words: dict[str, Any] = {"password": password.reveal()} if password else {}
+    if dialect == "postgresql":
+        words |= {"connect_timeout": _CONNECT_SECONDS, "application_name": "plantbal"}
+    if dialect == odbc.NAME:
+        words |= {"timeout": _CONNECT_SECONDS, "readonly": not writing}
+        words |= {"password": odbc.in_braces(password.reveal())} if password else {}
+    given: dict[str, Any] = {"connect_args": words} if words else {}
+    if dialect == "oracle":
+        given["module"] = oracle.driver()
+    return given
+
+
+def _sqlite(queries: Queries, url: Any) -> dict[str, Any]:
     """Return how a file of SQLite is opened: it has to be there, and is read only if it is read."""
     path = Path(url.database or "")
     if not path.is_absolute():
-        path = Path(mapping.file).parent / path
+        path = Path(queries.file).parent / path
     if not path.is_file():
         place = Place(file=str(path))
         raise InputFault("there is no such database", place=place, remedy="check its name")
@@ -142,10 +165,10 @@ def _sqlite(mapping: DatabaseMapping, url: Any) -> dict[str, Any]:
     return {"creator": creator}
 
 
-def _limit(connection: Any, mapping: DatabaseMapping, writing: bool) -> None:
+def _limit(connection: Any, queries: Queries, writing: bool) -> None:
     """Set the limits of a session: how long a statement may take, and that nothing is written."""
-    dialect, seconds = connection.dialect.name, mapping.most.seconds
-    zone = mapping.settings.get("zone", "")
+    dialect, seconds = connection.dialect.name, queries.most.seconds
+    zone = queries.settings.get("zone", "")
     if dialect == "postgresql":
         import sqlalchemy
 
@@ -162,8 +185,19 @@ def _limit(connection: Any, mapping: DatabaseMapping, writing: bool) -> None:
         _stop_after(raw, seconds)
         if not writing:
             connection.exec_driver_sql("PRAGMA query_only = on")
-    elif not writing:
-        print(_NOT_LIMITED.format(dialect=dialect), file=sys.stderr)
+    else:
+        if dialect == "odbc":
+            _limit_odbc(connection, seconds)
+        if not writing:
+            print(_NOT_LIMITED.format(dialect=dialect), file=sys.stderr)
+
+
+def _limit_odbc(connection: Any, seconds: int) -> None:
+    """Have a driver of ODBC cancel a statement after some seconds, if it can."""
+    try:
+        connection.connection.dbapi_connection.timeout = seconds
+    except connection.dialect.dbapi.Error:
+        print(_NOT_TIMED, file=sys.stderr)
 
 
 def _begin(connection: Any, writing: bool) -> None:
@@ -174,6 +208,7 @@ def _begin(connection: Any, writing: bool) -> None:
         connection.exec_driver_sql("BEGIN IMMEDIATE" if writing else "BEGIN")
 
 
+_NOT_TIMED = "plantbal: this driver of ODBC has no limit of time: [limits] seconds isn't kept"
 _NOT_LIMITED = "plantbal: a transaction of {dialect} isn't read only: give its user no other right"
 
 

@@ -14,13 +14,14 @@ from dataclasses import dataclass, field
 from pathlib import Path
 from typing import TYPE_CHECKING, Any
 
-from plantbal.book.ledger import Fact
+from plantbal.book.ledger import BookFact
 from plantbal.book.reading import Tabled
 from plantbal.book.results import Added
+from plantbal.book.vanished import PulledSource
 from plantbal.book.years import calendar_year
 from plantbal.database.connect import connected
-from plantbal.database.mapping import DatabaseMapping
-from plantbal.database.querying import Changed, Found, queried
+from plantbal.database.queries import Queries
+from plantbal.database.querying import SourceChange, QueryResult, queried
 from plantbal.faults import Fault, InputFault, Place
 from plantbal.workbook.cells import Reader
 from plantbal.workbook.hours import Clock, stamp_of
@@ -82,7 +83,7 @@ class SourceTimes:
         default_factory=list
     )
 
-    def take(self, changed: Iterable[Changed]) -> None:
+    def take(self, changed: Iterable[SourceChange]) -> None:
         """Take the times of rows."""
         for each in changed:
             row = {head.casefold(): value for head, value in each.row.items()}
@@ -115,8 +116,13 @@ class SourceTimes:
             return (at - before - self.settings.begins).date()
         return clock.day(at.astimezone(_UTC) - before)
 
-    def reason_of(self, fact: Fact) -> str:
-        """Return why a fact is changed: when the source changed its row, or one beside it."""
+    def reason_of(self, fact: BookFact, is_gone: bool) -> str:
+        """Return why a fact is changed: when the source changed its row, or one beside it.
+
+        When a row was deleted no source says.
+        """
+        if is_gone:
+            return f"not at the source any more ({self.source})"
         times = [self._own.get((fact.place, fact.first), "")]
         times.append(self._own.get((fact.id, fact.id), ""))
         for names, first, last, at in self._beside:
@@ -130,7 +136,7 @@ class SourceTimes:
 
 def pull(
     book: Book,
-    mapping: DatabaseMapping,
+    queries: Queries,
     *,
     first: datetime.date | None = None,
     last: datetime.date | None = None,
@@ -143,7 +149,7 @@ def pull(
     ----------
     book : Book
         The book.
-    mapping : DatabaseMapping
+    queries : Queries
         Where the facts are.
     first, last : date, optional
         The days; without them from the first day of the book's last year up to yesterday. A query
@@ -158,40 +164,41 @@ def pull(
     Fault
         If the database can't be read, or what it has is wrong.
     """
-    if not mapping.queries:
+    if not queries.all:
         remedy = "write [[query]] with a sheet and an sql"
-        raise InputFault("there is no query", place=Place(file=mapping.file), remedy=remedy)
-    settings = _settings(mapping, reading.reader)
+        raise InputFault("there is no query", place=Place(file=queries.file), remedy=remedy)
+    settings = _settings(queries, reading.reader)
     begin, end = _days(book, first, last)
-    with connected(mapping) as connection:
-        found = queried(connection, mapping, _parameters(settings, begin, end))
+    with connected(queries) as connection:
+        found = queried(connection, queries, _parameters(settings, begin, end))
     contents = book.contents()
     flows = [flow for own in contents.flows.values() for flow in own]
     names = {flow.meter.tag: flow.name for flow in flows if flow.meter and flow.meter.tag}
-    times = SourceTimes(Path(mapping.file).name, settings, names)
+    times = SourceTimes(Path(queries.file).name, settings, names)
     times.take(found.changed)
-    name = f"{Path(mapping.file).name} {begin} to {end}"
-    given = Tabled(name, _joined(found))
+    kinds = {each.kind: each.vanished for each in queries.all if each.kind}
+    source = PulledSource(Path(queries.file).name, begin, end, kinds)
+    given = Tabled(source.name, _joined(found), source=source)
     added = book.add(given, why=times, dry_run=dry_run, reading=reading)
     return Pulled(begin, end, added, tuple(found.notes))
 
 
-def _joined(found: Found) -> list[Sheet]:
+def _joined(found: QueryResult) -> list[Sheet]:
     return [sheet for sheet in found.sheets if len(sheet.lines) > 1]
 
 
-def _settings(mapping: DatabaseMapping, reader: Reader) -> Settings:
-    """Return the settings of a mapping.
+def _settings(queries: Queries, reader: Reader) -> Settings:
+    """Return the settings of a file of queries.
 
     Raises
     ------
     InputFault
         If one is wrong.
     """
-    sheet = Sheet(mapping.file, "settings", [])
+    sheet = Sheet(queries.file, "settings", [])
     rows = [
         (Cell(sheet, at, 1, name), Cell(sheet, at, 2, value), Cell(sheet, at, 3, None))
-        for at, (name, value) in enumerate(mapping.settings.items(), 1)
+        for at, (name, value) in enumerate(queries.settings.items(), 1)
     ]
     found, faults = settings_of(rows, reader)
     if faults:

@@ -14,7 +14,7 @@ from typing import TYPE_CHECKING, Any
 
 from plantbal.book.handing import Handed
 from plantbal.database.connect import connected
-from plantbal.database.mapping import DatabaseMapping, Push
+from plantbal.database.queries import Queries, Push
 from plantbal.faults import InputFault, Place
 
 if TYPE_CHECKING:
@@ -63,14 +63,14 @@ class Pushed:
     is_new: bool
 
 
-def push(book: Book, mapping: DatabaseMapping, period: str) -> Pushed:
+def push(book: Book, queries: Queries, period: str) -> Pushed:
     """Write what is handed over of a period, unless it is there.
 
     Parameters
     ----------
     book : Book
         The book.
-    mapping : DatabaseMapping
+    queries : Queries
         Where it goes.
     period : str
         The period.
@@ -80,20 +80,20 @@ def push(book: Book, mapping: DatabaseMapping, period: str) -> Pushed:
     Fault
         If the period has no report of its present facts, or the database doesn't take it.
     """
-    to = _push_of(mapping)
+    to = _push_of(queries)
     handed = book.handed(period)
-    with connected(mapping, writing=True) as connection:
+    with connected(queries, writing=True) as connection:
         is_new = _write(connection, to, handed)
     return Pushed(handed, is_new)
 
 
-def _push_of(mapping: DatabaseMapping) -> Push:
-    if mapping.push is None:
+def _push_of(queries: Queries) -> Push:
+    if queries.push is None:
         remedy = "write [push] into it, with the schema of the tables if they are in one"
         raise InputFault(
-            "nothing says where to push", place=Place(file=mapping.file), remedy=remedy
+            "nothing says where to push", place=Place(file=queries.file), remedy=remedy
         )
-    return mapping.push
+    return queries.push
 
 
 def _write(connection: Any, to: Push, handed: Handed) -> bool:
@@ -145,9 +145,9 @@ def _table(to: Push, name: str, columns: dict[str, str]) -> Any:
     return sqlalchemy.table(quoted_name(name, True), *own, schema=schema)
 
 
-def tables_sql(mapping: DatabaseMapping) -> str:
+def tables_sql(queries: Queries) -> str:
     """Return the statements that make both tables, for who has the right to."""
-    to = _push_of(mapping)
+    to = _push_of(queries)
     prefix = f'"{to.schema}".' if to.schema else ""
     key = 'PRIMARY KEY ("push_id", "line"), FOREIGN KEY ("push_id") REFERENCES '
     keys = {to.figures: f'{key}{prefix}"{to.pushes}" ("id")'}

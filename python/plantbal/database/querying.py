@@ -16,7 +16,7 @@ from decimal import Decimal
 from typing import Any
 
 from plantbal import limits
-from plantbal.database.mapping import DatabaseMapping, Query
+from plantbal.database.queries import Queries, Query
 from plantbal.faults import InputFault, Place
 from plantbal.workbook.sheets import Sheet, Value
 
@@ -27,7 +27,7 @@ _ROW_BYTES = 64  # of a row beside its texts
 
 
 @dataclass(frozen=True)
-class Changed:
+class SourceChange:
     """When the source changed a row last.
 
     Attributes
@@ -46,32 +46,32 @@ class Changed:
 
 
 @dataclass
-class Found:
-    """What the queries of a mapping gave.
+class QueryResult:
+    """What the queries of a file gave.
 
     Attributes
     ----------
     sheets : list of Sheet
         The sheets.
-    changed : list of Changed
+    changed : list of SourceChange
         When the source changed rows, for those that say it.
     notes : list of str
         What has to be said: floats, and figures of bad quality.
     """
 
     sheets: list[Sheet] = field(default_factory=list)
-    changed: list[Changed] = field(default_factory=list)
+    changed: list[SourceChange] = field(default_factory=list)
     notes: list[str] = field(default_factory=list)
 
 
-def queried(connection: Any, mapping: DatabaseMapping, given: Mapping[str, Any]) -> Found:
+def queried(connection: Any, queries: Queries, given: Mapping[str, Any]) -> QueryResult:
     """Return what the queries give.
 
     Parameters
     ----------
     connection : sqlalchemy connection
         The database.
-    mapping : DatabaseMapping
+    queries : Queries
         Its queries and limits.
     given : mapping of str to object
         The parameters that a query may name.
@@ -81,25 +81,25 @@ def queried(connection: Any, mapping: DatabaseMapping, given: Mapping[str, Any])
     InputFault
         If there are too many rows or bytes, or a value is of no kind that a sheet has.
     """
-    found, left = Found(), _Left(mapping)
-    for at, query in enumerate(mapping.queries, 1):
-        _Reading(mapping, query, at, left, found).read(connection, given)
-    if mapping.settings:
+    found, left = QueryResult(), _Left(queries)
+    for at, query in enumerate(queries.all, 1):
+        _QueryReading(queries, query, at, left, found).read(connection, given)
+    if queries.settings:
         lines: list[tuple[int, list[Value]]] = [(1, ["setting", "value", "for"])]
-        lines += [(at, [name, value, None]) for at, (name, value) in _settings(mapping)]
-        found.sheets.append(Sheet(mapping.file, "settings", lines))
+        lines += [(at, [name, value, None]) for at, (name, value) in _settings(queries)]
+        found.sheets.append(Sheet(queries.file, "settings", lines))
     return found
 
 
-def _settings(mapping: DatabaseMapping) -> Iterable[tuple[int, tuple[str, str]]]:
-    return enumerate(mapping.settings.items(), 2)
+def _settings(queries: Queries) -> Iterable[tuple[int, tuple[str, str]]]:
+    return enumerate(queries.settings.items(), 2)
 
 
 @dataclass
 class _Left:
     """How many rows and bytes are left of the limits."""
 
-    mapping: DatabaseMapping
+    queries: Queries
     rows: int = 0
     bytes: int = 0
 
@@ -112,8 +112,8 @@ class _Left:
             If they are too many.
         """
         self.rows, self.bytes = self.rows + rows, self.bytes + size
-        most = self.mapping.most
-        place = Place(file=self.mapping.file)
+        most = self.queries.most
+        place = Place(file=self.queries.file)
         remedy = "ask for fewer days at once, or raise [limits]"
         if self.rows > most.rows:
             raise InputFault(
@@ -124,20 +124,20 @@ class _Left:
             raise InputFault(what, place=place, remedy=remedy)
 
 
-class _Reading:
+class _QueryReading:
     """Reads the rows of a query into a sheet."""
 
     def __init__(
-        self, mapping: DatabaseMapping, query: Query, at: int, left: _Left, found: Found
+        self, queries: Queries, query: Query, at: int, left: _Left, found: QueryResult
     ) -> None:
-        self.mapping, self.query, self.at = mapping, query, at
+        self.queries, self.query, self.at = queries, query, at
         self.left, self.found = left, found
         self.floats = 0
         self.missing: Counter[str] = Counter()
 
     def fault(self, what: str, remedy: str, line: int | None = None) -> InputFault:
         """Return a fault of the query, or of a row that it gave."""
-        place = Place(file=self.mapping.file, sheet=f"query {self.at}", record=line)
+        place = Place(file=self.queries.file, sheet=f"query {self.at}", record=line)
         return InputFault(what, place=place, remedy=remedy)
 
     def read(self, connection: Any, given: Mapping[str, Any]) -> None:
@@ -162,7 +162,7 @@ class _Reading:
             for row in rows:
                 lines.append((len(lines) + 1, self._line(dict(zip(heads, row)), own, len(lines))))
         name = f"query {self.at}"
-        self.found.sheets.append(Sheet(f"{self.mapping.file}!{name}", self.query.sheet, lines))
+        self.found.sheets.append(Sheet(f"{self.queries.file}!{name}", self.query.sheet, lines))
         self._say(name)
 
     def _line(self, row: Mapping[str, Any], own: Sequence[str], at: int) -> list[Value]:
@@ -174,7 +174,7 @@ class _Reading:
         if self.query.changed and row[self.query.changed] is not None:
             when = row[self.query.changed]
             said = _stamp(when) if isinstance(when, datetime.datetime) else str(when)
-            self.found.changed.append(Changed(self.query.sheet, values, said))
+            self.found.changed.append(SourceChange(self.query.sheet, values, said))
         return [values[head] for head in own]
 
     def _figure_of(self, heads: Sequence[str]) -> str:

@@ -1,6 +1,6 @@
 """Passwords: from the environment or a file that only its owner can read, and into no sentence.
 
-A password is never a word of a command and never in the mapping, where it would stay. It goes from
+A password is never a word of a command and never in the queries, where it would stay. It goes from
 here to the driver alone. What a driver says of a connection that fails is said without it, and the
 driver's own exception, whose traceback has its parameters, is dropped.
 """

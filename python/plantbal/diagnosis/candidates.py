@@ -13,11 +13,11 @@ from enum import Enum
 from statistics import fmean, pstdev
 
 from plantbal.diagnosis.balances import Measurement
-from plantbal.diagnosis.evidence import Evidence, Level
+from plantbal.diagnosis.evidence import DippedLevel, Evidence
 from plantbal.model.facts import Fact
 
 
-class Kind(Enum):
+class ErrorKind(Enum):
     """What may have gone wrong."""
 
     METER = "meter"
@@ -35,7 +35,7 @@ class Kind(Enum):
 
 
 @dataclass(frozen=True, slots=True)
-class Unit:
+class UnitMistake:
     """A unit that was taken for another: by how much what is written has to be multiplied."""
 
     words: str
@@ -48,7 +48,7 @@ class Candidate:
 
     Attributes
     ----------
-    kind : Kind
+    kind : ErrorKind
         What went wrong.
     name : str
         The stream or tank; of a forgotten stream nothing.
@@ -64,7 +64,7 @@ class Candidate:
         The reading, ticket or dip that would be wrong.
     alike : tuple of Fact
         The booked tickets of nearly this amount.
-    unit : Unit or None
+    unit : UnitMistake or None
         The unit that was taken for another.
     product : str
         The tank whose product has the density that would fit.
@@ -72,7 +72,7 @@ class Candidate:
         The density that would fit, in g/m3.
     """
 
-    kind: Kind
+    kind: ErrorKind
     name: str
     error: float
     cost: float
@@ -80,7 +80,7 @@ class Candidate:
     mm: int | None = None
     fact: Fact | None = None
     alike: tuple[Fact, ...] = ()
-    unit: Unit | None = None
+    unit: UnitMistake | None = None
     product: str = ""
     density: int | None = None
 
@@ -89,16 +89,16 @@ class Candidate:
 NEAR = 3.0
 # What a ticket, a reading or a month's sum may have to be multiplied by.
 UNITS = (
-    Unit("t/h for t/d", 24.0),
-    Unit("t/d for t/h", 1 / 24),
-    Unit("kg for t", 0.001),
-    Unit("t for kg", 1000.0),
-    Unit("a digit too few", 10.0),
-    Unit("a digit too many", 0.1),
-    Unit("m³ for bbl", 6.28981),
-    Unit("bbl for m³", 0.1589873),
-    Unit("short tons for t", 0.90718474),
-    Unit("the sign", -1.0),
+    UnitMistake("t/h for t/d", 24.0),
+    UnitMistake("t/d for t/h", 1 / 24),
+    UnitMistake("kg for t", 0.001),
+    UnitMistake("t for kg", 1000.0),
+    UnitMistake("a digit too few", 10.0),
+    UnitMistake("a digit too many", 0.1),
+    UnitMistake("m³ for bbl", 6.28981),
+    UnitMistake("bbl for m³", 0.1589873),
+    UnitMistake("short tons for t", 0.90718474),
+    UnitMistake("the sign", -1.0),
 )
 BARREL = 0.158987294928  # m3
 # What an unlikely mistake costs at most, a usual one, and one that is always possible.
@@ -111,18 +111,18 @@ _PERCENT, _MM = 3.0, 40.0
 _SAME_DENSITY = 0.004
 
 
-def units_of(name: str, evidence: Evidence) -> Iterator[Unit]:
+def units_of(name: str, evidence: Evidence) -> Iterator[UnitMistake]:
     """Give the units that may have been taken for another."""
     yield from UNITS
     density = evidence.near_density(name)
     if density is not None:
         own = density / 1e6
-        yield Unit("m³ for t", own)
-        yield Unit("t for m³", 1 / own)
-        yield Unit("bbl for t", BARREL * own)
+        yield UnitMistake("m³ for t", own)
+        yield UnitMistake("t for m³", 1 / own)
+        yield UnitMistake("bbl for t", BARREL * own)
 
 
-def densities_of(name: str, evidence: Evidence) -> Iterator[Unit]:
+def densities_of(name: str, evidence: Evidence) -> Iterator[UnitMistake]:
     """Give the densities of other products that may have been taken for a stream's own."""
     density = evidence.near_density(name)
     if density is None:
@@ -130,7 +130,7 @@ def densities_of(name: str, evidence: Evidence) -> Iterator[Unit]:
     for tank, other in evidence.densities.items():
         if abs(other / density - 1) > _SAME_DENSITY:
             words = f"the density of {tank}'s product, {other / 1000:.0f} kg/m³,"
-            yield Unit(f"{words} for {density / 1000:.0f}", density / other)
+            yield UnitMistake(f"{words} for {density / 1000:.0f}", density / other)
 
 
 def candidates_of(
@@ -169,11 +169,11 @@ def _of_meter(
     percent = percent_of(member, error)
     if percent is not None and member.grams - error > 0:
         cost = min(_MOST, (percent / _PERCENT) ** 2 / 2)
-        yield Candidate(Kind.METER, member.name, error, cost, percent=percent)
+        yield Candidate(ErrorKind.METER, member.name, error, cost, percent=percent)
     if abs(2 * member.grams - error) <= NEAR * deviation:
-        yield Candidate(Kind.REVERSED, member.name, error, _USUAL)
+        yield Candidate(ErrorKind.REVERSED, member.name, error, _USUAL)
     yield from _whole(member, error, deviation, evidence)
-    yield from _single(member.name, error, deviation, evidence, Kind.READING)
+    yield from _single(member.name, error, deviation, evidence, ErrorKind.READING)
 
 
 def _of_tickets(
@@ -189,7 +189,7 @@ def _of_tickets(
             if abs(evidence.amount(fact) + error) <= NEAR * deviation
         ]
         some = tuple(sorted(nearly, key=lambda fact: abs(fact.grams + error))[:_FEW])
-        yield Candidate(Kind.MISSING, name, error, cost, alike=some)
+        yield Candidate(ErrorKind.MISSING, name, error, cost, alike=some)
     else:
         same = [
             fact
@@ -198,11 +198,11 @@ def _of_tickets(
         ]
         if same:
             same.sort(key=lambda fact: abs(evidence.amount(fact) - error))
-            yield Candidate(Kind.TWICE, name, error, _USUAL, alike=tuple(same[:_FEW]))
+            yield Candidate(ErrorKind.TWICE, name, error, _USUAL, alike=tuple(same[:_FEW]))
     if member.grams and abs(2 * member.grams - error) <= NEAR * deviation:
-        yield Candidate(Kind.REVERSED, name, error, _USUAL)
+        yield Candidate(ErrorKind.REVERSED, name, error, _USUAL)
     yield from _whole(member, error, deviation, evidence)
-    yield from _single(name, error, deviation, evidence, Kind.TICKET)
+    yield from _single(name, error, deviation, evidence, ErrorKind.TICKET)
 
 
 def amount_cost(grams: float, deviation: float, amounts: list[int]) -> float:
@@ -221,11 +221,11 @@ def _whole(
     name = member.name
     for unit in (*units_of(name, evidence), *densities_of(name, evidence)):
         if _fits(member.grams, unit, error, deviation):
-            yield Candidate(Kind.UNIT, member.name, error, 2 * _USUAL, unit=unit)
+            yield Candidate(ErrorKind.UNIT, member.name, error, 2 * _USUAL, unit=unit)
 
 
 def _single(
-    name: str, error: float, deviation: float, evidence: Evidence, kind: Kind
+    name: str, error: float, deviation: float, evidence: Evidence, kind: ErrorKind
 ) -> Iterator[Candidate]:
     """Give the readings or tickets that may be in another unit."""
     found = []
@@ -238,7 +238,7 @@ def _single(
         yield Candidate(kind, name, error, 3 * _USUAL, fact=fact, unit=unit)
 
 
-def _fits(grams: float, unit: Unit, error: float, deviation: float) -> bool:
+def _fits(grams: float, unit: UnitMistake, error: float, deviation: float) -> bool:
     """Say whether an amount in another unit would be off by an error, and by no other one."""
     off = grams * (1 - unit.factor)
     return abs(off) > 2 * NEAR * deviation and abs(off - error) <= NEAR * deviation
@@ -255,7 +255,7 @@ def _of_tank(tank: str, error: float, deviation: float, evidence: Evidence) -> I
 
 
 def level_candidates(
-    level: Level, error: float, deviation: float, evidence: Evidence
+    level: DippedLevel, error: float, deviation: float, evidence: Evidence
 ) -> Iterator[Candidate]:
     """Give what may be wrong with a dip by which a tank holds too much by an error."""
     dip = level.fact
@@ -265,11 +265,11 @@ def level_candidates(
         right = dip.mm - mm
         if level.lowest <= right <= level.highest:
             cost = min(2 * _USUAL, (mm / _MM) ** 2 / 2)
-            yield Candidate(Kind.LEVEL, dip.of, gain, cost, mm=mm, fact=dip)
+            yield Candidate(ErrorKind.LEVEL, dip.of, gain, cost, mm=mm, fact=dip)
     for mm in sorted(_misread(dip.mm)):
         content = evidence.content_at(dip, mm)
         if content is not None and abs(level.content - content - error) <= NEAR * deviation:
-            yield Candidate(Kind.DIGITS, dip.of, gain, _USUAL, mm=mm, fact=dip)
+            yield Candidate(ErrorKind.DIGITS, dip.of, gain, _USUAL, mm=mm, fact=dip)
     if level.content - error > 0:
         density = round(dip.density * (level.content - error) / level.content)
         near = NEAR * deviation / level.content
@@ -277,7 +277,13 @@ def level_candidates(
             if abs(other / dip.density - 1) > max(near, _SAME_DENSITY):
                 if abs(density / other - 1) <= near:
                     yield Candidate(
-                        Kind.DENSITY, dip.of, gain, _USUAL, fact=dip, product=tank, density=other
+                        ErrorKind.DENSITY,
+                        dip.of,
+                        gain,
+                        _USUAL,
+                        fact=dip,
+                        product=tank,
+                        density=other,
                     )
 
 

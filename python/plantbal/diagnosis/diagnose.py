@@ -8,10 +8,10 @@ from dataclasses import dataclass, field, replace
 from typing import TYPE_CHECKING
 
 from plantbal.diagnosis.balances import Balance, Balances
-from plantbal.diagnosis.candidates import Candidate, Kind, candidates_of
+from plantbal.diagnosis.candidates import Candidate, ErrorKind, candidates_of
 from plantbal.diagnosis.days import Days, Series, Span
 from plantbal.diagnosis.evidence import Evidence
-from plantbal.diagnosis.findings import AS_GOOD, Finding, findings_of
+from plantbal.diagnosis.findings import AS_GOOD, HoleFinding, findings_of
 from plantbal.diagnosis.gross import LEVEL, Hole, Limits, holes_of
 from plantbal.diagnosis.running import Overrun, overruns
 from plantbal.diagnosis.unseen import Unchecked, unchecked_of
@@ -27,7 +27,7 @@ _LEVELS = 1e-9, 0.5
 
 
 @dataclass(frozen=True, slots=True)
-class Told:
+class DiagnosedHole:
     """A hole with what it may be.
 
     Attributes
@@ -38,7 +38,7 @@ class Told:
         The measurements that may have the error, the least unlikely first.
     candidates : tuple of Candidate
         What it may be by the month alone, the least unlikely first.
-    findings : tuple of Finding
+    findings : tuple of HoleFinding
         What fits the days, the best first; none if the days aren't known.
     since : Span or None
         The first days whose own test of the set rejects.
@@ -51,13 +51,13 @@ class Told:
     hole: Hole
     names: tuple[str, ...]
     candidates: tuple[Candidate, ...] = ()
-    findings: tuple[Finding, ...] = ()
+    findings: tuple[HoleFinding, ...] = ()
     since: Span | None = None
     overruns: tuple[Overrun, ...] = ()
     units: Mapping[str, SalesUnit] = field(default_factory=dict)
 
     @property
-    def best(self) -> Finding | None:
+    def best(self) -> HoleFinding | None:
         """What fits the days best, if the days are known."""
         return self.findings[0] if self.findings else None
 
@@ -72,7 +72,7 @@ class Diagnosis:
         The period, window or balance.
     balances : tuple of Balance
         What doesn't close, the worst first.
-    holes : tuple of Told
+    holes : tuple of DiagnosedHole
         The errors that the tests tell, in the order in which they are found; none unless the
         global test rejects.
     unchecked : tuple of Unchecked
@@ -81,7 +81,7 @@ class Diagnosis:
 
     subject: str
     balances: tuple[Balance, ...]
-    holes: tuple[Told, ...]
+    holes: tuple[DiagnosedHole, ...]
     unchecked: tuple[Unchecked, ...]
 
     def sold_in(self, units: Mapping[str, SalesUnit]) -> Diagnosis:
@@ -120,7 +120,7 @@ def diagnosis_of(block: Block, ledger: Ledger | None = None, seen: Seen | None =
     balances = Balances.of_block(block)
     rejected = block.whole is not None and block.whole["verdict"] == "reject"
     limits = limits_of(block)
-    told: Iterable[Told] = ()
+    told: Iterable[DiagnosedHole] = ()
     if rejected:
         holes = holes_of(balances, limits)
         told = told_holes(holes, limits, *_facts_of(block, ledger, seen))
@@ -146,7 +146,7 @@ def _facts_of(
 
 def told_holes(
     holes: list[Hole], limits: Limits, evidence: Evidence | None, days: Days | None
-) -> Iterable[Told]:
+) -> Iterable[DiagnosedHole]:
     """Give what is told of the holes of a period, in their order.
 
     Parameters
@@ -168,7 +168,7 @@ def told_holes(
         yield _by_days(found, rivals)
 
 
-def _by_days(found: Told, rivals: list[Told]) -> Told:
+def _by_days(found: DiagnosedHole, rivals: list[DiagnosedHole]) -> DiagnosedHole:
     """Return that of a hole and its rivals which fits the days best; the others are its rivals.
 
     The month alone can hardly tell them apart, and the days often can.
@@ -180,7 +180,7 @@ def _by_days(found: Told, rivals: list[Told]) -> Told:
     return replace(best, hole=replace(best.hole, rivals=others))
 
 
-def _score(told: Told) -> float:
+def _score(told: DiagnosedHole) -> float:
     return told.best.score if told.best is not None else float("-inf")
 
 
@@ -190,7 +190,7 @@ def told_of(
     limits: Limits,
     evidence: Evidence | None,
     days: Days | None,
-) -> Told:
+) -> DiagnosedHole:
     """Return a hole with what it may be.
 
     Parameters
@@ -207,7 +207,7 @@ def told_of(
         Its days.
     """
     if evidence is None:
-        return Told(hole, _by_error(hole))
+        return DiagnosedHole(hole, _by_error(hole))
     some = [
         candidate
         for member in hole.equals.members
@@ -215,8 +215,8 @@ def told_of(
     ]
     some.sort(key=lambda each: each.cost)
     order = [each.name for each in some]
-    forgotten = Candidate(Kind.FORGOTTEN, "", hole.size, 0.0)
-    findings: list[Finding] = []
+    forgotten = Candidate(ErrorKind.FORGOTTEN, "", hole.size, 0.0)
+    findings: list[HoleFinding] = []
     since, beyond = None, list[Overrun]()
     if days is not None:
         series = days.series(hole, others)
@@ -226,10 +226,10 @@ def told_of(
             beyond = overruns(days, [each.name for each in hole.equals.members if each.is_tank])
     order = [each.name for each in findings if each.name] + order + list(_by_error(hole))
     names = tuple(name for name in dict.fromkeys(order) if name)
-    return Told(hole, names, (*some, forgotten), tuple(findings), since, tuple(beyond))
+    return DiagnosedHole(hole, names, (*some, forgotten), tuple(findings), since, tuple(beyond))
 
 
-def _findings(series: Series, hole: Hole, evidence: Evidence) -> list[Finding]:
+def _findings(series: Series, hole: Hole, evidence: Evidence) -> list[HoleFinding]:
     return findings_of(series, hole.equals.members, hole.signs, evidence)
 
 

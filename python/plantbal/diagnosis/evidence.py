@@ -15,7 +15,7 @@ from plantbal.model.studies import share
 
 
 @dataclass(frozen=True, slots=True)
-class Level:
+class DippedLevel:
     """A dip of a tank, with what it says.
 
     Attributes
@@ -75,19 +75,19 @@ class Evidence:
             if self.kind(name) == "batch":
                 yield from self.facts(name)
 
-    def levels(self, tank: str) -> list[Level]:
+    def levels(self, tank: str) -> list[DippedLevel]:
         """Return the dips that open and close a tank over the period."""
         pair = self.view.dips.get(tank, (None, None))
         return [self._level(dip, number == 1) for number, dip in enumerate(pair) if dip]
 
-    def _level(self, dip: Fact, is_closing: bool) -> Level:
+    def _level(self, dip: Fact, is_closing: bool) -> DippedLevel:
         plant = self.state.plant
         table = plant.tables[dip.of]
         lowest, highest = table[0][0], table[-1][0]
         below, above = max(lowest, dip.mm - 1), min(highest, dip.mm + 1)
         rise = plant.volume(dip.of, above) - plant.volume(dip.of, below)
         slope = rise / max(1, above - below) * dip.density / 1e6
-        return Level(dip, is_closing, self.state.content(dip), slope, lowest, highest)
+        return DippedLevel(dip, is_closing, self.state.content(dip), slope, lowest, highest)
 
     def content_at(self, dip: Fact, mm: int) -> int | None:
         """Return what a tank would hold at another level than that of a dip; None beyond its

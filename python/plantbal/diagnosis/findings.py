@@ -10,8 +10,8 @@ from plantbal.diagnosis.balances import Measurement
 from plantbal.diagnosis.candidates import (
     NEAR,
     Candidate,
-    Kind,
-    Unit,
+    ErrorKind,
+    UnitMistake,
     amount_cost,
     level_candidates,
     units_of,
@@ -51,7 +51,7 @@ class Pattern(Enum):
 
 
 @dataclass(frozen=True, slots=True)
-class Finding:
+class HoleFinding:
     """What fits the days of a hole.
 
     Attributes
@@ -88,7 +88,7 @@ class Finding:
 
 def findings_of(
     series: Series, members: tuple[Measurement, ...], signs: dict[str, int], evidence: Evidence
-) -> list[Finding]:
+) -> list[HoleFinding]:
     """Return what fits the days of a hole, for each measurement its best, the best one first.
 
     Parameters
@@ -117,7 +117,7 @@ def findings_of(
 
 def _of_member(
     series: Series, member: Measurement, sign: int, evidence: Evidence
-) -> Iterator[Finding]:
+) -> Iterator[HoleFinding]:
     kind = evidence.kind(member.name)
     if kind == "tank":
         yield from _of_tank(series, member.name, sign, evidence)
@@ -134,10 +134,10 @@ def _of_member(
         # readings to the gram don't repeat themselves by chance, unless they do so all the time
         days = fit.course.last - fit.course.first
         cost = max(_FROZEN, -_REPEATED * days) if len(repeats) == 1 else 0.0
-        candidate = Candidate(Kind.FROZEN, member.name, fit.total, cost)
+        candidate = Candidate(ErrorKind.FROZEN, member.name, fit.total, cost)
         yield _finding(series, member.name, Pattern.SOME_DAYS, fit, candidate)
     for fit in _few(fits_of(series, for_some_days(count), sign)):
-        candidate = Candidate(Kind.READING, member.name, fit.total, _RUN)
+        candidate = Candidate(ErrorKind.READING, member.name, fit.total, _RUN)
         yield _finding(series, member.name, Pattern.SOME_DAYS, fit, candidate)
 
 
@@ -153,9 +153,9 @@ def _finding(
     fit: Fit,
     candidate: Candidate,
     percent: float | None = None,
-) -> Finding:
+) -> HoleFinding:
     spans = series.spans
-    return Finding(
+    return HoleFinding(
         name,
         pattern,
         spans[fit.course.first].first,
@@ -182,12 +182,12 @@ def _reading(name: str, span: Span, fit: Fit, evidence: Evidence) -> Candidate:
     facts = _on(evidence, name, span)
     others = [fact.grams for fact in evidence.facts(name) if fact not in facts]
     if len(facts) != 1:
-        return Candidate(Kind.READING, name, error, _RUN)
+        return Candidate(ErrorKind.READING, name, error, _RUN)
     fact = facts[0]
     cost = 1 + amount_cost(fact.grams - error, deviation, others)
     unit = unit_of(name, fact.grams, error, deviation, evidence)
     cost = min(cost, _UNIT) if unit else cost
-    return Candidate(Kind.READING, name, error, cost, fact=fact, unit=unit)
+    return Candidate(ErrorKind.READING, name, error, cost, fact=fact, unit=unit)
 
 
 def _ticket(name: str, span: Span, fit: Fit, evidence: Evidence) -> Candidate:
@@ -199,20 +199,20 @@ def _ticket(name: str, span: Span, fit: Fit, evidence: Evidence) -> Candidate:
     if error < 0:
         cost = amount_cost(-error, deviation, amounts or [fact.grams for fact in facts])
         alike = _alike(-error, deviation, evidence)
-        found.append(Candidate(Kind.MISSING, name, error, cost, alike=alike))
+        found.append(Candidate(ErrorKind.MISSING, name, error, cost, alike=alike))
     same = [fact for fact in facts if abs(evidence.amount(fact) - error) <= NEAR * deviation]
     if error > 0 and same:
         twins = [fact for fact in facts if fact.grams == same[0].grams]
         cost = 0.0 if len(twins) > 1 else 2.0
-        found.append(Candidate(Kind.TWICE, name, error, cost, alike=tuple(twins)))
+        found.append(Candidate(ErrorKind.TWICE, name, error, cost, alike=tuple(twins)))
     for fact in facts:
         grams = evidence.amount(fact)
         unit = unit_of(name, grams, error, deviation, evidence)
         cost = 1 + amount_cost(grams - error, deviation, amounts)
         cost = min(cost, _UNIT) if unit else cost
-        found.append(Candidate(Kind.TICKET, name, error, cost, fact=fact, unit=unit))
+        found.append(Candidate(ErrorKind.TICKET, name, error, cost, fact=fact, unit=unit))
     if not found:
-        return Candidate(Kind.TICKET, name, error, _MOST)
+        return Candidate(ErrorKind.TICKET, name, error, _MOST)
     return min(found, key=lambda each: each.cost)
 
 
@@ -224,7 +224,7 @@ def _alike(grams: float, deviation: float, evidence: Evidence) -> tuple[Fact, ..
 
 def unit_of(
     name: str, grams: float, error: float, deviation: float, evidence: Evidence
-) -> Unit | None:
+) -> UnitMistake | None:
     """Return the unit that explains an error of an amount best, or None."""
     if abs(error) <= 2 * NEAR * deviation:
         return None
@@ -238,7 +238,7 @@ def unit_of(
 
 def _of_ratio(
     series: Series, member: Measurement, sign: int, evidence: Evidence
-) -> Iterator[Finding]:
+) -> Iterator[HoleFinding]:
     """Give what an error in proportion to the values may be, from each day on."""
     name, values = member.name, series.values[member.name]
     for fit in fits_of(series, from_a_day_on(values), sign):
@@ -247,14 +247,14 @@ def _of_ratio(
         cost = _MOST if percent is None else min(_MOST, (percent / _PERCENT) ** 2 / 2)
         amount = float(fit.course.shape.sum())
         unit = unit_of(name, amount, fit.total, fit.total_deviation, evidence)
-        kind = Kind.METER if evidence.kind(name) == "metered" else Kind.TICKET
+        kind = ErrorKind.METER if evidence.kind(name) == "metered" else ErrorKind.TICKET
         if abs(left + 1) * amount <= NEAR * fit.total_deviation:
-            kind, unit, cost = Kind.REVERSED, None, _UNIT
+            kind, unit, cost = ErrorKind.REVERSED, None, _UNIT
         elif unit is not None and cost > _UNIT:
-            kind, cost = Kind.UNIT, _UNIT
+            kind, cost = ErrorKind.UNIT, _UNIT
         else:
             unit = None
-            cost += 0.0 if kind is Kind.METER else _RUN
+            cost += 0.0 if kind is ErrorKind.METER else _RUN
         candidate = Candidate(kind, name, fit.total, cost, percent=percent, unit=unit)
         pattern = Pattern.FROM_A_DAY_ON if fit.course.first else Pattern.ALL_DAYS
         yield _finding(series, name, pattern, fit, candidate, percent)
@@ -263,7 +263,7 @@ def _of_ratio(
 # ---- tanks
 
 
-def _of_tank(series: Series, tank: str, sign: int, evidence: Evidence) -> Iterator[Finding]:
+def _of_tank(series: Series, tank: str, sign: int, evidence: Evidence) -> Iterator[HoleFinding]:
     """Give what an error of the dips at the ends of a period, or of the table, may be."""
     levels = {level.is_closing: level for level in evidence.levels(tank)}
     ends = at_the_ends(len(series.spans))
@@ -279,7 +279,7 @@ def _of_tank(series: Series, tank: str, sign: int, evidence: Evidence) -> Iterat
             yield replace(found, first=level.fact.first, last=level.fact.first)
     values = series.values[tank]
     for fit in fits_of(series, [Course(0, len(values) - 1, values, 1)] if values.any() else []):
-        candidate = Candidate(Kind.LEVEL, tank, sign * fit.total, _TABLE)
+        candidate = Candidate(ErrorKind.LEVEL, tank, sign * fit.total, _TABLE)
         found = _finding(series, tank, Pattern.ALL_DAYS, fit, candidate)
         yield replace(found, error=sign * found.error)
 
@@ -287,7 +287,7 @@ def _of_tank(series: Series, tank: str, sign: int, evidence: Evidence) -> Iterat
 # ---- a stream that the plant doesn't have
 
 
-def _forgotten(series: Series) -> Iterator[Finding]:
+def _forgotten(series: Series) -> Iterator[HoleFinding]:
     """Give how much a stream would carry that the plant doesn't have, from the first side on.
 
     Too much leads there by the measurements, so it leads the other way.
@@ -296,6 +296,6 @@ def _forgotten(series: Series) -> Iterator[Finding]:
 
     courses = list(from_a_day_on(numpy.ones(len(series.spans))))
     for fit in fits_of(series, courses):
-        candidate = Candidate(Kind.FORGOTTEN, "", fit.total, _FORGOTTEN)
+        candidate = Candidate(ErrorKind.FORGOTTEN, "", fit.total, _FORGOTTEN)
         pattern = Pattern.FROM_A_DAY_ON if fit.course.first else Pattern.ALL_DAYS
         yield _finding(series, "", pattern, fit, candidate)

@@ -35,7 +35,7 @@ FEWEST, MOST = 5, 31
 _KILOGRAM = 1000
 
 
-class Basis(StrEnum):
+class ProposalBasis(StrEnum):
     """What a proposal rests on."""
 
     DAY = "day"
@@ -59,7 +59,7 @@ class Proposal:
         What it carried on each of them.
     error : int
         The standard deviation of that; all days are off by it together.
-    basis : Basis
+    basis : ProposalBasis
         What it rests on.
     names : tuple of str
         The measurements of the balance beside it, of those that balance it.
@@ -73,7 +73,7 @@ class Proposal:
     days: tuple[int, ...]
     grams: int
     error: int
-    basis: Basis
+    basis: ProposalBasis
     names: tuple[str, ...] = ()
     readings: int = 0
     is_needed: bool = True
@@ -128,12 +128,12 @@ class Proposals:
         """Return what the balances leave over, by the shortest spans that determine it."""
         period = self.view.period
         whole = [Span(period.first, period.last)]
-        levels = {Basis.PERIOD: whole}
+        levels = {ProposalBasis.PERIOD: whole}
         if known:
             levels = {
-                Basis.DAY: [Span(day, day) for day in wanted],
-                Basis.DAYS: self._days.spans(self._tanks_beside(stream)),
-                Basis.PERIOD: whole,
+                ProposalBasis.DAY: [Span(day, day) for day in wanted],
+                ProposalBasis.DAYS: self._days.spans(self._tanks_beside(stream)),
+                ProposalBasis.PERIOD: whole,
             }
         for basis, spans in levels.items():
             found = [self._left_over(stream, span, wanted, known, basis) for span in spans]
@@ -153,7 +153,7 @@ class Proposals:
         return [name for name in tanks if name in near and name not in self.view.lacking]
 
     def _left_over(
-        self, stream: Stream, span: Span, wanted: list[int], known: list[Fact], basis: Basis
+        self, stream: Stream, span: Span, wanted: list[int], known: list[Fact], basis: ProposalBasis
     ) -> Proposal | None:
         """Return what a span's balance leaves for the wanted days in it.
 
@@ -199,13 +199,13 @@ class Proposals:
 
     def _by_other_days(self, name: str, wanted: list[int], known: list[Fact]) -> list[Proposal]:
         """Return the mean of the meter's other days of the period, or of those before it."""
-        basis, facts = Basis.OTHERS, [fact for fact in known if not is_estimate(fact)]
+        basis, facts = ProposalBasis.OTHERS, [fact for fact in known if not is_estimate(fact)]
         if len(facts) < FEWEST:
             first = self.view.period.first
             days = range(first - 2 * MOST, first)
             there = (self.state.facts.on(name, day) for day in days)
             before = [fact for fact in there if fact is not None and not is_estimate(fact)]
-            basis, facts = Basis.EARLIER, before[-MOST:]
+            basis, facts = ProposalBasis.EARLIER, before[-MOST:]
         if len(facts) < FEWEST:
             return []
         count = len(facts)

@@ -7,9 +7,9 @@ from typing import TYPE_CHECKING
 
 from plantbal.amounts import tonnes_text
 from plantbal.diagnosis.balances import Balance
-from plantbal.diagnosis.candidates import Candidate, Kind
-from plantbal.diagnosis.diagnose import Diagnosis, Told
-from plantbal.diagnosis.findings import AS_GOOD, Finding, Pattern
+from plantbal.diagnosis.candidates import Candidate, ErrorKind
+from plantbal.diagnosis.diagnose import DiagnosedHole, Diagnosis
+from plantbal.diagnosis.findings import AS_GOOD, HoleFinding, Pattern
 from plantbal.diagnosis.gross import Hole
 from plantbal.diagnosis.unseen import Unchecked
 from plantbal.model.facts import Fact
@@ -145,31 +145,31 @@ def candidate_said(
     name, size = shown(candidate.name), sold_said(units, candidate.name, candidate.error)
     unit = f": {candidate.unit.words}?" if candidate.unit else ""
     kind, error, fact = candidate.kind, candidate.error, candidate.fact
-    if kind is Kind.METER:
+    if kind is ErrorKind.METER:
         percent = percent_text(abs(candidate.percent or 0.0))
         return f"{name} reads {percent} {way(error)} ({size})"
-    if kind is Kind.READING:
+    if kind is ErrorKind.READING:
         which = f" on {day_text(fact.first)}" if fact and dated else ""
         return f"{name} reads {size} {way(error)}{which}{unit}"
-    if kind is Kind.FROZEN:
+    if kind is ErrorKind.FROZEN:
         return f"{name} repeats one reading: {size} {way(error)}"
-    if kind is Kind.REVERSED:
+    if kind is ErrorKind.REVERSED:
         return f"{name} flows the other way"
-    if kind is Kind.UNIT:
+    if kind is ErrorKind.UNIT:
         return f"{name} is {size} {way(error)}{unit}"
-    if kind is Kind.FORGOTTEN:
+    if kind is ErrorKind.FORGOTTEN:
         return f"a stream of {size} that the plant doesn't have"
-    if kind in (Kind.MISSING, Kind.TWICE, Kind.TICKET):
+    if kind in (ErrorKind.MISSING, ErrorKind.TWICE, ErrorKind.TICKET):
         return _ticket_said(candidate, name, size, unit)
     return _dip_said(candidate, name, size)
 
 
 def _ticket_said(candidate: Candidate, name: str, size: str, unit: str) -> str:
     alike = "; ".join(map(fact_said, candidate.alike[:MOST_ALIKE]))
-    if candidate.kind is Kind.MISSING:
+    if candidate.kind is ErrorKind.MISSING:
         booked = f" (of nearly this amount: {alike})" if alike else ""
         return f"a ticket of {name} of {size} is missing{booked}"
-    if candidate.kind is Kind.TWICE:
+    if candidate.kind is ErrorKind.TWICE:
         return f"a ticket of {name} of {size} is there twice, or belongs elsewhere ({alike})"
     which = f"the ticket {candidate.fact.id} of {name} is" if candidate.fact else f"{name} is"
     return f"{which} {size} {way(candidate.error)}{unit}"
@@ -180,9 +180,9 @@ def _dip_said(candidate: Candidate, name: str, size: str) -> str:
     if fact is None:
         return f"the table of {name} may be wrong"
     dip = f"the dip of {name} on {day_text(fact.first)}"
-    if candidate.kind is Kind.DIGITS:
+    if candidate.kind is ErrorKind.DIGITS:
         return f"{dip} says {fact.mm:,} mm: {candidate.mm or 0:,} mm would fit"
-    if candidate.kind is Kind.DENSITY:
+    if candidate.kind is ErrorKind.DENSITY:
         density = (candidate.density or 0) / 1000
         return (
             f"{dip}: the density of {candidate.product}'s product would fit, {density:,.0f} kg/m³"
@@ -195,7 +195,7 @@ def _dip_said(candidate: Candidate, name: str, size: str) -> str:
 # ---- days
 
 
-def days_said(finding: Finding) -> str:
+def days_said(finding: HoleFinding) -> str:
     """Return the days of a finding."""
     first, last = day_text(finding.first), day_text(finding.last)
     if finding.pattern is Pattern.ONE_DAY:
@@ -206,13 +206,13 @@ def days_said(finding: Finding) -> str:
 
 
 def finding_said(
-    finding: Finding, shown: Shown = same, units: Mapping[str, SalesUnit] = NONE_SOLD
+    finding: HoleFinding, shown: Shown = same, units: Mapping[str, SalesUnit] = NONE_SOLD
 ) -> str:
     """Return what fits the days, such as ``2024-03-03: a ticket of DIES_SHIP ..``."""
     return f"{days_said(finding)}: {candidate_said(finding.candidate, shown, False, units)}"
 
 
-def as_good(told: Told) -> list[Finding]:
+def as_good(told: DiagnosedHole) -> list[HoleFinding]:
     """Return the findings that fit the days nearly as well as the best one, the best first."""
     best = told.best
     if best is None:
@@ -220,13 +220,13 @@ def as_good(told: Told) -> list[Finding]:
     return [each for each in told.findings if best.score - each.score < AS_GOOD]
 
 
-def likely(told: Told) -> list[Candidate]:
+def likely(told: DiagnosedHole) -> list[Candidate]:
     """Return what an error may be by the month alone, of those that anybody would look at."""
     some = [each for each in told.candidates if each.cost <= MOST_COST and each.name]
     return some[:MOST_CANDIDATES]
 
 
-def told_said(told: Told, shown: Shown = same) -> Iterator[str]:
+def told_said(told: DiagnosedHole, shown: Shown = same) -> Iterator[str]:
     """Give what is told of a hole: the set, its size, the days, and what it may be."""
     yield f"{set_said(told.names, shown)}. {hole_said(told.hole, shown, told.units)}."
     if told.findings:

@@ -3,13 +3,13 @@
 from plantbal.explain.command import is_report, same_refusals
 from plantbal.explain.sessions import explain, explain_bytes
 from plantbal.explain.text import Field, Text, picture, shown
-from plantbal.explain.told import Explanation, Told
+from plantbal.explain.told import ExplainedRow, Explanation
 
 __all__ = [
+    "ExplainedRow",
     "Explanation",
     "Field",
     "Text",
-    "Told",
     "explain",
     "explain_bytes",
     "is_report",

@@ -58,7 +58,7 @@ def same_refusals(explanation: Explanation, rows: Sequence[Values], output: str,
     pairs = zip_longest(here, there, fillvalue=_key(_MOST_RECORD, 255))
     one, other = next((one, other) for one, other in pairs if one != other)
     at = min(one, other) >> 8
-    side = "refused here, and otherwise there"
+    side = "refused here, and not in the same way there"
     if other >> 8 == at and other != one and not any(key >> 8 == at for key in here):
         side = "refused there and accepted here"
     raise InputFault(

@@ -6,7 +6,7 @@ import re
 from collections.abc import Iterable
 
 from plantbal.explain.text import Text
-from plantbal.explain.told import Told
+from plantbal.explain.told import ExplainedRow
 from plantbal.faults import Refusal
 from plantbal.model.causes import Cause, Reason
 from plantbal.model.remedies import kind_near
@@ -71,10 +71,10 @@ class Roots:
     """Refused rows by the names that they would have declared."""
 
     def __init__(self) -> None:
-        self._by_name: dict[tuple[str, str], Told] = {}
-        self._straps: dict[str, Told] = {}
+        self._by_name: dict[tuple[str, str], ExplainedRow] = {}
+        self._straps: dict[str, ExplainedRow] = {}
 
-    def cause(self, refusal: Refusal) -> Told | None:
+    def cause(self, refusal: Refusal) -> ExplainedRow | None:
         """Return the row that a refusal follows from, or None."""
         row = refusal.row
         answer = refusal.refused
@@ -91,7 +91,7 @@ class Roots:
                 return found
         return None
 
-    def add(self, row: tuple[str, ...], root: Told) -> None:
+    def add(self, row: tuple[str, ...], root: ExplainedRow) -> None:
         """Remember what a refused row would have declared."""
         for what, name in _declares(row):
             self._by_name.setdefault((what, _plain(name)), root)
@@ -99,7 +99,7 @@ class Roots:
             self._straps.setdefault(row[1], root)
 
 
-class Declared:
+class DeclaringLines:
     """The lines in which the rows of a file declare names that refused rows use, accepted or not.
 
     Parameters

@@ -6,7 +6,7 @@ from dataclasses import dataclass
 
 from plantbal.explain.counts import both, count_of_fields, row_meant
 from plantbal.explain.text import Field, Text, cut, picture, quoted, shown
-from plantbal.explain.told import Told
+from plantbal.explain.told import ExplainedRow
 from plantbal.faults import Refusal
 from plantbal.model.causes import Cause
 from plantbal.model.forms import field_fits, rows_of_kind
@@ -127,7 +127,7 @@ def _of_kind(refusal: Refusal, value: str) -> str:
     return f"KIND is {quoted(value)}, and there is no such kind of row"
 
 
-def told_of(text: Text, record: Record, refusal: Refusal, instead: str = "") -> Told:
+def told_of(text: Text, record: Record, refusal: Refusal, instead: str = "") -> ExplainedRow:
     """Return what is said of a refused row.
 
     Parameters
@@ -150,7 +150,7 @@ def told_of(text: Text, record: Record, refusal: Refusal, instead: str = "") -> 
     said = what.said + _lines_said(text, record, number)
     for value in refusal.row:
         said = said.replace(repr(value), quoted(value))
-    return Told(
+    return ExplainedRow(
         file=text.source,
         line=number,
         record=record.number,

@@ -5,10 +5,10 @@ from __future__ import annotations
 from pathlib import Path
 
 from plantbal import limits
-from plantbal.explain.roots import Declared, Roots
+from plantbal.explain.roots import DeclaringLines, Roots
 from plantbal.explain.rows import told_of
 from plantbal.explain.text import Text
-from plantbal.explain.told import Explanation, Told
+from plantbal.explain.told import ExplainedRow, Explanation
 from plantbal.explain.whole import records_of, whole_file
 from plantbal.faults import read_bytes
 from plantbal.forms import other_form
@@ -30,11 +30,13 @@ def explain_bytes(source: str, data: bytes, *, whole: bool = True) -> Explanatio
         Whether what is wrong with the whole file is said too.
     """
     if len(data) > schema().limits["most_bytes"]:
-        large = Told(source, 0, 0, 0, "", "it has more than 67,108,864 bytes; split it")
+        large = ExplainedRow(source, 0, 0, 0, "", "it has more than 67,108,864 bytes; split it")
         return Explanation([large], [], 0)
     other = other_form(source, data)
     if other is not None:
-        return Explanation([Told(source, 0, 0, 0, "", f"{other.what}; {other.remedy}")], [], 0)
+        return Explanation(
+            [ExplainedRow(source, 0, 0, 0, "", f"{other.what}; {other.remedy}")], [], 0
+        )
     text = Text(source, data)
     session = Session(strict=False, kept=limits.REFUSED_KEPT)
     session.take(source, data)
@@ -42,7 +44,7 @@ def explain_bytes(source: str, data: bytes, *, whole: bool = True) -> Explanatio
     text.read(refused)
     faults = whole_file(text, refused) if whole else []
     covered = {told.record for fault in faults for told in fault.under}
-    declared, roots, rows = Declared(text, refused.values()), Roots(), list[Told]()
+    declared, roots, rows = DeclaringLines(text, refused.values()), Roots(), list[ExplainedRow]()
     for record in records_of(text, refused):
         if record.number in covered:
             continue

@@ -9,7 +9,7 @@ from plantbal.model.refusals import Refusals
 
 
 @dataclass(slots=True)
-class Told:
+class ExplainedRow:
     """A row, and what is said of it.
 
     Attributes
@@ -28,7 +28,7 @@ class Told:
         The line as it stands, cut to what is near the field if it is long.
     mark : tuple of int or None
         Where the mark under the row begins, and how many columns it has.
-    under : list of Told
+    under : list of ExplainedRow
         The rows that are refused only because this one is.
     asks_nothing : bool
         Whether it says that no row of the session asks for output, which is no fault of a row.
@@ -43,7 +43,7 @@ class Told:
     column: str = ""
     row: str = ""
     mark: tuple[int, int] | None = None
-    under: list[Told] = field(default_factory=list)
+    under: list[ExplainedRow] = field(default_factory=list)
     asks_nothing: bool = False
 
     @property
@@ -65,7 +65,7 @@ class Told:
         return "\n".join(lines)
 
 
-def _follow(under: Sequence[Told], whole: bool) -> str:
+def _follow(under: Sequence[ExplainedRow], whole: bool) -> str:
     """Return what is said of the rows that follow from another, or from a fault of the whole
     file."""
     numbers = [str(told.line) for told in under]
@@ -87,9 +87,9 @@ class Explanation:
 
     Attributes
     ----------
-    whole : list of Told
+    whole : list of ExplainedRow
         What is wrong with the file as a whole.
-    rows : list of Told
+    rows : list of ExplainedRow
         The rows, each with those that follow from it; rows that a whole-file fault covers aren't
         here.
     refused : int
@@ -98,8 +98,8 @@ class Explanation:
         The numbers and codes of all of them.
     """
 
-    whole: list[Told]
-    rows: list[Told]
+    whole: list[ExplainedRow]
+    rows: list[ExplainedRow]
     refused: int
     refusals: Refusals = field(default_factory=Refusals)
 

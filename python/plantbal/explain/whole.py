@@ -3,19 +3,19 @@
 from __future__ import annotations
 
 from plantbal.explain.text import WIDEST, Field, Text, picture, shown
-from plantbal.explain.told import Told
+from plantbal.explain.told import ExplainedRow
 from plantbal.faults import Refusal
 from plantbal.forms import SIGNS, form_of, sign_between
 from plantbal.model.causes import Cause
 from plantbal.records import Record
 
 
-def whole_file(text: Text, refused: dict[int, Refusal]) -> list[Told]:
+def whole_file(text: Text, refused: dict[int, Refusal]) -> list[ExplainedRow]:
     """Return what is wrong with a file as a whole; each has the refused rows that it covers under
     it."""
 
-    def _told(sentence: str, line: int = 0) -> Told:
-        return Told(text.source, line, 0, 0, "", sentence)
+    def _told(sentence: str, line: int = 0) -> ExplainedRow:
+        return ExplainedRow(text.source, line, 0, 0, "", sentence)
 
     kind = form_of(text.data)
     if kind is not None:
@@ -24,7 +24,7 @@ def whole_file(text: Text, refused: dict[int, Refusal]) -> list[Told]:
         return [made]
     if text.last is None:
         return [_told("it has no row; write the session's rows into it")]
-    found: list[Told] = []
+    found: list[ExplainedRow] = []
     by_sign: dict[str, list[Record]] = {}
     for record in records_of(text, refused):
         refusal = refused[record.number]
@@ -65,7 +65,9 @@ def records_of(text: Text, refused: dict[int, Refusal]) -> list[Record]:
     return [text.refused[number] for number in refused]
 
 
-def _short(text: Text, record: Record, refused: dict[int, Refusal]) -> Told:
+def _short(text: Text, record: Record, refused: dict[int, Refusal]) -> ExplainedRow:
     refusal = refused[record.number]
     sentence = shown(f"{refusal.head}: {refusal.said}")
-    return Told(text.source, record.line, record.number, refusal.code, refusal.word, sentence)
+    return ExplainedRow(
+        text.source, record.line, record.number, refusal.code, refusal.word, sentence
+    )

@@ -19,14 +19,16 @@ from plantbal.faults import Fault, FileFault, InputFault, Place, decoded, read_b
 from plantbal.files import replacing
 from plantbal.fleet.given import days_of
 from plantbal.fleet.limits import JUDGED_BYTES
+from plantbal.fleet.pack import outputs_in
 from plantbal.fleet.sites import NIGHT, is_book
 from plantbal.limits import SESSION_BYTES
+from plantbal.packed import PACK
 from plantbal.report.blocks import Block, blocks_of, last_blocks
 from plantbal.report.parsing import parse_rows
 from plantbal.statuses import ExitStatus, looks
 
 HELP = """
-Each FOLDER is the folder of all nights of a fleet, or that of a plant's book. OUT is made anew. Its
+Each FOLDER is the folder of all nights of a fleet, packed or not, or that of a plant's book. OUT is made anew. Its
 tables:
 
   reports   a row for the last report of each plant and period: state, statistic, verdict
@@ -78,7 +80,7 @@ CREATE VIEW drifting_meters AS
 
 
 @dataclass(frozen=True, slots=True)
-class Found:
+class FoundReport:
     """A report's file: the plant, what it is from, and the session that has its periods.
 
     Attributes
@@ -120,7 +122,7 @@ class Across:
     said: list[str] = field(default_factory=list)
     seen: set[tuple[str, str]] = field(default_factory=set)
 
-    def add(self, found: Found) -> None:
+    def add(self, found: FoundReport) -> None:
         """Add the last reports of a file, but not of periods that are there from a newer one."""
         try:
             source, data = read_bytes(found.path, JUDGED_BYTES)
@@ -135,7 +137,7 @@ class Across:
             self.seen.add((found.site, block.period))
             self._add_block(found, block, days.get(block.period, ""))
 
-    def _add_block(self, found: Found, block: Block, days: str) -> None:
+    def _add_block(self, found: FoundReport, block: Block, days: str) -> None:
         """Add a report and its flows."""
         first, _, last = days.partition("..")
         solved, whole = block.solved or {}, block.whole or {}
@@ -183,7 +185,7 @@ def _days(sessions: Iterable[Path], periods: set[str]) -> dict[str, str]:
 # ---- what there is
 
 
-def of_folder(folder: Path) -> Iterator[Found]:
+def of_folder(folder: Path) -> Iterator[FoundReport]:
     """Give the reports of a folder of nights, the newest first, or of a book.
 
     Raises
@@ -195,7 +197,7 @@ def of_folder(folder: Path) -> Iterator[Found]:
         years = tuple(sorted(path for path in folder.glob("[0-9]*.csv")))
         for path in sorted((folder / "reports").glob("*.csv")):
             if "+" not in path.name:  # a window of several periods
-                yield Found(folder.resolve().name, folder, "", path, years)
+                yield FoundReport(folder.resolve().name, folder, "", path, years)
         return
     if not (folder / "fleet.sqlite").is_file():
         if not folder.is_dir():
@@ -204,14 +206,15 @@ def of_folder(folder: Path) -> Iterator[Found]:
         raise InputFault("neither nights nor a book", place=Place(file=str(folder)), remedy=remedy)
     names = {path.name for path in (folder / "nights").iterdir() if NIGHT.fullmatch(path.name)}
     for night in sorted(names, reverse=True):
-        for path in sorted(folder.glob(f"**/{night}/output.*")):
-            yield Found(
-                path.parent.parent.relative_to(folder).as_posix(),
-                folder,
-                night,
-                path,
-                tuple(_session_of(path)),
-            )
+        found = {
+            path.parent.parent.relative_to(folder).as_posix(): path
+            for path in sorted(folder.glob(f"**/{night}/output.*"))
+        }
+        pack = folder / "nights" / night / PACK
+        if pack.is_file():  # what has a folder of its own is newer
+            found = {site: pack / name for site, name in outputs_in(pack).items()} | found
+        for site in sorted(found):
+            yield FoundReport(site, folder, night, found[site], tuple(_session_of(found[site])))
 
 
 def _session_of(output: Path) -> Iterator[Path]:

@@ -16,7 +16,7 @@ from collections.abc import Iterator, Mapping, Sequence
 from dataclasses import replace
 
 from plantbal.fleet.night import Run
-from plantbal.fleet.rows import Plant, Row
+from plantbal.fleet.rows import FleetPlant, FleetRow
 
 _UNITS = {"h": 3600, "d": 86400}
 _AGE = re.compile(r"([1-9][0-9]{0,4})([hd])")
@@ -71,7 +71,7 @@ def last_day(session: bytes) -> str:
     return last
 
 
-def add_probabilities(plants: Sequence[Plant]) -> None:
+def add_probabilities(plants: Sequence[FleetPlant]) -> None:
     """Write into each row how probable its statistic is if there is no gross error."""
     tested = [row for plant in plants for row in plant.rows if row.statistic and row.dof]
     if not any(int(row.dof) for row in tested):
@@ -87,12 +87,12 @@ def add_probabilities(plants: Sequence[Plant]) -> None:
         ]
 
 
-def alarm_untested(plants: Sequence[Plant], level: float | None) -> None:
+def alarm_untested(plants: Sequence[FleetPlant], level: float | None) -> None:
     """Say which reports weren't tested, or what the night's own level says of them.
 
     Parameters
     ----------
-    plants : sequence of Plant
+    plants : sequence of FleetPlant
         The plants with the probabilities of their statistics.
     level : float or None
         Below which probability a report that its session doesn't test needs a person.
@@ -104,7 +104,7 @@ def alarm_untested(plants: Sequence[Plant], level: float | None) -> None:
                 plant.why_of.setdefault(row.period, []).extend(said)
 
 
-def _untested(row: Row, has_critical: bool, level: float | None) -> Iterator[str]:
+def _untested(row: FleetRow, has_critical: bool, level: float | None) -> Iterator[str]:
     """Give what is said of a report without a critical value."""
     if level is not None and row.p:
         if float(row.p) < level:
@@ -126,13 +126,13 @@ def _untested(row: Row, has_critical: bool, level: float | None) -> Iterator[str
 
 
 def alarm_stale(
-    plants: Sequence[Plant], runs: Mapping[str, Run], limit: float, now: datetime.datetime
+    plants: Sequence[FleetPlant], runs: Mapping[str, Run], limit: float, now: datetime.datetime
 ) -> None:
     """Say which plants' sessions are older than they may be.
 
     Parameters
     ----------
-    plants : sequence of Plant
+    plants : sequence of FleetPlant
         The plants.
     runs : mapping of str to Run
         The runs of those that have one, by their names.
@@ -146,7 +146,7 @@ def alarm_stale(
             plant.why += _stale(plant, runs[plant.site], limit, now)
 
 
-def _stale(plant: Plant, run: Run, limit: float, now: datetime.datetime) -> Iterator[str]:
+def _stale(plant: FleetPlant, run: Run, limit: float, now: datetime.datetime) -> Iterator[str]:
     """Give why a plant's session is stale."""
     since = datetime.datetime.fromtimestamp(run.session_begun or run.begun, now.tzinfo)
     if (now - since).total_seconds() > limit:

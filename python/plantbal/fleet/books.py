@@ -14,7 +14,7 @@ from dataclasses import dataclass, field
 from plantbal.faults import InputFault
 from plantbal.files import write_bytes
 from plantbal.fleet.night import Night
-from plantbal.fleet.rows import Plant, Row, failed
+from plantbal.fleet.rows import FleetPlant, FleetRow, failed
 from plantbal.fleet.sites import Site
 from plantbal.fleet.taking import Taker
 
@@ -31,13 +31,13 @@ class Books:
         The night.
     sites : list of Site
         The sessions that were made.
-    plants : dict of str to Plant
+    plants : dict of str to FleetPlant
         The books that have none, and why.
     """
 
     night: Night
     sites: list[Site] = field(default_factory=list)
-    plants: dict[str, Plant] = field(default_factory=dict)
+    plants: dict[str, FleetPlant] = field(default_factory=dict)
 
     def read(self, taker: Taker, books: list[Site]) -> None:
         """Read all books, and write their sessions."""
@@ -56,7 +56,7 @@ class Books:
     def _take(self, site: Site, sessions: Mapping[str, str]) -> None:
         """Write the sessions of a book; the newest year has the plant's name alone."""
         if not sessions:
-            self.plants[site.name] = Plant(site.name, [Row(site.name, state=CLOSED)])
+            self.plants[site.name] = FleetPlant(site.name, [FleetRow(site.name, state=CLOSED)])
         newest = max(sessions, default="")
         for year, text in sessions.items():
             name = site.name if year == newest else f"{site.name}/{year}"

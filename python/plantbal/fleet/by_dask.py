@@ -13,7 +13,7 @@ from typing import Any
 
 from plantbal.faults import Hindered, InputFault, read_bytes, ToolMissing
 from plantbal.fleet import job as calls
-from plantbal.fleet.engines import Asked, Begin, Ended, Job
+from plantbal.fleet.engines import Begin, Ended, EngineChoice, Job
 from plantbal.fleet.limits import JOB_MEMORY, OUTPUT_BYTES, SENT_BYTES
 from plantbal.limits import SESSION_BYTES
 
@@ -21,13 +21,13 @@ _ANSWERS = 20  # seconds that a scheduler has to answer in
 
 
 def run(
-    asked: Asked, jobs: Sequence[Job], begin: Begin, done: Sequence[Job] = ()
+    asked: EngineChoice, jobs: Sequence[Job], begin: Begin, done: Sequence[Job] = ()
 ) -> Generator[Ended, None, None]:
     """Run jobs, and give each as it ends: another one is handed in as a place gets free.
 
     Parameters
     ----------
-    asked : Asked
+    asked : EngineChoice
         How they are run. Without a scheduler they run on this machine, by threads of this process.
     jobs : sequence of Job
         What is to be run.
@@ -95,7 +95,7 @@ def programs_of(scheduler: str, program: str) -> Counter[str]:
         return Counter(client.run(calls.digest_of, program).values())
 
 
-def _client(dask: Any, asked: Asked, open_things: ExitStack) -> Any:
+def _client(dask: Any, asked: EngineChoice, open_things: ExitStack) -> Any:
     """Return a client of the cluster that is asked for, or of threads of this process."""
     if asked.scheduler is None:
         count = asked.jobs or len(os.sched_getaffinity(0))
@@ -159,7 +159,7 @@ class _Cluster:
     ----------
     client, running : Any
         The client of the cluster, and what gives its futures as they end.
-    asked : Asked
+    asked : EngineChoice
         How jobs are run.
     jobs : sequence of Job
         The jobs.
@@ -168,7 +168,7 @@ class _Cluster:
     """
 
     def __init__(
-        self, client: Any, running: Any, asked: Asked, jobs: Sequence[Job], begin: Begin
+        self, client: Any, running: Any, asked: EngineChoice, jobs: Sequence[Job], begin: Begin
     ) -> None:
         self._client, self._asked, self._begin = client, asked, begin
         self._waiting, self._tries = deque(jobs), Counter[str]()

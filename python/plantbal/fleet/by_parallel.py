@@ -16,7 +16,7 @@ from pathlib import Path
 from typing import IO
 
 from plantbal.faults import Hindered, ToolMissing
-from plantbal.fleet.engines import Asked, Begin, Came, Ended, Job
+from plantbal.fleet.engines import Begin, Came, Ended, EngineChoice, Job
 from plantbal.fleet.job import JOB, SAID, ended, limits, times
 from plantbal.fleet.limits import JOB_MEMORY, OUTPUT_BYTES
 
@@ -31,7 +31,7 @@ _LONG = ("--tests", "--eliminate")  # words with which a session may take minute
 
 
 def run(
-    asked: Asked, jobs: Sequence[Job], begin: Begin, done: Sequence[Job] = ()
+    asked: EngineChoice, jobs: Sequence[Job], begin: Begin, done: Sequence[Job] = ()
 ) -> Generator[Ended, None, None]:
     """Run jobs, and give each as it ends, by the rows of the log of jobs.
 
@@ -41,7 +41,7 @@ def run(
 
     Parameters
     ----------
-    asked : Asked
+    asked : EngineChoice
         How they are run.
     jobs : sequence of Job
         What is to be run.
@@ -93,7 +93,7 @@ def run(
                 yield Ended(job.site, came=Came(None, 0.0, 0.0))
 
 
-def _shared(asked: Asked, jobs: Sequence[Job]) -> Iterator[list[Job]]:
+def _shared(asked: EngineChoice, jobs: Sequence[Job]) -> Iterator[list[Job]]:
     """Give jobs in lists, each of which becomes one job of parallel.
 
     To start a job takes parallel about as long as a small session takes the program. So small
@@ -115,7 +115,7 @@ def _shared(asked: Asked, jobs: Sequence[Job]) -> Iterator[list[Job]]:
         yield some
 
 
-def _ended(asked: Asked, some: Sequence[Job], row: dict[str, str]) -> Iterator[Ended]:
+def _ended(asked: EngineChoice, some: Sequence[Job], row: dict[str, str]) -> Iterator[Ended]:
     """Give how each of the sessions ended that shared a job, by its row of the log of jobs."""
     if len(some) == 1:
         yield _ended_alone(asked, some[0], row)
@@ -124,7 +124,7 @@ def _ended(asked: Asked, some: Sequence[Job], row: dict[str, str]) -> Iterator[E
             yield Ended(job.site)
 
 
-def _ended_alone(asked: Asked, job: Job, row: dict[str, str]) -> Ended:
+def _ended_alone(asked: EngineChoice, job: Job, row: dict[str, str]) -> Ended:
     """Return how a session ended that had a job by itself."""
     begun, seconds, signal = float(row["Starttime"]), float(row["JobRuntime"]), int(row["Signal"])
     if signal and asked.timeout is not None and seconds >= asked.timeout:
@@ -139,7 +139,11 @@ def _ended_alone(asked: Asked, job: Job, row: dict[str, str]) -> Ended:
 
 
 def _hand_out(
-    given: IO[bytes], asked: Asked, handed: list[list[Job]], jobs: Sequence[Job], begin: Begin
+    given: IO[bytes],
+    asked: EngineChoice,
+    handed: list[list[Job]],
+    jobs: Sequence[Job],
+    begin: Begin,
 ) -> None:
     """Hand jobs to parallel: those that are done first, then each other one once it is ready."""
     with suppress(BrokenPipeError), given:
@@ -152,7 +156,7 @@ def _hand_out(
                 given.flush()
 
 
-def _command(asked: Asked, some: Sequence[Job]) -> bytes:
+def _command(asked: EngineChoice, some: Sequence[Job]) -> bytes:
     """Return the command of sessions that share a job, for the shell.
 
     Parallel gets whole commands: words that it has to quote take more time. The command of a
@@ -173,7 +177,7 @@ def _quoted(path: Path) -> str:
     return shlex.quote(str(path))
 
 
-def _started(asked: Asked, said: int) -> subprocess.Popen[bytes]:
+def _started(asked: EngineChoice, said: int) -> subprocess.Popen[bytes]:
     """Start parallel.
 
     Jobs write nothing, so their lines needn't be grouped: parallel then keeps no files for them,

@@ -11,17 +11,18 @@ import signal
 import sys
 import threading
 from collections.abc import Callable, Iterator, Sequence
-from contextlib import contextmanager
+from contextlib import contextmanager, nullcontext
 from pathlib import Path
 
 from plantbal.commands.options import seconds_of
 from plantbal.faults import Fault, WordsFault
 from plantbal.files import write_text
 from plantbal.fleet.alarms import age_of, level_of
-from plantbal.fleet.engines import Asked, Engine
+from plantbal.fleet.engines import Engine, EngineChoice
 from plantbal.fleet.given import sha256_of
 from plantbal.fleet.night import Night, alone
-from plantbal.fleet.rows import Plant, failed, summary
+from plantbal.fleet.pack import Packer
+from plantbal.fleet.rows import FleetPlant, failed, summary
 from plantbal.fleet.running import Fleet, lint_plants
 from plantbal.fleet.sites import NIGHT, Site, sites
 from plantbal.program import find_program
@@ -38,6 +39,10 @@ is run by its open periods. These files are kept for a night, which has the name
   OUT/fleet.sqlite            the tables `nights` and `plants` of all nights
   OUT/index.html              the last night, for a browser
   OUT/night.json, night.prom  the last night, for programs and for Prometheus' textfile collector
+
+With --pack the outputs of all plants are in one file, OUT/nights/NIGHT/outputs.sqlar, an archive of
+SQLite. All commands find what is in it: as OUT/nights/NIGHT/outputs.sqlar/SITE/output.csv, and
+under the names above, such as OUT/SITE/latest/output.csv. `sqlite3 outputs.sqlar -Ax` unpacks it.
 
 An output is put in its place only when it is complete. A fleet that was stopped continues if you
 give the same words again: plants that have their output aren't run again, unless the session, the
@@ -105,19 +110,21 @@ def add_arguments(parser: argparse.ArgumentParser) -> None:
     add("--forget", metavar="SITE", action="append", default=[], help=forget)
     nights = "take away the files of nights before the newest N; the database keeps their tables"
     add("--keep", metavar="N", type=_count, help=nights)
+    pack = "keep the outputs of all plants in one file of the night, nights/NIGHT/outputs.sqlar"
+    add("--pack", action="store_true", help=pack)
     parser.set_defaults(words=[])
 
 
 def _night(text: str) -> str:
     if not NIGHT.fullmatch(text):
-        said = f"{text!r} is no night: write 2026-11-29, or 2026-11-29T18"
+        said = f"{text!r} isn't a night: write 2026-11-29, or 2026-11-29T18"
         raise argparse.ArgumentTypeError(said)
     return text
 
 
 def _count(text: str) -> int:
     if not (text.isdecimal() and int(text)):
-        raise argparse.ArgumentTypeError(f"{text!r} is no number from 1 on")
+        raise argparse.ArgumentTypeError(f"{text!r} isn't a number from 1 on")
     return int(text)
 
 
@@ -187,13 +194,14 @@ def run(options: argparse.Namespace) -> int:
     digest = _digest_elsewhere(say, options.scheduler, program) if elsewhere else sha256_of(program)
     wants_days = options.stale is not None
     night = Night(out, name, program, digest, options.words or ["run"], wants_days)
-    fleet = Fleet(night, chosen.sites)
+    packer = Packer(night) if options.pack else None
+    fleet = Fleet(night, chosen.sites, packer=packer)
     for site, said in chosen.wrong.items():
         fleet.plants[site.name] = failed(site, "nosession", said)
     engine = _engine(elsewhere or options.send or options.engine == "dask")
     begun = _now()
-    with _stopped_by_sigterm(), alone(out) as lock, fleet.taker:
-        asked = Asked(
+    with _stopped_by_sigterm(), alone(out) as lock, packer or nullcontext(), fleet.taker:
+        asked = EngineChoice(
             command=[str(program), *fleet.night.words],
             log=fleet.night.folder / "joblog",
             jobs=options.jobs,
@@ -224,6 +232,8 @@ def run(options: argparse.Namespace) -> int:
             plant.tell()
         times, unkept = Times(begun, _now()), list[Exception]()
         try:
+            if packer is not None:
+                packer.finish()
             keep(fleet.night, plants, fleet.runs, fleet.sums, times)
             index(fleet.night, plants, times)
             if options.keep is not None:
@@ -246,12 +256,12 @@ def run(options: argparse.Namespace) -> int:
     return status
 
 
-def status_of(plants: Sequence[Plant], is_late: bool) -> ExitStatus:
+def status_of(plants: Sequence[FleetPlant], is_late: bool) -> ExitStatus:
     """Return the status of a night that was kept.
 
     Parameters
     ----------
-    plants : sequence of Plant
+    plants : sequence of FleetPlant
         The plants.
     is_late : bool
         Whether there are nights in the future.
@@ -300,7 +310,7 @@ def _take_gone(fleet: Fleet, folder: Path, forgotten: Sequence[str], books: Sequ
             fleet.plants[name] = failed(site, "nosession", said)
 
 
-def alarm(fleet: Fleet, plants: list[Plant], level: float | None, stale: float | None) -> None:
+def alarm(fleet: Fleet, plants: list[FleetPlant], level: float | None, stale: float | None) -> None:
     """Add to plants what ought to alarm although each of them ran."""
     from plantbal.fleet.alarms import add_probabilities, alarm_stale, alarm_untested
 
@@ -333,7 +343,7 @@ def _digest_elsewhere(say: Callable[[str], None], scheduler: str, program: Path)
     return found.most_common(1)[0][0]
 
 
-def _say_all(say: Callable[[str], None], plants: list[Plant], page: Path | None) -> None:
+def _say_all(say: Callable[[str], None], plants: list[FleetPlant], page: Path | None) -> None:
     """Say which plants need a person and why, and where the page is."""
     wanting = [plant for plant in plants if plant.needs]
     for plant in wanting:

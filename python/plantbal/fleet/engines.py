@@ -36,7 +36,7 @@ class Job:
 
 
 @dataclass(frozen=True, slots=True)
-class Asked:
+class EngineChoice:
     """How jobs are run.
 
     Attributes
@@ -129,6 +129,6 @@ class Engine(Protocol):
     """
 
     def __call__(
-        self, asked: Asked, jobs: Sequence[Job], begin: Begin, done: Sequence[Job] = ()
+        self, asked: EngineChoice, jobs: Sequence[Job], begin: Begin, done: Sequence[Job] = ()
     ) -> Generator[Ended, None, None]:
         """Run the jobs."""

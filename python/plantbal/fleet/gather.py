@@ -10,7 +10,7 @@ from itertools import islice
 from pathlib import Path
 
 from plantbal.audit.believed import judge
-from plantbal.faults import InputFault, decoded, read_bytes
+from plantbal.faults import InputFault, decoded, read_beginning, read_bytes
 from plantbal.fleet.alarms import last_day
 from plantbal.fleet.engines import WHY
 from plantbal.fleet.given import Given, days_of, has_critical
@@ -22,10 +22,11 @@ from plantbal.fleet.limits import (
     REFUSED_KNOWN,
     ROWS_AFTER,
     SAID_BYTES,
+    SETS_STREAMS,
 )
-from plantbal.fleet.night import Kept, Night
+from plantbal.fleet.night import KeptPlant, Night
 from plantbal.fleet.outline import Outline, outline_of
-from plantbal.fleet.rows import Plant, Row, failed
+from plantbal.fleet.rows import FleetPlant, FleetRow, failed
 from plantbal.fleet.sites import Site
 from plantbal.limits import SESSION_BYTES
 from plantbal.program import STATUSES
@@ -45,7 +46,7 @@ _FOUND = frozenset(["refused", "no", "unreadable"])
 
 
 @dataclass(frozen=True)
-class Told:
+class GatheredOutput:
     """What an output says, beside the session that it is of.
 
     Attributes
@@ -100,7 +101,7 @@ class Told:
         return has_critical(self.session, self.refused)
 
 
-def gather(night: Night, site: Site, kept: Kept, given: Given) -> Plant:
+def gather(night: Night, site: Site, kept: KeptPlant, given: Given) -> FleetPlant:
     """Return what came of a plant.
 
     Parameters
@@ -109,7 +110,7 @@ def gather(night: Night, site: Site, kept: Kept, given: Given) -> Plant:
         The night.
     site : Site
         The plant.
-    kept : Kept
+    kept : KeptPlant
         What is kept of it.
     given : Given
         Its session before the run.
@@ -124,7 +125,7 @@ def gather(night: Night, site: Site, kept: Kept, given: Given) -> Plant:
         outline = outline_of(path)
     except InputFault as fault:
         return failed(site, "unreadable", str(fault), run)
-    told = Told(site, outline, asked_of(night.words))
+    told = GatheredOutput(site, outline, asked_of(night.words))
     plant = _of_outline(told)
     if run.program_sha256 != night.program_sha256:
         what = (
@@ -173,7 +174,7 @@ def _judge(night: Night, output: Path) -> None:
     judge(data, source, night.program)
 
 
-def _of_status(night: Night, site: Site, kept: Kept) -> tuple[str, str]:
+def _of_status(night: Night, site: Site, kept: KeptPlant) -> tuple[str, str]:
     """Return the state of a plant by a status other than 0 and 1, and a sentence."""
     status = kept.run.status or 0
     name, remedy = STATUSES.get(status, ("ended", ""))
@@ -183,9 +184,8 @@ def _of_status(night: Night, site: Site, kept: Kept) -> tuple[str, str]:
     if kept.size >= OUTPUT_BYTES:
         remedy = f"its output has more than {OUTPUT_BYTES:,} bytes: ask for fewer reports"
     try:
-        with (night.folder_of(site) / SAID).open("rb") as file:
-            said = file.read(SAID_BYTES)
-    except OSError:
+        _, said = read_beginning(night.folder_of(site) / SAID, SAID_BYTES)
+    except InputFault:
         said = b""
     first = said.decode("utf-8", "replace").partition("\n")[0].strip()
     first = "" if first == name else first
@@ -193,24 +193,24 @@ def _of_status(night: Night, site: Site, kept: Kept) -> tuple[str, str]:
     return name, "; ".join(filter(None, (what, first, remedy)))
 
 
-def _of_outline(told: Told) -> Plant:
+def _of_outline(told: GatheredOutput) -> FleetPlant:
     """Return what an output says of a plant."""
     site, outline = told.site, told.outline
-    plant = Plant(site.name)
+    plant = FleetPlant(site.name)
     blocks = {block.asked: block for block in blocks_of(outline.rows)}
     over = told.over
     subjects = dict.fromkeys([*blocks, *over])
     days = told.days({name for each in subjects for name in (each.period, each.last) if name})
     for each in subjects:
         if each in over:
-            row = Row(site.name, str(each), state="over")
+            row = FleetRow(site.name, str(each), state="over")
             said = [f"no {each.what}: the total of {over[each]} is beyond the limits"]
         else:
             row, said = _of_block(told, blocks[each])
         plant.rows.append(replace(row, days=_days_of(each, days), refused="0"))
         plant.why_of[str(each)] = said
     for what in outline.cut():
-        plant.rows.append(Row(site.name, state="unreadable"))
+        plant.rows.append(FleetRow(site.name, state="unreadable"))
         plant.why.append(f"{what} is cut off")
     if any(row.verdict == "nocritical" for row in plant.rows):
         plant.has_critical = told.has_critical
@@ -226,14 +226,14 @@ def _days_of(subject: Subject, days: Mapping[str, str]) -> str:
     return f"{first.split('..')[0]}..{last.split('..')[-1]}" if first and last else ""
 
 
-def _of_block(told: Told, block: Block) -> tuple[Row, list[str]]:
+def _of_block(told: GatheredOutput, block: Block) -> tuple[FleetRow, list[str]]:
     """Return the row of a subject's last round, and why a person has to look at it.
 
     If rows are refused, the report is that of another plant: its suspects aren't worth a look.
     """
     site = told.site
     if block.solved is None or not block.ended:
-        return Row(site.name, block.subject, state="unreadable"), ["its report is cut off"]
+        return FleetRow(site.name, block.subject, state="unreadable"), ["its report is cut off"]
     solved, suspects = block.solved, list(block.taken)
     said = _of_solution(told, block, solved)
     verdict = block.whole["verdict"] if block.whole else ""
@@ -242,7 +242,7 @@ def _of_block(told: Told, block: Block) -> tuple[Row, list[str]]:
         suspects += [name for name in block.suspects() if name not in suspects]
     if verdict in _VERDICTS:
         said.append(_VERDICTS[verdict])
-    row = Row(
+    row = FleetRow(
         site.name,
         block.subject,
         state=solved["state"],
@@ -253,8 +253,23 @@ def _of_block(told: Told, block: Block) -> tuple[Row, list[str]]:
         suspects=" ".join(suspects),
     )
     if verdict == "reject" and suspects:
-        said[-1] += f"; suspects are {', '.join(map(block.shown, suspects[:5]))}"
+        said[-1] += f"; suspects are {', '.join(_suspects_said(block, suspects)[:5])}"
     return row, said
+
+
+def _suspects_said(block: Block, suspects: Sequence[str]) -> list[str]:
+    """Return how suspects are named: those that no reading tells apart as one of them.
+
+    To find these sets takes a while in a large plant, whose suspects are named one by one.
+    """
+    if len(block.streams) > SETS_STREAMS:
+        return list(map(block.shown, suspects))
+    from plantbal.diagnosis.rounds import one_of_said, suspects_by_set
+
+    sets = suspects_by_set(block)
+    there = {name for names in sets for name in names}
+    taken = [block.shown(name) for name in suspects if name not in there]
+    return [*taken, *(one_of_said(names, block, 5) for names in sets)]
 
 
 def asked_of(words: Sequence[str]) -> dict[str, str]:
@@ -269,7 +284,7 @@ def asked_of(words: Sequence[str]) -> dict[str, str]:
     return asked
 
 
-def _of_solution(told: Told, block: Block, solved: Values) -> list[str]:
+def _of_solution(told: GatheredOutput, block: Block, solved: Values) -> list[str]:
     """Return why a person has to look at a solution, whatever its global test says."""
     said = []
     for name, wanted in told.asked.items():
@@ -285,7 +300,7 @@ def _of_solution(told: Told, block: Block, solved: Values) -> list[str]:
     return said
 
 
-def _of_components(plant: Plant, output: Path, size: int) -> None:
+def _of_components(plant: FleetPlant, output: Path, size: int) -> None:
     """Say which streams carry more of a component than there is of them."""
     from plantbal.report.carried import impossible
 
@@ -303,10 +318,10 @@ def _thousandths(text: str) -> str:
     return f"{int(text) / 1000:.3f}" if text else ""
 
 
-def _of_check(plant: Plant, outline: Outline) -> None:
+def _of_check(plant: FleetPlant, outline: Outline) -> None:
     """Add the rows of a check: of each period whether all its blocks pass."""
     states = outline.states.items()
-    plant.rows += [Row(plant.site, period, state=state) for period, state in states]
+    plant.rows += [FleetRow(plant.site, period, state=state) for period, state in states]
     for row in outline.failed:
         if row["row"] == "no":
             test = schema().tests.get(int(row["code"]))
@@ -317,11 +332,11 @@ def _of_check(plant: Plant, outline: Outline) -> None:
         elif row["row"] == "unreadable":
             fault = schema().unreadable.get(int(row["code"]))
             about = f": it {fault.about}" if fault else ""
-            plant.rows.append(Row(plant.site, state="unreadable"))
+            plant.rows.append(FleetRow(plant.site, state="unreadable"))
             plant.why.append(f"the check can't read row {row['at']}{about}")
 
 
-def _of_refused(plant: Plant, told: Told) -> None:
+def _of_refused(plant: FleetPlant, told: GatheredOutput) -> None:
     """Say why the first row is refused, or why there is no report."""
     from plantbal.explain import Explanation, explain_bytes
 
@@ -338,17 +353,17 @@ def _of_refused(plant: Plant, told: Told) -> None:
         rows = "1 row is refused" if count == 1 else f"{count:,} rows are refused, the first"
         plant.why.insert(0, f"{rows}: {said}" if said else rows.removesuffix(", the first"))
     if not plant.rows and not count and subjects_of(told.session, told.refused):
-        plant.rows.append(Row(site.name, state="unreadable", refused="0"))
+        plant.rows.append(FleetRow(site.name, state="unreadable", refused="0"))
         plant.why.append("its output has none of the reports that its session asks for")
     if not plant.rows:
-        plant.rows.append(Row(site.name, state="none", refused="0"))
+        plant.rows.append(FleetRow(site.name, state="none", refused="0"))
         if not count:
             plant.why.append(said or "there is no report; add a row report,PERIOD to the session")
     if count:
         plant.rows = [replace(row, refused=str(count), first_refusal=said) for row in plant.rows]
 
 
-def _about_first(told: Told) -> bytes:
+def _about_first(told: GatheredOutput) -> bytes:
     """Return the session, or of one with very many refused rows those up to the first of these."""
     if told.outline.refused_count <= REFUSED_EXPLAINED:
         return told.session

@@ -18,7 +18,7 @@ from plantbal.faults import ToolMissing
 from plantbal.files import write_text
 from plantbal.fleet.keep import Times, database
 from plantbal.fleet.night import Night
-from plantbal.fleet.rows import Plant, Row, summary
+from plantbal.fleet.rows import FleetPlant, FleetRow, summary
 
 if TYPE_CHECKING:
     from jinja2 import Template
@@ -28,12 +28,12 @@ PLANTS = 500  # of a page
 
 
 @dataclass(frozen=True, slots=True)
-class Line:
+class IndexLine:
     """A row of the page.
 
     Attributes
     ----------
-    row : Row
+    row : FleetRow
         The row of the table.
     link : str
         Where its output is; empty if it has none.
@@ -43,7 +43,7 @@ class Line:
         The nights before and this one: the night, and whether a person had to look.
     """
 
-    row: Row
+    row: FleetRow
     link: str
     why: list[str]
     before: list[tuple[str, bool]]
@@ -71,7 +71,7 @@ def template() -> Template:
     return environment.get_template("fleet.html.j2")
 
 
-def index(night: Night, plants: Sequence[Plant], times: Times) -> None:
+def index(night: Night, plants: Sequence[FleetPlant], times: Times) -> None:
     """Write the pages of a night, and take away those that an earlier night had more."""
     with database(night.out / "fleet.sqlite") as base:
         before = _before(base, night)
@@ -94,6 +94,7 @@ def index(night: Night, plants: Sequence[Plant], times: Times) -> None:
             page=name,
             first=part[0].site if part else "",
             last=part[-1].site if part else "",
+            pack=f"nights/{night.name}/{night.pack.name}" if night.pack.is_file() else "",
         )
         write_text(night.out / name, text)
     number = len(names) + 1
@@ -108,16 +109,16 @@ def page_name(number: int) -> str:
 
 
 def _lines(
-    night: Night, plants: Sequence[Plant], before: dict[str, list[tuple[str, bool]]]
-) -> Iterator[Line]:
+    night: Night, plants: Sequence[FleetPlant], before: dict[str, list[tuple[str, bool]]]
+) -> Iterator[IndexLine]:
     """Give the lines of plants."""
     for plant in plants:
         for place, row in enumerate(plant.rows):
             why = [*(plant.why if place == 0 else []), *plant.why_of.get(row.period, [])]
-            yield Line(row, _link(night, row), why, before[row.site] if place == 0 else [])
+            yield IndexLine(row, _link(night, row), why, before[row.site] if place == 0 else [])
 
 
-def _link(night: Night, row: Row) -> str:
+def _link(night: Night, row: FleetRow) -> str:
     """Return where a plant's output is, seen from the page."""
     name = f"{row.site}/{night.name}/{night.output_name}"
     return quote(name) if (night.out / name).exists() else ""

@@ -7,6 +7,7 @@ import os
 import shutil
 import sqlite3
 import subprocess
+from collections import defaultdict
 from collections.abc import Collection, Iterable, Iterator, Mapping, Sequence
 from contextlib import closing, contextmanager, suppress
 from dataclasses import dataclass
@@ -16,9 +17,11 @@ from plantbal.faults import FileFault, Place
 from plantbal.files import write_text
 from plantbal.fleet.given import sha256_of
 from plantbal.fleet.night import Night, Run, link
-from plantbal.fleet.rows import HEADS, Plant
-from plantbal.fleet.sites import Site
+from plantbal.fleet.pack import give_folders
+from plantbal.fleet.rows import HEADS, FleetPlant
+from plantbal.fleet.sites import NIGHT, Site
 from plantbal.inert import csv_text
+from plantbal.packed import PACK
 
 _NUMBERS = {
     "dof": "INTEGER",
@@ -56,7 +59,7 @@ class Times:
     ended: str
 
 
-def table(plants: Iterable[Plant]) -> str:
+def table(plants: Iterable[FleetPlant]) -> str:
     """Return the table of plants as CSV, which a spreadsheet may open."""
     return csv_text([HEADS, *(row.values() for plant in plants for row in plant.rows)])
 
@@ -65,7 +68,7 @@ Sums = Mapping[Site, Mapping[str, str]]
 
 
 def keep(
-    night: Night, plants: Sequence[Plant], runs: Mapping[Site, Run], sums: Sums, times: Times
+    night: Night, plants: Sequence[FleetPlant], runs: Mapping[Site, Run], sums: Sums, times: Times
 ) -> None:
     """Write what is kept of a night, and make it the latest one.
 
@@ -73,7 +76,7 @@ def keep(
     ----------
     night : Night
         The night.
-    plants : sequence of Plant
+    plants : sequence of FleetPlant
         What came of each plant.
     runs : mapping of Site to Run
         The runs of those whose session could be read.
@@ -119,8 +122,13 @@ def _flush(folder: Path) -> None:
 
 def _files(night: Night, ordered: Iterable[Site], sums: Sums) -> Iterator[tuple[str, str]]:
     """Give the digests of a night's files, by their paths in the folder of all nights."""
+    if night.pack.is_file():
+        yield sha256_of(night.pack), f"nights/{night.name}/{night.pack.name}"
     for site in ordered:
-        found = sums.get(site) or _sums_before(night.folder_of(site))
+        folder = night.folder_of(site)
+        if not folder.is_dir():
+            continue  # it is in the pack, or has left nothing
+        found = sums.get(site) or _sums_before(folder)
         for name in sorted(found):
             yield found[name], f"{site.name}/{night.name}/{name}"
     for name in ("sessions.sha256", "table.csv"):
@@ -129,7 +137,7 @@ def _files(night: Night, ordered: Iterable[Site], sums: Sums) -> Iterator[tuple[
 
 def _sums_before(folder: Path) -> dict[str, str]:
     """Return the digests of the files of a plant that a run before this one has left."""
-    return {path.name: sha256_of(path) for path in folder.iterdir()} if folder.is_dir() else {}
+    return {path.name: sha256_of(path) for path in folder.iterdir()}
 
 
 def checksums(digests: Iterable[tuple[str, str]]) -> str:
@@ -204,15 +212,35 @@ def thin_out(night: Night, count: int) -> None:
     old = set(nights[:-count])
     if not old:
         return
-    for home in night.out.iterdir():
-        if home.is_dir() and not home.is_symlink() and home.name != "nights":
-            newest = home / "latest"
-            stays = os.readlink(newest) if newest.is_symlink() else ""
-            for path in home.iterdir():
-                if path.name in old and path.name != stays and not path.is_symlink():
-                    shutil.rmtree(path)
+    stay = defaultdict[str, list[str]](list)
+    for home in homes(night.out):
+        newest = home / "latest"
+        stays = os.readlink(newest) if newest.is_symlink() else ""
+        stay[stays].append(home.relative_to(night.out).as_posix())
+        for path in home.iterdir():
+            if path.name in old and path.name != stays and not path.is_symlink():
+                shutil.rmtree(path)
     for name in sorted(old):
-        shutil.rmtree(night.out / "nights" / name)
+        pack = night.out / "nights" / name / PACK
+        if pack.is_file() and stay[name]:
+            give_folders(pack, night.out, name, stay[name])
+        shutil.rmtree(pack.parent)
+
+
+def homes(out: Path) -> Iterator[Path]:
+    """Give the folders of the plants in the folder of all nights, also those inside others."""
+    for path in out.iterdir():
+        if path.is_dir() and not path.is_symlink() and path.name != "nights":
+            yield from _homes(path)
+
+
+def _homes(folder: Path) -> Iterator[Path]:
+    """Give a folder and those inside it that are of plants, and not of their nights."""
+    yield folder
+    for path in folder.iterdir():
+        if path.is_dir() and not path.is_symlink() and not NIGHT.fullmatch(path.name):
+            if not path.name.startswith("."):
+                yield from _homes(path)
 
 
 def in_future(night: Night, today: datetime.date) -> list[str]:
@@ -222,7 +250,9 @@ def in_future(night: Night, today: datetime.date) -> list[str]:
     return sorted(name for name in names if name[:10] > today.isoformat())
 
 
-def _insert(base: sqlite3.Connection, night: Night, plants: Sequence[Plant], times: Times) -> None:
+def _insert(
+    base: sqlite3.Connection, night: Night, plants: Sequence[FleetPlant], times: Times
+) -> None:
     """Put the rows of a night in the place of those that it has."""
     base.execute("DELETE FROM plants WHERE night = ?", (night.name,))
     places = ", ".join("?" * (1 + len(HEADS)))

@@ -29,7 +29,7 @@ _ENDED = {
 
 
 @dataclass(frozen=True, slots=True)
-class Told:
+class NightFile:
     """A night as ``night.json`` has it.
 
     Attributes
@@ -54,7 +54,7 @@ class Told:
     why: dict[str, list[str]]
 
     @classmethod
-    def read(cls, path: str | Path) -> Told:
+    def read(cls, path: str | Path) -> NightFile:
         """Read a night.
 
         Raises
@@ -74,12 +74,12 @@ class Told:
             ) from error
 
     @classmethod
-    def _of(cls, found: Any) -> Told:
+    def _of(cls, found: Any) -> NightFile:
         """Return the night of its JSON; what isn't of its form is a ValueError or a TypeError."""
         ended = datetime.datetime.fromisoformat(found["ended"])
         status, plants, wanting = (found[name] for name in ("status", "plants", "wanting"))
         if ended.tzinfo is None or {type(each) for each in (status, plants, wanting)} != {int}:
-            raise ValueError("a time without a zone, or a number that is none")
+            raise ValueError("a time without a zone, or something that isn't a number")
         why = {}
         for site in found["sites"]:
             if site["look"]:
@@ -102,13 +102,13 @@ def _one_line(text: str) -> str:
 
 
 def letter_of(
-    told: Told | None, status: int | None, age: float | None, now: datetime.datetime
+    told: NightFile | None, status: int | None, age: float | None, now: datetime.datetime
 ) -> Letter | None:
     """Return the letter about a night; None if nobody has to know of it.
 
     Parameters
     ----------
-    told : Told or None
+    told : NightFile or None
         The last night that is known.
     status : int or None
         The status that the night ended with just now, if that is known: it may have ended before
@@ -128,7 +128,7 @@ def letter_of(
     return Letter(_subject(told, status, is_old), "".join(_lines(told, status, is_old, now)))
 
 
-def _subject(told: Told, status: int | None, is_old: bool) -> str:
+def _subject(told: NightFile, status: int | None, is_old: bool) -> str:
     """Return the subject: what is wrong with all comes before what is wrong with some."""
     if status is not None and status not in (ExitStatus.GOOD, ExitStatus.LOOK):
         return f"plantbal: the night failed with status {status}"
@@ -144,11 +144,11 @@ def _subject(told: Told, status: int | None, is_old: bool) -> str:
 def _ended_said(status: int) -> str:
     """Return a status in words."""
     known = {int(each): said for each, said in _ENDED.items()}
-    return f"status {status}, {known.get(status, 'which is none of its own')}"
+    return f"status {status}, {known.get(status, 'which it never ends with')}"
 
 
 def _lines(
-    told: Told | None, status: int | None, is_old: bool, now: datetime.datetime
+    told: NightFile | None, status: int | None, is_old: bool, now: datetime.datetime
 ) -> Iterator[str]:
     """Give the lines of a letter."""
     if status is not None:

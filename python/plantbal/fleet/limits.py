@@ -35,6 +35,8 @@ FOLDERS, DEPTH = 10_000, 64
 NOTES = 20
 # Of the program's words on standard error, and of the sentences on a check.
 SAID_BYTES, SENTENCES = 4096, 100
+# The most streams of a report whose suspects are named by their sets of equals.
+SETS_STREAMS = 500
 # The same of a book, of which it says the sessions of the years that are open.
 BOOK_BYTES = 144 * MIB
 # Plants that a mail names, reasons that it has of each, and the characters of a line.

@@ -30,7 +30,7 @@ _NOT_NOW = 75  # EX_TEMPFAIL: the status of a sendmail that may be asked again
 _TEMPORARY = range(400, 500)
 
 
-class Refused(Hindered):
+class LetterRefused(Hindered):
     """A letter that isn't taken, now or ever.
 
     Attributes
@@ -52,7 +52,7 @@ class Sender(Protocol):
 
         Raises
         ------
-        Refused
+        LetterRefused
             If it isn't taken.
         """
 
@@ -68,11 +68,11 @@ def address_of(text: str) -> Address:
     name, at, domain = text.rpartition("@")
     remedy = "write it as accounts@example.org"
     if not (at and name and domain and text.isascii() and text.isprintable()):
-        raise WordsFault(f"{text!r} is no address", text=text, remedy=remedy)
+        raise WordsFault(f"{text!r} isn't an address", text=text, remedy=remedy)
     try:
         return Address(addr_spec=text)
     except (MessageError, ValueError, IndexError) as error:
-        raise WordsFault(f"{text!r} is no address", text=text, remedy=remedy) from error
+        raise WordsFault(f"{text!r} isn't an address", text=text, remedy=remedy) from error
 
 
 def message_of(letter: Letter, sender: Address, receivers: Sequence[Address]) -> EmailMessage:
@@ -121,7 +121,7 @@ class Smtp:
         if colon and not (port.isascii() and port.isdecimal() and 0 < int(port) < 1 << 16):
             raise WordsFault(f"{text!r} has no port", text=text, remedy="write HOST or HOST:587")
         if not host or not host.isprintable() or " " in host:
-            raise WordsFault(f"{text!r} is no server", text=text, remedy="write HOST or HOST:587")
+            raise WordsFault(f"{text!r} isn't a server", text=text, remedy="write HOST or HOST:587")
         usual = _PORT_TLS if security == "tls" else _PORT
         return cls(host, int(port) if port else usual, security, user, password)
 
@@ -133,7 +133,7 @@ class Smtp:
 
         Raises
         ------
-        Refused
+        LetterRefused
             If the server isn't there, or doesn't take it for each of its receivers.
         """
         try:
@@ -144,15 +144,15 @@ class Smtp:
         except smtplib.SMTPResponseException as error:
             said = f"{error.smtp_code} {_text(error.smtp_error)}"
             may_help = error.smtp_code in _TEMPORARY
-            raise Refused(f"{self} says {said}", may_help=may_help) from error
+            raise LetterRefused(f"{self} says {said}", may_help=may_help) from error
         except smtplib.SMTPRecipientsRefused as error:
             raise self._not_for(error.recipients) from error
         except (ssl.SSLError, smtplib.SMTPNotSupportedError) as error:
             remedy = "see --security, and the server's certificate"
-            raise Refused(f"{self}: {error}", may_help=False, remedy=remedy) from error
+            raise LetterRefused(f"{self}: {error}", may_help=False, remedy=remedy) from error
         except (OSError, smtplib.SMTPException) as error:
             said = getattr(error, "strerror", None) or str(error) or type(error).__name__
-            raise Refused(f"{self}: {said}", may_help=True) from error
+            raise LetterRefused(f"{self}: {said}", may_help=True) from error
         if refused:
             raise self._not_for(refused, taken=True)
 
@@ -170,13 +170,15 @@ class Smtp:
                 raise
         return server
 
-    def _not_for(self, refused: dict[str, tuple[int, bytes]], taken: bool = False) -> Refused:
+    def _not_for(self, refused: dict[str, tuple[int, bytes]], taken: bool = False) -> LetterRefused:
         """Return what is said of the receivers that a server doesn't take a letter for."""
         each = (f"{name} ({code} {_text(said)})" for name, (code, said) in refused.items())
         others = ", and took it for the others" if taken else ""
         codes = [code for code, _ in refused.values()]
         may_help = not taken and all(code in _TEMPORARY for code in codes)
-        return Refused(f"{self} doesn't take it for {', '.join(each)}{others}", may_help=may_help)
+        return LetterRefused(
+            f"{self} doesn't take it for {', '.join(each)}{others}", may_help=may_help
+        )
 
 
 @dataclass(frozen=True, slots=True)
@@ -195,7 +197,7 @@ class Sendmail:
         ------
         ToolMissing
             If the program isn't there.
-        Refused
+        LetterRefused
             If it doesn't take the message.
         """
         receivers = [address.addr_spec for address in message["To"].addresses]
@@ -214,13 +216,13 @@ class Sendmail:
             raise ToolMissing(self.path, tool) from error
         except subprocess.TimeoutExpired as error:
             what = f"{self.path} isn't done after {_SECONDS:g} s"
-            raise Refused(what, may_help=True) from error
+            raise LetterRefused(what, may_help=True) from error
         except OSError as error:
-            raise Refused(f"{self.path}: {error.strerror}", may_help=False) from error
+            raise LetterRefused(f"{self.path}: {error.strerror}", may_help=False) from error
         if done.returncode:
             said = _text(done.stderr or done.stdout)
             what = f"{self.path} ended with status {done.returncode}: {said or 'it says no more'}"
-            raise Refused(what, may_help=done.returncode == _NOT_NOW)
+            raise LetterRefused(what, may_help=done.returncode == _NOT_NOW)
 
 
 def _text(said: bytes | str) -> str:
@@ -264,7 +266,7 @@ def send(
         try:
             sender.send(message)
             return
-        except Refused as fault:
+        except LetterRefused as fault:
             if number == tries or not fault.may_help:
                 count = "" if number == 1 else f" after {number} tries"
                 raise Hindered(f"the mail isn't sent{count}: {fault.what}", remedy=fault.remedy)

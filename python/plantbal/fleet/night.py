@@ -11,7 +11,8 @@
     OUT/fleet.sqlite            all nights
     OUT/index.html              the last night, for a browser
 
-A plant's folder gets its name when all in it is written.
+A plant's folder gets its name when all in it is written. With ``--pack`` its files then go into
+``OUT/nights/NIGHT/outputs.sqlar``, and the folder goes; the link stays, and leads nowhere by itself.
 """
 
 from __future__ import annotations
@@ -27,11 +28,12 @@ from contextlib import contextmanager, suppress
 from dataclasses import dataclass, fields, replace
 from pathlib import Path
 
-from plantbal.faults import FileFault, Hindered, InputFault, Place, read_bytes
+from plantbal.faults import FileFault, Hindered, InputFault, Place, read_beginning, read_bytes
 from plantbal.fleet.engines import Came
 from plantbal.fleet.given import Given, sha256_of
 from plantbal.fleet.job import SAID, STATUS, ended
 from plantbal.fleet.sites import Site
+from plantbal.packed import PACK, packed_files, names_in
 
 # A time after this isn't one, in seconds since 1970: some four thousand years from now.
 _LATEST = 1 << 37
@@ -115,7 +117,7 @@ class Run:
 
 
 @dataclass(frozen=True, slots=True)
-class Kept:
+class KeptPlant:
     """What is kept of a plant.
 
     Attributes
@@ -166,6 +168,11 @@ class Night:
         return self.out / "nights" / self.name
 
     @property
+    def pack(self) -> Path:
+        """Where the outputs of the night are if they are packed."""
+        return self.folder / PACK
+
+    @property
     def output_name(self) -> str:
         """What an output is called, by its form."""
         words = " ".join(self.words).replace("=", " ")
@@ -207,18 +214,25 @@ class Night:
 
     def has_run(self, site: Site) -> bool:
         """Say whether a plant has been run this night."""
-        return (self.folder_of(site) / STATUS).exists()
+        with suppress(InputFault):
+            return bool(read_beginning(self.folder_of(site) / STATUS, 1)[1])
+        return False
 
-    def kept(self, site: Site, asked: Run) -> Kept | None:
+    def kept(self, site: Site, asked: Run) -> KeptPlant | None:
         """Return what is kept of a plant, if it is whole and of what is asked."""
         folder = self.folder_of(site)
         try:
             run = Run.read(read_bytes(folder / STATUS, _RUN_BYTES)[1])
             if run.asked != asked.asked or run.status not in (0, 1):
                 return None
-            size = (folder / self.output_name).stat().st_size
-            found = Kept(run, size, _sums(folder, (self.output_name, SAID, STATUS)))
-        except (OSError, InputFault, ValueError):
+            if not folder.is_dir():
+                files = packed_files(self.pack, site.name)
+                sums = {name: hashlib.sha256(data).hexdigest() for name, data in files.items()}
+                found = KeptPlant(run, len(files[self.output_name]), sums)
+            else:
+                size = (folder / self.output_name).stat().st_size
+                found = KeptPlant(run, size, _sums(folder, (self.output_name, SAID, STATUS)))
+        except (OSError, InputFault, ValueError, KeyError):
             return None
         return found if found.sums[self.output_name] == run.output_sha256 else None
 
@@ -248,7 +262,7 @@ class Night:
         with suppress(OSError):  # there are other nights in it
             self.part_of(site).parent.rmdir()
 
-    def publish(self, site: Site, asked: Run, came: Came | None = None) -> Kept:
+    def publish(self, site: Site, asked: Run, came: Came | None = None) -> KeptPlant:
         """Give the files of a plant their names, and return what is kept.
 
         An output is kept if the program ended with 0 or 1: otherwise it may be cut off. The disk may
@@ -286,11 +300,11 @@ class Night:
         put(part, str(self.folder_of(site)))
         newest = f"{self.out}/{site.name}/latest"
         if came.status in (0, 1):
-            if not os.path.exists(newest) or os.readlink(newest) <= self.name:
+            if not _leads(newest) or os.readlink(newest) <= self.name:
                 link(newest, self.name)
         elif os.path.islink(newest) and os.readlink(newest) == self.name:
             self._lead_back(Path(newest))
-        return Kept(run, size, sums)
+        return KeptPlant(run, size, sums)
 
     def refuse(self, site: Site, sums: dict[str, str]) -> dict[str, str]:
         """Take its name from an output that isn't believed, and return the digests by their names.
@@ -302,6 +316,8 @@ class Night:
         sums : dict of str to str
             The digests of its files, by their names.
         """
+        if not self.folder_of(site).is_dir():
+            self.unpack(site)
         output = self.output_of(site)
         refused = output.with_name(f"refused-{output.name}")
         os.replace(output, refused)
@@ -310,14 +326,46 @@ class Night:
             self._lead_back(newest)
         return {refused.name if name == output.name else name: sums[name] for name in sums}
 
+    def unpack(self, site: Site) -> None:
+        """Give a plant that is in the pack a folder of its own again.
+
+        Raises
+        ------
+        InputFault
+            If the pack can't be read.
+        OSError
+            If the folder can't be written.
+        """
+        part = self.part_of(site)
+        part.mkdir(parents=True, exist_ok=True)
+        for name, data in packed_files(self.pack, site.name).items():
+            (part / name).write_bytes(data)
+        put(str(part), str(self.folder_of(site)))
+
     def _lead_back(self, newest: Path) -> None:
         """Lead a plant's link to the last night with an output, now that this one has lost its own."""
-        nights = (path for path in newest.parent.iterdir() if not path.is_symlink())
+        home = newest.parent
+        nights = (path for path in home.iterdir() if not path.is_symlink())
         found = [path.name for path in nights if any(path.glob("output.*"))]
+        site = home.relative_to(self.out).as_posix()
+        for pack in self.out.glob(f"nights/*/{PACK}"):
+            if pack != self.pack and f"{site}/{self.output_name}" in names_in(
+                pack, self.output_name
+            ):
+                found.append(pack.parent.name)
         if found:
             link(str(newest), max(found))
         else:
             newest.unlink()
+
+
+def _leads(newest: str) -> bool:
+    """Say whether a plant's link leads to a night that is there, in a folder or in a pack."""
+    if os.path.exists(newest):
+        return True
+    with suppress(InputFault):
+        return bool(read_beginning(f"{newest}/{STATUS}", 1)[1])
+    return False
 
 
 def _sums(folder: Path, names: Iterable[str]) -> dict[str, str]:

@@ -15,6 +15,7 @@ from pathlib import Path
 
 from plantbal.faults import InputFault, Place, decoded
 from plantbal.fleet.limits import REFUSED_KNOWN, SENTENCES
+from plantbal.packed import opened_output
 from plantbal.report.blocks import Subject, Values
 from plantbal.report.parsing import parse_rows
 from plantbal.report.judged import judge_fields
@@ -161,7 +162,7 @@ def outline_of(path: Path) -> Outline:
 def _pieces(path: Path) -> Iterator[tuple[int, bytes]]:
     """Give the lines of a file some at a time, each time with how many lines are before them."""
     before, rest = 0, b""
-    with path.open("rb") as file:
+    with opened_output(path) as file:
         while piece := file.read(_PIECE):
             whole, feed, rest = (rest + piece).rpartition(b"\n")
             if feed:

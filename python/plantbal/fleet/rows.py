@@ -10,7 +10,7 @@ from plantbal.fleet.sites import Site
 
 
 @dataclass(frozen=True, slots=True)
-class Row:
+class FleetRow:
     """A row of the table.
 
     Attributes
@@ -69,18 +69,18 @@ class Row:
 
 # What a plant's state is if it wasn't the session that kept it from being run.
 _NOT_RUN = frozenset(["ended", "lost", "nooutput", "WriteFault"])
-HEADS = [each.name for each in fields(Row)]
+HEADS = [each.name for each in fields(FleetRow)]
 
 
 @dataclass(slots=True)
-class Plant:
+class FleetPlant:
     """A plant: its rows, and why a person has to look at it as a whole.
 
     Attributes
     ----------
     site : str
         Its name.
-    rows : list of Row
+    rows : list of FleetRow
         Its rows, one at least.
     why : list of str
         Sentences on the plant.
@@ -95,7 +95,7 @@ class Plant:
     """
 
     site: str
-    rows: list[Row] = field(default_factory=list)
+    rows: list[FleetRow] = field(default_factory=list)
     why: list[str] = field(default_factory=list)
     why_of: dict[str, list[str]] = field(default_factory=dict)
     is_believed: bool = True
@@ -129,15 +129,15 @@ class Plant:
                 yield f"{self.site}, {period}: {said}"
 
 
-def failed(site: Site, state: str, said: str, run: Run | None = None) -> Plant:
+def failed(site: Site, state: str, said: str, run: Run | None = None) -> FleetPlant:
     """Return a plant without an output."""
-    row = Row(site.name, state=state)
+    row = FleetRow(site.name, state=state)
     if run is not None and run.status is not None:
         row = replace(row, status=str(run.status), seconds=f"{run.seconds:.3f}")
-    return Plant(site.name, [row], [said])
+    return FleetPlant(site.name, [row], [said])
 
 
-def summary(plants: Sequence[Plant]) -> str:
+def summary(plants: Sequence[FleetPlant]) -> str:
     """Return how many plants there are, and how many need a person."""
     wanting = sum(plant.needs for plant in plants)
     count = "1 plant" if len(plants) == 1 else f"{len(plants)} plants"

@@ -10,10 +10,11 @@ from contextlib import closing
 from dataclasses import dataclass, field, replace
 
 from plantbal.faults import InputFault
-from plantbal.fleet.engines import WHY, Asked, Ended, Engine, Job
+from plantbal.fleet.engines import WHY, Ended, Engine, EngineChoice, Job
 from plantbal.fleet.given import Given, SessionTooLarge
-from plantbal.fleet.night import Kept, Night, Run
-from plantbal.fleet.rows import Plant, failed
+from plantbal.fleet.night import KeptPlant, Night, Run
+from plantbal.fleet.pack import Packer
+from plantbal.fleet.rows import FleetPlant, failed
 from plantbal.fleet.sites import Site
 from plantbal.fleet.taking import Taker
 
@@ -36,10 +37,12 @@ class Fleet:
         The digests of the files of each that is kept.
     taker : Taker
         What takes in what came of a plant.
-    plants : dict of str to Plant
+    plants : dict of str to FleetPlant
         What came of each.
     begun : set of Site
         Those that may have a folder of a run that hasn't ended.
+    packer : Packer or None
+        What puts the files of plants into the night's pack, if they go there.
     """
 
     night: Night
@@ -48,8 +51,9 @@ class Fleet:
     given: dict[Site, Given] = field(default_factory=dict)
     runs: dict[Site, Run] = field(default_factory=dict)
     sums: dict[Site, dict[str, str]] = field(default_factory=dict)
-    plants: dict[str, Plant] = field(default_factory=dict)
+    plants: dict[str, FleetPlant] = field(default_factory=dict)
     begun: set[Site] = field(default_factory=set)
+    packer: Packer | None = None
 
     def __post_init__(self) -> None:
         self._site_of = {site.name: site for site in self.sites}
@@ -117,21 +121,23 @@ class Fleet:
         if kept is not None:
             self.take(site, kept)
 
-    def take(self, site: Site, kept: Kept) -> None:
+    def take(self, site: Site, kept: KeptPlant) -> None:
         """Take in what is kept of a plant."""
         self.runs[site], self.sums[site] = kept.run, kept.sums
 
-        def taken(plant: Plant) -> None:
+        def taken(plant: FleetPlant) -> None:
             if not plant.is_believed:
                 try:
                     self.sums[site] = self.night.refuse(site, self.sums[site])
                 except OSError as error:
                     plant.why.append(f"its output stays where it is: {error}")
+            if self.packer is not None:
+                self.packer.add(site)
             self.plants[site.name] = plant
 
         self.taker.plant(self.night, site, kept, self.given[site], taken)
 
-    def run(self, engine: Engine, asked: Asked, again: bool) -> None:
+    def run(self, engine: Engine, asked: EngineChoice, again: bool) -> None:
         """Run what has no output yet; sessions are read, and outputs taken in, while others run."""
         try:
             # Mostly these wait for the disk.
@@ -153,7 +159,7 @@ class Fleet:
             for site in self.begun:
                 self.night.drop(site)
 
-    def in_order(self) -> list[Plant]:
+    def in_order(self) -> list[FleetPlant]:
         """Return the plants by name, with the reasons in their rows."""
         return [self.plants[name] for name in sorted(self.plants)]
 
@@ -174,14 +180,14 @@ def _size_of(site: Site) -> int:
         return 0
 
 
-def lint_plants(taker: Taker, plants: list[Plant], chosen: list[Site]) -> None:
+def lint_plants(taker: Taker, plants: list[FleetPlant], chosen: list[Site]) -> None:
     """Add to plants what lint finds in their sessions; its errors are in their outputs, too."""
     site_of = {site.name: site for site in chosen}
     for plant in plants:
         if plant.rows[0].state in ("nosession", "TooLarge"):
             continue  # it can't be read, or may be a pipe
 
-        def found(said: str, plant: Plant = plant) -> None:
+        def found(said: str, plant: FleetPlant = plant) -> None:
             plant.rows = [replace(row, warnings=said) for row in plant.rows]
 
         taker.lint(site_of[plant.site], found)

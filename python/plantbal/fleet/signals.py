@@ -19,7 +19,7 @@ from plantbal.files import write_text
 from plantbal.fleet.keep import Times
 from plantbal.fleet.limits import LINE_TOLD, PLANTS_TOLD, REASONS_TOLD
 from plantbal.fleet.night import Night, Run
-from plantbal.fleet.rows import Plant
+from plantbal.fleet.rows import FleetPlant
 
 _ESCAPES = str.maketrans({"\\": "\\\\", '"': '\\"', "\n": "\\n"})
 
@@ -30,13 +30,13 @@ class Signal:
 
     Attributes
     ----------
-    plant : Plant
+    plant : FleetPlant
         What came of it.
     run : Run or None
         Its run, if it has one.
     """
 
-    plant: Plant
+    plant: FleetPlant
     run: Run | None
 
     @property

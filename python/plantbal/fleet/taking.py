@@ -41,8 +41,8 @@ from plantbal.fleet.limits import (
     TAKING_SECONDS,
     TOLD_BYTES,
 )
-from plantbal.fleet.night import Kept, Night
-from plantbal.fleet.rows import Plant, failed
+from plantbal.fleet.night import KeptPlant, Night
+from plantbal.fleet.rows import FleetPlant, failed
 from plantbal.fleet.sites import Site
 
 _NO_MEMORY = 6
@@ -62,7 +62,7 @@ class End(Enum):
 
 
 @dataclass(frozen=True, slots=True)
-class Task:
+class TakingTask:
     """What is to be taken in: what came of a plant, or else what its book or its session says.
 
     Attributes
@@ -71,7 +71,7 @@ class Task:
         The plant.
     night : Night or None
         The night.
-    kept : Kept or None
+    kept : KeptPlant or None
         What is kept of the plant.
     given : Given or None
         Its session before the run.
@@ -82,7 +82,7 @@ class Task:
 
     site: Site
     night: Night | None = None
-    kept: Kept | None = None
+    kept: KeptPlant | None = None
     given: Given | None = None
     is_book: bool = False
 
@@ -116,7 +116,7 @@ class Task:
 
 
 @dataclass(frozen=True, slots=True)
-class Answer:
+class TaskResult:
     """What came of a task.
 
     Attributes
@@ -146,7 +146,7 @@ class _Line:
 
     def __init__(self, memory: int, seconds: float, changed: Condition) -> None:
         self._changed, self._handing = changed, Lock()
-        self.waiting: deque[Callable[[Answer], None]] = deque()
+        self.waiting: deque[Callable[[TaskResult], None]] = deque()
         self.is_lost = False
         here, there = socket.socketpair()
         path = [str(Path(__file__).parents[2]), *filter(None, [os.environ.get("PYTHONPATH")])]
@@ -162,7 +162,7 @@ class _Line:
         self._listener = Thread(target=self._listen, name="taking", daemon=True)
         self._listener.start()
 
-    def hand_in(self, task: Task, answered: Callable[[Answer], None]) -> None:
+    def hand_in(self, task: TakingTask, answered: Callable[[TaskResult], None]) -> None:
         """Hand in a task, and remember what becomes of its answer: answers come in this order."""
         with self._handing:
             self.waiting.append(answered)
@@ -173,7 +173,7 @@ class _Line:
         """Give each answer to whoever waits for it."""
         with suppress(EOFError, OSError):
             while True:
-                answer: Answer = self._to.recv()
+                answer: TaskResult = self._to.recv()
                 self.waiting[0](answer)
                 with self._changed:
                     self.waiting.popleft()
@@ -227,25 +227,30 @@ class Taker:
         self._lines.clear()
 
     def plant(
-        self, night: Night, site: Site, kept: Kept, given: Given, taken: Callable[[Plant], None]
+        self,
+        night: Night,
+        site: Site,
+        kept: KeptPlant,
+        given: Given,
+        taken: Callable[[FleetPlant], None],
     ) -> None:
         """Hand in what came of a plant, and give its rows to `taken` once they are there."""
 
-        def answered(answer: Answer) -> None:
+        def answered(answer: TaskResult) -> None:
             if answer.end is End.DONE:
                 taken(answer.found)
             else:
                 said = self._said(answer, "its output")
                 taken(failed(site, answer.end.value, said, kept.run))
 
-        self._hand_in(Task(site, night, kept, given), answered)
+        self._hand_in(TakingTask(site, night, kept, given), answered)
 
     def book(
         self, site: Site, found: Callable[[dict[str, str]], None], wrong: Callable[[str], None]
     ) -> None:
         """Hand in a book; give the sessions that ask for its open periods, or why there are none."""
 
-        def answered(answer: Answer) -> None:
+        def answered(answer: TaskResult) -> None:
             if answer.end is End.DONE:
                 found(answer.found)
             elif answer.end is End.FAULT:
@@ -253,18 +258,18 @@ class Taker:
             else:
                 wrong(self._said(answer, "its book"))
 
-        self._hand_in(Task(site, is_book=True), answered)
+        self._hand_in(TakingTask(site, is_book=True), answered)
 
     def lint(self, site: Site, found: Callable[[str], None]) -> None:
         """Hand in a session, and give what lint finds in it to `found`, in one line."""
 
-        def answered(answer: Answer) -> None:
+        def answered(answer: TaskResult) -> None:
             if answer.end is End.DONE:
                 found(answer.found)
             else:
                 found(f"lint says nothing: {self._said(answer, 'its session')}")
 
-        self._hand_in(Task(site), answered)
+        self._hand_in(TakingTask(site), answered)
 
     def finish(self, seconds: float | None = None) -> None:
         """Wait until all that was handed in has come back, or for some seconds.
@@ -296,7 +301,7 @@ class Taker:
         self._lines.append(_Line(self._memory, self._seconds, self._changed))
         return self._lines[-1]
 
-    def _hand_in(self, task: Task, answered: Callable[[Answer], None]) -> None:
+    def _hand_in(self, task: TakingTask, answered: Callable[[TaskResult], None]) -> None:
         """Hand in a task where the fewest wait."""
         with self._changed:
             line = min(self._lines, key=lambda line: len(line.waiting))
@@ -304,7 +309,7 @@ class Taker:
                 line = self._begin()
         line.hand_in(task, answered)  # this may wait for the server, and so holds nobody else up
 
-    def _said(self, answer: Answer, what: str) -> str:
+    def _said(self, answer: TaskResult, what: str) -> str:
         """Return why something couldn't be taken in."""
         if answer.end is End.MEMORY:
             return f"{what} takes more than {self._memory:,} bytes of memory to read"
@@ -339,7 +344,7 @@ class Server:
             while True:
                 fleet.send_bytes(self.answer(fleet.recv()))
 
-    def answer(self, task: Task) -> bytes:
+    def answer(self, task: TakingTask) -> bytes:
         """Return the answer to a task, as it is sent."""
         if task.is_large or self._count == SHARING_PLANTS:
             self.stop()
@@ -347,14 +352,14 @@ class Server:
         try:
             reader.send(task)
             if not reader.poll(self._seconds):
-                return self._failed(Answer(End.TIME))
+                return self._failed(TaskResult(End.TIME))
             most = BOOK_BYTES if task.is_book else TOLD_BYTES
             said = reader.recv_bytes(most)
         except (EOFError, ConnectionError):
             return self._failed(None)
         except OSError:
             what = f"what is to be said of it has more than {most:,} bytes"
-            return self._failed(Answer(End.FAULT, what))
+            return self._failed(TaskResult(End.FAULT, what))
         self._count += 1
         if task.is_large:
             self.stop()
@@ -372,12 +377,12 @@ class Server:
             self._to, self._count = Connection(here.detach()), 0
         return self._to
 
-    def _failed(self, answer: Answer | None) -> bytes:
+    def _failed(self, answer: TaskResult | None) -> bytes:
         """Return why a reader failed, which is stopped; without a reason it is in its status."""
         status = self.stop()
         if answer is None and status == _NO_MEMORY:
-            answer = Answer(End.MEMORY)
-        return pickle.dumps(answer or Answer(End.SIGNAL, f"its process ended with {status}"))
+            answer = TaskResult(End.MEMORY)
+        return pickle.dumps(answer or TaskResult(End.SIGNAL, f"its process ended with {status}"))
 
     def stop(self) -> int:
         """Stop the reader, and return the status that it ended with."""
@@ -410,17 +415,17 @@ def _read(server: Connection, memory: int) -> None:
         os._exit(0)
 
 
-def _answer(task: Task) -> Answer:
+def _answer(task: TakingTask) -> TaskResult:
     """Return what comes of a task: a fault too, of whatever kind, is one of its plant."""
     try:
-        return Answer(End.DONE, task.done())
+        return TaskResult(End.DONE, task.done())
     except MemoryError:
         raise
     except Fault as fault:
         said = str(fault)
     except Exception as error:
         said = f"{type(error).__name__}: {error}"
-    return Answer(End.FAULT, "".join(c if c.isprintable() else ascii(c)[1:-1] for c in said))
+    return TaskResult(End.FAULT, "".join(c if c.isprintable() else ascii(c)[1:-1] for c in said))
 
 
 def main() -> None:

@@ -14,7 +14,7 @@ from plantbal.commands.options import seconds_of, whole_of
 from plantbal.faults import Fault, FileFault, WordsFault
 from plantbal.files import write_text
 from plantbal.fleet.alarms import age_of
-from plantbal.fleet.letter import Letter, Told, letter_of
+from plantbal.fleet.letter import Letter, NightFile, letter_of
 from plantbal.fleet.mail import (
     SENDMAIL,
     Sender,
@@ -103,7 +103,7 @@ def _sender_of(options: argparse.Namespace) -> Sender:
     return Smtp.of(options.smtp, options.security, options.user, password_of(options.password_file))
 
 
-def _told(path: Path) -> tuple[Told | None, str]:
+def _told(path: Path) -> tuple[NightFile | None, str]:
     """Return the last night, or why none is known: of a folder that has none yet, that's told.
 
     Raises
@@ -113,7 +113,7 @@ def _told(path: Path) -> tuple[Told | None, str]:
     """
     file = path / "night.json" if path.is_dir() else path
     try:
-        return Told.read(file), ""
+        return NightFile.read(file), ""
     except FileFault as fault:
         if file is path or file.exists():
             raise

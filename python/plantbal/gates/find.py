@@ -9,7 +9,7 @@ from math import isqrt
 from plantbal.estimates import is_estimate
 from plantbal.gates.flows import negative_by_facts, negative_flows
 from plantbal.gates.gate import Gate, Stop
-from plantbal.gates.look import Facts, Look
+from plantbal.gates.look import Look, LookFacts
 from plantbal.gates.readings import odd_readings
 from plantbal.gates.tanks import odd_dips
 from plantbal.model.ledger import Ledger
@@ -27,7 +27,7 @@ def by_session(ledger: Ledger, *, flows: bool = True) -> Iterator[Stop]:
     flows : bool
         Whether flows are looked at too; not if there is a report, which has them to the gram.
     """
-    facts = Facts(ledger.state)
+    facts = LookFacts(ledger.state)
     for seen in ledger.reported.values():
         look = Look.of(facts, seen)
         yield from missing(look)

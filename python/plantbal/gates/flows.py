@@ -15,7 +15,7 @@ from plantbal.model.ledger import Seen
 from plantbal.model.state import State
 from plantbal.report.blocks import Block, last_blocks
 from plantbal.report.rows import Values
-from plantbal.model.studies import Measured, study_of
+from plantbal.model.studies import MeasuredStream, study_of
 from plantbal.model.topology import classes_of
 
 # A flow below zero by more standard deviations than this can't be.
@@ -97,7 +97,9 @@ def negative_by_facts(state: State, seen: Seen) -> Iterator[Stop]:
             yield _stop(seen.period.name, name, rows[name], round(flow), round(error))
 
 
-def _block_of(nodes: list[str], streams: Mapping[str, Measured]) -> tuple[Block, dict[str, int]]:
+def _block_of(
+    nodes: list[str], streams: Mapping[str, MeasuredStream]
+) -> tuple[Block, dict[str, int]]:
     """Return a study as a block without flows, and what the readings alone make of its flows.
 
     The block has the streams with their values, classes and cuts. A tank's gain has no flow here.

@@ -14,7 +14,7 @@ from plantbal.model.plant import Stream
 from plantbal.model.state import State
 
 
-class Facts:
+class LookFacts:
     """The facts of a session that aren't struck, by their streams and tanks, in order of days.
 
     Parameters
@@ -61,7 +61,7 @@ class Look:
 
     Attributes
     ----------
-    facts : Facts
+    facts : LookFacts
         The facts of the whole session.
     view : View
         The period's plant and facts.
@@ -69,12 +69,12 @@ class Look:
         The line of the row that asks for the report; 0 if it isn't known.
     """
 
-    facts: Facts
+    facts: LookFacts
     view: View
     line: int = 0
 
     @classmethod
-    def of(cls, facts: Facts, seen: Seen) -> Look:
+    def of(cls, facts: LookFacts, seen: Seen) -> Look:
         """Return what a row that asks for a report sees."""
         return cls(facts, seen.view, seen.line)
 

@@ -214,7 +214,7 @@ _ABOUT: dict[Gate, str] = {
     Gate.REJECTED: "the global test rejects",
     Gate.UNDECIDED: "the global test is undecided",
     Gate.UNTESTED: "no critical value for a report's degrees of freedom",
-    Gate.MISSING: "a meter lacks a reading, or a tank a dip",
+    Gate.MISSING: "a meter has no reading, or a tank no dip",
     Gate.UNASSAYED: "an assay that the period before has is missing",
     Gate.IMPOSSIBLE: "a stream carries more of a component than there is of it",
     Gate.NEGATIVE_FLOW: "a flow is below 0 by more than two standard deviations",
@@ -224,5 +224,5 @@ _ABOUT: dict[Gate, str] = {
     Gate.FROZEN: "a meter has the same figure for days, or all have those of the day before",
     Gate.NEGATIVE: "a meter is below 0 on a few days",
     Gate.COPY: "two meters have the same figures on all days",
-    Gate.ESTIMATED: "estimates stand for readings",
+    Gate.ESTIMATED: "estimates replace readings",
 }

@@ -6,7 +6,7 @@ from collections.abc import Iterator
 from pathlib import Path
 
 from plantbal.accounts.reading import parse_accounts
-from plantbal.accounts.sheet import NO_ACCOUNT, Accounts, Rule
+from plantbal.accounts.sheet import NO_ACCOUNT, Accounts, SplitRule
 from plantbal.faults import read_text
 from plantbal.lint.findings import Finding, place_in
 from plantbal.model.ledger import Ledger
@@ -46,13 +46,13 @@ def without_account(ledger: Ledger, accounts: Accounts) -> Iterator[Finding]:
 
 def without_owner(ledger: Ledger, accounts: Accounts) -> Iterator[Finding]:
     """Give the tanks and the streams over the plant's bounds that have no owner."""
-    if all(row.owner.rule is Rule.NONE for row in accounts.values()):
+    if all(row.owner.rule is SplitRule.NONE for row in accounts.values()):
         return
     for name, stream in ledger.streams.items():
         row = accounts.get(name)
         if (
             row is not None
-            and row.owner.rule is Rule.NONE
+            and row.owner.rule is SplitRule.NONE
             and ENV in (stream.arc.from_, stream.arc.to)
         ):
             remedy = "write its owner, shares, by receipts or by stock into the column owner"

@@ -3,12 +3,13 @@
 from __future__ import annotations
 
 from collections import defaultdict
-from collections.abc import Iterable, Iterator, Sequence
+from collections.abc import Callable, Iterable, Iterator, Sequence
 from dataclasses import dataclass
 
 from plantbal.amounts import tonnes_text
 from plantbal.faults import Place
 from plantbal.gates import Gate, about
+from plantbal.kinds import Severity
 from plantbal.model.facts import Fact
 from plantbal.model.forms import day_text
 from plantbal.model.ledger import Ledger
@@ -32,7 +33,7 @@ class Rule:
     """
 
     code: str
-    severity: str
+    severity: Severity
     about: str
 
 
@@ -119,7 +120,7 @@ class Finding:
     names: tuple[str, ...] = ()
 
     @property
-    def severity(self) -> str:
+    def severity(self) -> Severity:
         """``error``, ``warning`` or ``note``."""
         return RULES[self.code].severity
 
@@ -177,13 +178,31 @@ def place_in(ledger: Ledger, line: int | None) -> Place:
     return Place(file=ledger.source, line=line)
 
 
-def of_facts(ledger: Ledger, code: str, said: Iterable[tuple[Fact, str, str]]) -> Iterator[Finding]:
-    """Give a finding for each stream or tank: of its first fact, and how many more there are."""
-    by_place: dict[tuple[str, str], list[tuple[Fact, str, str]]] = defaultdict(list)
-    for one in said:
+def of_facts(
+    ledger: Ledger,
+    code: str,
+    found: Iterable[tuple[Fact, int]],
+    say: Callable[[Fact, int], tuple[str, str]],
+) -> Iterator[Finding]:
+    """Give a finding for each stream or tank: of its first fact, and how many more there are.
+
+    Parameters
+    ----------
+    ledger : Ledger
+        The session.
+    code : str
+        The code of the rule.
+    found : iterable of (Fact, int)
+        The facts, each with a number that it is compared with.
+    say : callable
+        Gives what is said of a fact, and what to do, from the two.
+    """
+    by_place: dict[tuple[str, str], list[tuple[Fact, int]]] = defaultdict(list)
+    for one in found:
         by_place[one[0].kind, one[0].of].append(one)
     for some in by_place.values():
-        fact, text, remedy = min(some, key=lambda one: one[0].line)
+        fact, number = min(some, key=lambda one: one[0].line)
+        text, remedy = say(fact, number)
         if len(some) > 1:
             text += f"; so it is with {len(some) - 1} more of {fact.of}"
         yield Finding(code, text, remedy, place_in(ledger, fact.line), fact.of)

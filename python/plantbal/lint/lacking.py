@@ -144,33 +144,24 @@ def in_no_period(ledger: Ledger) -> Iterator[Finding]:
         if fact.kind == "dip" and ledger.state.periods.within(fact.first, fact.first + 1)
     ]
     inside = {fact.id for fact in unused}
-    outside = (fact for fact in lost if fact.id not in inside)
-    yield from of_facts(
-        ledger,
-        "no-period",
-        (
-            (
-                fact,
-                f"{called(fact)} is of {day_text(fact.first)}, which is in no period",
-                _other_year(ledger, fact)
-                or "correct its date, or declare a period that includes it",
-            )
-            for fact in outside
-        ),
-    )
-    yield from of_facts(
-        ledger,
-        "unused-dip",
-        (
-            (
-                fact,
-                f"{called(fact)} is of {day_text(fact.first)}, neither the last day of a period "
-                "nor the day before one, so it counts nowhere",
-                "it does no harm",
-            )
-            for fact in unused
-        ),
-    )
+    outside = [(fact, fact.first) for fact in lost if fact.id not in inside]
+
+    def strayed(fact: Fact, day: int) -> tuple[str, str]:
+        """Return what is said of a fact in no period."""
+        text = f"{called(fact)} is of {day_text(day)}, which is in no period"
+        correct = "correct its date, or declare a period that includes it"
+        return text, _other_year(ledger, fact) or correct
+
+    def idle(fact: Fact, day: int) -> tuple[str, str]:
+        """Return what is said of a dip that counts nowhere."""
+        text = (
+            f"{called(fact)} is of {day_text(day)}, neither the last day of a period "
+            "nor the day before one, so it counts nowhere"
+        )
+        return text, "it does no harm"
+
+    yield from of_facts(ledger, "no-period", outside, strayed)
+    yield from of_facts(ledger, "unused-dip", [(fact, fact.first) for fact in unused], idle)
 
 
 def _other_year(ledger: Ledger, fact: Fact) -> str:

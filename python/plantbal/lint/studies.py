@@ -5,6 +5,7 @@ from __future__ import annotations
 from collections import defaultdict
 from collections.abc import Iterator
 
+from plantbal.kinds import StreamClass
 from plantbal.lint.findings import Finding, place_in, some_of
 from plantbal.model.forms import LIMITS
 from plantbal.model.ledger import Ledger, Seen
@@ -12,7 +13,7 @@ from plantbal.model.periods import Period
 from plantbal.model.topology import classes_of, degrees_of_freedom
 
 
-def classes_in(ledger: Ledger, reported: Seen | None = None) -> dict[str, str]:
+def classes_in(ledger: Ledger, reported: Seen | None = None) -> dict[str, StreamClass]:
     """Return the classes by design, or in a period."""
     if reported is None:
         return classes_of(ledger.nodes, ledger.arcs, ledger.measured())
@@ -20,7 +21,7 @@ def classes_in(ledger: Ledger, reported: Seen | None = None) -> dict[str, str]:
     return classes_of(nodes, arcs, ledger.measured(reported))
 
 
-def _classes_if_whole(ledger: Ledger, period: Period) -> dict[str, str]:
+def _classes_if_whole(ledger: Ledger, period: Period) -> dict[str, StreamClass]:
     """Return the classes of a period if nothing of its facts were missing."""
     return classes_of(ledger.nodes_in(period), ledger.arcs_in(period), ledger.measured())
 
@@ -37,7 +38,7 @@ def worse_classes(ledger: Ledger) -> Iterator[Finding]:
         design = _classes_if_whole(ledger, reported.period)
         without = [*reported.view.missing, *reported.view.undipped]
         period = reported.period.name
-        worse: dict[tuple[str, str], list[str]] = defaultdict(list)
+        worse: dict[tuple[StreamClass, StreamClass], list[str]] = defaultdict(list)
         for name, kind in classes_in(ledger, reported).items():
             if name not in without and _RANKS[kind] > _RANKS[design[name]]:
                 worse[kind, design[name]].append(name)

@@ -22,23 +22,22 @@ DENSITIES = range(400_000, 3_000_001)
 
 def magnitudes(ledger: Ledger) -> Iterator[Finding]:
     """Yield the facts that are far from the others of their stream."""
-    said: list[tuple[Fact, str, str]] = []
+    found: list[tuple[Fact, int]] = []
     for facts in ledger.amounts.values():
         middle = _median(facts)
-        if not middle:
-            continue
-        for fact in facts:
-            size = abs(fact.grams)
-            if size >= GREAT_TIMES * middle:
-                times = f"{size // middle:,} times"
-            elif 0 < size * SMALL_PART <= middle:
-                times = f"1/{middle // size:,} of"
-            else:
-                continue
-            text = f"{called(fact)} is {tonnes_said(fact.grams)}, {times} the median, {tonnes_said(middle)}"
-            remedy = "look for another unit of measure, or a decimal point at another place"
-            said.append((fact, text, remedy))
-    yield from of_facts(ledger, "magnitude", said)
+        if middle:
+            great, small = GREAT_TIMES * middle, middle // SMALL_PART
+            sizes = ((fact, abs(fact.grams)) for fact in facts)
+            found += [(fact, middle) for fact, size in sizes if size >= great or 0 < size <= small]
+    yield from of_facts(ledger, "magnitude", found, _far)
+
+
+def _far(fact: Fact, middle: int) -> tuple[str, str]:
+    """Return what is said of a fact that is far from the median of its stream."""
+    size = abs(fact.grams)
+    times = f"{size // middle:,} times" if size > middle else f"1/{middle // size:,} of"
+    text = f"{called(fact)} is {tonnes_said(fact.grams)}, {times} the median, {tonnes_said(middle)}"
+    return text, "look for another unit of measure, or a decimal point at another place"
 
 
 def _median(facts: Sequence[Fact]) -> int:
@@ -49,28 +48,27 @@ def _median(facts: Sequence[Fact]) -> int:
 
 def deviations(ledger: Ledger) -> Iterator[Finding]:
     """Yield the facts whose standard deviation is very small or very large beside their value."""
-    small: list[tuple[Fact, str, str]] = []
-    large: list[tuple[Fact, str, str]] = []
+    small: list[tuple[Fact, int]] = []
+    large: list[tuple[Fact, int]] = []
     for stream, facts in ledger.amounts.items():
         base, middle = ledger.streams[stream].base, _median(facts)
         for fact in facts:
             size = abs(fact.grams)
             if _is_small(fact.variance or base, size):
-                small.append((fact, _small(fact, size), _squared(fact.variance, size)))
+                small.append((fact, size))
             elif size and fact.variance > max(size, middle) ** 2:
-                large.append((fact, _large(fact, size, "its value"), _wide(fact, size)))
+                large.append((fact, size))
     for fact in ledger.live:
         if fact.kind != "dip":
             continue
         content = ledger.state.content(fact)
         top = ledger.state.plant.tables[fact.of][-1][1] * fact.density // 1_000_000
         if _is_small(fact.variance or ledger.streams[fact.of].base, content):
-            small.append((fact, _small(fact, content), _squared(fact.variance, content)))
+            small.append((fact, content))
         elif fact.density in DENSITIES and fact.variance > top * top > 0:
-            remedy = "look for a digit too many in its variance, in squared grams"
-            large.append((fact, _large(fact, top, "the full tank"), remedy))
-    yield from of_facts(ledger, "small-deviation", small)
-    yield from of_facts(ledger, "large-deviation", large)
+            large.append((fact, top))
+    yield from of_facts(ledger, "small-deviation", small, _small)
+    yield from of_facts(ledger, "large-deviation", large, _large)
 
 
 def _is_small(variance: int, value: int) -> bool:
@@ -78,11 +76,13 @@ def _is_small(variance: int, value: int) -> bool:
     return variance > 1 and variance * SMALL * SMALL < value * value
 
 
-def _small(fact: Fact, value: int) -> str:
-    return (
+def _small(fact: Fact, value: int) -> tuple[str, str]:
+    """Return what is said of a standard deviation that is too small for a value."""
+    text = (
         f"{called(fact)} has VARIANCE {fact.variance}, a standard deviation of "
         f"{tonnes_said(isqrt(fact.variance))} at {tonnes_said(value)}"
     )
+    return text, _squared(fact.variance, value)
 
 
 def _squared(variance: int, value: int) -> str:
@@ -97,30 +97,36 @@ def _squared(variance: int, value: int) -> str:
     return "write the square of its standard deviation in grams"
 
 
-def _large(fact: Fact, value: int, what: str) -> str:
-    return (
+def _large(fact: Fact, value: int) -> tuple[str, str]:
+    """Return what is said of a standard deviation that is too large for a value, or a full tank."""
+    what = "the full tank" if fact.kind == "dip" else "its value"
+    text = (
         f"{called(fact)} has a standard deviation of {tonnes_said(isqrt(fact.variance))}, "
         f"more than {what}, {tonnes_said(value)}"
     )
+    return text, _wide(fact, value)
 
 
 def _wide(fact: Fact, size: int) -> str:
     """Return what to write for a value that is smaller than its standard deviation."""
     grams = fact.grams * 1000
-    if fact.variance < (size * 1000) ** 2 and abs(grams) <= LIMITS["most_grams"]:
+    less = fact.kind != "dip" and fact.variance < (size * 1000) ** 2
+    if less and abs(grams) <= LIMITS["most_grams"]:
         return f"if the amount is in kilograms, write {grams}; else look at the variance"
     return "look for a digit too many in its variance, in squared grams"
 
 
 def densities(ledger: Ledger) -> Iterator[Finding]:
     """Yield the densities that are far from the others of their tank."""
-    said: list[tuple[Fact, str, str]] = []
-    for fact in ledger.live:
-        if fact.kind == "dip" and fact.density not in DENSITIES:
-            text = f"{called(fact)} has a density of {fact.density:,} g per cubic metre"
-            grams = next((s for s in (1000, 10, 100) if fact.density * s in DENSITIES), 0)
-            remedy = "water has 1000000: look for a digit too many or too few"
-            if grams:
-                remedy = f"did you mean {fact.density * grams}?"
-            said.append((fact, text, remedy))
-    yield from of_facts(ledger, "density", said)
+    dips = (fact for fact in ledger.live if fact.kind == "dip")
+    found = [(fact, fact.density) for fact in dips if fact.density not in DENSITIES]
+    yield from of_facts(ledger, "density", found, _odd_density)
+
+
+def _odd_density(fact: Fact, density: int) -> tuple[str, str]:
+    """Return what is said of a density that nothing in a tank has."""
+    text = f"{called(fact)} has a density of {density:,} g per cubic metre"
+    times = next((s for s in (1000, 10, 100) if density * s in DENSITIES), 0)
+    if times:
+        return text, f"did you mean {density * times}?"
+    return text, "water has 1000000: look for a digit too many or too few"

@@ -27,7 +27,7 @@ class Assay(NamedTuple):
 
 
 @dataclass(frozen=True, slots=True)
-class Books(Effect):
+class BooksFact(Effect):
     """A reading, a transfer or a dip; a late one may touch a closed period."""
 
     fact: Fact

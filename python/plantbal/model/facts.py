@@ -6,13 +6,15 @@ columns it came in, and its facts are made when one of them is asked for.
 
 from __future__ import annotations
 
-from collections.abc import Iterable, Iterator, Sequence
+from collections.abc import Iterable, Iterator, Sequence, Set
 from itertools import repeat
-from typing import NamedTuple
+from operator import add
+from typing import NamedTuple, TypeVar
 
 KINDS = ("reading", "transfer", "dip")
 # The number of a day is below 2 to the power of this: that of 9999-12-31 is 3,652,059.
 _DAY_BITS = 22
+_T = TypeVar("_T")
 
 
 class At(NamedTuple):
@@ -126,8 +128,35 @@ class _Places(dict[str, int]):
         return number
 
 
+def _free(taken: Set[_T], some: Iterable[_T]) -> bool:
+    """Say whether none of some things is among those that are taken."""
+    return not taken or taken.isdisjoint(some)
+
+
+class _Waiting:
+    """Runs of readings whose facts aren't made yet, with what tells whether a fact is taken.
+
+    Attributes
+    ----------
+    runs : list of (ReadingRun, list of int)
+        The runs, each with the slots of its readings.
+    ids : set of str
+        All their ids.
+    slots : set of int
+        All their slots.
+    """
+
+    def __init__(self) -> None:
+        self.runs: list[tuple[ReadingRun, list[int]]] = []
+        self.ids: set[str] = set()
+        self.slots: set[int] = set()
+
+
 class Facts:
     """The facts of a session, also those that were struck.
+
+    A slot is the number that a stream or tank and a day have together: there is at most one reading
+    or dip in it.
 
     Attributes
     ----------
@@ -141,20 +170,21 @@ class Facts:
         self._on: dict[int, int] = {}
         self._of = _Places()
         self._transfers: dict[str, list[int]] = {}
-        self._runs: list[ReadingRun] = []
+        self._waiting = _Waiting()
         self.struck = 0
 
     def __len__(self) -> int:
-        return len(self._numbers)
+        return len(self._numbers) + len(self._waiting.ids)
 
     def __contains__(self, identity: str) -> bool:
-        return identity in self._numbers
+        return identity in self._numbers or identity in self._waiting.ids
 
     def __iter__(self) -> Iterator[Fact]:
         return iter(self._made())
 
     def ids(self) -> list[str]:
         """Return the ids of all facts, in the order of their rows."""
+        self._made()
         return list(self._numbers)
 
     def live(self) -> list[Fact]:
@@ -163,17 +193,18 @@ class Facts:
 
     def find(self, identity: str) -> Fact | None:
         """Return the fact of an id, struck or not, or None."""
-        number = self._numbers.get(identity)
-        return None if number is None else self._made()[number]
+        facts, number = self._made(), self._numbers.get(identity)
+        return None if number is None else facts[number]
 
     def has(self, of: str, day: int) -> bool:
         """Say whether a stream has a reading of a day, or a tank a dip."""
-        return self._slot(of, day) in self._on
+        slot = self._slot(of, day)
+        return slot in self._on or slot in self._waiting.slots
 
     def on(self, of: str, day: int) -> Fact | None:
         """Return the reading or the dip of a day, or None."""
-        number = self._on.get(self._slot(of, day))
-        return None if number is None else self._made()[number]
+        facts, number = self._made(), self._on.get(self._slot(of, day))
+        return None if number is None else facts[number]
 
     def on_days(self, of: str, days: Iterable[int]) -> list[Fact]:
         """Return the readings of a stream on some days."""
@@ -202,40 +233,46 @@ class Facts:
 
     def book_run(self, run: ReadingRun) -> bool:
         """Book a run of readings, if no id and no day of it is taken; say whether it is booked."""
-        count = len(run.ids)
-        places = range(len(self), len(self) + count)
-        first = self._of
-        on = [first[of] + day for of, day in zip(run.streams, run.days)]
-        if not (self._numbers.keys().isdisjoint(run.ids) and self._on.keys().isdisjoint(on)):
+        slots = list(map(add, map(self._of.__getitem__, run.streams), run.days))
+        waiting = self._waiting
+        if not (
+            _free(self._numbers.keys(), run.ids)
+            and _free(self._on.keys(), slots)
+            and _free(waiting.ids, run.ids)
+            and _free(waiting.slots, slots)
+        ):
             return False
-        ids, days = len(self._numbers) + count, len(self._on) + count
-        self._numbers.update(zip(run.ids, places))
-        self._on.update(zip(on, places))
-        if (len(self._numbers), len(self._on)) == (ids, days):
-            self._runs.append(run)
+        wanted = len(waiting.ids) + len(slots), len(waiting.slots) + len(slots)
+        waiting.ids.update(run.ids)
+        waiting.slots.update(slots)
+        if (len(waiting.ids), len(waiting.slots)) == wanted:
+            waiting.runs.append((run, slots))
             return True
-        for identity in run.ids:  # one is there twice, and all of them are new
-            self._numbers.pop(identity, None)
-        for slot in on:
-            self._on.pop(slot, None)
+        # one is there twice within the run, and none of it was there before
+        waiting.ids.difference_update(run.ids)
+        waiting.slots.difference_update(slots)
         return False
 
     def _slot(self, of: str, day: int) -> int:
-        """Return the number that a stream or tank and a day have together."""
         return self._of[of] + day
 
     def change(self, fact: Fact) -> None:
         """Put a fact in place of the one of its id, of the same kind, place and days."""
-        number = self._numbers[fact.id]
-        self._made()[number] = fact
+        facts = self._made()
+        facts[self._numbers[fact.id]] = fact
         if fact.struck:
             self.struck += 1
             if fact.kind != "transfer":
                 del self._on[self._slot(fact.of, fact.first)]
 
     def _made(self) -> list[Fact]:
-        """Return all facts, those of runs too."""
-        for run in self._runs:
-            self._facts.extend(run.facts())
-        self._runs.clear()
-        return self._facts
+        """Return all facts; those of runs are made and numbered now."""
+        facts = self._facts
+        for run, slots in self._waiting.runs:
+            numbers = range(len(facts), len(facts) + len(slots))
+            self._numbers.update(zip(run.ids, numbers))
+            self._on.update(zip(slots, numbers))
+            facts.extend(run.facts())
+        if self._waiting.runs:
+            self._waiting = _Waiting()
+        return facts

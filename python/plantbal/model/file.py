@@ -1,7 +1,7 @@
 """The rows of a session's file, with long runs of readings kept together.
 
-A session of a year has mostly readings, one after the other. A run of them is judged at once; only
-if one of its rows may be refused are they judged one by one.
+A session of a year has mostly readings, one after the other. A run of them is judged at once, and
+if one of its rows may be refused, in pieces; only the rows of such a piece are judged one by one.
 """
 
 from __future__ import annotations
@@ -21,8 +21,10 @@ from plantbal.model.forms import DATE, NAME, day_number
 from plantbal.model.state import Accepted, Answer, State
 from plantbal.schema import Column, schema
 
-# The longest run that is judged at once: one wrong reading costs no more than these.
-_LONGEST = 10_000
+# The longest run that is judged at once, and the pieces in which it is judged otherwise: one wrong
+# reading costs about as much as such a piece.
+_LONGEST = 5_000
+_PIECE = 500
 # The rows that are in memory at once: a file of two letters a line has millions.
 _BATCH = 1 << 15
 _NAMES = re.compile(rf"(?:{NAME.pattern}(?:\n|\Z))*+")
@@ -34,7 +36,7 @@ _READINGS = re.compile(
 )
 
 
-class Columns(Sequence[Sequence[str]]):
+class ColumnRows(Sequence[Sequence[str]]):
     """Rows that are kept as their columns, and made when they are asked for.
 
     Parameters
@@ -57,12 +59,12 @@ class Columns(Sequence[Sequence[str]]):
         ...
 
     @overload
-    def __getitem__(self, place: slice) -> Columns:
+    def __getitem__(self, place: slice) -> ColumnRows:
         ...
 
-    def __getitem__(self, place: int | slice) -> tuple[str, ...] | Columns:
+    def __getitem__(self, place: int | slice) -> tuple[str, ...] | ColumnRows:
         if isinstance(place, slice):
-            return Columns([column[place] for column in self._columns])
+            return ColumnRows([column[place] for column in self._columns])
         return tuple(column[place] for column in self._columns)
 
 
@@ -86,6 +88,19 @@ class Rows:
     record: int
     lines: Sequence[int]
     run: ReadingRun | None = None
+
+    def pieces(self) -> Iterator[Rows]:
+        """Give its rows in pieces, of which none is a run yet."""
+        for at in range(0, len(self.rows), _PIECE):
+            end = at + _PIECE
+            yield Rows(self.rows[at:end], self.record + at, self.lines[at:end])
+
+    def readings(self) -> ReadingRun | None:
+        """Return what its rows say, if there are several and all are readings of valid forms."""
+        if self.run is not None or len(self.rows) == 1:
+            return self.run
+        _, ids, streams, days, grams, variances = zip(*self.rows)
+        return readings_of(ids, streams, days, grams, variances, self.lines)
 
 
 @dataclass(frozen=True, slots=True)
@@ -127,13 +142,18 @@ def steps(state: State, data: bytes) -> Iterator[Step | Rows]:
     text = data.removeprefix(b"\xef\xbb\xbf").decode("latin-1")
     parts = rows_of(data) if '"' in text or "\r" in text else _plain_rows(text)
     for part in parts:
-        run = part.run
-        if run is None and len(part.rows) > 1:
-            _, ids, streams, days, grams, variances = zip(*part.rows)
-            run = readings_of(ids, streams, days, grams, variances, part.lines)
-        if run is not None and state.after_run(run):
-            yield replace(part, run=run)
-            continue
+        yield from _folded(state, part)
+
+
+def _folded(state: State, part: Rows) -> Iterator[Step | Rows]:
+    """Fold some rows into a state, as a whole if all are readings that it takes."""
+    run = part.readings()
+    if run is not None and state.after_run(run):
+        yield replace(part, run=run)
+    elif len(part.rows) > _PIECE:
+        for piece in part.pieces():
+            yield from _folded(state, piece)
+    else:
         for number, (row, line) in enumerate(zip(part.rows, part.lines)):
             fields, at = tuple(row), At(part.record + number, line)
             yield Step(fields, at, state.after(fields, at))
@@ -153,8 +173,8 @@ def _plain_rows(text: str) -> Iterator[Rows]:
             count, at = len(ids), found.end()
             lines = range(line + 1, line + count + 1)
             run = _run_of(ids, streams, days, grams, variances, lines) if count > 1 else None
-            rows = Columns([kinds, ids, streams, days, grams, variances])
-            yield from _split(rows, record, lines, run)
+            rows = ColumnRows([kinds, ids, streams, days, grams, variances])
+            yield Rows(rows, record, lines, run)
             line, record = line + count, record + count
             continue
         end = text.find("\nreading,", at) + 1 or len(text)
@@ -164,17 +184,6 @@ def _plain_rows(text: str) -> Iterator[Rows]:
                 yield Rows([row], record, (number,))
                 record += 1
         at, line = end, line + len(part)
-
-
-def _split(
-    rows: Sequence[Sequence[str]], record: int, lines: Sequence[int], run: ReadingRun | None
-) -> Iterator[Rows]:
-    """Give readings as a run, or one by one if they are none."""
-    if run is not None:
-        yield Rows(rows, record, lines, run)
-        return
-    for number, row in enumerate(rows):
-        yield Rows([row], record + number, lines[number : number + 1])
 
 
 def rows_of(data: bytes) -> Iterator[Rows]:
@@ -262,13 +271,14 @@ def _run_of(
     lines: Sequence[int],
 ) -> ReadingRun | None:
     """Return readings whose ids are names and whose amounts are whole numbers, or None."""
-    numbers = {day: day_number(day) for day in set(days)}
+    texts = set(days)
+    numbers = {day: number for day in texts if (number := day_number(day)) is not None}
     row = schema().row("reading")
     amounts = _within(grams, row.column("grams"))
     errors = _within(variances, row.column("variance"))
-    if None in numbers.values() or amounts is None or errors is None:
+    if len(numbers) < len(texts) or amounts is None or errors is None:
         return None
-    on = [number or 0 for number in map(numbers.__getitem__, days)]
+    on = list(map(numbers.__getitem__, days))
     return ReadingRun(ids, streams, on, amounts, errors, lines)
 
 

@@ -131,7 +131,7 @@ def number_meant(
         if scaled == int(scaled) and low <= scaled <= high:
             return Meant(f"if {text.strip()} is in {greater}, write {int(scaled)}, in {own}")
     if re.fullmatch(r"[0-9]{4}-[0-9]{2}-[0-9]{2}", plain):
-        return Meant("a day stands there: are the fields in their order?")
+        return Meant("this is a day: are the fields in their order?")
     counted = _with_unit(plain, units or {})
     if counted is not None and counted == int(counted) and low <= counted <= high:
         return _write(f"{int(counted)}, without the unit")

@@ -91,7 +91,7 @@ class Critical(NamedTuple):
     line: int
 
 
-class Plant:
+class DeclaredPlant:
     """What a session's rows declare.
 
     Attributes

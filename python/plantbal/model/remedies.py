@@ -31,7 +31,7 @@ if TYPE_CHECKING:
 
 
 @dataclass(frozen=True, slots=True)
-class Advice:
+class Remedy:
     """What to do about a refused row.
 
     Attributes
@@ -109,7 +109,7 @@ _DO = {
     Reason.PERIOD_OUT_OF_SERVICE: "correct the period, or leave the row out",
     Reason.TABLE_EMPTY: "write its strap rows before this row",
     Reason.LEVEL_OUTSIDE: "look for a digit too many, or add points",
-    Reason.NODES_FULL: "join units between which nothing is measured",
+    Reason.NODES_FULL: "merge units that have no meter between them",
     Reason.BOUNDARIES_FULL: "streams over one border may share a boundary",
     Reason.POINTS_FULL: "leave points out that lie on a line",
     Reason.PERIODS_FULL: _ANOTHER,
@@ -119,14 +119,14 @@ _DO = {
 }
 
 
-def remedy_of(state: State, record: tuple[str, ...], refused: Refused) -> Advice:
+def remedy_of(state: State, record: tuple[str, ...], refused: Refused) -> Remedy:
     """Return what to do about a refused record, after the rows of a session."""
     reason = refused.reason
     if reason in _DO:
-        return Advice(_DO[reason].format_map(refused.values))
+        return Remedy(_DO[reason].format_map(refused.values))
     if reason in _FORMS:
         return _FORMS[reason](refused)
-    return Advice(_REMEDIES[reason](state, record, refused))
+    return Remedy(_REMEDIES[reason](state, record, refused))
 
 
 def nearest(name: str, names: Iterable[str]) -> str:
@@ -165,7 +165,7 @@ def _no_kind(first: str) -> str:
     if plain != first and plain in ROWS:
         return f"take the space beside {plain!r} out"
     if "," in first and first.split(",")[0] in ROWS:
-        return "the whole row stands between double quotes: take them out"
+        return "the whole row is in double quotes: take them out"
     if not first:
         return "a row begins with its kind: take the comma in front out, or the row"
     if plain.lower() in ("jetty", "port", "rail", "pipeline", "terminal", "border"):
@@ -185,17 +185,17 @@ def _of_word(state: State, record: tuple[str, ...], refused: Refused) -> str:
 # ---- forms
 
 
-def _form_of_reason(refused: Refused) -> Advice:
+def _form_of_reason(refused: Refused) -> Remedy:
     said = refused.text
     remedy = f"1 to {LIMITS['most_reason']} plain characters, from the space to ~"
     if len(said) > LIMITS["most_reason"]:
         remedy += f", and has {len(said)}"
     elif said:
         remedy += ", without umlauts, accents and line ends"
-    return Advice(remedy, True)
+    return Remedy(remedy, True)
 
 
-def _form_of_name(refused: Refused) -> Advice:
+def _form_of_name(refused: Refused) -> Remedy:
     said = refused.text
     remedy = f"1 to {LIMITS['most_name']} letters, digits, `_`, `-` or `.`"
     plain = re.sub(r"[^A-Za-z0-9_.-]+", "_", said.strip())
@@ -205,7 +205,7 @@ def _form_of_name(refused: Refused) -> Advice:
         remedy += f", and has {len(said)} characters"
     elif plain != said and NAME.fullmatch(plain) and plain.strip("_"):
         remedy += f", such as {plain}"
-    return Advice(remedy, True)
+    return Remedy(remedy, True)
 
 
 def _is_beyond(text: str) -> bool:
@@ -214,16 +214,16 @@ def _is_beyond(text: str) -> bool:
     return DATE.fullmatch(text) is not None and int(text[:4]) not in years
 
 
-def _form_of_date(refused: Refused) -> Advice:
+def _form_of_date(refused: Refused) -> Remedy:
     said = refused.text
     if (not said or _is_beyond(said)) and refused.column in _NO_END:
-        return Advice(_NO_END[refused.column])
+        return Remedy(_NO_END[refused.column])
     meant = day_meant(said)
     if meant.writes:
-        return Advice(meant.text)
+        return Remedy(meant.text)
     first, last = LIMITS["first_year"], LIMITS["last_year"]
     remedy = f"a day of the calendar, of the years {first} to {last}, such as 2024-03-01"
-    return Advice(f"{remedy}; {meant.text}" if meant.text else remedy, True)
+    return Remedy(f"{remedy}; {meant.text}" if meant.text else remedy, True)
 
 
 # A unit that people think in, how many of the column's own it has, and what these are called.
@@ -248,24 +248,24 @@ _UNITS = {
 }
 
 
-def _form_of_number(refused: Refused) -> Advice:
+def _form_of_number(refused: Refused) -> Remedy:
     name, text = refused.column, refused.text
     low, high = int(refused.values["low"]), int(refused.values["high"])
     if low == high:
-        return Advice(f"write {low}: a plain stream has no variance")
+        return Remedy(f"write {low}: a plain stream has no variance")
     found = number_meant(text, low, high, _SCALES.get(name, ()), _UNITS.get(name, {}))
     if found.writes:
-        return Advice(found.text)
+        return Remedy(found.text)
     meant = found.text
     if not text and name == "grams":
         meant = "if there is no figure, leave the row out"
     elif not meant and name == "cost" and re.fullmatch(r"[0-9]+[.,][0-9]+", text):
         meant = "costs may be in any unit, such as cents"
     range_ = f"a whole number in digits alone, {low:,} to {high:,}"
-    return Advice(f"{range_}; {meant}" if meant else range_, True)
+    return Remedy(f"{range_}; {meant}" if meant else range_, True)
 
 
-_FORMS: dict[Reason, Callable[[Refused], Advice]] = {
+_FORMS: dict[Reason, Callable[[Refused], Remedy]] = {
     Reason.NO_REASON: _form_of_reason,
     Reason.NO_NAME: _form_of_name,
     Reason.NO_DATE: _form_of_date,

@@ -10,7 +10,7 @@ from collections.abc import Callable
 from dataclasses import dataclass
 
 from plantbal.model.asking import Advise, Component, Design, History, Report, Window
-from plantbal.model.booking import Amends, Assay, Books, BooksAssay, Closes, Strikes
+from plantbal.model.booking import Amends, Assay, BooksAssay, BooksFact, Closes, Strikes
 from plantbal.model.causes import Refused
 from plantbal.model.effects import (
     AddsPoint,
@@ -28,7 +28,7 @@ from plantbal.model.effects import (
 from plantbal.model.facts import At, Edit, Fact, Facts, ReadingRun
 from plantbal.model.forms import LIMITS, form_refused, row_of
 from plantbal.model.periods import Period, Periods
-from plantbal.model.plant import Plant, in_service
+from plantbal.model.plant import DeclaredPlant, in_service
 from plantbal.records import without_empty_end
 
 # What reads the effect of each kind of row.
@@ -41,10 +41,10 @@ EFFECTS: dict[str, Callable[[Fields], Effect]] = {
     "stream": DeclaresStream.of,
     "period": OpensPeriod.of,
     "critical": DeclaresCritical.of,
-    "reading": Books.reading,
-    "transfer": Books.transfer,
-    "dip": Books.dip,
-    "late": Books.of,
+    "reading": BooksFact.reading,
+    "transfer": BooksFact.transfer,
+    "dip": BooksFact.dip,
+    "late": BooksFact.of,
     "amend": Amends.of,
     "strike": Strikes.of,
     "close": Closes.of,
@@ -84,7 +84,7 @@ class State:
         The version of the session.
     stored : bool
         Whether a row is stored: one that doesn't ask for output.
-    plant : Plant
+    plant : DeclaredPlant
         What is declared.
     periods : Periods
         The periods.
@@ -99,7 +99,7 @@ class State:
     def __init__(self) -> None:
         self.version = 1
         self.stored = False
-        self.plant = Plant()
+        self.plant = DeclaredPlant()
         self.periods = Periods()
         self.facts = Facts()
         self.assays: dict[tuple[str, str, str], Assay] = {}
@@ -154,30 +154,29 @@ class State:
             return True
         accepted = (
             len(self.facts) + len(run.ids) <= LIMITS["most_facts"]
-            and all(self._is_metered(stream) for stream in set(run.streams))
+            and self._are_read(run)
             and self._is_open(set(run.days))
-            and self._is_served(run)
             and self.facts.book_run(run)
         )
         self.stored = self.stored or accepted
         return accepted
 
-    def _is_metered(self, stream: str) -> bool:
-        found = self.plant.streams.get(stream)
-        return found is not None and found.kind == "metered"
+    def _are_read(self, run: ReadingRun) -> bool:
+        """Say whether each stream of a run is metered, and in service on the day beside it."""
+        known, names = self.plant.streams, set(run.streams)
+        streams = {name: known[name] for name in names if name in known}
+        if len(streams) < len(names) or any(each.kind != "metered" for each in streams.values()):
+            return False
+        if all(each.service is None for each in streams.values()):
+            return True
+        pairs = zip(run.streams, run.days)
+        return all(in_service(streams[name].service, day) for name, day in pairs)
 
     def _is_open(self, days: set[int]) -> bool:
         """Say whether none of some days is in a closed period."""
         if self.periods.first_closed is None:
             return True
         return all(self.periods.closed_within(day, day) is None for day in days)
-
-    def _is_served(self, run: ReadingRun) -> bool:
-        """Say whether each stream of a run is in service on the day beside it."""
-        services = {name: self.plant.streams[name].service for name in set(run.streams)}
-        if not any(services.values()):
-            return True
-        return all(in_service(services[name], day) for name, day in zip(run.streams, run.days))
 
     # ---- what is there
 

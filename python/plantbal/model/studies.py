@@ -22,7 +22,7 @@ MOST_VALUE, MOST_VARIANCE = 10**15, 10**22
 
 
 @dataclass(frozen=True, slots=True)
-class Measured:
+class MeasuredStream:
     """What the facts of a period give a stream.
 
     Attributes
@@ -68,7 +68,7 @@ class Study:
         The row, and what it saw.
     nodes : list of str
         The nodes in their order; of a window by their codes.
-    streams : dict of str to Measured
+    streams : dict of str to MeasuredStream
         The streams in their order; of a component those of mass, of a window by their codes.
     places : list of tuple of str
         The code, the period and the name of each node and stream of a window, in their order.
@@ -76,7 +76,7 @@ class Study:
 
     seen: Seen
     nodes: list[str]
-    streams: dict[str, Measured]
+    streams: dict[str, MeasuredStream]
     places: list[tuple[str, str, str]] = field(default_factory=list)
 
     @property
@@ -159,7 +159,7 @@ def share(total: int, fact: Fact, period: Period) -> int:
     return total * upto // days - total * before // days
 
 
-def measured_in(state: State, view: View) -> dict[str, Measured]:
+def measured_in(state: State, view: View) -> dict[str, MeasuredStream]:
     """Return what the facts of a period give its streams."""
     return {
         each.arc.name: _tank(state, each, view) if each.kind == "tank" else _stream(each, view)
@@ -167,27 +167,27 @@ def measured_in(state: State, view: View) -> dict[str, Measured]:
     }
 
 
-def _stream(stream: Stream, view: View) -> Measured:
+def _stream(stream: Stream, view: View) -> MeasuredStream:
     """Return what its readings or transfers give a stream in a period."""
     period, facts = view.period, view.facts[stream.arc.name]
     lines = tuple(fact.line for fact in facts)
     lacks = stream.kind == "metered" and len(facts) < len(stream.days_in(period))
     if stream.kind == "plain" or lacks:
-        return Measured(stream.arc, None, None, lines)
+        return MeasuredStream(stream.arc, None, None, lines)
     grams = sum(share(fact.grams, fact, period) for fact in facts)
     variance = stream.base + sum(share(fact.variance, fact, period) for fact in facts)
-    return Measured(stream.arc, grams, variance, lines)
+    return MeasuredStream(stream.arc, grams, variance, lines)
 
 
-def _tank(state: State, stream: Stream, view: View) -> Measured:
+def _tank(state: State, stream: Stream, view: View) -> MeasuredStream:
     """Return what its dips say that a tank gains in a period."""
     opening, closing = view.dips[stream.arc.name]
     lines = tuple(dip.line for dip in (opening, closing) if dip)
     if opening is None or closing is None:
-        return Measured(stream.arc, None, None, lines)
+        return MeasuredStream(stream.arc, None, None, lines)
     grams = state.content(closing) - state.content(opening)
     variance = stream.base + opening.variance + closing.variance
-    return Measured(stream.arc, grams, variance, lines)
+    return MeasuredStream(stream.arc, grams, variance, lines)
 
 
 # ---- windows
@@ -197,9 +197,9 @@ Codes = dict[tuple[str, str], str]
 
 def _flows(
     state: State, views: tuple[View, ...], code: Codes
-) -> tuple[dict[str, Measured], list[tuple[str, str, str]]]:
+) -> tuple[dict[str, MeasuredStream], list[tuple[str, str, str]]]:
     """Return the flows of a window by their codes, and what each code stands for."""
-    flows: dict[str, Measured] = {}
+    flows: dict[str, MeasuredStream] = {}
     places = []
     for turn, view in enumerate(views, 1):
         when, tanks = view.period.name, state.plant.tables
@@ -214,7 +214,7 @@ def _flows(
 
 def _contents(
     state: State, views: tuple[View, ...], code: Codes
-) -> Iterator[tuple[str, str, Measured]]:
+) -> Iterator[tuple[str, str, MeasuredStream]]:
     """Give what tanks hold before, between and after the periods: tank, period, content."""
     pairs = list(zip((None, *views), (*views, None)))
     for number, (tank, stream) in enumerate(state.plant.streams.items()):
@@ -227,8 +227,8 @@ def _contents(
             dip = closing if before else opening
             ends = [code[each.period.name, tank] if each else ENV for each in (before, after)]
             arc = Arc(f"c{turn}.{number}", *ends)
-            content = Measured(arc, None, None)
+            content = MeasuredStream(arc, None, None)
             if dip is not None:
                 variance = stream.base + dip.variance
-                content = Measured(arc, state.content(dip), variance, (dip.line,))
+                content = MeasuredStream(arc, state.content(dip), variance, (dip.line,))
             yield tank, views[max(turn - 1, 0)].period.name, content

@@ -7,6 +7,7 @@ from dataclasses import dataclass
 from typing import TYPE_CHECKING
 
 from plantbal.faults import ToolMissing
+from plantbal.kinds import StreamClass
 
 if TYPE_CHECKING:
     import networkx
@@ -73,7 +74,7 @@ def degrees_of_freedom(
 
 def classes_of(
     nodes: Collection[str], arcs: Collection[Arc], measured: Collection[str]
-) -> dict[str, str]:
+) -> dict[str, StreamClass]:
     """Return the class of each stream.
 
     A measured stream is redundant unless unmeasured streams join its ends. One that isn't measured
@@ -92,7 +93,7 @@ def classes_of(
     bridges = {
         frozenset(pair) for pair in networkx.bridges(simple) if free.number_of_edges(*pair) == 1
     }
-    found = {}
+    found: dict[str, StreamClass] = {}
     for arc in arcs:
         if arc.name in measured:
             alone = parts[arc.from_] == parts[arc.to]

@@ -12,18 +12,18 @@ from plantbal.diagnosis.rounds import in_order, suspects_by_set, taken_by_set
 from plantbal.model.forms import day_text
 from plantbal.model.ledger import Ledger, Seen
 from plantbal.page.statement import (
-    Account,
-    Edit,
-    Line,
-    Refused,
-    Report,
+    PageContents,
     Round,
+    ShownEdit,
+    ShownRefusal,
+    ShownReport,
     Statement,
+    StreamLine,
     Tank,
     Worth,
 )
 from plantbal.page.verdict import Lost, Verdict, names_of, plus_minus, verdict_of, whither
-from plantbal.report.blocks import Block, Values, Window, advice_of, blocks_of, designs_of
+from plantbal.report.blocks import Block, ReportedWindow, Values, advice_of, blocks_of, designs_of
 from plantbal.report.carried import Impossible, impossible
 
 if TYPE_CHECKING:
@@ -42,7 +42,7 @@ def _pair(row: Values, low: str, high: str) -> tuple[int, int] | None:
     return (int(row[low]), int(row[high])) if row.get(low) and row.get(high) else None
 
 
-def declared(row: Values, window: Window | None) -> Values:
+def declared(row: Values, window: ReportedWindow | None) -> Values:
     """Return a stream row of a window with declared names and periods in place of its codes."""
     if window is None:
         return row
@@ -64,10 +64,10 @@ def line_of(
     mark: str = "",
     worth: Worth | None = None,
     is_first: bool = False,
-) -> Line:
+) -> StreamLine:
     """Return the line of a `stream` or a `class` row."""
     observable = row["class"] != "unobservable"
-    return Line(
+    return StreamLine(
         name=row["name"],
         from_=row["from"],
         to=row["to"],
@@ -102,7 +102,7 @@ def contents_of(ledger: Ledger, seen: Seen) -> dict[str, Contents]:
     return found
 
 
-def tanks_of(lines: Iterable[Line], contents: Mapping[str, Contents]) -> list[Tank]:
+def tanks_of(lines: Iterable[StreamLine], contents: Mapping[str, Contents]) -> list[Tank]:
     """Return the tanks among the lines of a round."""
     into: dict[str, int | None] = {}
     out: dict[str, int | None] = {}
@@ -210,16 +210,16 @@ def _gather(rows: Sequence[Values]) -> list[_Gathered]:
     return found
 
 
-def _edits_of(rows: Sequence[Values]) -> dict[str, list[Edit]]:
+def _edits_of(rows: Sequence[Values]) -> dict[str, list[ShownEdit]]:
     """Return the edits that the last history of each period has."""
-    found: dict[str, list[Edit]] = {}
+    found: dict[str, list[ShownEdit]] = {}
     period = ""
     for row in rows:
         if row["row"] == "history":
             period = row["period"]
             found[period] = []
         elif row["row"] == "edit":
-            edit = Edit(int(row["at"]), row["word"], row["id"], row["reason"])
+            edit = ShownEdit(int(row["at"]), row["word"], row["id"], row["reason"])
             found.setdefault(period, []).append(edit)
     return found
 
@@ -228,10 +228,10 @@ def _states_of(rows: Sequence[Values]) -> dict[str, str]:
     return {row["period"]: row["state"] for row in rows if row["row"] == "history"}
 
 
-def _with_changes(ledger: Ledger, period: str) -> list[Edit]:
+def _with_changes(ledger: Ledger, period: str) -> list[ShownEdit]:
     """Return the edits of a period as the session has them."""
     return [
-        Edit(
+        ShownEdit(
             change.at.record,
             change.word,
             change.fact.id if change.fact else "",
@@ -260,11 +260,11 @@ def account_of(
     rows: Sequence[Values],
     *,
     ledger: Ledger | None = None,
-    refused: Sequence[Refused] = (),
+    refused: Sequence[ShownRefusal] = (),
     findings: Sequence[Finding] = (),
     worth: Mapping[tuple[int, str], Worth] | None = None,
     units: Mapping[str, SalesUnit] | None = None,
-) -> Account:
+) -> PageContents:
     """Return all that a page shows of an output.
 
     Parameters
@@ -273,7 +273,7 @@ def account_of(
         The rows of the output.
     ledger : Ledger, optional
         The session.
-    refused : sequence of Refused
+    refused : sequence of ShownRefusal
         The refused rows.
     findings : sequence of Finding
         What lint finds in the session; notes are left out.
@@ -285,7 +285,7 @@ def account_of(
     by_block: dict[int, dict[str, Worth]] = {}
     for (number, name), value in (worth or {}).items():
         by_block.setdefault(number, {})[name] = value
-    by_period: dict[str, list[Report]] = {}
+    by_period: dict[str, list[ShownReport]] = {}
     masses: dict[str, Block] = {}
     for number, some in enumerate(_gather(rows)):
         asked = ledger.seen[number] if ledger is not None else None
@@ -302,11 +302,11 @@ def account_of(
             mass = masses.get(block.period)
             before = some.blocks[: block.round]
             rounds.append(round_of(block, contents, good, some.lost, before, stop, mass, diagnosis))
-        report = Report(subject, rounds, some.over, asked, diagnosis)
+        report = ShownReport(subject, rounds, some.over, asked, diagnosis)
         by_period.setdefault(subject, []).append(report)
     edits, states = _edits_of(rows), _states_of(rows)
     for period in states:
-        by_period.setdefault(period, [Report(period, [])])
+        by_period.setdefault(period, [ShownReport(period, [])])
     wanted = [each for each in findings if each.severity != "note"]
     beyond = impossible(blocks_of(rows)) if worth else []
     statements = [
@@ -317,7 +317,7 @@ def account_of(
         replace(statement, number=number)
         for number, statement in enumerate(sorted(statements, key=_order))
     ]
-    return Account(
+    return PageContents(
         statements=statements,
         designs=_designs_of(rows),
         is_advised=advice_of(rows) is not None,
@@ -328,7 +328,7 @@ def account_of(
     )
 
 
-def _designs_of(rows: Sequence[Values]) -> list[list[Line]]:
+def _designs_of(rows: Sequence[Values]) -> list[list[StreamLine]]:
     """Return the designs; in the last one each stream to meter has its cost and its cycle."""
     found = [[line_of(row) for row in design] for design in designs_of(rows)]
     meters = {meter["stream"]: meter for meter in advice_of(rows) or ()}
@@ -343,8 +343,8 @@ def _designs_of(rows: Sequence[Values]) -> list[list[Line]]:
 def _statement(
     number: int,
     period: str,
-    reports: list[Report],
-    edits: Mapping[str, list[Edit]],
+    reports: list[ShownReport],
+    edits: Mapping[str, list[ShownEdit]],
     states: Mapping[str, str],
     ledger: Ledger | None,
     findings: Iterable[Finding],

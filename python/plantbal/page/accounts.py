@@ -5,8 +5,8 @@ from __future__ import annotations
 from collections.abc import Sequence
 from typing import TYPE_CHECKING, Any
 
-from plantbal.accounts.account import MonthAccount, Table
-from plantbal.accounts.entries import Line
+from plantbal.accounts.account import AccountTable, MonthAccount
+from plantbal.accounts.entries import AccountLine
 from plantbal.accounts.sheet import NOBODY
 from plantbal.accounts.tables import (
     basis_text,
@@ -24,7 +24,7 @@ if TYPE_CHECKING:
     from plantbal.book.difference import Difference
 
 # Lines that a table of accounts has a column for, if some account has them.
-_COLUMNS: tuple[Line, ...] = tuple(each for each in Line)
+_COLUMNS: tuple[AccountLine, ...] = tuple(each for each in AccountLine)
 
 
 def _environment() -> Environment:
@@ -40,7 +40,7 @@ def _environment() -> Environment:
     return made
 
 
-def columns_of(tables: Sequence[Table]) -> list[Line]:
+def columns_of(tables: Sequence[AccountTable]) -> list[AccountLine]:
     """Return the lines that some of these accounts have."""
     return [line for line in _COLUMNS if any(line in table.lines for table in tables)]
 
@@ -68,7 +68,7 @@ def part_of(
 def page_of(
     account: MonthAccount,
     title: str = "",
-    owner: Table | None = None,
+    owner: AccountTable | None = None,
     unusual: Sequence[Unusual] = (),
     changed: Difference | None = None,
 ) -> str:
@@ -80,7 +80,7 @@ def page_of(
         The accounts of the month.
     title : str
         The heading.
-    owner : Table, optional
+    owner : AccountTable, optional
         The account of the owner, if it is one owner's page.
     unusual : sequence of Unusual
         What is unusual beside the months before.

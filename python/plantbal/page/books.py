@@ -12,14 +12,14 @@ from typing import Any
 
 from plantbal.accounts.account import MonthAccount, Rolled
 from plantbal.book.accounting import accounts_of, months_of, unusual_of, versions_of
-from plantbal.book.difference import difference_of
+from plantbal.book.difference import difference_of, has_before
 from plantbal.book.store import Store
 from plantbal.page.accounts import part_of
 from plantbal.report.blocks import Values, blocks_of, last_blocks
 
 
 @dataclass
-class Booked:
+class FromBook:
     """What a book adds to the statements of a page.
 
     Attributes
@@ -37,7 +37,7 @@ class Booked:
     said: list[str] = field(default_factory=list)
 
 
-def booked(folder: str | None, rows: Sequence[Values]) -> Booked:
+def booked(folder: str | None, rows: Sequence[Values]) -> FromBook:
     """Return what a book adds to a page.
 
     Parameters
@@ -47,7 +47,7 @@ def booked(folder: str | None, rows: Sequence[Values]) -> Booked:
     rows : sequence of dict
         The rows of the output that the page is made of.
     """
-    found = Booked()
+    found = FromBook()
     if folder is None:
         return found
     blocks = {
@@ -67,8 +67,8 @@ def booked(folder: str | None, rows: Sequence[Values]) -> Booked:
                 found.said.append(f"{name}: {what}")
                 continue
             account = rolled.account(name)
-            since = difference_of(book, name, ())
-            changed = None if since.is_first else since
+            since = difference_of(book, name, ()) if has_before(book, name) else None
+            changed = None if since is None or since.is_first else since
             found.accounts[name] = account
             found.parts[name] = part_of(account, unusual_of(rolled, account), changed)
     return found

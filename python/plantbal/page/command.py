@@ -19,11 +19,17 @@ from plantbal.forms import read_session, session_to_run
 from plantbal.model.ledger import Ledger
 from plantbal.page.account import account_of
 from plantbal.page.books import booked
-from plantbal.page.gates import Told as BookTold, gates_of, told_of, with_gates, without_gates
+from plantbal.page.gates import (
+    ClosingNotes as BookTold,
+    gates_of,
+    told_of,
+    with_gates,
+    without_gates,
+)
 from plantbal.page.grades import grades_on
 from plantbal.page.head import Origin
 from plantbal.page.render import render
-from plantbal.page.statement import Prepared, Refused, Worth
+from plantbal.page.statement import Prepared, ShownRefusal, Worth
 from plantbal.report.blocks import Values, blocks_of, last_blocks
 from plantbal.report.parsing import csv_of, read_rows
 from plantbal.report.judged import judge_rows
@@ -31,7 +37,7 @@ from plantbal.schema import schema
 from plantbal.statuses import looks
 
 if TYPE_CHECKING:
-    from plantbal.explain import Told
+    from plantbal.explain import ExplainedRow
     from plantbal.report.output import Output
 
 HELP = """
@@ -117,13 +123,13 @@ def worth_of(rows: Sequence[Values]) -> tuple[dict[tuple[int, str], Worth], str]
     return found, ""
 
 
-def refused_of(rows: Sequence[Values]) -> list[Refused]:
+def refused_of(rows: Sequence[Values]) -> list[ShownRefusal]:
     """Return the first of the refused rows of an output."""
     codes = schema().refusals
     found = []
     for row in islice((row for row in rows if row["row"] == "refused"), limits.REFUSED_KEPT):
         code = codes.get(int(row["code"]))
-        found.append(Refused(int(row["at"]), row["word"], code.remedy if code else ""))
+        found.append(ShownRefusal(int(row["at"]), row["word"], code.remedy if code else ""))
     return found
 
 
@@ -147,7 +153,7 @@ def prepare(source: Source) -> Prepared:
 
     name, data = source.session
     ledger = Ledger(name, data, kept=limits.REFUSED_KEPT)
-    told: list[Told] = []
+    told: list[ExplainedRow] = []
     more = 0
     if refused or ledger.refused:
         explanation = explain_bytes(name, data)

@@ -9,9 +9,9 @@ from math import isqrt
 from plantbal.amounts import tonnes_of, tonnes_text
 from plantbal.diagnosis import words
 from plantbal.diagnosis.balances import Balance
-from plantbal.diagnosis.diagnose import Told
+from plantbal.diagnosis.diagnose import DiagnosedHole
 from plantbal.diagnosis.unseen import Unchecked
-from plantbal.page.statement import Report, Statement
+from plantbal.page.statement import ShownReport, Statement
 
 # How many balances that don't close are shown.
 MOST_BALANCES = 8
@@ -19,18 +19,18 @@ MOST_BALANCES = 8
 LEAST = 2.0
 
 
-def open_balances(report: Report) -> list[Balance]:
+def open_balances(report: ShownReport) -> list[Balance]:
     """Return the balances of a report that don't close, the worst first."""
     some = report.diagnosis.balances if report.diagnosis else ()
     return [each for each in some if abs(each.deviations) >= LEAST][:MOST_BALANCES]
 
 
-def holes(report: Report) -> tuple[Told, ...]:
+def holes(report: ShownReport) -> tuple[DiagnosedHole, ...]:
     """Return the holes of a report."""
     return report.diagnosis.holes if report.diagnosis else ()
 
 
-def unchecked(report: Report) -> tuple[Unchecked, ...]:
+def unchecked(report: ShownReport) -> tuple[Unchecked, ...]:
     """Return what nothing checks, if there is a report with tests."""
     last = report.last
     if report.diagnosis is None or last is None or last.block.whole is None:
@@ -38,17 +38,17 @@ def unchecked(report: Report) -> tuple[Unchecked, ...]:
     return report.diagnosis.unchecked
 
 
-def shown_by(report: Report) -> words.Shown:
+def shown_by(report: ShownReport) -> words.Shown:
     """Return what shows a name: of a window a code as it is declared."""
     return report.last.block.shown if report.last else words.same
 
 
-def told(each: Told, report: Report) -> list[str]:
+def told(each: DiagnosedHole, report: ShownReport) -> list[str]:
     """Return the sentences on a hole after its set."""
     return list(words.told_said(each, shown_by(report)))[1:]
 
 
-def percents(balance: Balance, report: Report) -> str:
+def percents(balance: Balance, report: ShownReport) -> str:
     """Return what a balance is off by in percent of each stream through it."""
     shown = shown_by(report)
     some = sorted(balance.percents().items(), key=lambda each: each[1])
@@ -66,7 +66,7 @@ def sheet(statements: Iterable[Statement]) -> list[tuple[str | float | Decimal |
     return [row for each in statements for row in _rows(each.period, each.report)]
 
 
-def _rows(period: str, report: Report) -> Iterator[tuple[str | float | Decimal | None, ...]]:
+def _rows(period: str, report: ShownReport) -> Iterator[tuple[str | float | Decimal | None, ...]]:
     shown = shown_by(report)
     for balance in open_balances(report):
         sure = tonnes_of(isqrt(balance.variance))

@@ -10,7 +10,7 @@ from plantbal.amounts import tonnes_text
 from plantbal.faults import Fault
 from plantbal.model.topology import Arc
 from plantbal.page.layout import Box, Layout, Plan, Point, Route, layout_of, near, plan_of
-from plantbal.page.statement import Line
+from plantbal.page.statement import StreamLine
 
 # Above this many streams the neighbourhood of one is drawn.
 MOST = 60
@@ -20,7 +20,7 @@ LEAST, LARGE, NARROW = 0.85, 1.2, 640.0
 
 
 @dataclass(frozen=True, slots=True)
-class Kind:
+class ClassLook:
     """A class of streams: its sign, its dash, and what it means."""
 
     sign: str
@@ -28,11 +28,11 @@ class Kind:
     about: str
 
 
-KINDS: dict[str, Kind] = {
-    "redundant": Kind("●", "", "measured, and checked by the other meters"),
-    "nonredundant": Kind("○", "9 4", "measured, and checked by nothing"),
-    "observable": Kind("△", "5 3", "not measured, and determined by the meters"),
-    "unobservable": Kind(
+KINDS: dict[str, ClassLook] = {
+    "redundant": ClassLook("●", "", "measured, and checked by the other meters"),
+    "nonredundant": ClassLook("○", "9 4", "measured, and checked by nothing"),
+    "observable": ClassLook("△", "5 3", "not measured, and determined by the meters"),
+    "unobservable": ClassLook(
         "?", "1.5 3.5", "not measured, and determined by nothing: no figure to book"
     ),
 }
@@ -42,7 +42,7 @@ KINDS: dict[str, Kind] = {
 class Arrow:
     """A stream as it is drawn."""
 
-    line: Line
+    line: StreamLine
     width: float
     path: str
     head: str
@@ -51,11 +51,11 @@ class Arrow:
 
 
 @dataclass(frozen=True, slots=True)
-class Node:
+class DrawnNode:
     """A unit or a tank as it is drawn; a tank has its line."""
 
     box: Box
-    line: Line | None
+    line: StreamLine | None
     figure: str
 
 
@@ -75,7 +75,7 @@ class Drawing:
 
     width: float = 0
     height: float = 0
-    nodes: Sequence[Node] = ()
+    nodes: Sequence[DrawnNode] = ()
     arrows: Sequence[Arrow] = ()
     why: str = ""
     chosen: str = ""
@@ -87,7 +87,7 @@ class Drawing:
         return max(LEAST, min(LARGE, NARROW / self.width)) if self.width else LEAST
 
 
-def figure_of(line: Line) -> str:
+def figure_of(line: StreamLine) -> str:
     """Return the tonnes below a stream's name, or what its meter costs; nothing without both."""
     if line.cost is not None:
         return f"meter: {line.cost:,}"
@@ -97,12 +97,12 @@ def figure_of(line: Line) -> str:
     return f"{sign}{tonnes_text(line.flow)} t"
 
 
-def arcs_of(lines: Iterable[Line]) -> list[Arc]:
+def arcs_of(lines: Iterable[StreamLine]) -> list[Arc]:
     """Return lines as arcs."""
     return [Arc(line.name, line.from_, line.to) for line in lines]
 
 
-def to_look_at(lines: Sequence[Line]) -> str:
+def to_look_at(lines: Sequence[StreamLine]) -> str:
     """Return which stream most needs a look: the greatest suspect, what was taken out, or what is
     adjusted most."""
     marked = [line for line in lines if line.mark]
@@ -119,13 +119,13 @@ class Draftsman:
 
     Parameters
     ----------
-    rounds : iterable of sequences of Line
+    rounds : iterable of sequences of StreamLine
         The rounds that will be drawn, so that labels have room in all of them.
     seconds : float
         How long all layouts may take together.
     """
 
-    def __init__(self, rounds: Iterable[Sequence[Line]], seconds: float = 10) -> None:
+    def __init__(self, rounds: Iterable[Sequence[StreamLine]], seconds: float = 10) -> None:
         self.seconds = seconds
         self._letters: dict[str, int] = {}
         self._layouts: dict[Plan, Layout] = {}
@@ -136,12 +136,12 @@ class Draftsman:
                 if room > self._letters.get(line.name, 0):
                     self._letters[line.name] = room
 
-    def draw(self, lines: Sequence[Line], chosen: str = "") -> Drawing:
+    def draw(self, lines: Sequence[StreamLine], chosen: str = "") -> Drawing:
         """Return the drawing of a round.
 
         Parameters
         ----------
-        lines : sequence of Line
+        lines : sequence of StreamLine
             Its streams and tanks.
         chosen : str
             Whose neighbourhood is drawn if the plant is large.
@@ -174,25 +174,25 @@ class Draftsman:
         return self._layouts[plan]
 
 
-def width_of(line: Line, widest: int) -> float:
+def width_of(line: StreamLine, widest: int) -> float:
     """Return the width of an arrow: it grows with its tonnes."""
     if line.flow is None or not widest:
         return THINNEST
     return round(THINNEST + (WIDEST - THINNEST) * abs(line.flow) / widest, 2)
 
 
-def _drawn(layout: Layout, lines: Mapping[str, Line], chosen: str, widest: int) -> Drawing:
+def _drawn(layout: Layout, lines: Mapping[str, StreamLine], chosen: str, widest: int) -> Drawing:
     nodes = []
     for box in layout.boxes:
         tank = lines.get(box.name) if box.is_tank else None
-        nodes.append(Node(box, tank, figure_of(tank) if tank is not None else ""))
+        nodes.append(DrawnNode(box, tank, figure_of(tank) if tank is not None else ""))
     arrows = [_arrow(route, lines[route.name], widest) for route in layout.routes]
     # a wide arrow is drawn below a narrow one
     arrows.sort(key=lambda arrow: -arrow.width)
     return Drawing(layout.width, layout.height, nodes, arrows, "", chosen, widest)
 
 
-def _arrow(route: Route, line: Line, widest: int) -> Arrow:
+def _arrow(route: Route, line: StreamLine, widest: int) -> Arrow:
     width = width_of(line, widest)
     first, *rest = route.points
     curve = " ".join(f"{x:g},{y:g}" for x, y in rest)

@@ -27,7 +27,7 @@ _MOST = 3
 
 
 @dataclass(frozen=True)
-class Told:
+class ClosingNotes:
     """What a book tells of its periods: how each was closed, which rules are quieted, and in what
     streams and tanks are sold."""
 
@@ -37,7 +37,7 @@ class Told:
 
 
 @dataclass(frozen=True, slots=True)
-class Shown:
+class ShownGate:
     """A reason to look, as it is shown: its gate, what is there, what to do, why all the same."""
 
     gate: str
@@ -52,7 +52,7 @@ class PeriodGates:
 
     Attributes
     ----------
-    shown : list of Shown
+    shown : list of ShownGate
         The reasons to look.
     stops : list of Stop
         The same as data.
@@ -62,7 +62,7 @@ class PeriodGates:
         Who closed it all the same, and when; empty if nobody did, or no book was named.
     """
 
-    shown: list[Shown]
+    shown: list[ShownGate]
     stops: list[Stop]
     quiet: list[str]
     who: str = ""
@@ -74,7 +74,7 @@ class PeriodGates:
         return bool(self.when)
 
 
-def told_of(folder: str | None) -> Told:
+def told_of(folder: str | None) -> ClosingNotes:
     """Return what the book in a folder tells; nothing without a folder.
 
     Raises
@@ -83,7 +83,7 @@ def told_of(folder: str | None) -> Told:
         If there is no book, or one of its files was changed.
     """
     if folder is None:
-        return Told()
+        return ClosingNotes()
     from plantbal.accounts.sheet import sales_units
     from plantbal.book.accounting import accounts_of
     from plantbal.book.answers import answered, quieted
@@ -95,11 +95,11 @@ def told_of(folder: str | None) -> Told:
         units = sales_units(accounts_of(store))
     closed = [line.of for line in journal if line.act is Act.CLOSE]
     closes = {period: answered(journal, period) for period in closed}
-    return Told(closes, quieted(journal), units)
+    return ClosingNotes(closes, quieted(journal), units)
 
 
 def gates_of(
-    ledger: Ledger, blocks: Sequence[Block], told: Told = Told()
+    ledger: Ledger, blocks: Sequence[Block], told: ClosingNotes = ClosingNotes()
 ) -> dict[str, PeriodGates]:
     """Return the gates of each period that a report is asked of.
 
@@ -109,7 +109,7 @@ def gates_of(
         The session.
     blocks : sequence of Block
         The blocks of its output.
-    told : Told
+    told : ClosingNotes
         What the book tells.
     """
     return {
@@ -118,7 +118,7 @@ def gates_of(
     }
 
 
-def _of_period(stops: Iterable[Stop], period: str, told: Told) -> PeriodGates:
+def _of_period(stops: Iterable[Stop], period: str, told: ClosingNotes) -> PeriodGates:
     """Return the gates of a period."""
     close = told.closes.get(period)
     reasons = close.reasons if close is not None else {}
@@ -130,7 +130,7 @@ def _of_period(stops: Iterable[Stop], period: str, told: Told) -> PeriodGates:
         else:
             quiet.append(f"{said_of(stop)}: {by.why} ({by.who}, {by.when[:10]})")
     shown = [
-        Shown(stop.gate, said_of(stop), remedy_of(stop), reasons.get(stop.gate, ""))
+        ShownGate(stop.gate, said_of(stop), remedy_of(stop), reasons.get(stop.gate, ""))
         for stop in kept
     ]
     who, when = (close.who, close.when) if close is not None and reasons else ("", "")

@@ -5,7 +5,7 @@ from __future__ import annotations
 from typing import TYPE_CHECKING
 
 from plantbal.model.ledger import Ledger
-from plantbal.page.statement import Account
+from plantbal.page.statement import PageContents
 
 if TYPE_CHECKING:
     from plantbal.balance.grades import Grades
@@ -19,12 +19,12 @@ def real(number: float | None, scale: float, places: int, plus: bool = False) ->
     return text.replace("-", "\u2212")
 
 
-def grades_on(account: Account, ledger: Ledger) -> dict[str, Grades]:
+def grades_on(account: PageContents, ledger: Ledger) -> dict[str, Grades]:
     """Return the grades of the periods that have assays, by the last round of their last report.
 
     Parameters
     ----------
-    account : Account
+    account : PageContents
         What the page shows.
     ledger : Ledger
         The session.

@@ -7,7 +7,7 @@ from pathlib import Path
 
 import plantbal
 from plantbal.build import UNKNOWN, build_of
-from plantbal.page.statement import Account
+from plantbal.page.statement import PageContents
 from plantbal.page.verdict import count_of
 
 
@@ -50,7 +50,7 @@ def days_text(days: tuple[str, str] | None) -> str:
     return first if first == last else f"{first} to {last}"
 
 
-def period_text(account: Account) -> str:
+def period_text(account: PageContents) -> str:
     """Return which periods there are, with their days and whether they are open."""
     some = account.periods
     if len(some) == 1:
@@ -66,7 +66,7 @@ def period_text(account: Account) -> str:
     return said
 
 
-def size_text(account: Account) -> str:
+def size_text(account: PageContents) -> str:
     """Return how large the plant is."""
     last = account.periods[-1].report.last if account.statements else None
     lines = last.lines if last is not None else (account.designs[-1] if account.designs else [])
@@ -80,7 +80,7 @@ def size_text(account: Account) -> str:
     return ", ".join(count_of(*each) for each in counts if each[0])
 
 
-def head_of(account: Account, origin: Origin) -> list[tuple[str, str, str]]:
+def head_of(account: PageContents, origin: Origin) -> list[tuple[str, str, str]]:
     """Return the terms of a head, each with its text and its class."""
     plant = ": ".join(part for part in (origin.plant, size_text(account)) if part)
     found = [("Plant", plant, "")]

@@ -18,14 +18,14 @@ from plantbal.page.drawing import KINDS, Draftsman
 from plantbal.page.grades import real
 from plantbal.page.head import Origin, days_text, head_of
 from plantbal.page.spark import spark
-from plantbal.page.statement import Account, Line, Prepared, Round, Statement
+from plantbal.page.statement import PageContents, Prepared, Round, Statement, StreamLine
 from plantbal.page.verdict import plus_minus, thousandths
 
 if TYPE_CHECKING:
     from plantbal.balance.grades import Grade
     from jinja2 import Environment
 
-    from plantbal.explain import Told
+    from plantbal.explain import ExplainedRow
 
 # How many items of a long list are shown, and how many without a click.
 MOST, FEW = 100, 5
@@ -71,7 +71,7 @@ def soft(name: str) -> Any:
     return Markup("<wbr>").join(escape(piece) for piece in pieces)
 
 
-def way_of(line: Line, crossings: Mapping[str, str]) -> Any:
+def way_of(line: StreamLine, crossings: Mapping[str, str]) -> Any:
     """Return the ends of a line, in place of `env` the boundary that the session has for it."""
     from markupsafe import Markup
 
@@ -80,7 +80,7 @@ def way_of(line: Line, crossings: Mapping[str, str]) -> Any:
     return Markup(" → ").join(map(soft, ends))
 
 
-def ends_of(line: Line) -> Any:
+def ends_of(line: StreamLine) -> Any:
     """Return the ends of a line as attributes of its row, which the drawing is made of."""
     from markupsafe import Markup
 
@@ -120,7 +120,7 @@ def _some(text: str, kind: str) -> Any:
     return Markup(f'<span class="{kind}"><span>{names}</span></span>{rest}')
 
 
-def certificate(line: Line) -> Any:
+def certificate(line: StreamLine) -> Any:
     """Return the certificate of a stream's class; of a long one the beginning."""
     from markupsafe import Markup
 
@@ -128,13 +128,13 @@ def certificate(line: Line) -> Any:
     return Markup("{}{}: {}").format(line.shape, side, _some(line.parts, "parts"))
 
 
-def is_huge(lines: Iterable[Line]) -> bool:
+def is_huge(lines: Iterable[StreamLine]) -> bool:
     """Say whether some amount has enough digits to make its column wide."""
     amounts = [amount for line in lines for amount in (line.value, line.flow) if amount is not None]
     return any(abs(amount) >= HUGE for amount in amounts)
 
 
-def sign_of(line: Line) -> str:
+def sign_of(line: StreamLine) -> str:
     """Return the sign of a stream: of its class, or that it is suspect, taken out or to meter."""
     if line.is_first:
         return "!!"
@@ -157,7 +157,7 @@ def fact_days(fact: Fact) -> str:
     return days_text((day_text(fact.first), day_text(fact.last)))
 
 
-def marked(told: Told) -> Any:
+def marked(told: ExplainedRow) -> Any:
     """Return the row of a refusal with the field at fault marked."""
     from markupsafe import Markup, escape
 
@@ -174,14 +174,14 @@ def marked(told: Told) -> Any:
     )
 
 
-def lines_text(under: Sequence[Told]) -> str:
+def lines_text(under: Sequence[ExplainedRow]) -> str:
     """Return the lines of rows that follow from another."""
     numbers = [str(told.line) for told in under[:12]]
     more = f" and {len(under) - 12} more" if len(under) > 12 else ""
     return ", ".join(numbers) + more
 
 
-def marks(lines: Iterable[Line]) -> dict[str, Any]:
+def marks(lines: Iterable[StreamLine]) -> dict[str, Any]:
     """Return what a legend has to explain."""
     some = list(lines)
     return {
@@ -211,7 +211,7 @@ def _grade_unit(grades: Sequence[Grade]) -> tuple[str, float]:
     return unit_of(grades)
 
 
-def by_name(found: Round | None) -> dict[str, Line]:
+def by_name(found: Round | None) -> dict[str, StreamLine]:
     """Return the streams of a round by their names."""
     return {line.name: line for line in found.lines} if found else {}
 
@@ -329,7 +329,7 @@ def render(
     )
 
 
-def default_title(account: Account, origin: Origin) -> str:
+def default_title(account: PageContents, origin: Origin) -> str:
     """Return the heading of a page that nobody gave one."""
     period = account.statements[-1].period if len(account.statements) == 1 else ""
     return " ".join(part for part in (origin.plant, period) if part) or "plantbal"

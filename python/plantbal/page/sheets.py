@@ -15,12 +15,12 @@ from plantbal.files import replacing
 from plantbal.inert import store
 from plantbal.page import diagnosed
 from plantbal.page.head import Origin, head_of
-from plantbal.page.statement import Account, Line, Round, Statement
+from plantbal.page.statement import PageContents, Round, Statement, StreamLine
 
 if TYPE_CHECKING:
     from plantbal.accounts.account import MonthAccount
     from plantbal.balance.grades import Grades
-    from plantbal.explain import Told
+    from plantbal.explain import ExplainedRow
 
 Cell = str | int | float | Decimal | None
 Row = Sequence[Cell]
@@ -36,15 +36,15 @@ def _tonnes(grams: int | None) -> Decimal | None:
     return None if grams is None else tonnes_of(grams)
 
 
-def _deviation(line: Line) -> Cell:
+def _deviation(line: StreamLine) -> Cell:
     return None if line.worth is None else round(line.worth.deviation / 1e6, 6)
 
 
-def _adjusted(line: Line) -> list[Cell]:
+def _adjusted(line: StreamLine) -> list[Cell]:
     return [_tonnes(line.adjustment), line.percent, line.deviations]
 
 
-def _class(line: Line) -> str:
+def _class(line: StreamLine) -> str:
     word = {"suspect": "suspect, ", "taken": "taken out, "}.get(line.mark, "")
     return word + line.class_
 
@@ -56,7 +56,7 @@ def _rounds(statements: Iterable[Statement]) -> Iterable[tuple[Statement, Round]
             yield statement, statement.report.last
 
 
-def periods(account: Account) -> tuple[Row, list[Row]]:
+def periods(account: PageContents) -> tuple[Row, list[Row]]:
     """Return the table of periods."""
     head = ("period", "first", "last", "books", "verdict", "why")
     rows: list[Row] = []
@@ -67,7 +67,7 @@ def periods(account: Account) -> tuple[Row, list[Row]]:
     return head, rows
 
 
-def streams(account: Account) -> tuple[Row, list[Row]]:
+def streams(account: PageContents) -> tuple[Row, list[Row]]:
     """Return the table of streams; one without a figure to book has none."""
     head = (
         *("period", "stream", "from", "to", "measured, t", "adjustment, t", "in %", "in sd"),
@@ -85,7 +85,7 @@ def streams(account: Account) -> tuple[Row, list[Row]]:
     return head, rows
 
 
-def tanks(account: Account) -> tuple[Row, list[Row]]:
+def tanks(account: PageContents) -> tuple[Row, list[Row]]:
     """Return the table of tanks."""
     head = (
         *("period", "tank", "opening by dip, t", "in, t", "out, t", "gain, t", "closing booked, t"),
@@ -103,7 +103,7 @@ def tanks(account: Account) -> tuple[Row, list[Row]]:
     return head, rows
 
 
-def bounds(account: Account) -> tuple[Row, list[Row]]:
+def bounds(account: PageContents) -> tuple[Row, list[Row]]:
     """Return the table of bounds, tests and certificates."""
     head = (
         *("period", "stream", "least from, t", "least to, t", "from, t", "to, t", "test"),
@@ -123,7 +123,7 @@ def bounds(account: Account) -> tuple[Row, list[Row]]:
     return head, rows
 
 
-def edits(account: Account) -> tuple[Row, list[Row]]:
+def edits(account: PageContents) -> tuple[Row, list[Row]]:
     """Return the table of edits."""
     from plantbal.page.render import fact_text
 
@@ -141,7 +141,7 @@ def edits(account: Account) -> tuple[Row, list[Row]]:
     return head, rows
 
 
-def refused(account: Account, told: Sequence[Told]) -> tuple[Row, list[Row]]:
+def refused(account: PageContents, told: Sequence[ExplainedRow]) -> tuple[Row, list[Row]]:
     """Return the table of refused rows."""
     if not told:
         rows: list[Row] = [(row.record, row.word, row.remedy) for row in account.refused]
@@ -153,7 +153,7 @@ def refused(account: Account, told: Sequence[Told]) -> tuple[Row, list[Row]]:
     return ("line", "what is wrong", "row"), rows
 
 
-def lint(account: Account) -> tuple[Row, list[Row]]:
+def lint(account: PageContents) -> tuple[Row, list[Row]]:
     """Return the table of what looks wrong."""
     rows: list[Row] = [(each.place.line, each.text, each.remedy) for each in account.findings]
     return ("line", "what is there", "what to do"), rows
@@ -161,8 +161,8 @@ def lint(account: Account) -> tuple[Row, list[Row]]:
 
 def write_workbook(
     path: str | Path,
-    account: Account,
-    told: Sequence[Told],
+    account: PageContents,
+    told: Sequence[ExplainedRow],
     origin: Origin,
     accounts: Sequence[MonthAccount] = (),
     grades: Mapping[str, Grades] | None = None,
@@ -173,9 +173,9 @@ def write_workbook(
     ----------
     path : str or Path
         The file.
-    account : Account
+    account : PageContents
         What is shown.
-    told : sequence of Told
+    told : sequence of ExplainedRow
         The refused rows in sentences.
     origin : Origin
         Where it comes from.

@@ -16,7 +16,7 @@ from plantbal.report.blocks import Block
 if TYPE_CHECKING:
     from plantbal.balance.grades import Grades
     from plantbal.diagnosis.diagnose import Diagnosis
-    from plantbal.explain import Told
+    from plantbal.explain import ExplainedRow
     from plantbal.lint import Finding
     from plantbal.page.gates import PeriodGates
 
@@ -41,7 +41,7 @@ class Worth:
 
 
 @dataclass(frozen=True, slots=True)
-class Line:
+class StreamLine:
     """A stream in a round of a report; a tank's line is what its content gained.
 
     Attributes
@@ -118,7 +118,7 @@ class Tank:
 
     Attributes
     ----------
-    line : Line
+    line : StreamLine
         What its content gained.
     opening, measured : int or None
         What it held by its dips at the beginning and at the end.
@@ -126,7 +126,7 @@ class Tank:
         What flowed in and out, by the flows to book.
     """
 
-    line: Line
+    line: StreamLine
     opening: int | None
     into: int | None
     out: int | None
@@ -145,24 +145,24 @@ class Round:
     """A round of a report: the streams by their kind, and what is said of the whole."""
 
     block: Block
-    lines: list[Line]
+    lines: list[StreamLine]
     tanks: list[Tank]
     verdict: Verdict
 
     @property
-    def streams(self) -> list[Line]:
+    def streams(self) -> list[StreamLine]:
         """The streams with a figure to book, those to be looked at first."""
         some = [line for line in self.lines if not line.is_tank and line.flow is not None]
         return sorted(some, key=lambda line: _rank(line))
 
     @property
-    def unobservable(self) -> list[Line]:
+    def unobservable(self) -> list[StreamLine]:
         """The streams without a figure to book."""
         return [line for line in self.lines if line.flow is None]
 
 
 @dataclass(frozen=True, slots=True)
-class Report:
+class ShownReport:
     """A report: its rounds, or the stream whose total is beyond the limits."""
 
     period: str
@@ -178,7 +178,7 @@ class Report:
 
 
 @dataclass(frozen=True, slots=True)
-class Edit:
+class ShownEdit:
     """An edit that touches a period; the change is there if the session is."""
 
     record: int
@@ -202,9 +202,9 @@ class Statement:
         Its first and its last day.
     state : str
         ``open`` or ``closed``; empty if that isn't known.
-    reports : list of Report
+    reports : list of ShownReport
         Its reports, of which the last one counts.
-    edits : list of Edit
+    edits : list of ShownEdit
         The edits that touch it.
     verdict : Verdict
         What is said of it in words.
@@ -214,12 +214,12 @@ class Statement:
     period: str
     days: tuple[str, str] | None
     state: str
-    reports: list[Report]
-    edits: list[Edit]
+    reports: list[ShownReport]
+    edits: list[ShownEdit]
     verdict: Verdict
 
     @property
-    def report(self) -> Report:
+    def report(self) -> ShownReport:
         """The report that counts."""
         return self.reports[-1]
 
@@ -232,34 +232,34 @@ class Statement:
         return report.asked is None or report.asked.is_report
 
     @property
-    def older(self) -> list[Report]:
+    def older(self) -> list[ShownReport]:
         """The reports before it."""
         return self.reports[:-1]
 
 
 @dataclass(frozen=True, slots=True)
-class Refused:
+class ShownRefusal:
     """A refused row, as the session's text or as its code alone says it."""
 
     record: int
     word: str
     remedy: str
-    told: Told | None = None
+    told: ExplainedRow | None = None
 
 
 @dataclass(frozen=True)
-class Account:
+class PageContents:
     """All that a page shows.
 
     Attributes
     ----------
     statements : list of Statement
         The periods in the order of their last days, or of their reports.
-    designs : list of list of Line
+    designs : list of list of StreamLine
         The designs; with an advice the last one has the streams to meter marked.
     is_advised : bool
         Whether there is an advice on what to meter.
-    refused : list of Refused
+    refused : list of ShownRefusal
         The first of the refused rows.
     refused_rows : int
         How many rows are refused.
@@ -274,9 +274,9 @@ class Account:
     """
 
     statements: list[Statement]
-    designs: list[list[Line]] = field(default_factory=list)
+    designs: list[list[StreamLine]] = field(default_factory=list)
     is_advised: bool = False
-    refused: list[Refused] = field(default_factory=list)
+    refused: list[ShownRefusal] = field(default_factory=list)
     refused_rows: int = 0
     findings: Sequence[Finding] = ()
     ledger: Ledger | None = None
@@ -304,7 +304,7 @@ class Account:
         return f"{len(names):,} of {total} {need} a look: {names_of(names)}."
 
     @property
-    def meters(self) -> list[Line]:
+    def meters(self) -> list[StreamLine]:
         """The streams to meter."""
         return [line for design in self.designs[-1:] for line in design if line.mark == "meter"]
 
@@ -321,14 +321,14 @@ class Prepared:
     `more` is how many further rows are refused, and `grades` has those of each period with assays.
     """
 
-    account: Account
-    told: Sequence[Told] = field(default_factory=list)
+    account: PageContents
+    told: Sequence[ExplainedRow] = field(default_factory=list)
     why_no_worth: str = ""
     more: int = 0
     grades: Mapping[str, Grades] = field(default_factory=dict)
 
 
-def _rank(line: Line) -> tuple[int, float]:
+def _rank(line: StreamLine) -> tuple[int, float]:
     """Return the place of a stream: suspects first, by their statistics, then as they stand."""
     if line.mark == "suspect":
         return 0, -float(line.statistic or 0)

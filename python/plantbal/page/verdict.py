@@ -11,7 +11,7 @@ from plantbal.diagnosis.rounds import one_of_said
 from plantbal.report.blocks import Block
 
 if TYPE_CHECKING:
-    from plantbal.page.statement import Line, Worth
+    from plantbal.page.statement import StreamLine, Worth
 
 # The sign that stands before each level, so that none is known by its colour alone.
 SIGNS = {"good": "✓", "plain": "–", "look": "!", "bad": "✗"}
@@ -131,7 +131,7 @@ def verdict_of(
     block: Block,
     lost: Lost,
     suspects: Sequence[Set],
-    lines: Sequence[Line],
+    lines: Sequence[StreamLine],
     taken: Sequence[Set] = (),
     stop: str = "",
 ) -> Verdict:
@@ -145,7 +145,7 @@ def verdict_of(
         The rows that were refused before it.
     suspects : sequence of sets of equals
         The streams whose test rejects, if that counts.
-    lines : sequence of Line
+    lines : sequence of StreamLine
         Its streams.
     taken : sequence of sets of equals
         Those that were taken out before, each with those that might as well have been.
@@ -186,9 +186,9 @@ def whither(block: Block, mass: Block | None = None) -> list[str]:
     mass : Block, optional
         The round of the report whose flows it takes, with the errors of the meters.
     """
-    from plantbal.study.recovery import Balance
+    from plantbal.study.recovery import ComponentBalance
 
-    balance = Balance(block, mass=mass)
+    balance = ComponentBalance(block, mass=mass)
     if balance.unknown:
         return [f"No recovery: nothing determines what came in by {names_of(balance.unknown)}."]
     leaving = [each for each in balance.shares() if each.way != "in"]
@@ -200,7 +200,7 @@ def whither(block: Block, mass: Block | None = None) -> list[str]:
     return [f"Of the {block.component} that came in, {names_of(parts)}."] if parts else []
 
 
-def _of_lines(lines: Sequence[Line]) -> list[str]:
+def _of_lines(lines: Sequence[StreamLine]) -> list[str]:
     """Return the greatest adjustment, and which streams have no figure, as sentences."""
     said = []
     moved = {line.name: line.deviations for line in lines if line.deviations}
@@ -249,7 +249,7 @@ def _taken(block: Block, taken: Sequence[Set]) -> list[str]:
 def _equals_of_taken(block: Block, taken: Sequence[Set]) -> list[str]:
     """Return that it isn't known of sets of equals which one is wrong, as a sentence each."""
     return [
-        f"That it was {block.shown(name)} is no finding: these readings can't tell which of "
+        f"That it was {block.shown(name)} isn't a finding: these readings can't tell which of "
         f"{one_of_said(names, block, MOST_IN_SENTENCE)} is off."
         for name, names in zip(block.taken, taken)
         if len(names) > 1

@@ -4,7 +4,9 @@ from __future__ import annotations
 
 from collections.abc import Collection, Iterable, Sequence
 from dataclasses import dataclass, field
+from typing import cast
 
+from plantbal.kinds import State, StreamClass, Verdict
 from plantbal.records import read_records
 from plantbal.report.rows import Values as Values
 
@@ -55,7 +57,7 @@ class Spot:
 
 
 @dataclass(frozen=True, slots=True)
-class Window:
+class ReportedWindow:
     """Several periods that are reported at once.
 
     Attributes
@@ -130,7 +132,7 @@ class Block:
         Whether its ``end`` row is there.
     component : str
         The component whose balance it is; empty if it is one of mass.
-    window : Window or None
+    window : ReportedWindow or None
         The periods that it is of, if they are reported at once.
     """
 
@@ -145,7 +147,7 @@ class Block:
     whole: Values | None = None
     ended: bool = False
     component: str = ""
-    window: Window | None = None
+    window: ReportedWindow | None = None
 
     @property
     def period(self) -> str:
@@ -167,6 +169,21 @@ class Block:
         """What it is of, by its names."""
         last = self.window.last if self.window else ""
         return Subject(self.period, last, self.component)
+
+    @property
+    def classes(self) -> dict[str, StreamClass]:
+        """The class of each stream, by its name."""
+        return {row["name"]: cast(StreamClass, row["class"]) for row in self.streams}
+
+    @property
+    def state(self) -> State | None:
+        """Whether it has converged; None of one that is cut off."""
+        return cast(State, self.solved["state"]) if self.solved else None
+
+    @property
+    def tested(self) -> Verdict | None:
+        """The verdict of its global test; None if it wasn't tested."""
+        return cast(Verdict, self.whole["verdict"]) if self.whole else None
 
     def shown(self, name: str) -> str:
         """Return what a person reads in place of the name of a node or a stream."""
@@ -226,7 +243,7 @@ def blocks_of(rows: Iterable[Values]) -> list[Block]:
         elif kind == "component":
             component = row["component"]
         elif kind == "window":
-            window = Window(row["first"], row["last"])
+            window = ReportedWindow(row["first"], row["last"])
         elif kind == "place":
             if window is not None:
                 window.spots[row["code"]] = Spot(row["code"], row["period"], row["name"])

@@ -12,7 +12,7 @@ from plantbal.faults import Fault, ToolMissing, WordsFault
 from plantbal.files import replacing
 from plantbal.forms import read_session
 from plantbal.report.output import read_all
-from plantbal.report.trend import Line, Trend, trend_of
+from plantbal.report.trend import Trend, TrendLine, trend_of
 from plantbal.statuses import ExitStatus
 
 HELP = """
@@ -73,11 +73,11 @@ class Chart:
     ----------
     trend : Trend
         What it shows.
-    lines : list of Line
+    lines : list of TrendLine
         Its meters.
     """
 
-    def __init__(self, trend: Trend, lines: list[Line]) -> None:
+    def __init__(self, trend: Trend, lines: list[TrendLine]) -> None:
         from matplotlib import pyplot
 
         heights = [LEGEND, *[METER] * len(lines), STATISTIC]
@@ -124,7 +124,7 @@ class Chart:
             axes.spines[side].set_visible(False)
         return axes
 
-    def _flow(self, axes: Any, line: Line) -> None:
+    def _flow(self, axes: Any, line: TrendLine) -> None:
         """Draw the flow of a meter in its band, and the meter."""
         across, flow = self.trend.stairs(line.flow)
         band = self._band(axes, line.flow, line.sd)
@@ -156,7 +156,7 @@ class Chart:
         across, low, high = self.trend.stairs(flow - 2 * sd, flow + 2 * sd)
         return axes.fill_between(across, low, high, color=BAND, linewidth=0)
 
-    def _adjustment(self, axes: Any, line: Line) -> None:
+    def _adjustment(self, axes: Any, line: TrendLine) -> None:
         """Draw flow less meter in standard deviations of the meter."""
         trend = self.trend
         self._band(axes, (line.flow - line.value) / line.meter, line.sd / line.meter)
@@ -166,7 +166,7 @@ class Chart:
             bar.set_gid(f"adjustment-{line.name}-{name}")
         axes.axhline(0, color="black", linewidth=0.8)
 
-    def _sum(self, axes: Any, line: Line) -> None:
+    def _sum(self, axes: Any, line: TrendLine) -> None:
         """Draw the sum of flow less meter in tonnes."""
         across, total = self.trend.stairs(line.sum)
         axes.plot(across, total, color=INK, linewidth=1.2, gid=f"sum-{line.name}")
@@ -283,7 +283,7 @@ def _name_at(names: list[str]) -> Callable[[float, int], str]:
     return text
 
 
-def chosen(trend: Trend, most: int, names: list[str]) -> list[Line]:
+def chosen(trend: Trend, most: int, names: list[str]) -> list[TrendLine]:
     """Return the lines of the streams that are named, or of the meters that are adjusted most.
 
     Raises
@@ -329,14 +329,14 @@ def save(figure: Any, out: BinaryIO | Path, form: str) -> None:
     pyplot.close(figure)
 
 
-def write_chart(trend: Trend, lines: list[Line], out: BinaryIO | Path, form: str) -> None:
+def write_chart(trend: Trend, lines: list[TrendLine], out: BinaryIO | Path, form: str) -> None:
     """Write the chart of periods.
 
     Parameters
     ----------
     trend : Trend
         The periods.
-    lines : list of Line
+    lines : list of TrendLine
         The streams that are shown.
     out : file or Path
         Where it goes.

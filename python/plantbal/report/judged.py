@@ -164,7 +164,7 @@ class _Judge:
         judge_fields(row, self.place)
         self._count(kind, row)
         if kind in _WITHIN and self.block is None:
-            self.stray = self.stray or self.fault(f"this {kind} row stands in no report")
+            self.stray = self.stray or self.fault(f"this {kind} row is in no report")
             if kind != "stream":
                 raise self.stray
         taker = getattr(self, f"_take_{kind}", None)
@@ -217,7 +217,7 @@ class _Judge:
 
     def _take_place(self, row: Values) -> None:
         if self.spots is None:
-            raise self.fault("this place row stands in no window")
+            raise self.fault("this place row is in no window")
         self.spots.add(row["code"])
 
     def _take_component(self, row: Values) -> None:

@@ -115,9 +115,14 @@ class Output:
 
     # ---- whether it may be booked
 
-    @cached_property
+    @property
     def why(self) -> list[str]:
-        """Why it isn't ok, a sentence each; nothing if it is."""
+        """Why it isn't ok, a sentence each; nothing if it is. The list is the caller's own."""
+        return list(self._why)
+
+    @cached_property
+    def _why(self) -> tuple[str, ...]:
+        """The same, kept."""
         said = []
         if self.status is not None and self.status not in (0, 1):
             said.append(f"the program ended with status {self.status}")
@@ -146,7 +151,7 @@ class Output:
         wrong = self._of_kind("no") + self._of_kind("unreadable")
         if wrong:
             said.append(f"a check finds fault with {len(wrong)} blocks or rows")
-        return said
+        return tuple(said)
 
     @property
     def ok(self) -> bool:
@@ -155,21 +160,26 @@ class Output:
         It is false if a row was refused, no report came, a total is beyond the limits, a report is
         cut off or isn't converged, or a global test rejects.
         """
-        return not self.why
+        return not self._why
 
-    @cached_property
+    @property
     def impossible(self) -> list[str]:
         """Which flows can't be, a sentence each.
 
         A stream carries more of a component than there is of it, or is booked below 0 by more than
         two standard deviations. The output may be ok all the same: the balances close.
         """
+        return list(self._impossible)
+
+    @cached_property
+    def _impossible(self) -> tuple[str, ...]:
+        """The same, kept."""
         from plantbal.gates import line_of, negative_flows
         from plantbal.report.carried import impossible
 
         blocks = self.blocks_in_order
         carried = [str(each) for each in impossible(blocks)]
-        return [*map(line_of, negative_flows(blocks)), *carried]
+        return (*map(line_of, negative_flows(blocks)), *carried)
 
     def require(self) -> Output:
         """Return the output itself if it is ok.
@@ -185,7 +195,7 @@ class Output:
 
     # ---- tables
 
-    @cached_property
+    @property
     def reports(self) -> list[Block]:
         """The rounds of reports of periods: no windows, and no balances of components."""
         return [block for block in self.blocks_in_order if block.is_report]
@@ -369,6 +379,10 @@ class Output:
         `solved` and `global` as dicts, with the columns that these rows have.
         """
         return output_dict(self)
+
+    def as_data(self) -> dict[str, Any]:
+        """Return what a command's JSON has of it: whether it may be booked, why not, its summary."""
+        return {"ok": self.ok, "why": self.why, "summary": self.summary().splitlines()}
 
     def to_json(self, path: str | Path | None = None, *, indent: int | None = None) -> str:
         """Return `to_dict` as JSON, and write it if a file is named.

@@ -16,7 +16,7 @@ from plantbal.faults import InputFault, Place, read_text
 from plantbal.memory import uncollected
 from plantbal.report.blocks import blocks_of
 from plantbal.report.judged import judge_rows
-from plantbal.report.rows import Rows, Values
+from plantbal.report.rows import OutputRows, Values
 from plantbal.schema import Row, schema
 
 # A field with a power of ten; no name has a plus sign.
@@ -77,7 +77,7 @@ def _row_of_json(source: str, line: int, text: str) -> Values:
     try:
         found = json.loads(text)
     except RecursionError as error:
-        what = "no JSON object of a row: brackets stand within brackets"
+        what = "not a JSON object of a row: it has brackets within brackets"
         raise InputFault(what, place=place, text=text[:200], remedy=_AS_WRITTEN) from error
     except ValueError as error:
         column = getattr(error, "colno", 1)
@@ -102,7 +102,7 @@ def _row_of_json(source: str, line: int, text: str) -> Values:
         said = f"the keys of the row {kind} are {wanted}"
         raise InputFault(said, place=place, text=text[:200], remedy=_AS_WRITTEN)
     if not all(isinstance(value, str) for value in found.values()):
-        said = "a value is no text"
+        said = "a value isn't text"
         raise InputFault(said, place=place, text=text[:200], remedy=_AS_WRITTEN)
     names = row.names if len(found) == len(row.names) + 1 else row.older
     return {"row": row.kind, **{name: found[name] for name in names}}
@@ -167,7 +167,7 @@ def parse_rows(source: str, text: str, kinds: Collection[str] | None = None) -> 
     output = schema().output
     keys = {kind: ("row", *row.names) for kind, row in output.items()}
     unwanted = [] if kinds is None else [kind for kind in output if kind not in kinds]
-    found = Rows()
+    found = OutputRows()
     plain = found.plain()
     for number, fields in _lines_of(text, {kind: len(output[kind].names) for kind in unwanted}):
         kind = fields[0]
@@ -194,7 +194,7 @@ def _refuse_powers(source: str, line: int, text: str) -> None:
     powers = _POWER.search(text) if "e+" in text or "E+" in text else None
     if powers:
         raise InputFault(
-            f"{powers.group()} stands here, as a spreadsheet writes long numbers",
+            f"{powers.group()} is how a spreadsheet writes long numbers",
             place=Place(file=source, line=line + text.count("\n", 0, powers.start())),
             text=powers.group(),
             remedy="take the file as plantbal wrote it; plantbal-desk report FILE --out FILE.xlsx "

@@ -45,7 +45,7 @@ class _Refused(Sequence[Values]):
         return {"row": "refused", "at": str(self.numbers[place]), "code": str(code), "word": word}
 
 
-class Rows(Sequence[Values]):
+class OutputRows(Sequence[Values]):
     """Rows of an output.
 
     Attributes

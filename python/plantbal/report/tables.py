@@ -75,7 +75,7 @@ DIAGNOSED = ("balances", "holes", "unseen")
 
 
 @dataclass(frozen=True, slots=True)
-class Choice:
+class BlockChoice:
     """Which blocks a table is of: the reports of periods, the balances of a component, or a window.
 
     Attributes
@@ -127,7 +127,7 @@ def _lines(block: Block) -> Iterator[tuple[str, str, Values]]:
             yield spot.period, spot.name, stream
 
 
-def frame(rows: Sequence[Values], choice: Choice = Choice()) -> pandas.DataFrame:
+def frame(rows: Sequence[Values], choice: BlockChoice = BlockChoice()) -> pandas.DataFrame:
     """Return a row for each stream of each period."""
     try:
         import pandas
@@ -160,7 +160,7 @@ def pivot(streams: pandas.DataFrame, what: str) -> pandas.DataFrame:
 
 
 def with_deviations(
-    table: pandas.DataFrame, rows: Sequence[Values], choice: Choice = Choice()
+    table: pandas.DataFrame, rows: Sequence[Values], choice: BlockChoice = BlockChoice()
 ) -> pandas.DataFrame:
     """Return a table of flows with a column ± beside each period: the standard deviation in
     tonnes."""
@@ -192,7 +192,7 @@ def contents(rows: Sequence[Values]) -> pandas.DataFrame:
 
     from plantbal.study.uncertainty import uncertainty_of
 
-    block = Choice(window=True).latest(rows)[-1]
+    block = BlockChoice(window=True).latest(rows)[-1]
     assert block.window is not None
     sd = {each.name: each.sd / 1e6 for each in uncertainty_of([block]).itertuples()}
     table: dict[str, dict[str, float | None]] = {}
@@ -245,9 +245,9 @@ def add_arguments(parser: argparse.ArgumentParser) -> None:
     parser.add_argument("what", choices=[*words, *DIAGNOSED, "grades"])
     parser.add_argument("output", metavar="OUTPUT", nargs="?", default="-")
     which = parser.add_mutually_exclusive_group()
-    component = "of the balances of a component"
+    component = "use the balances of component NAME"
     which.add_argument("--component", metavar="NAME", default="", help=component)
-    which.add_argument("--window", action="store_true", help="of the last window")
+    which.add_argument("--window", action="store_true", help="use the last window")
     session = "the session: with grades its assays, with holes days, tickets and dips"
     parser.add_argument("--session", metavar="FILE", help=session)
     keep = "with --session: write the session of the days of its last report"
@@ -295,7 +295,7 @@ def _write_grades(options: argparse.Namespace, blocks: list[Block]) -> None:
 def run(options: argparse.Namespace) -> int:
     """Write the table."""
     rows = read_rows(options.output, "report")
-    choice = Choice(options.component, options.window)
+    choice = BlockChoice(options.component, options.window)
     if options.session and options.what not in ("holes", "grades"):
         raise WordsFault("--session is of the tables holes and grades", remedy="leave it out")
     if options.keep and options.what != "holes":
@@ -303,7 +303,7 @@ def run(options: argparse.Namespace) -> int:
     if options.what in DIAGNOSED:
         _write_diagnosed(options, choice.of(rows))
     elif options.what == "grades":
-        _write_grades(options, Choice().latest(rows))
+        _write_grades(options, BlockChoice().latest(rows))
     elif options.what == "contents":
         if options.component:
             raise WordsFault("contents are those of a window", remedy="leave --component out")

@@ -20,7 +20,7 @@ _DAYS_OF_NAME = re.compile(r"(\d{4})(?:-(?:Q([1-4])|(\d\d)(?:-(\d\d))?))?")
 
 
 @dataclass
-class Line:
+class TrendLine:
     """A stream over the periods, in tonnes. What there is none of in a period is NaN.
 
     Attributes
@@ -65,7 +65,7 @@ class Trend:
         Whether the global test rejects.
     holes : list of str
         What is missing in a period that is rejected, and where; empty of others.
-    lines : dict of str to Line
+    lines : dict of str to TrendLine
         The streams that have a flow to book in some period.
     """
 
@@ -77,7 +77,7 @@ class Trend:
     critical: Any
     rejected: Any
     holes: list[str]
-    lines: dict[str, Line]
+    lines: dict[str, TrendLine]
 
     @property
     def middles(self) -> Any:
@@ -99,7 +99,7 @@ class Trend:
             found.append(numpy.insert(numpy.repeat(heights, 2), places, numpy.nan))
         return tuple(found)
 
-    def greatest(self, most: int) -> list[Line]:
+    def greatest(self, most: int) -> list[TrendLine]:
         """Return the meters with the greatest adjustments, in the order of the report."""
         import numpy
 
@@ -218,7 +218,7 @@ def _hole_of(block: Block) -> str:
     return f"{block.subject}: {'; '.join(some)}" if some else ""
 
 
-def _lines_of(rounds: list[_Rounds]) -> dict[str, Line]:
+def _lines_of(rounds: list[_Rounds]) -> dict[str, TrendLine]:
     """Return the lines of the streams in the order of the reports."""
     import numpy
 
@@ -226,12 +226,12 @@ def _lines_of(rounds: list[_Rounds]) -> dict[str, Line]:
 
     table = uncertainty_of(found.last for found in rounds)
     sd = dict(zip(zip(table["block"], table["name"]), table["sd"]))
-    lines: dict[str, Line] = {}
+    lines: dict[str, TrendLine] = {}
 
-    def line_of(name: str) -> Line:
+    def line_of(name: str) -> TrendLine:
         """Return the line of a stream, an empty one the first time."""
         if name not in lines:
-            lines[name] = Line(name, *numpy.full((6, len(rounds)), numpy.nan))
+            lines[name] = TrendLine(name, *numpy.full((6, len(rounds)), numpy.nan))
         return lines[name]
 
     for place, found in enumerate(rounds):
@@ -249,7 +249,7 @@ def _lines_of(rounds: list[_Rounds]) -> dict[str, Line]:
     return lines
 
 
-def _adjust(line: Line, place: int, stream: Values) -> None:
+def _adjust(line: TrendLine, place: int, stream: Values) -> None:
     """Set what a meter says, and how far its flow is from that."""
     left = (int(stream["flow"]) - int(stream["value"])) / 1e6
     line.value[place] = int(stream["value"]) / 1e6

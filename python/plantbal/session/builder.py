@@ -6,6 +6,7 @@ from collections.abc import Mapping
 
 from plantbal.amounts import Day, Tonnes, day_text, decimal_of, whole_of
 from plantbal.faults import Fault
+from plantbal.kinds import StreamKind, TestKind
 from plantbal.session.rows import SessionRows
 from plantbal.session.values import (
     amount_of,
@@ -121,7 +122,7 @@ class Session(SessionRows):
         name: str,
         from_: str,
         to: str,
-        kind: str = "metered",
+        kind: StreamKind = "metered",
         *,
         variance: int | None = None,
         deviation_grams: Tonnes | None = None,
@@ -167,7 +168,7 @@ class Session(SessionRows):
 
     def critical(
         self,
-        test: str,
+        test: TestKind,
         *,
         dof: int | None = None,
         thousandths: int | None = None,

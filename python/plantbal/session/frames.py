@@ -20,6 +20,7 @@ from plantbal.amounts import (
     whole_of,
 )
 from plantbal.faults import Fault, InputFault, Place, Refusal
+from plantbal.model.causes import Reason
 from plantbal.memory import uncollected
 from plantbal.session import ENV, dates_of_service, grade_of, grade_variance, most_streams
 
@@ -43,9 +44,14 @@ _HEADS = {
     "word": ("kind", "test"),
     "value": ("thousandths",),
 }
+# What a standard deviation has to be, whose square is the row's variance.
+_RANGES = {
+    "deviation_grams": "a number of grams above 0, and up to 3,162,277,660",
+    "deviation_tonnes": "a number of tonnes above 0, and up to 3,162.27766",
+}
 
 
-class Table:
+class FrameTable:
     """A table, of which columns are taken as texts.
 
     Parameters
@@ -178,7 +184,7 @@ class Table:
             found: list[Any] = [None] * len(self.frame)
             if self.has(head):
                 there = self.frame[head].notna()
-                texts = Table(self.name, self.frame[there]).days(head)
+                texts = FrameTable(self.name, self.frame[there]).days(head)
                 for place, text in zip(there.to_numpy().nonzero()[0], texts):
                     found[place] = text
             ends.append(found)
@@ -254,34 +260,48 @@ def own_columns(
 
 
 def _name_column(refusal: Refusal, tables: Mapping[str, pandas.DataFrame | object | None]) -> None:
-    """Put the head of the table's column at fault into the place of a refusal."""
-    there = getattr(tables.get(refusal.place.file), "columns", ())
+    """Name the table's column at fault, in the place of a refusal and in what is said."""
+    table: Any = tables.get(refusal.place.file)
+    there = getattr(table, "columns", ())
     for head in (refusal.column, *_HEADS.get(refusal.column, ())):
         if head and head in there and not refusal.place.head:
+            if head != refusal.column and refusal.refused.reason is Reason.NO_NUMBER:
+                _say_of_table(refusal, table, head)
             refusal.place = replace(refusal.place, head=head)
+
+
+def _say_of_table(refusal: Refusal, table: pandas.DataFrame, head: str) -> None:
+    """Say what stands in the table: the row has another number, which is made of that."""
+    rows = [number for number, label in enumerate(table.index) if str(label) == refusal.place.row]
+    if len(rows) != 1:
+        return  # rows of one label: nobody knows which it is
+    value = table[head].iloc[rows[0]]
+    refusal.said = f"{head} is {str(value)!r}, which makes {refusal.column} {refusal.text}"
+    refusal.what = f"{refusal.head}: {refusal.said} (refused {refusal.code}, {refusal.word})"
+    refusal.remedy = _RANGES.get(head, refusal.remedy)
 
 
 def tags_of(streams: pandas.DataFrame | None) -> dict[str, str]:
     """Return the stream of each tag that a table of streams has."""
     if streams is None or "tag" not in getattr(streams, "columns", ()):
         return {}
-    table = Table("streams", streams)
+    table = FrameTable("streams", streams)
     pairs = zip(streams["tag"], table.names("name", "stream"))
     return {str(tag): name for tag, name in pairs if tag == tag and tag}
 
 
-def _take(session: SessionRows, table: Table, kind: str, *columns: list[str]) -> None:
+def _take(session: SessionRows, table: FrameTable, kind: str, *columns: list[str]) -> None:
     for number, fields in enumerate(zip(*columns)):
         session.row(kind, *fields, place=table.place(number))
 
 
-def _take_served(session: SessionRows, table: Table, kind: str, *columns: list[str]) -> None:
+def _take_served(session: SessionRows, table: FrameTable, kind: str, *columns: list[str]) -> None:
     """Take rows that may have dates of service."""
     for number, (fields, service) in enumerate(zip(zip(*columns), table.services())):
         session.row(kind, *fields, *service, place=table.place(number))
 
 
-def _take_streams(session: SessionRows, table: Table) -> None:
+def _take_streams(session: SessionRows, table: FrameTable) -> None:
     kinds = table.names("kind") if table.has("kind") else ["metered"] * len(table.frame)
     head = table.need("variance", "deviation_grams", "deviation_tonnes")
     # A plain stream has no variance, so its field may be missing.
@@ -290,7 +310,7 @@ def _take_streams(session: SessionRows, table: Table) -> None:
     column = frame[head].astype(object)
     column[plain] = 0
     frame[head] = column
-    bases = Table(table.name, frame).variances()
+    bases = FrameTable(table.name, frame).variances()
     _take_served(
         session,
         table,
@@ -303,7 +323,7 @@ def _take_streams(session: SessionRows, table: Table) -> None:
     )
 
 
-def _take_critical(session: SessionRows, table: Table) -> None:
+def _take_critical(session: SessionRows, table: FrameTable) -> None:
     tests = table.names("test")
     head = table.need("thousandths", "value")
     if head == "thousandths":
@@ -349,8 +369,8 @@ def fill(
     boundaries, units, tanks, straps, streams, periods, critical, readings, transfers, dips, assays
         As in `plantbal.Session.from_frames`.
     """
-    tank_table = None if tanks is None else Table("tanks", tanks)
-    stream_table = None if streams is None else Table("streams", streams)
+    tank_table = None if tanks is None else FrameTable("tanks", tanks)
+    stream_table = None if streams is None else FrameTable("streams", streams)
     tank_names = tank_table.names("name", "tank") if tank_table else []
     outside = list(boundaries or ())
     plants = [table for table in (tank_table, stream_table) if table is not None]
@@ -367,7 +387,7 @@ def fill(
         known = {ENV, *tank_names, *outside}
         names = [name for name in dict.fromkeys(ends) if name not in known]
     elif hasattr(units, "columns"):
-        names = Table("units", units).names("name", "unit")
+        names = FrameTable("units", units).names("name", "unit")
     else:
         names = list(units)
     for number, name in enumerate(names):
@@ -375,32 +395,32 @@ def fill(
     if tank_table:
         _take_served(session, tank_table, "tank", tank_names, tank_table.variances())
     if straps is not None:
-        table = Table("straps", straps)
+        table = FrameTable("straps", straps)
         _take(session, table, "strap", table.names("tank"), table.wholes("mm"), table.wholes("ml"))
     if stream_table:
         _take_streams(session, stream_table)
     if critical is not None:
-        _take_critical(session, Table("critical", critical))
+        _take_critical(session, FrameTable("critical", critical))
     if periods is not None:
-        table = Table("periods", periods)
+        table = FrameTable("periods", periods)
         days = table.days("first"), table.days("last")
         _take(session, table, "period", table.names("name", "period"), *days)
     if readings is not None:
-        table = Table("readings", readings)
+        table = FrameTable("readings", readings)
         of, on = table.names("stream"), table.days("day", "date")
         columns = table.ids(of, on), of, on, table.amounts(), table.variances()
         session.take_readings(columns, table.place)
     if transfers is not None:
-        table = Table("transfers", transfers)
+        table = FrameTable("transfers", transfers)
         of, first, last = table.names("stream"), table.days("first"), table.days("last")
         ids = table.ids(of, first)
         _take(session, table, "transfer", ids, of, first, last, table.amounts(), table.variances())
     if dips is not None:
-        table = Table("dips", dips)
+        table = FrameTable("dips", dips)
         of, on = table.names("tank"), table.days("day", "date")
         level = table.wholes("mm"), table.wholes("density")
         _take(session, table, "dip", table.ids(of, on), of, on, *level, table.variances())
     if assays is not None:
-        table = Table("assays", assays)
+        table = FrameTable("assays", assays)
         what = [table.names(head) for head in ("component", "stream", "period")]
         _take(session, table, "assay", *what, table.grades(), table.grade_variances())

@@ -16,7 +16,7 @@ from plantbal.memory import uncollected
 from plantbal.model.causes import Refused
 from plantbal.model.effects import Effect
 from plantbal.model.facts import At
-from plantbal.model.file import Columns, Rows, Step, readings_of, steps
+from plantbal.model.file import ColumnRows, Rows, Step, readings_of, steps
 from plantbal.model.periods import Period
 from plantbal.model.plant import Service
 from plantbal.model.refusals import Refusals
@@ -309,7 +309,7 @@ class SessionRows:
         """
         run = readings_of(*columns, bytes(len(columns[0])))
         if run is not None and self.state.after_run(run):
-            self._rows.add(Columns([["reading"] * len(columns[0]), *columns]))
+            self._rows.add(ColumnRows([["reading"] * len(columns[0]), *columns]))
             return
         for number, fields in enumerate(zip(*columns)):
             self.row("reading", *fields, place=place(number))

@@ -43,7 +43,7 @@ class Doubt(StrEnum):
 
 
 _SAID = {
-    Doubt.NO_SIGNATURE: "it is no signature of OpenSSH or minisign",
+    Doubt.NO_SIGNATURE: "it isn't a signature of OpenSSH or minisign",
     Doubt.UNKNOWN: "its key is nobody's among those who may sign",
     Doubt.NOT_YET: "its key was not allowed yet",
     Doubt.ENDED: "its key was not allowed any more",
@@ -297,5 +297,5 @@ def read_signature(path: str | Path) -> str:
     try:
         return data.decode("ascii")
     except UnicodeDecodeError as error:
-        what = "this is no signature of OpenSSH or minisign"
+        what = "this isn't a signature of OpenSSH or minisign"
         raise InputFault(what, place=Place(file=source)) from error

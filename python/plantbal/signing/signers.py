@@ -1,4 +1,4 @@
-"""Who may sign: a file of OpenSSH's form `allowed_signers`, and one of the same form for minisign.
+"""Who may sign: a list of allowed signers as OpenSSH has it, and one of the same form for minisign.
 
 A line has a name, options, the kind of the key and the key: `anna@mill valid-after="20240101"
 ssh-ed25519 AAAA..`. The kind of a minisign key is `minisign`. A name is one person, so patterns and

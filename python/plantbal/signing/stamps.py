@@ -65,7 +65,9 @@ def stamp(data: bytes, server: str) -> str:
         If the server can't be reached, or gives none.
     """
     if not server.startswith(("http://", "https://")):
-        raise Fault(f"{server} is no time stamp server", text=server, remedy="write its https://..")
+        raise Fault(
+            f"{server} isn't a time stamp server", text=server, remedy="write its https://.."
+        )
     with tempfile.TemporaryDirectory() as name:
         path = Path(name) / "data"
         path.write_bytes(data)
@@ -105,7 +107,7 @@ def stamped(data: bytes, token: str, authority: str) -> Stamped:
     try:
         answer = base64.b64decode(token, validate=False)
     except (ValueError, binascii.Error):
-        return Stamped(None, "it is no time stamp")
+        return Stamped(None, "it isn't a time stamp")
     with tempfile.TemporaryDirectory() as name:
         room = Path(name)
         (room / "data").write_bytes(data)

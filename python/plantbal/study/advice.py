@@ -22,6 +22,7 @@ from plantbal.report.picture import advised, svg
 from plantbal.schema import schema
 from plantbal.session import Session
 from plantbal.statuses import ExitStatus
+from plantbal.study.causes import OfferCause
 from plantbal.workbook.cells import Reader, check_locale
 from plantbal.workbook.sheets import Cell, read_workbook
 
@@ -138,21 +139,21 @@ def read_costs(path: str | Path, plant: Session, locale: str = "") -> dict[str, 
         name = stream.text
         kind = plant.streams.get(name)
         if kind is None:
-            what = f"there is no stream {name}" if name else "there is no name of a stream"
+            what = OfferCause.NO_STREAM(name=name) if name else OfferCause.NO_NAME()
             if name in plant.nodes:
-                what = f"{name} is a {plant.nodes[name]}, not a stream"
+                what = OfferCause.NOT_A_STREAM(name=name, kind=plant.nodes[name])
             raise reader.fault(stream, what, "correct the name, or remove the row", "stream")
         if kind != "plain":
-            what = f"{name} is a {kind} stream: it is measured already"
+            what = OfferCause.MEASURED_ALREADY(name=name, kind=kind)
             raise reader.fault(stream, what, "take the row out", "stream")
         if name in found:
-            what = f"{name} stands above too"
+            what = OfferCause.TWICE(name=name)
             raise reader.fault(stream, what, "leave one of both out", "stream")
         number, column = reader.number(cost, "cost"), schema().row("advise").tail[1]
         low, high = column.low or 0, column.high or 0
         if number != int(number) or not low <= number <= high:
             remedy = f"write a whole number from {low} to {high:,}, in any unit, such as cents"
-            raise reader.fault(cost, f"{cost.text} is no cost", remedy, "cost")
+            raise reader.fault(cost, OfferCause.NOT_A_COST(text=cost.text), remedy, "cost")
         found[name] = int(number)
     return found
 

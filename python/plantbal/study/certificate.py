@@ -12,7 +12,7 @@ from math import isqrt
 from plantbal.amounts import root_up
 from plantbal.records import read_records, without_empty_end
 from plantbal.report.blocks import Block, Values
-from plantbal.study.plant import Plant, plant_of
+from plantbal.study.plant import NumberedPlant, plant_of
 from plantbal.study.prices import UNIT, dual_flow, prices_of
 
 
@@ -26,7 +26,7 @@ def scaled_root(variance: int) -> int:
     return isqrt(variance << 40)
 
 
-def flows_of(plant: Plant, prices: list[int]) -> list[int]:
+def flows_of(plant: NumberedPlant, prices: list[int]) -> list[int]:
     """Return whole flows that balance: rounded outside the forest, and by balance within it."""
     flows = [0] * len(plant.ends)
     for j in plant.measured:
@@ -34,7 +34,7 @@ def flows_of(plant: Plant, prices: list[int]) -> list[int]:
     return balanced(plant, flows)
 
 
-def balanced(plant: Plant, whole: list[int]) -> list[int]:
+def balanced(plant: NumberedPlant, whole: list[int]) -> list[int]:
     """Return the whole flows that balance, and are as given outside the forest."""
     inside = set(plant.forest)
     flows = [0 if j in inside else flow for j, flow in enumerate(whole)]
@@ -63,7 +63,7 @@ def balanced(plant: Plant, whole: list[int]) -> list[int]:
     return flows
 
 
-def gap_of(plant: Plant, prices: list[int], flows: list[int]) -> tuple[int, int]:
+def gap_of(plant: NumberedPlant, prices: list[int], flows: list[int]) -> tuple[int, int]:
     """Return g and h: the flows are at most g * 2^h / 2^20 standard deviations from the exact
     ones."""
     parts = [
@@ -79,7 +79,7 @@ def gap_of(plant: Plant, prices: list[int], flows: list[int]) -> tuple[int, int]
     return root_up(sum(up(part, 2**h) ** 2 for part in parts)), h
 
 
-def members_of(plant: Plant, stream: Values) -> list[tuple[int, int]] | None:
+def members_of(plant: NumberedPlant, stream: Values) -> list[tuple[int, int]] | None:
     """Return the measured streams of which a flow is the sum, each with its sign, or None.
 
     A measured stream is its own, an observable one the sum of the other members of its cut; nothing
@@ -98,7 +98,7 @@ def members_of(plant: Plant, stream: Values) -> list[tuple[int, int]] | None:
 
 
 def bounds_of(
-    plant: Plant, prices: list[int], flows: list[int], stream: Values, g: int, h: int
+    plant: NumberedPlant, prices: list[int], flows: list[int], stream: Values, g: int, h: int
 ) -> tuple[int, int, int, int] | None:
     """Return the bounds and the least bounds of a stream, or None if nothing determines it."""
     members = members_of(plant, stream)
@@ -113,7 +113,7 @@ def bounds_of(
     return below - half, above + half, *least
 
 
-def statistic_of(plant: Plant, flows: list[int], g: int, h: int) -> tuple[int, int | None]:
+def statistic_of(plant: NumberedPlant, flows: list[int], g: int, h: int) -> tuple[int, int | None]:
     """Return the least and the greatest value of the weighted squares, in thousandths."""
     away = [
         (abs(flows[j] - plant.measure(j)) << 40, scaled_root(plant.variance[j]))
@@ -139,7 +139,7 @@ def verdict_of(low: int, high: int | None, dof: int, critical: str) -> str:
 
 
 @dataclass
-class Critical:
+class SeenCritical:
     """The critical values that a report sees, as the digits of thousandths; empty if there is none.
 
     Attributes
@@ -154,7 +154,7 @@ class Critical:
     nodal: str = ""
 
 
-def critical_values(data: bytes, refused: set[int]) -> list[Critical]:
+def critical_values(data: bytes, refused: set[int]) -> list[SeenCritical]:
     """Return the critical values that stand before each row of a session that asks for flows.
 
     Parameters
@@ -164,23 +164,23 @@ def critical_values(data: bytes, refused: set[int]) -> list[Critical]:
     refused : set of int
         The numbers of its refused records.
     """
-    found: list[Critical] = []
-    seen = Critical()
+    found: list[SeenCritical] = []
+    seen = SeenCritical()
     for record in read_records(data):
         fields = without_empty_end(record.fields)
         if not fields or record.number in refused:
             continue
         if fields[:2] == ("critical", "global"):
-            seen = Critical({**seen.whole, int(fields[2]): fields[3]}, seen.nodal)
+            seen = SeenCritical({**seen.whole, int(fields[2]): fields[3]}, seen.nodal)
         elif fields[:2] == ("critical", "nodal"):
-            seen = Critical(seen.whole, fields[2])
+            seen = SeenCritical(seen.whole, fields[2])
         elif fields[0] in ("report", "window", "component"):
             found.append(seen)
     return found
 
 
 def test_rows(
-    plant: Plant, low: int, high: int | None, dof: int, critical: Critical
+    plant: NumberedPlant, low: int, high: int | None, dof: int, critical: SeenCritical
 ) -> list[Values]:
     """Return the rows of the global test and of the nodal tests."""
     limit = critical.whole.get(dof, "")
@@ -214,7 +214,7 @@ def test_rows(
 
 
 @dataclass(frozen=True)
-class Solution:
+class BlockSolution:
     """Prices and whole flows of a block, wherever they come from.
 
     Attributes
@@ -229,7 +229,7 @@ class Solution:
     flows: list[int]
 
     @classmethod
-    def by_scipy(cls, plant: Plant) -> Solution:
+    def by_scipy(cls, plant: NumberedPlant) -> BlockSolution:
         """Return the solution of a plant by scipy."""
         prices = prices_of(plant)
         return cls(prices, flows_of(plant, prices))
@@ -242,12 +242,12 @@ def is_met(block: Block, g: int, h: int) -> bool:
 
 def solved_rows(
     block: Block,
-    solution: Solution | None = None,
+    solution: BlockSolution | None = None,
     *,
     least: bool = True,
     change: tuple[str, int] | None = None,
     sweeps: str = "",
-    critical: Critical | None = None,
+    critical: SeenCritical | None = None,
 ) -> list[Values]:
     """Return the rows of a block with another solution.
 
@@ -256,7 +256,7 @@ def solved_rows(
     block : Block
         A round of a report: its plant, measurements, classes and certificates are taken. Nothing of
         its solution is used.
-    solution : Solution, optional
+    solution : BlockSolution, optional
         The prices and flows; without them scipy solves for them.
     least : bool
         Whether streams have least bounds.
@@ -264,11 +264,11 @@ def solved_rows(
         A stream, and how much its flow is said to be higher than it is: such a report is wrong.
     sweeps : str
         The sweeps that are allowed; without them those of the block.
-    critical : Critical, optional
+    critical : SeenCritical, optional
         The critical values of its tests; without them there are no tests.
     """
     plant = plant_of(block)
-    solution = solution or Solution.by_scipy(plant)
+    solution = solution or BlockSolution.by_scipy(plant)
     prices, flows = solution.prices, solution.flows
     g, h = gap_of(plant, prices, flows)
     met = is_met(block, g, h)

@@ -29,7 +29,7 @@ def degrees(text: str) -> range:
     first, dash, last = text.partition("-")
     if not first.isdigit() or (dash and not last.isdigit()):
         raise argparse.ArgumentTypeError(
-            f"{text!r} is no number of degrees of freedom: write 4 or 1-20"
+            f"{text!r} isn't a number of degrees of freedom: write 4 or 1-20"
         )
     most = schema().limits["most_freedom"]
     if not 1 <= int(first) <= int(last or first) <= most:
@@ -45,7 +45,7 @@ def level(text: str) -> float:
         number = 0.0
     if not 0 < number < 1:
         raise argparse.ArgumentTypeError(
-            f"{text!r} is no level: write a number between 0 and 1, such as 0.05"
+            f"{text!r} isn't a level: write a number between 0 and 1, such as 0.05"
         )
     return number
 
@@ -53,7 +53,7 @@ def level(text: str) -> float:
 def tests(text: str) -> int:
     """Return a number of tests."""
     if not text.isdigit() or int(text) < 1:
-        raise argparse.ArgumentTypeError(f"{text!r} is no number of tests")
+        raise argparse.ArgumentTypeError(f"{text!r} isn't a number of tests")
     return int(text)
 
 

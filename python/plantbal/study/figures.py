@@ -22,8 +22,8 @@ from typing import Any
 from plantbal.amounts import GRAMS_A_TONNE, decimal_of, tonnes_text
 from plantbal.faults import Fault, InputFault, Place
 from plantbal.report.blocks import Block
-from plantbal.study.certificate import Solution, balanced, gap_of, is_met, members_of
-from plantbal.study.plant import Plant, grounds_of, plant_of
+from plantbal.study.certificate import BlockSolution, balanced, gap_of, is_met, members_of
+from plantbal.study.plant import NumberedPlant, grounds_of, plant_of
 from plantbal.study.prices import UNIT, prices_of, require_fit
 from plantbal.study.uncertified import Uncertified
 
@@ -55,7 +55,7 @@ class Figures:
             what = f"there is no unit {self.unit!r} of figures"
             raise InputFault(what, text=str(self.unit), remedy="say 'tonnes' or 'grams'")
 
-    def solution(self, block: Block) -> Solution:
+    def solution(self, block: Block) -> BlockSolution:
         """Return the figures as whole flows that balance, and prices.
 
         Raises
@@ -79,9 +79,9 @@ class Figures:
         g, h = gap_of(plant, prices, flows)
         if not is_met(block, g, h):
             raise _not_least(block, g, h, self.multipliers is not None)
-        return Solution(prices, flows)
+        return BlockSolution(prices, flows)
 
-    def _prices(self, block: Block, plant: Plant) -> list[int]:
+    def _prices(self, block: Block, plant: NumberedPlant) -> list[int]:
         """Return the multipliers as prices: one for each group, and 0 for that of ``env``."""
         assert self.multipliers is not None
         given = _numbers("multipliers", self.multipliers, plant.names, block)
@@ -137,14 +137,14 @@ def _number(value: Any, place: Place) -> Fraction | None:
         if isinstance(value, Real) and not isinstance(value, bool):
             return Fraction(float(value))
     except (Fault, OverflowError) as error:
-        said = error.what if isinstance(error, Fault) else f"it is {value}, which is no number"
+        said = error.what if isinstance(error, Fault) else f"it is {value}, which isn't a number"
         raise InputFault(said, place=place, text=str(value), remedy="give a number") from error
     what = f"it is {value!r}, of type {type(value).__name__}"
     raise InputFault(what, place=place, text=repr(value), remedy="give a number")
 
 
 def _require_near(
-    block: Block, plant: Plant, given: Mapping[str, Fraction], flows: list[int]
+    block: Block, plant: NumberedPlant, given: Mapping[str, Fraction], flows: list[int]
 ) -> None:
     """Return if flows that balance are near those that were given.
 

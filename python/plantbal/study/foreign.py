@@ -59,7 +59,7 @@ def run(options: argparse.Namespace) -> int:
         if name not in [stream["name"] for stream in block.streams]:
             raise Fault(f"there is no stream {name} in the report", remedy="correct its name")
         if not re.fullmatch(r"-?[0-9]+", grams):
-            raise Fault(f"{grams!r} is no whole number of grams", remedy="write 1500000")
+            raise Fault(f"{grams!r} isn't a whole number of grams", remedy="write 1500000")
         change = name, int(grams)
     write_text("-", csv_of(solved_rows(block, least=not options.without_least, change=change)))
     return ExitStatus.GOOD

@@ -40,7 +40,7 @@ class Labels:
 
 
 @dataclass
-class Plant:
+class NumberedPlant:
     """Nodes and streams of a block, by numbers.
 
     Attributes
@@ -95,12 +95,12 @@ class Plant:
         return value
 
 
-def plant_of(block: Block) -> Plant:
+def plant_of(block: Block) -> NumberedPlant:
     """Return the plant of a block."""
-    return Plant([node["name"] for node in block.nodes], block.streams)
+    return NumberedPlant([node["name"] for node in block.nodes], block.streams)
 
 
-def grounds_of(plant: Plant) -> dict[int, int]:
+def grounds_of(plant: NumberedPlant) -> dict[int, int]:
     """Return, for each group that measured streams touch, the group of its part with the price 0.
 
     It is that of ``env``, or one group of a part of the plant that they don't join to ``env``.
@@ -115,7 +115,7 @@ def grounds_of(plant: Plant) -> dict[int, int]:
     return {group: parts.of(group) for group in sorted(touched)}
 
 
-def free_groups(plant: Plant) -> dict[int, int]:
+def free_groups(plant: NumberedPlant) -> dict[int, int]:
     """Return a number for each group whose price is free."""
     free = [group for group, ground in grounds_of(plant).items() if group != ground]
     return {group: place for place, group in enumerate(free)}

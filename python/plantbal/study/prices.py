@@ -7,7 +7,7 @@ whole numbers until it is exact to its unit.
 from __future__ import annotations
 
 from plantbal.faults import Fault, ToolMissing
-from plantbal.study.plant import Plant, free_groups
+from plantbal.study.plant import NumberedPlant, free_groups
 
 # Prices are in units of 2^-56 per gram.
 UNIT = 2**56
@@ -17,7 +17,7 @@ MOST_DUAL = 2**112
 MOST_REFINEMENTS = 40
 
 
-def prices_of(plant: Plant) -> list[int]:
+def prices_of(plant: NumberedPlant) -> list[int]:
     """Return the multipliers of the balances as prices, exact to their unit if floats allow it.
 
     Raises
@@ -73,7 +73,7 @@ def prices_of(plant: Plant) -> list[int]:
     return found
 
 
-def require_fit(plant: Plant, prices: list[int]) -> None:
+def require_fit(plant: NumberedPlant, prices: list[int]) -> None:
     """Return if the prices fit.
 
     Raises
@@ -89,7 +89,7 @@ def require_fit(plant: Plant, prices: list[int]) -> None:
 
 
 def imbalances(
-    plant: Plant, between: list[tuple[int, int, int]], at: dict[int, int], prices: list[int]
+    plant: NumberedPlant, between: list[tuple[int, int, int]], at: dict[int, int], prices: list[int]
 ) -> list[int]:
     """Return what the flows of the prices leave over in each free group, in units of 2^-56
     grams."""
@@ -106,7 +106,7 @@ def imbalances(
     return left
 
 
-def dual_flow(plant: Plant, prices: list[int], j: int) -> int:
+def dual_flow(plant: NumberedPlant, prices: list[int], j: int) -> int:
     """Return the flow that the prices give a measured stream, in units of 2^-56 grams."""
     one, other = plant.ends[j]
     return UNIT * plant.measure(j) + plant.variance[j] * (prices[other] - prices[one])

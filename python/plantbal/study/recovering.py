@@ -19,7 +19,7 @@ from plantbal.report.chart import ENDINGS
 from plantbal.report.output import Output, read_whole
 from plantbal.statuses import ExitStatus
 from plantbal.study.recovery import (
-    Balance,
+    ComponentBalance,
     Share,
     balances_of,
     mass_of,
@@ -142,7 +142,7 @@ def _check_names(blocks: Sequence[Block], names: Sequence[str]) -> None:
             )
 
 
-def _not_known(balances: Sequence[Balance]) -> Iterator[str]:
+def _not_known(balances: Sequence[ComponentBalance]) -> Iterator[str]:
     """Give the components of which nothing determines what came in, with the periods."""
     for component in dict.fromkeys(balance.block.component for balance in balances):
         own = [b for b in balances if b.block.component == component and b.unknown]
@@ -153,7 +153,7 @@ def _not_known(balances: Sequence[Balance]) -> Iterator[str]:
             yield f"{what} known there: assay it, or say --feed STREAM, such as a mill's feed"
 
 
-def _exact(balances: Sequence[Balance]) -> Iterator[str]:
+def _exact(balances: Sequence[ComponentBalance]) -> Iterator[str]:
     """Give the periods whose flows count as exact, since their report isn't there."""
     without = list(dict.fromkeys(each.block.period for each in balances if each.mass is None))
     if without:
@@ -186,7 +186,9 @@ def run(options: argparse.Namespace) -> int:
     blocks = [each for each in balances_of(output, options.component) if each.ended]
     _check_names(blocks, [*options.feed, *(options.product if options.feed else ())])
     within = options.product if options.feed else ()
-    balances = [Balance(each, options.feed, within, mass=mass_of(output, each)) for each in blocks]
+    balances = [
+        ComponentBalance(each, options.feed, within, mass=mass_of(output, each)) for each in blocks
+    ]
     shares = [share for balance in balances for share in balance.shares()]
     if options.product:
         products_of(shares, options.product)

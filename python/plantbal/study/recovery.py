@@ -64,7 +64,7 @@ class Share:
         return (self.grade - self.assay) / self.assay_sd if self.assay_sd else _NAN
 
 
-class Balance:
+class ComponentBalance:
     """A balance of a component, and how what is known of it answers to each assay and meter.
 
     What a stream carries is its grade times its flow as it is reported, so it answers to assays as
@@ -202,7 +202,7 @@ def _way(from_: str, to: str, name: str) -> str:
     return "in" if from_ == ENV else "out" if to == ENV else ""
 
 
-def together(balances: Sequence[Balance]) -> list[Share]:
+def together(balances: Sequence[ComponentBalance]) -> list[Share]:
     """Return the same of all periods of a component together; errors of periods are independent.
 
     A stream that isn't known in some period has no figure; one that isn't in service in a period
@@ -241,7 +241,7 @@ def mass_of(output: Output, balance: Block) -> Block | None:
     return found
 
 
-def strange_gains(balance: Balance) -> Iterator[str]:
+def strange_gains(balance: ComponentBalance) -> Iterator[str]:
     """Give the tanks whose gain has another grade than what flows to and from them.
 
     The difference of what a tank holds at the ends is small beside what it holds, and so its grade

@@ -18,7 +18,7 @@ from plantbal.report.frames import whole_numbers
 from plantbal.report.output import Output
 from plantbal.runs import check, run, session_bytes
 from plantbal.session import Session
-from plantbal.study.certificate import Critical, critical_values, solved_rows
+from plantbal.study.certificate import SeenCritical, critical_values, solved_rows
 from plantbal.study.figures import Figures
 from plantbal.study.uncertified import Uncertified
 
@@ -27,7 +27,7 @@ if TYPE_CHECKING:
 
 
 @dataclass(frozen=True)
-class Task:
+class EngineTask:
     """What an engine is asked to solve: the balances of one report.
 
     Attributes
@@ -46,7 +46,7 @@ class Task:
     streams: pandas.DataFrame
 
 
-Engine = Callable[[Task], Any]
+Engine = Callable[[EngineTask], Any]
 
 
 def solve(
@@ -69,7 +69,7 @@ def solve(
     session : Session, bytes, str or Path
         The session, its bytes, or a file.
     engine : {'scipy'} or callable
-        What solves. A callable gets a `Task` for each report, and returns the flows in grams by
+        What solves. A callable gets a `EngineTask` for each report, and returns the flows in grams by
         stream, or these and the multipliers by node, as `certify` takes them.
     tests : bool
         Whether the global and the nodal tests are made.
@@ -230,7 +230,7 @@ def _unswept(
     return raw, data
 
 
-def _critical(output: Output, data: bytes, tests: bool) -> list[Critical | None]:
+def _critical(output: Output, data: bytes, tests: bool) -> list[SeenCritical | None]:
     """Return the critical values of each block; None without tests."""
     if not tests:
         return [None] * len(output.blocks_in_order)
@@ -275,7 +275,7 @@ def _asked(engine: Engine, block: Block) -> Figures:
         numbers = [int(row[head]) if row["value"] else None for row in block.streams]
         data[head] = whole_numbers(numbers)
     nodes = tuple(node["name"] for node in block.nodes)
-    answer = engine(Task(block.subject, nodes, pandas.DataFrame(data)))
+    answer = engine(EngineTask(block.subject, nodes, pandas.DataFrame(data)))
     flows, multipliers = answer if isinstance(answer, tuple) else (answer, None)
     for figures in (flows, {} if multipliers is None else multipliers):
         if not hasattr(figures, "items"):

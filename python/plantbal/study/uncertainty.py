@@ -17,7 +17,7 @@ from plantbal.inert import inert_frame
 from plantbal.report.blocks import Block, Values, last_blocks
 from plantbal.report.output import Output, read_whole
 from plantbal.statuses import ExitStatus
-from plantbal.study.plant import Labels, Plant, plant_of
+from plantbal.study.plant import Labels, NumberedPlant, plant_of
 
 if TYPE_CHECKING:
     import pandas
@@ -189,7 +189,7 @@ def _greatest(parts: Any) -> list[Any]:
     return found
 
 
-def plant_in(block: Block) -> Plant:
+def plant_in(block: Block) -> NumberedPlant:
     """Return the plant of a block, or say what is wrong with it."""
     try:
         plant = plant_of(block)
@@ -202,7 +202,7 @@ def plant_in(block: Block) -> Plant:
     return plant
 
 
-def _weights(plant: Plant, asked: list[Values]) -> Any:
+def _weights(plant: NumberedPlant, asked: list[Values]) -> Any:
     """Return for each stream that is asked the measured ones whose flows add up to its own.
 
     A row is a measured stream, a column one that is asked, and the entries are signs. A measured
@@ -223,7 +223,7 @@ def _weights(plant: Plant, asked: list[Values]) -> Any:
     return sparse.csc_matrix((signs, (rows, columns)), shape=shape)
 
 
-def _members(plant: Plant, stream: Values) -> list[tuple[int, int]]:
+def _members(plant: NumberedPlant, stream: Values) -> list[tuple[int, int]]:
     """Return the measured streams, with signs, whose flows add up to that of a stream."""
     name = stream["name"]
     j = plant.place[name]
@@ -239,12 +239,12 @@ def _members(plant: Plant, stream: Values) -> list[tuple[int, int]]:
     return others
 
 
-def answers_to(plant: Plant, variance: Any, weights: Any) -> Any:
+def answers_to(plant: NumberedPlant, variance: Any, weights: Any) -> Any:
     """Return how each flow that is asked answers to one more gram of each meter.
 
     Parameters
     ----------
-    plant : Plant
+    plant : NumberedPlant
         The plant.
     variance : array
         The variances of the measured streams.
@@ -278,7 +278,7 @@ def answers_to(plant: Plant, variance: Any, weights: Any) -> Any:
     return weights.toarray() - ends @ (scale @ solver.solve(right.toarray()))
 
 
-def _columns(plant: Plant) -> list[int]:
+def _columns(plant: NumberedPlant) -> list[int]:
     """Return for each node the number of its merged node's balance; -1 is one that isn't asked.
 
     The balance of env follows from the others. In a part of the plant that nothing joins to env,
@@ -293,7 +293,7 @@ def _columns(plant: Plant) -> list[int]:
     return [numbers.get(group, -1) for group in plant.group]
 
 
-def _incidence(plant: Plant) -> Any:
+def _incidence(plant: NumberedPlant) -> Any:
     """Return where each measured stream enters (1) and leaves (-1) the merged nodes.
 
     A row is a measured stream, a column a merged node.
@@ -312,7 +312,7 @@ def _incidence(plant: Plant) -> Any:
     return sparse.csr_matrix((signs, (rows, columns)), shape=shape)
 
 
-def _together(plant: Plant, variance: Any) -> Any:
+def _together(plant: NumberedPlant, variance: Any) -> Any:
     """Return which balances are added up: a column is a merged node, with ones at those that are.
 
     They are its own, and those of the nodes that strong streams hang on it, in the spanning forest

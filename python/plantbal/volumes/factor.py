@@ -20,7 +20,8 @@ from collections.abc import Sequence
 from dataclasses import dataclass
 from decimal import ROUND_HALF_UP, Context, Decimal, localcontext
 
-from plantbal.faults import Fault
+from plantbal.causes import CausedFault
+from plantbal.volumes.causes import VolumeCause
 from plantbal.volumes.groups import COEFFICIENTS, Expansion, Group, check_temperature, expansion
 
 # Whole figures of amounts have some 20 digits; nothing here comes near to losing one.
@@ -37,7 +38,7 @@ class Rounding(enum.Enum):
 
 
 @dataclass(frozen=True)
-class Factor:
+class VolumeFactor:
     """A volume correction factor.
 
     Attributes
@@ -56,7 +57,7 @@ class Factor:
     source: str
 
 
-NO_CHANGE = Factor(Decimal(1), Decimal(0), Decimal(0), "")
+NO_CHANGE = VolumeFactor(Decimal(1), Decimal(0), Decimal(0), "")
 
 
 def to_nearest(number: Decimal, step: Decimal) -> Decimal:
@@ -77,7 +78,7 @@ def petroleum(
     temperature: Decimal,
     rounding: Rounding = Rounding.PROCEDURE,
     coefficient: Decimal | None = None,
-) -> Factor:
+) -> VolumeFactor:
     """Return the factor of tables 54A to 54D.
 
     Parameters
@@ -108,7 +109,7 @@ def petroleum(
             rounded = Expansion(to_nearest(found.alpha, Decimal("1e-7")), found.slope)
             by = to_nearest(temperature, Decimal("0.05")) - STANDARD
             value = five_figures(_factor(rounded, by).value)
-        return Factor(value, exact.by_temperature, exact.by_density, f"54{group.letter}")
+        return VolumeFactor(value, exact.by_temperature, exact.by_density, f"54{group.letter}")
 
 
 def _expansion(group: Group, density: Decimal, coefficient: Decimal | None) -> Expansion:
@@ -116,18 +117,20 @@ def _expansion(group: Group, density: Decimal, coefficient: Decimal | None) -> E
         return expansion(group, density)
     low, high = COEFFICIENTS
     if coefficient is None or not low <= coefficient <= high:
-        said = "no coefficient" if coefficient is None else f"no coefficient {coefficient}"
+        what = VolumeCause.NO_COEFFICIENT()
+        if coefficient is not None:
+            what = VolumeCause.COEFFICIENT_OUTSIDE(coefficient=coefficient)
         remedy = f"write the product's coefficient of expansion, {low} to {high} a degree"
-        raise Fault(f"table 54C has {said}", text=str(coefficient or ""), remedy=remedy)
+        raise CausedFault(what, text=str(coefficient or ""), remedy=remedy)
     return Expansion(coefficient, Decimal(0))
 
 
-def _factor(of: Expansion, by: Decimal) -> Factor:
+def _factor(of: Expansion, by: Decimal) -> VolumeFactor:
     """Return the factor at so many degrees above 15, and its derivatives."""
     ad = of.alpha * by
     value = (-ad * (1 + _CURVE * ad)).exp()
     steep = -(1 + 2 * _CURVE * ad) * value  # the derivative by alpha d
-    return Factor(value, steep * of.alpha, steep * by * of.slope, "")
+    return VolumeFactor(value, steep * of.alpha, steep * by * of.slope, "")
 
 
 @dataclass(frozen=True)
@@ -145,7 +148,7 @@ class FactorTable:
     product: str
     points: Sequence[tuple[Decimal, Decimal]]
 
-    def at(self, temperature: Decimal) -> Factor:
+    def at(self, temperature: Decimal) -> VolumeFactor:
         """Return the factor at a temperature, with the steeper slope if it is at a point.
 
         Raises
@@ -160,11 +163,13 @@ class FactorTable:
         ]
         if not beside:
             first, last = self.points[0][0], self.points[-1][0]
-            what = f"the factors of {self.product} go from {first} to {last} °C, and not to "
-            what += f"{temperature} °C"
-            raise Fault(what, text=str(temperature), remedy="add a row to the sheet factors")
+            what = VolumeCause.OUTSIDE_OF_FACTORS(
+                name=self.product, first=first, last=last, at=temperature
+            )
+            remedy = "add a row to the sheet factors"
+            raise CausedFault(what, text=str(temperature), remedy=remedy)
         with localcontext(CONTEXT):
             slopes = [(high[1] - low[1]) / (high[0] - low[0]) for low, high in beside]
             low, _ = beside[0]
             value = low[1] + slopes[0] * (temperature - low[0])
-            return Factor(value, max(slopes, key=abs), Decimal(0), "table")
+            return VolumeFactor(value, max(slopes, key=abs), Decimal(0), "table")

@@ -13,7 +13,7 @@ In table C the coefficient is that of the one liquid, and somebody has measured 
     gasolines               up to 770              K0 = 346.4228, K1 = 0.4388
     between                 770 to 787.5           A = -0.00336312, K0 = 2680.3206
     jet fuels, kerosenes    787.5 to 838.5         K0 = 594.5418
-    gas oils, fuel oils     from 838.5             K0 = 186.9696, K1 = 0.48618
+    gas oils, fuel oils     from 838.5             K0 = 186.9696, K1 = 0.4862
 """
 
 from __future__ import annotations
@@ -22,7 +22,8 @@ import enum
 from dataclasses import dataclass
 from decimal import Decimal
 
-from plantbal.faults import Fault
+from plantbal.causes import CausedFault
+from plantbal.volumes.causes import VolumeCause
 
 
 class Group(enum.Enum):
@@ -85,7 +86,7 @@ RANGES: dict[Group, tuple[_Range, ...]] = {
         _range("0", "346.4228", "0.4388"),
         _range("770", "2680.3206", "0", "-0.00336312", is_open=True),
         _range("787.5", "594.5418"),
-        _range("838.5", "186.9696", "0.48618"),
+        _range("838.5", "186.9696", "0.4862"),
     ),
     Group.LUBRICANTS: (_range("0", "0", "0.6278"),),
 }
@@ -128,12 +129,12 @@ def check_temperature(group: Group, density: Decimal, temperature: Decimal) -> N
     if group is not Group.COEFFICIENT:
         low, high = DENSITIES[group]
         if not low <= density <= high:
-            what = f"table 54{group.letter} has no liquid of {density} kg/m3 at 15 °C"
+            what = VolumeCause.DENSITY_OUTSIDE(letter=group.letter, density=density)
             remedy = f"it goes from {low} to {high}: name the product's own group, or its factors"
-            raise Fault(what, text=str(density), remedy=remedy)
+            raise CausedFault(what, text=str(density), remedy=remedy)
     if group in (Group.CRUDE, Group.PRODUCTS):
         hottest = next((most for below, most in _HOTTEST if density < below), HOTTEST)
     if not COLDEST <= temperature <= hottest:
-        what = f"table 54{group.letter} has no {temperature} °C of a liquid of {density} kg/m3"
+        what = VolumeCause.TEMPERATURE_OUTSIDE(letter=group.letter, at=temperature, density=density)
         remedy = f"it goes from {COLDEST} to {hottest} °C: look at the unit of the temperature"
-        raise Fault(what, text=str(temperature), remedy=remedy)
+        raise CausedFault(what, text=str(temperature), remedy=remedy)

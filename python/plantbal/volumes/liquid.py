@@ -5,21 +5,22 @@ from __future__ import annotations
 from dataclasses import dataclass, field
 from decimal import Decimal
 
-from plantbal.faults import Fault
+from plantbal.causes import CausedFault
+from plantbal.volumes.causes import VolumeCause
 from plantbal.volumes.factor import (
     NO_CHANGE,
     STANDARD,
-    Factor,
     FactorTable,
     Rounding,
+    VolumeFactor,
     petroleum,
 )
 from plantbal.volumes.groups import Group
-from plantbal.volumes.standard import Instrument, Standard, at_standard, by_table
+from plantbal.volumes.standard import DensityInstrument, Standard, at_standard, by_table
 
 
 @dataclass(frozen=True)
-class Measured:
+class MeasuredFigure:
     """A figure that was measured, and its standard deviation in the same unit."""
 
     value: Decimal
@@ -50,7 +51,7 @@ class Product:
     table: FactorTable | None = None
     rounding: Rounding = Rounding.PROCEDURE
 
-    def factor(self, density: Decimal, temperature: Decimal) -> Factor:
+    def factor(self, density: Decimal, temperature: Decimal) -> VolumeFactor:
         """Return the factor at a temperature, of a density at 15 degrees in kg/m3.
 
         Raises
@@ -64,7 +65,7 @@ class Product:
             raise self._unknown()
         return petroleum(self.group, density, temperature, self.rounding, self.coefficient)
 
-    def standard(self, observed: Decimal, temperature: Decimal, by: Instrument) -> Standard:
+    def standard(self, observed: Decimal, temperature: Decimal, by: DensityInstrument) -> Standard:
         """Return the density at 15 degrees of one that was observed at another temperature.
 
         Raises
@@ -79,10 +80,10 @@ class Product:
         given = self.rounding, self.coefficient
         return at_standard(self.group, observed, temperature, by, *given)
 
-    def _unknown(self) -> Fault:
-        what = f"nothing says how {self.name} expands"
+    def _unknown(self) -> CausedFault:
+        what = VolumeCause.EXPANSION_UNKNOWN(name=self.name)
         remedy = "give it a group in the sheet products (crude, products, lubricants), or rows in "
-        return Fault(what, text=self.name, remedy=remedy + "the sheet factors")
+        return CausedFault(what, text=self.name, remedy=remedy + "the sheet factors")
 
 
 @dataclass(frozen=True)
@@ -91,23 +92,23 @@ class Sample:
 
     Attributes
     ----------
-    density : Measured
+    density : MeasuredFigure
         In kg/m3.
     at : Decimal or None
         The temperature at which it was taken; None if it is the standard one, or if no
         temperature plays a part.
-    by : Instrument or None
+    by : DensityInstrument or None
         By what it was taken, if that was at another temperature.
     source : str
         Where it stands.
     """
 
-    density: Measured
+    density: MeasuredFigure
     at: Decimal | None = None
-    by: Instrument | None = None
+    by: DensityInstrument | None = None
     source: str = ""
 
-    def at_15(self, product: Product | None) -> tuple[Measured, str]:
+    def at_15(self, product: Product | None) -> tuple[MeasuredFigure, str]:
         """Return the density at 15 degrees, and the table that gave it; its own if none did.
 
         Raises
@@ -118,18 +119,20 @@ class Sample:
         if self.at is None or self.at == STANDARD:
             return self.density, ""
         if product is None:
-            what = f"the density {self.density.value} kg/m3 was taken at {self.at} °C"
+            what = VolumeCause.DENSITY_OF_NO_PRODUCT(density=self.density.value, at=self.at)
             remedy = (
                 "name the product in the sheets streams or tanks, and say in the sheet products"
             )
-            raise Fault(what, text=str(self.at), remedy=f"{remedy} how it expands")
+            raise CausedFault(what, text=str(self.at), remedy=f"{remedy} how it expands")
         if self.by is None and product.table is None:
-            what = f"the density {self.density.value} kg/m3 was taken at {self.at} °C, and by what "
+            what = VolumeCause.INSTRUMENT_UNTOLD(density=self.density.value, at=self.at)
             remedy = "write hydrometer or densitometer into its column by"
-            raise Fault(what + "isn't said", text=str(self.at), remedy=remedy)
-        found = product.standard(self.density.value, self.at, self.by or Instrument.DENSITOMETER)
+            raise CausedFault(what, text=str(self.at), remedy=remedy)
+        found = product.standard(
+            self.density.value, self.at, self.by or DensityInstrument.DENSITOMETER
+        )
         sd = abs(found.by_density) * self.density.sd
-        return Measured(found.density, sd), found.source
+        return MeasuredFigure(found.density, sd), found.source
 
 
 @dataclass(frozen=True)
@@ -142,13 +145,13 @@ class Liquid:
         Its density.
     product : Product or None
         The product; without it no volume is corrected.
-    temperature : Measured or None
+    temperature : MeasuredFigure or None
         The temperature of the volume; without it the density is taken as that of the volume.
     """
 
     sample: Sample
     product: Product | None = None
-    temperature: Measured | None = None
+    temperature: MeasuredFigure | None = None
     _found: list[Weight] = field(default_factory=list, repr=False, compare=False)
 
     def weight(self) -> Weight:
@@ -170,11 +173,11 @@ class Weight:
 
     Attributes
     ----------
-    density : Measured
+    density : MeasuredFigure
         The density at 15 degrees, or at the temperature of the volume if nothing is corrected.
     density_by : str
         The table that gave it; empty if it is what was taken.
-    factor : Factor
+    factor : VolumeFactor
         The volume correction factor.
     kilograms : Decimal
         What a cubic metre weighs.
@@ -182,9 +185,9 @@ class Weight:
         The standard deviations of that by the error of the density, and by that of the temperature.
     """
 
-    density: Measured
+    density: MeasuredFigure
     density_by: str
-    factor: Factor
+    factor: VolumeFactor
     kilograms: Decimal
     by_density: Decimal
     by_temperature: Decimal
@@ -200,9 +203,9 @@ def _weight(liquid: Liquid) -> Weight:
     factor, sd = NO_CHANGE, Decimal(0)
     if liquid.temperature is not None:
         if liquid.product is None:
-            what = f"a volume has {liquid.temperature.value} °C, and no product is named"
+            what = VolumeCause.TEMPERATURE_OF_NO_PRODUCT(at=liquid.temperature.value)
             remedy = "name it in the sheets streams or tanks, or leave the temperature out"
-            raise Fault(what, text=str(liquid.temperature.value), remedy=remedy)
+            raise CausedFault(what, text=str(liquid.temperature.value), remedy=remedy)
         factor = liquid.product.factor(density.value, liquid.temperature.value)
         sd = abs(density.value * factor.by_temperature) * liquid.temperature.sd
     steep = factor.value + density.value * factor.by_density

@@ -17,7 +17,8 @@ import enum
 from dataclasses import dataclass
 from decimal import Decimal, localcontext
 
-from plantbal.faults import Fault
+from plantbal.causes import CausedFault
+from plantbal.volumes.causes import VolumeCause
 from plantbal.volumes.factor import CONTEXT, STANDARD, FactorTable, Rounding, petroleum, to_nearest
 from plantbal.volumes.groups import Group
 
@@ -28,7 +29,7 @@ _NEAR_A_BORDER = Decimal("0.05")
 _GLASS = Decimal("0.000023"), Decimal("0.00000002")
 
 
-class Instrument(enum.Enum):
+class DensityInstrument(enum.Enum):
     """By what a density was taken."""
 
     HYDROMETER = "hydrometer"
@@ -64,7 +65,7 @@ def at_standard(
     group: Group,
     observed: Decimal,
     temperature: Decimal,
-    instrument: Instrument,
+    instrument: DensityInstrument,
     rounding: Rounding = Rounding.PROCEDURE,
     coefficient: Decimal | None = None,
 ) -> Standard:
@@ -78,7 +79,7 @@ def at_standard(
         The density that was read, in kg/m3.
     temperature : Decimal
         The temperature at which it was read, in degrees Celsius.
-    instrument : Instrument
+    instrument : DensityInstrument
         By what it was read.
     rounding : Rounding
         How it is rounded.
@@ -94,7 +95,7 @@ def at_standard(
         if rounding is Rounding.PROCEDURE:
             observed = to_nearest(observed, Decimal("0.5"))
             temperature = to_nearest(temperature, Decimal("0.05"))
-        read = observed * (glass(temperature) if instrument is Instrument.HYDROMETER else 1)
+        read = observed * (glass(temperature) if instrument is DensityInstrument.HYDROMETER else 1)
         found = read
         for _ in range(_STEPS):
             factor = petroleum(group, found, temperature, Rounding.NONE, coefficient)
@@ -102,8 +103,8 @@ def at_standard(
             if abs(found - before) < _NEAR:
                 break
         if abs(found - before) >= _NEAR_A_BORDER:
-            what = f"no density at 15 °C gives {observed} kg/m3 at {temperature} °C"
-            raise Fault(what, text=str(observed), remedy="look at both figures")
+            what = VolumeCause.NO_STANDARD_DENSITY(density=observed, at=temperature)
+            raise CausedFault(what, text=str(observed), remedy="look at both figures")
         # found = read / F(found), so its derivative by read is 1 / (F + found F')
         slope = (read / observed) / (factor.value + found * factor.by_density)
         if rounding is Rounding.PROCEDURE:

@@ -20,9 +20,10 @@ from __future__ import annotations
 from dataclasses import dataclass
 from decimal import Decimal, localcontext
 
-from plantbal.faults import Fault
+from plantbal.causes import CausedFault
+from plantbal.volumes.causes import VolumeCause
 from plantbal.volumes.factor import CONTEXT
-from plantbal.volumes.liquid import Liquid, Measured, Weight
+from plantbal.volumes.liquid import Liquid, MeasuredFigure, Weight
 
 
 @dataclass(frozen=True)
@@ -31,7 +32,7 @@ class Depth:
 
     Attributes
     ----------
-    level : Measured
+    level : MeasuredFigure
         The level, in mm.
     volume : Decimal
         The volume by the table, in m3.
@@ -39,7 +40,7 @@ class Depth:
         What a millimetre more holds, in m3.
     """
 
-    level: Measured
+    level: MeasuredFigure
     volume: Decimal
     slope: Decimal
 
@@ -55,7 +56,7 @@ class Roof:
 
     Attributes
     ----------
-    mass : Measured
+    mass : MeasuredFigure
         Its mass, in kg.
     rests, floats : Decimal
         The critical zone, in mm: up to here it stands on its legs, and from here on it floats.
@@ -63,12 +64,12 @@ class Roof:
         The standard deviation of what it displaces within the zone, in kg; None refuses the zone.
     """
 
-    mass: Measured
+    mass: MeasuredFigure
     rests: Decimal
     floats: Decimal
     zone: Decimal | None = None
 
-    def displaced(self, level: Decimal) -> Measured:
+    def displaced(self, level: Decimal) -> MeasuredFigure:
         """Return the mass that it displaces at a level, in kg.
 
         Raises
@@ -77,16 +78,16 @@ class Roof:
             If the level is in the critical zone, and there is no error for it.
         """
         if level <= self.rests:
-            return Measured(Decimal(0))
+            return MeasuredFigure(Decimal(0))
         if level >= self.floats:
             return self.mass
         if self.zone is None:
-            what = f"{level} mm is in the critical zone of the roof, {self.rests} to {self.floats} "
+            what = VolumeCause.IN_CRITICAL_ZONE(level=level, rests=self.rests, floats=self.floats)
             remedy = "take the dip where the roof floats, or stands; or give the tank a zone error"
-            raise Fault(f"{what}mm", text=str(level), remedy=remedy)
+            raise CausedFault(what, text=str(level), remedy=remedy)
         part = (level - self.rests) / (self.floats - self.rests)
         sd = (part**2 * self.mass.sd**2 + self.zone**2).sqrt()
-        return Measured(part * self.mass.value, sd)
+        return MeasuredFigure(part * self.mass.value, sd)
 
 
 @dataclass(frozen=True)
@@ -132,7 +133,7 @@ class Content:
         Its mass in grams, and the variance of that.
     product : Decimal
         The volume of what isn't water, with what the roof displaces, in m3.
-    roof : Measured
+    roof : MeasuredFigure
         The mass that the roof displaces, in kg.
     standard : Decimal
         The volume at 15 degrees of what is there, in m3.
@@ -143,7 +144,7 @@ class Content:
     grams: Decimal
     variance: Decimal
     product: Decimal
-    roof: Measured
+    roof: MeasuredFigure
     standard: Decimal
     weight: Weight
 
@@ -154,13 +155,15 @@ def _content(of: Gauging) -> Content:
     product = of.depth.volume - water
     if product < 0:
         assert of.water is not None
-        what = f"{of.water.level.value} mm of water hold {water} m3, and the tank {of.depth.volume}"
-        raise Fault(f"{what} m3 in all", text=str(water), remedy="look at both levels")
-    roof = of.roof.displaced(of.depth.level.value) if of.roof else Measured(Decimal(0))
+        level = of.water.level.value
+        what = VolumeCause.MORE_WATER_THAN_TANK(level=level, water=water, volume=of.depth.volume)
+        raise CausedFault(what, text=str(water), remedy="look at both levels")
+    roof = of.roof.displaced(of.depth.level.value) if of.roof else MeasuredFigure(Decimal(0))
     kilograms = product * weight.kilograms - roof.value
     if kilograms < 0:
-        what = f"{product} m3 of product weigh less than the roof that floats on them"
-        raise Fault(what, text=str(roof.value), remedy="look at its mass and its critical zone")
+        what = VolumeCause.ROOF_TOO_HEAVY(volume=product)
+        remedy = "look at its mass and its critical zone"
+        raise CausedFault(what, text=str(roof.value), remedy=remedy)
     by_level = weight.kilograms**2 * (of.depth.sd**2 + water_sd**2)
     variance = by_level + product**2 * weight.variance + roof.sd**2
     standard = kilograms / weight.density.value

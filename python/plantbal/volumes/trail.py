@@ -21,7 +21,7 @@ from decimal import Decimal, localcontext
 
 from plantbal.volumes.batch import Batch
 from plantbal.volumes.factor import CONTEXT
-from plantbal.volumes.liquid import Liquid, Measured, Weight
+from plantbal.volumes.liquid import Liquid, MeasuredFigure, Weight
 from plantbal.volumes.tank import Content, Gauging
 
 _TANK = ("level", "level_sd", "volume", "water", "water_sd", "water_volume", "roof", "roof_sd")
@@ -127,7 +127,7 @@ def plain(number: Decimal) -> str:
     return text.rstrip("0").rstrip(".") if "." in text else text
 
 
-def _measured(head: str, of: Measured) -> dict[str, str]:
+def _measured(head: str, of: MeasuredFigure) -> dict[str, str]:
     return {head: plain(of.value), f"{head}_sd": plain(of.sd)}
 
 

@@ -6,11 +6,13 @@ from fractions import Fraction
 
 from plantbal.workbook.cells import Reader
 from plantbal.workbook.plant import StreamRow
-from plantbal.workbook.tables import Row
+from plantbal.workbook.tables import SheetRow
 from plantbal.workbook.units import AMOUNTS
 
 
-def amount_of(reader: Reader, row: Row, stream: StreamRow) -> tuple[Fraction | None, int, bool]:
+def amount_of(
+    reader: Reader, row: SheetRow, stream: StreamRow
+) -> tuple[Fraction | None, int, bool]:
     """Return the density of a row, or of its stream, its grams, and whether they are wet."""
     density = reader.density(row["density"]) or stream.density
     unit = reader.unit(row["unit"], AMOUNTS, stream.unit or "t")

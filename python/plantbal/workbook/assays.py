@@ -5,9 +5,10 @@ from __future__ import annotations
 import math
 from fractions import Fraction
 
+from plantbal.workbook.causes import SheetCause
 from plantbal.workbook.plant import PlantReader
 from plantbal.workbook.sheets import Cell
-from plantbal.workbook.tables import Row, Tables
+from plantbal.workbook.tables import SheetRow, Tables
 from plantbal.workbook.units import GRADES
 
 
@@ -53,7 +54,7 @@ class Assays:
                 cells |= {head: row[head] for head in ("component", "stream", "period")}
                 self.found.append((("assay", *fields), cells))
 
-    def _assay(self, row: Row, exact: Fraction, deviation: Fraction) -> tuple[int, int]:
+    def _assay(self, row: SheetRow, exact: Fraction, deviation: Fraction) -> tuple[int, int]:
         """Return a grade in whole parts per million, and its variance in squares of them.
 
         Raises
@@ -64,11 +65,13 @@ class Assays:
         grade, component = row.text("grade"), row.text("component")
         if not 0 <= exact <= GRADES["%"] * 100:
             remedy = "write a grade from 0 to 100 %, or look at its unit"
-            raise self.reader.fault(row["grade"], f"{grade} is no grade", remedy, "grade")
+            raise self.reader.fault(
+                row["grade"], SheetCause.NOT_A_GRADE(text=grade), remedy, "grade"
+            )
         ppm, variance = round(exact), math.ceil(deviation * deviation)
         if 4 * abs(exact - ppm) > deviation or variance > 2 * deviation * deviation:
-            what = f"{grade} with the error {row.text('error')} would become {ppm:,} ppm with an "
-            what += f"error of {math.isqrt(variance):,} ppm, since both are whole"
+            sd, error = math.isqrt(variance), row.text("error")
+            what = SheetCause.GRADE_TOO_FINE(text=grade, error=error, ppm=ppm, sd=sd)
             remedy = f"book a thousand times the grade, as of a component {component}_mg: what its "
             remedy += "balance calls grams are milligrams then; or write both in whole ppm"
             raise self.reader.fault(row["grade"], what, remedy, "grade")

@@ -24,7 +24,7 @@ MOST_VARIANCE = schema().limits["most_row_variance"]
 
 
 @dataclass(frozen=True, slots=True)
-class Span:
+class PeriodDays:
     """A period: its first and its last day, as numbers."""
 
     first: int
@@ -42,7 +42,7 @@ def share_of(excess: int, days: range, day: int) -> int:
     return excess * (at + 1) // len(days) - excess * at // len(days)
 
 
-def share_at(excess: int, spans: Iterable[Span], service: Service, day: int) -> int:
+def share_at(excess: int, spans: Iterable[PeriodDays], service: Service, day: int) -> int:
     """Return what a day bears by the first of some periods that it is in; 0 if it is in none."""
     for span in spans:
         if day in span.days(service):

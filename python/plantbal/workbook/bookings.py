@@ -6,11 +6,12 @@ import datetime
 
 from plantbal.estimates import estimate_id
 from plantbal.session import period_days
-from plantbal.workbook.base import MOST_VARIANCE, Span, share_at, error_said
+from plantbal.workbook.base import MOST_VARIANCE, PeriodDays, share_at, error_said
+from plantbal.workbook.causes import SheetCause
 from plantbal.workbook.cells import Error
 from plantbal.workbook.drying import Dry, MoistureReader
 from plantbal.workbook.measuring import Applied, Measuring
-from plantbal.workbook.periods import Periods
+from plantbal.workbook.periods import PeriodSheet
 from plantbal.workbook.plant import PlantReader, StreamRow
 from plantbal.workbook.sheets import Cell
 from plantbal.workbook.tables import Tables
@@ -25,7 +26,7 @@ class Bookings:
         The tables of the workbook.
     plant : PlantReader
         Its plant.
-    periods : Periods
+    periods : PeriodSheet
         The periods that a day may be in.
     moistures : MoistureReader
         The moistures, for what is wet.
@@ -42,7 +43,7 @@ class Bookings:
         self,
         tables: Tables,
         plant: PlantReader,
-        periods: Periods,
+        periods: PeriodSheet,
         moistures: MoistureReader,
         measuring: Measuring,
     ) -> None:
@@ -74,7 +75,7 @@ class Bookings:
         days = self.days.setdefault(stream.name, {})
         if day in days:
             other = str(days[day].place()).rstrip(":")
-            what = f"{stream.said} has a figure of {day} already ({other})"
+            what = SheetCause.FIGURE_TWICE(stream=stream.said, day=day, other=other)
             raise self.reader.fault(cell, what, "empty one of both")
         days[day] = cell
         figure = Dry(grams, error.variance(grams))
@@ -103,7 +104,7 @@ class Bookings:
 
         It can't be shared if a day is in two periods of which each would want its own shares.
         """
-        periods = [Span(*map(_ordinal, period_days(each))) for each in self.session.periods]
+        periods = [PeriodDays(*map(_ordinal, period_days(each))) for each in self.session.periods]
         for name, cell in self.plant.bases.items():
             stream = self.plant.streams.get(name)
             if stream is None or not stream.excess:
@@ -116,8 +117,10 @@ class Bookings:
                     for at in days
                 )
                 if days and sums != stream.excess:
-                    what = f"a base of {cell.text} is shared over the days of a period, and from "
-                    what += f"{_day(span.first)} to {_day(span.last)} days are in two periods"
+                    ends = _day(span.first), _day(span.last)
+                    what = SheetCause.BASE_OF_TWO_PERIODS(
+                        text=cell.text, first=ends[0], last=ends[1]
+                    )
                     remedy = f"write at most {error_said(MOST_VARIANCE)}, or ask for one of both"
                     self.tables.fault(cell, what, remedy, "base")
                     break

@@ -11,7 +11,9 @@ from fractions import Fraction
 from functools import lru_cache
 
 from plantbal import limits
-from plantbal.faults import Fault, InputFault
+from plantbal.causes import Case, CausedFault
+from plantbal.faults import Fault
+from plantbal.workbook.causes import SheetCause
 from plantbal.workbook.sheets import Cell, NoValue, Percent
 from plantbal.workbook.units import (
     AMOUNTS,
@@ -144,9 +146,9 @@ class Reader:
     divisor: int = 1
     rounded: dict[str, tuple[int, Cell, Fraction]] = field(default_factory=dict)
 
-    def fault(self, cell: Cell, what: str, remedy: str = "", head: str = "") -> InputFault:
+    def fault(self, cell: Cell, what: Case, remedy: str = "", head: str = "") -> CausedFault:
         """Return a fault at a cell."""
-        return InputFault(what, place=cell.place(head), text=cell.text, remedy=remedy)
+        return CausedFault(what, place=cell.place(head), text=cell.text, remedy=remedy)
 
     def is_missing(self, cell: Cell) -> bool:
         """Say whether nothing stands in a cell, or a word for nothing."""
@@ -163,15 +165,15 @@ class Reader:
             raise self.fault(cell, *self._no_number(cell), head)
         return self.number_of(cell, value, head)
 
-    def _no_number(self, cell: Cell) -> tuple[str, str]:
+    def _no_number(self, cell: Cell) -> tuple[Case, str]:
         if isinstance(cell.value, NoValue):
-            return "its formula has no value", "open the workbook in a spreadsheet, and save it"
+            return SheetCause.NO_VALUE(), "open the workbook in a spreadsheet, and save it"
         if isinstance(cell.value, Percent):
-            return f"{cell.text} is a percentage", "write a figure"
+            return SheetCause.PERCENTAGE(text=cell.text), "write a figure"
         if isinstance(cell.value, datetime.datetime | datetime.time):
-            what = f"{cell.text} is a date"
-            return what, "give the cell the form of a number, and look whether its figure is right"
-        return f"{cell.text!r} is no figure", "write a figure, or leave the cell empty"
+            remedy = "give the cell the form of a number, and look whether its figure is right"
+            return SheetCause.DATE_FOR_FIGURE(text=cell.text), remedy
+        return SheetCause.NO_FIGURE(text=cell.text), "write a figure, or leave the cell empty"
 
     def number_of(self, cell: Cell, text: str, head: str = "") -> Decimal:
         """Return the number of a text in a cell."""
@@ -197,22 +199,25 @@ class Reader:
         locale = self.locale_of(cell)
         return symbols(locale) if locale else (".", "")
 
-    def _why_not(self, cell: Cell, text: str, plain: str) -> tuple[str, str]:
+    def _why_not(self, cell: Cell, text: str, plain: str) -> tuple[Case, str]:
         """Return what is wrong with a text that is no number, and what to do."""
         own_locale = self.locale_of(cell)
         if not own_locale and _EITHER.fullmatch(plain):
-            what = f"{text!r} is a decimal number in one country, and thousands in another"
-            return what, "say --locale en, --locale de or another"
+            return (
+                SheetCause.POINT_OR_THOUSANDS(text=text),
+                "say --locale en, --locale de or another",
+            )
         for locale in ("en", "de"):
             if plain_number(plain, *symbols(locale)) is not None:
                 mark = "a decimal point" if locale == "en" else "a decimal comma"
                 own = f", and --locale is {own_locale}" if own_locale else ""
-                return f"{text!r} has {mark}{own}", f"say --locale {locale}, or write it otherwise"
-        what = f"{text!r} is no figure"
+                what = SheetCause.MARK_OF_OTHER_LOCALE(text=text, mark=mark, locale=own)
+                return what, f"say --locale {locale}, or write it in another way"
+        what = SheetCause.NO_FIGURE(text=text)
         if of_rate(text.rpartition(" ")[2]):
             return what, of_rate(text.rpartition(" ")[2])
         if text.startswith("#"):
-            return f"{text} stands here: its formula fails", "correct it, or clear the cell"
+            return SheetCause.FORMULA_FAILS(text=text), "correct it, or clear the cell"
         return what, f"correct it, or say --missing {text!r} if it means that there is none"
 
     # ---- days
@@ -235,11 +240,12 @@ class Reader:
             remedy = self._of_order(cell)
             if isinstance(value, NoValue):
                 remedy = "open the workbook and save it"
-            what = f"{cell.text!r} is no day" if cell.text else "there is no day"
+            what = SheetCause.NOT_A_DAY(text=cell.text) if cell.text else SheetCause.NO_DAY()
             raise self.fault(cell, what, remedy or "write it as 2024-06-30", head)
         if time is not None and not re.fullmatch(r"0?0:00(:00([.,]0+)?)?", str(time)):
             remedy = "a figure is a day's: add the hours of a day up, and write the day alone"
-            raise self.fault(cell, f"{cell.text} has a time of the day, {time}", remedy, head)
+            what = SheetCause.TIME_OF_DAY(text=cell.text, time=time)
+            raise self.fault(cell, what, remedy, head)
         return found
 
     def _of_order(self, cell: Cell) -> str:
@@ -278,7 +284,7 @@ class Reader:
         if part != "." and len(first) == len(third) == 2 and not self.locale_of(cell):
             if _date(2000 + int(first), int(second), int(third)):
                 remedy = "write the year with four digits, or say --locale"
-                what = f"{text!r} may have its year first or last"
+                what = SheetCause.YEAR_FIRST_OR_LAST(text=text)
                 raise self.fault(cell, what, remedy, head)
         order = self._order(cell, text, part, int(first), int(second), head)
         numbers = dict(zip(order, (first, second, third)))
@@ -300,7 +306,7 @@ class Reader:
         elif max(first, second) > 12:
             return "dmy" if first > 12 else "mdy"
         remedy = "say --locale en_GB if the day comes first, --locale en_US if the month does"
-        raise self.fault(cell, f"{text!r} can be read as two days", remedy, head)
+        raise self.fault(cell, SheetCause.TWO_DAYS(text=text), remedy, head)
 
     # ---- amounts
 
@@ -315,7 +321,7 @@ class Reader:
                 remedy = "write t for 1,000 kg; 2,000 lb are 2 klb"
             elif found in WET:
                 remedy = "wet tonnes have water in them: write the dry ones, in t or dmt"
-            raise self.fault(cell, f"{cell.text!r} is no unit", remedy, "unit")
+            raise self.fault(cell, SheetCause.NO_UNIT_OF_KIND(text=cell.text), remedy, "unit")
         return found
 
     def split(self, cell: Cell, kinds: dict[str, Fraction], head: str) -> tuple[Decimal, str]:
@@ -342,7 +348,8 @@ class Reader:
             return (GRAMS | WET)[unit]
         if density is None:
             remedy = "write a density, such as 862 (kg/m3), in the row or in that of its stream"
-            raise self.fault(cell, f"{cell.text} {unit} have no density", remedy, head)
+            what = SheetCause.NO_DENSITY_OF_VOLUME(text=cell.text, unit=unit)
+            raise self.fault(cell, what, remedy, head)
         return VOLUMES[unit] * density
 
     def whole(self, cell: Cell, exact: Fraction) -> int:
@@ -361,8 +368,8 @@ class Reader:
             return None
         number, unit = self.split(cell, DENSITIES, "density")
         if number <= 0 or (not unit and not 20 <= number <= 20_000):
-            remedy = "kg/m3 stands without a unit, others with it: 862, 0.862 t/m3, 862000 g/m3"
-            raise self.fault(cell, f"{cell.text} kg/m3 is no density", remedy, "density")
+            remedy = "write kg/m3 without its unit, others with it: 862, 0.862 t/m3, 862000 g/m3"
+            raise self.fault(cell, SheetCause.NOT_A_DENSITY(text=cell.text), remedy, "density")
         return Fraction(number) * DENSITIES[unit or "kg/m3"]
 
     def level(
@@ -388,7 +395,7 @@ class Reader:
             others = [each for each in ("m", "cm") if 0 < number * int(LENGTHS[each]) <= top]
             if others:
                 said = " or ".join(f"{cell.text} {each}" for each in others)
-                what = f"the level {cell.text} has decimals and no unit: {said}?"
+                what = SheetCause.LEVEL_WITHOUT_UNIT(text=cell.text, readings=said)
                 remedy = f"write {cell.text} {others[0]}, or {round(number)} mm if it is that; or "
                 raise self.fault(cell, what, f"{remedy}the unit into a column unit", head)
         return self.whole(cell, Fraction(number) * LENGTHS[own or "mm"])
@@ -407,7 +414,7 @@ class Reader:
         own = self.unit(unit, GRADES, "")
         if not own:
             remedy = "write its unit after it, such as 0.9 %, 120 g/t or 9000 ppm"
-            raise self.fault(cell, f"the grade {cell.text} has no unit", remedy, head)
+            raise self.fault(cell, SheetCause.GRADE_WITHOUT_UNIT(text=cell.text), remedy, head)
         return Fraction(number) * GRADES[own]
 
     # ---- errors
@@ -425,12 +432,13 @@ class Reader:
             parted = _GRADE.fullmatch(part.strip())
             unit = unit_of(parted.group(2)) if parted else ""
             if parted is None or unit not in GRADES:
-                what = f"{cell.text!r} is no error with its unit"
+                what = SheetCause.NOT_AN_ERROR(text=cell.text)
                 remedy = "write `2 %` of the grade, `180 ppm`, or `2 % or 20 ppm`"
                 raise self.fault(cell, what, remedy, head)
             number = Fraction(self.number_of(cell, parted.group(1), head)) / self.divisor
             if number < 0:
-                raise self.fault(cell, f"{cell.text} is below 0", "an error is 0 or more", head)
+                what = SheetCause.BELOW_0(text=cell.text)
+                raise self.fault(cell, what, "an error is 0 or more", head)
             found.append(number / 100 * grade if unit == "%" else number * GRADES[unit])
         return max(found)
 
@@ -447,11 +455,12 @@ class Reader:
             unit = unit_of(parted.group(2)) if parted else ""
             if parted is None or unit not in units:
                 such = "`3 mm` or `8 t`" if level else "`1.5 %`, `0.2 t`, or `1.5 % or 0.2 t`"
-                what = f"{cell.text!r} is no error with its unit"
+                what = SheetCause.NOT_AN_ERROR(text=cell.text)
                 raise self.fault(cell, what, f"write {such}", head)
             number = Fraction(self.number_of(cell, parted.group(1), head)) / self.divisor
             if number < 0:
-                raise self.fault(cell, f"{cell.text} is below 0", "an error is 0 or more", head)
+                what = SheetCause.BELOW_0(text=cell.text)
+                raise self.fault(cell, what, "an error is 0 or more", head)
             if unit == "%":
                 share = number / 100
             elif unit in LENGTHS and level:

@@ -3,14 +3,14 @@
 from __future__ import annotations
 
 import argparse
-import re
 import sys
-from collections.abc import Iterable
+from collections.abc import Hashable, Iterable
 from dataclasses import dataclass, field
 from pathlib import Path
 
+from plantbal.causes import CausedFault
 from plantbal.commands.options import add_reading, reading_of
-from plantbal.faults import Fault, InputFault, Place
+from plantbal.faults import Fault, InputFault, Place, Refusal
 from plantbal.lint import say_brief
 from plantbal.memory import uncollected
 from plantbal.session import Session
@@ -48,7 +48,7 @@ examples:
   plantbal-desk convert --locale de_DE april_folder --out april.csv
 """
 NO_STREAMS = "plantbal-desk map proposes how it is read, and template writes an empty one"
-_SAID = 3  # faults of one sort in a sheet whose places are said; the others are counted
+_SAID = 3  # faults of one cause in a sheet whose places are said; the others are counted
 
 
 @dataclass
@@ -78,14 +78,13 @@ class Conversion:
         return not self.faults
 
     def said(self) -> list[str]:
-        """Return the faults as sentences; more than three of one sort in a sheet are one sentence.
+        """Return the faults as sentences; more than three of one cause in a sheet are one sentence.
 
         It is that of the first, with their number and the first three places.
         """
-        groups: dict[tuple[str, str, str], list[Fault]] = {}
+        groups: dict[tuple[Hashable, ...], list[Fault]] = {}
         for fault in self.faults:
-            sort = re.sub(r"'[^']*'|[0-9][\w.,:/-]*", "", fault.what)
-            key = fault.place.file, fault.place.sheet, sort
+            key = fault.place.file, fault.place.sheet, _cause_of(fault)
             groups.setdefault(key, []).append(fault)
         lines = []
         for faults in groups.values():
@@ -96,6 +95,13 @@ class Conversion:
             places = [str(fault.place).rstrip(":") for fault in faults[1:_SAID]]
             lines.append(f"{first} ({len(faults):,} like this; the next: {', '.join(places)})")
         return lines
+
+
+def _cause_of(fault: Fault) -> Hashable:
+    """Return the cause of a fault; one that has none is alike to no other."""
+    if isinstance(fault, CausedFault):
+        return fault.case.cause
+    return fault.refused.reason if isinstance(fault, Refusal) else id(fault)
 
 
 def convert(

@@ -6,10 +6,12 @@ from collections.abc import Collection, Sequence
 
 from plantbal.accounts.reading import read_accounts
 from plantbal.accounts.sheet import Accounts
-from plantbal.faults import Fault, InputFault, Place
+from plantbal.causes import CausedFault
+from plantbal.faults import Fault, Place
 from plantbal.session import Session
 from plantbal.workbook.assays import Assays
 from plantbal.workbook.bookings import Bookings
+from plantbal.workbook.causes import SheetCause
 from plantbal.workbook.cells import Reader, rounded_down
 from plantbal.workbook.dips import Dips
 from plantbal.workbook.drying import MoistureReader
@@ -17,10 +19,10 @@ from plantbal.workbook.estimates import Estimates
 from plantbal.workbook.measuresheets import MeasureReader, Measures
 from plantbal.workbook.measuring import Measuring
 from plantbal.workbook.missing import Missing
-from plantbal.workbook.periods import Periods
+from plantbal.workbook.periods import PeriodSheet
 from plantbal.workbook.plant import PlantReader
 from plantbal.workbook.readings import Readings
-from plantbal.workbook.sessionrows import SessionRows
+from plantbal.workbook.sessionrows import RowsSheet
 from plantbal.workbook.sheetforms import Stage
 from plantbal.workbook.sheetkinds import SHEETS
 from plantbal.workbook.sheets import Sheet
@@ -56,7 +58,7 @@ class Converter:
         self.tables: Tables = Tables(sheets, reader, skip)
         self.plant: PlantReader = PlantReader(self.tables)
         tables, plant = self.tables, self.plant
-        self.periods: Periods = Periods(tables)
+        self.periods: PeriodSheet = PeriodSheet(tables)
         self.moistures: MoistureReader = MoistureReader(tables, plant, self.periods)
         self.measures: MeasureReader = MeasureReader(tables, plant, Measures())
         self.measuring: Measuring = Measuring(tables, self.periods, self.measures.found)
@@ -68,7 +70,7 @@ class Converter:
         self.tickets: Tickets = Tickets(tables, plant, self.moistures, self.measuring)
         self.dips: Dips = Dips(tables, plant, self.measuring)
         self.assays: Assays = Assays(tables, plant)
-        self.rows: SessionRows = SessionRows(tables)
+        self.rows: RowsSheet = RowsSheet(tables)
         self.known: Collection[str] = ()
         self.accounts = Accounts()
 
@@ -118,11 +120,11 @@ class Converter:
         if self.sheets["rows"] or self.faults or asked:
             return
         place = Place(file=next((s.file for k in self.sheets.values() for s in k), ""))
-        what = "there is no period"
+        what = SheetCause.NO_PERIOD()
         remedy = "write readings, or a sheet periods; --design asks for the design alone"
         if not self.plant.streams:
-            what, remedy = "there is no stream", "write the rows of the sheet streams"
-        self.faults.append(InputFault(what, place=place, remedy=remedy))
+            what, remedy = SheetCause.NO_STREAM(), "write the rows of the sheet streams"
+        self.faults.append(CausedFault(what, place=place, remedy=remedy))
 
     def say_missing(self) -> None:
         """Say which days are missing, and which facts stand in no period."""

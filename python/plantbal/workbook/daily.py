@@ -12,13 +12,15 @@ from collections.abc import Mapping
 from dataclasses import dataclass, field, replace
 
 from plantbal.faults import InputFault
+from plantbal.workbook.causes import SheetCause
 from plantbal.workbook.cells import Reader
 from plantbal.workbook.hours import (
     Clock,
     DayFigure,
-    Days,
-    Figure,
+    SeriesDays,
+    SeriesFigure,
     Starts,
+    are_instants,
     clock_of,
     counted,
     has_times,
@@ -54,7 +56,7 @@ class Daily:
     by_hours: dict[int, set[datetime.date]] = field(default_factory=dict)
     filled: int = 0
 
-    def take(self, days: Days) -> None:
+    def take(self, days: SeriesDays) -> None:
         """Count the hours of the days of a series, and keep its faults."""
         self.faults += days.faults
         self.filled += days.filled
@@ -98,12 +100,13 @@ def wide_by_day(
     if not stamped or not (timed or counters):
         return None
     series = {
-        column: [Figure(cells[at], _at(cells, column), stamp) for cells, stamp in stamped]
+        column: [SeriesFigure(cells[at], _at(cells, column), stamp) for cells, stamp in stamped]
         for column in columns
     }
-    first = [Figure(cells[at], cells[at], stamp) for cells, stamp in stamped]
+    first = [SeriesFigure(cells[at], cells[at], stamp) for cells, stamp in stamped]
     clock = Clock(settings, settings.stamps == "end")
-    if timed:
+    instants = bool(counters) and len(counters) == len(columns) and are_instants(clock, first)
+    if timed and not instants:  # what a counter shows at an instant is of no hour
         clock = clock_of(reader, settings, first, first)
     found = Daily([], taken=[cells for cells, _ in stamped])
     starts = Starts(clock)
@@ -155,13 +158,13 @@ def long_by_day(
     counters = sorted(each for each in tags if names.get(each) in settings.counters)
     if not there or not (timed or counters):
         return None
-    series: dict[str, list[tuple[list[Cell], Figure]]] = {}
+    series: dict[str, list[tuple[list[Cell], SeriesFigure]]] = {}
     found = Daily([])
     for cells, stamp in stamped:
         if stamp is None:
             found.lines.append(cells)
             continue
-        figure = Figure(_at(cells, column), _at(cells, at["value"]), stamp)
+        figure = SeriesFigure(_at(cells, column), _at(cells, at["value"]), stamp)
         series.setdefault(_at(cells, tag).text, []).append((cells, figure))
         found.taken.append(cells)
     most = max(len(rows) for rows in series.values())
@@ -189,7 +192,7 @@ def long_by_day(
     return found
 
 
-def _order_of(row: tuple[list[Cell], Figure]) -> datetime.datetime:
+def _order_of(row: tuple[list[Cell], SeriesFigure]) -> datetime.datetime:
     """Return what rows are put in order by; those of one clock time stay as they are."""
     at = row[1].at
     return at.astimezone(datetime.timezone.utc).replace(tzinfo=None) if at.tzinfo else at
@@ -200,10 +203,10 @@ def _days_of(
     clock: Clock,
     said: str,
     name: str,
-    figures: list[Figure],
+    figures: list[SeriesFigure],
     timed: bool,
     starts: Starts,
-) -> Days:
+) -> SeriesDays:
     """Return the days of a series."""
     modulus = clock.settings.counters.get(name)
     if modulus is not None:
@@ -212,10 +215,10 @@ def _days_of(
     if timed:
         return summed(reader, clock, said, figures, starts)
     plain = [each for each in figures if not reader.is_missing(each.cell)]
-    return Days([DayFigure(each.at.date(), each.stamp, each.cell, 1) for each in plain])
+    return SeriesDays([DayFigure(each.at.date(), each.stamp, each.cell, 1) for each in plain])
 
 
-def _at_begins(reader: Reader, clock: Clock, figures: list[Figure]) -> list[Figure]:
+def _at_begins(reader: Reader, clock: Clock, figures: list[SeriesFigure]) -> list[SeriesFigure]:
     """Return the figures of a counter, a day each, with the time at which they were read.
 
     Raises
@@ -224,9 +227,8 @@ def _at_begins(reader: Reader, clock: Clock, figures: list[Figure]) -> list[Figu
         If it isn't told whether that was the day's begin or its end.
     """
     if not clock.settings.stamps:
-        what = "was this counter read at the begin or the end of the day?"
         remedy = "write stamps and begin, or end, into a sheet settings"
-        raise reader.fault(figures[0].stamp, what, remedy)
+        raise reader.fault(figures[0].stamp, SheetCause.COUNTER_OF_DAY(), remedy)
     shift = clock.settings.begins + datetime.timedelta(days=clock.ends)
     return [replace(each, at=each.at + shift) for each in figures]
 
@@ -244,9 +246,10 @@ def _one_unit(reader: Reader, rows: list[list[Cell]], column: int | None) -> int
     first = _at(rows[0], column)
     for cells in rows:
         if _at(cells, column).text != first.text:
-            what = f"this tag has figures in {first.text or 'no unit'} and in "
             cell = _at(cells, column)
-            raise reader.fault(cell, what + (cell.text or "none"), "write the same unit for all")
+            both = first.text or "no unit", cell.text or "none"
+            what = SheetCause.UNITS_OF_TAG_DIFFER(first=both[0], other=both[1])
+            raise reader.fault(cell, what, "write the same unit for all")
     return column
 
 

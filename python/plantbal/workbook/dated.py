@@ -7,7 +7,7 @@ import math
 from dataclasses import dataclass, field
 from typing import Generic, TypeVar
 
-from plantbal.workbook.base import Span
+from plantbal.workbook.base import PeriodDays
 from plantbal.workbook.sheets import Cell
 
 T = TypeVar("T")
@@ -36,7 +36,7 @@ class Dated(Generic[T]):
         """Say whether it holds on a day."""
         return self.first is None or (self.last is not None and self.first <= day <= self.last)
 
-    def days_in(self, span: Span) -> int:
+    def days_in(self, span: PeriodDays) -> int:
         """Return on how many days of a period it holds."""
         if self.first is None or self.last is None:
             return span.last - span.first + 1

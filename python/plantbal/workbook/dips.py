@@ -6,11 +6,12 @@ import datetime
 import difflib
 from fractions import Fraction
 
+from plantbal.workbook.causes import SheetCause
 from plantbal.workbook.cells import Error
 from plantbal.workbook.measuring import Measuring
 from plantbal.workbook.plant import PlantReader, TankRow
 from plantbal.workbook.sheets import Cell
-from plantbal.workbook.tables import Row, Tables
+from plantbal.workbook.tables import SheetRow, Tables
 
 
 class Dips:
@@ -48,12 +49,12 @@ class Dips:
             with self.tables.kept():
                 self._dip(row, day, name)
 
-    def _dip(self, row: Row, day: datetime.date | None, name: str) -> None:
+    def _dip(self, row: SheetRow, day: datetime.date | None, name: str) -> None:
         tank = self.plant.tanks.get(name)
         if tank is None:
             near = difflib.get_close_matches(name, self.plant.tanks, n=1)
             remedy = f"did you mean {near[0]}?" if near else "write it into the sheet tanks"
-            raise self.reader.fault(row["tank"], f"there is no tank {name!r}", remedy, "tank")
+            raise self.reader.fault(row["tank"], SheetCause.NO_TANK(name=name), remedy, "tank")
         top = tank.points[-1][0] if tank.points else None
         mm = self.reader.level(row["level"], unit=row["unit"], top=top)
         error = self._error(row, tank)
@@ -62,7 +63,7 @@ class Dips:
         days = self.found.setdefault(name, {})
         if day in days:
             other = str(days[day].place()).rstrip(":")
-            what = f"{name} has a dip of {day} already ({other})"
+            what = SheetCause.DIP_TWICE(name=name, day=day, other=other)
             raise self.reader.fault(row["level"], what, "leave one of both out")
         dipped = self.measuring.of_dip(tank, row, mm, error, day)
         if dipped is not None:
@@ -80,20 +81,21 @@ class Dips:
             if dipped is not None:
                 self.measuring.keep_dip(fact, dipped, row["level"])
 
-    def _density(self, row: Row, tank: TankRow) -> Fraction:
+    def _density(self, row: SheetRow, tank: TankRow) -> Fraction:
         """Return the one density of a dip in g/m3: its row's, or its tank's."""
         density = self.reader.density(row["density"]) or tank.density
         if density is None:
             remedy = "write one, such as 862 (kg/m3), here or in the sheet tanks"
-            raise self.reader.fault(row["density"], "the dip has no density", remedy, "density")
+            what = SheetCause.DIP_WITHOUT_DENSITY()
+            raise self.reader.fault(row["density"], what, remedy, "density")
         return density
 
-    def _error(self, row: Row, tank: TankRow) -> Error:
+    def _error(self, row: SheetRow, tank: TankRow) -> Error:
         """Return the error of a dip: its row's, or its tank's."""
         if self.reader.is_missing(row["error"]) and tank.error is not None:
             return tank.error
         if self.reader.is_missing(row["error"]):
             remedy = "write the gauge's, such as `3 mm`, here or in the sheet tanks"
-            raise self.reader.fault(row["error"], "the dip has no error", remedy, "error")
+            raise self.reader.fault(row["error"], SheetCause.DIP_WITHOUT_ERROR(), remedy, "error")
         density = self.reader.density(row["density"]) or tank.density
         return self.reader.error(row["error"], density, level=True)

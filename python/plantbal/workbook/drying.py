@@ -6,13 +6,14 @@ import datetime
 from dataclasses import dataclass
 from fractions import Fraction
 
+from plantbal.causes import CausedFault
+from plantbal.workbook.causes import SheetCause
 from plantbal.workbook.cells import Error
-from plantbal.faults import InputFault
 from plantbal.workbook.moisture import WHOLE, Moisture, Moistures
-from plantbal.workbook.periods import Periods
+from plantbal.workbook.periods import PeriodSheet
 from plantbal.workbook.plant import PlantReader, StreamRow
 from plantbal.workbook.sheets import Cell
-from plantbal.workbook.tables import Row, Tables
+from plantbal.workbook.tables import SheetRow, Tables
 from plantbal.workbook.units import WET
 
 
@@ -39,7 +40,7 @@ class MoistureReader:
         The tables of the workbook.
     plant : PlantReader
         Its plant.
-    periods : Periods
+    periods : PeriodSheet
         The periods that a day may be in.
 
     Attributes
@@ -48,7 +49,7 @@ class MoistureReader:
         What was read.
     """
 
-    def __init__(self, tables: Tables, plant: PlantReader, periods: Periods) -> None:
+    def __init__(self, tables: Tables, plant: PlantReader, periods: PeriodSheet) -> None:
         self.tables = tables
         self.reader = tables.reader
         self.plant = plant
@@ -63,7 +64,7 @@ class MoistureReader:
                 if not self.reader.is_missing(row["id"]):
                     name = row.text("id")
                     if name in self.found.of_tickets:
-                        what = f"the ticket {name} has a moisture already"
+                        what = SheetCause.MOISTURE_OF_TICKET_TWICE(name=name)
                         raise self.reader.fault(row["id"], what, "leave one of both out", "id")
                     self.found.of_tickets[name] = found
                     continue
@@ -72,11 +73,11 @@ class MoistureReader:
                 if stream is not None:
                     self._keep(stream, row, found)
 
-    def _moisture(self, row: Row) -> Moisture:
+    def _moisture(self, row: SheetRow) -> Moisture:
         """Return the moisture of a row."""
         part = self.reader.grade(row["moisture"], row["unit"], "moisture")
         if not 0 <= part < WHOLE:
-            what = f"{row.text('moisture')} is no moisture"
+            what = SheetCause.NOT_A_MOISTURE(text=row.text("moisture"))
             remedy = "it is what part of the wet tonnes is water, from 0 to less than 100 %"
             raise self.reader.fault(row["moisture"], what, remedy, "moisture")
         error = self.reader.grade_error(row["error"], part)
@@ -85,11 +86,11 @@ class MoistureReader:
             for head in ("first" if self.reader.is_missing(row["day"]) else "day", "last")
         )
         if last is not None and (first is None or last < first):
-            what = "there is no day before the last one"
+            what = SheetCause.NO_FIRST_DAY()
             raise self.reader.fault(row["last"], what, "write the first day too", "last")
         return Moisture(part / WHOLE, (error / WHOLE) ** 2, row["moisture"], first, last or first)
 
-    def _keep(self, stream: StreamRow, row: Row, found: Moisture) -> None:
+    def _keep(self, stream: StreamRow, row: SheetRow, found: Moisture) -> None:
         """Keep a moisture of a stream; another one of the same days is that of another shift."""
         own = self.found.of_streams.setdefault(stream.name, [])
         same = [each for each in own if (each.first, each.last) == (found.first, found.last)]
@@ -97,11 +98,11 @@ class MoistureReader:
         if not self.reader.is_missing(row["amount"]):
             tonnes = Fraction(self.reader.number(row["amount"], "amount"))
             if tonnes <= 0:
-                what = f"{row.text('amount')} t are no shift's"
+                what = SheetCause.NO_TONNES_OF_SHIFT(text=row.text("amount"))
                 raise self.reader.fault(row["amount"], what, "write its wet tonnes", "amount")
         if same and (tonnes is None or not same[0].shifts):
             other = str(same[0].cell.place()).rstrip(":")
-            what = f"{stream.said} has a moisture of these days already ({other})"
+            what = SheetCause.MOISTURE_TWICE(stream=stream.said, other=other)
             remedy = "write the wet tonnes of each shift into a column amount"
             raise self.reader.fault(row["moisture"], what, remedy, "moisture")
         shift = same[0] if same else found
@@ -110,10 +111,10 @@ class MoistureReader:
         if not same:
             own.append(found)
 
-    def no_moisture(self, stream: StreamRow, cell: Cell, of: str) -> InputFault:
+    def no_moisture(self, stream: StreamRow, cell: Cell, of: str) -> CausedFault:
         """Return the fault that nothing says how wet an amount is."""
         unit = next(iter(WET))
-        what = f"{cell.text} {unit} of {stream.said} have no moisture {of}"
+        what = SheetCause.NO_MOISTURE(text=cell.text, unit=unit, stream=stream.said, of=of)
         remedy = "add it to a sheet moistures (stream, day, moisture, error), or write dry tonnes"
         return self.reader.fault(cell, what, remedy)
 
@@ -146,6 +147,6 @@ class MoistureReader:
         self.tables.notes += self.found.notes()
         for name, moisture in self.found.unused():
             if name in self.plant.streams and not self.tables.faults:
-                what = f"no figure of {name} is in {next(iter(WET))}, so its moistures dry nothing"
+                what = SheetCause.DRIES_NOTHING(name=name, unit=next(iter(WET)))
                 remedy = "write wmt as the unit of its figures, or take the moistures out"
                 self.tables.fault(moisture.cell, what, remedy, "moisture")

@@ -5,10 +5,11 @@ from __future__ import annotations
 import datetime
 
 from plantbal.workbook.amounts import amount_of
-from plantbal.workbook.base import Span, days_of
+from plantbal.workbook.base import PeriodDays, days_of
 from plantbal.workbook.bookings import Bookings
+from plantbal.workbook.causes import SheetCause
 from plantbal.workbook.plant import PlantReader
-from plantbal.workbook.tables import Row, Tables
+from plantbal.workbook.tables import SheetRow, Tables
 
 # One guess is for at most as many days more than its first.
 MOST_GUESSED = 366
@@ -54,7 +55,7 @@ class Estimates:
                         )
 
     def _guessed(
-        self, row: Row, first: datetime.date, last: datetime.date
+        self, row: SheetRow, first: datetime.date, last: datetime.date
     ) -> list[list[datetime.date]]:
         """Return the days of a guess, those of each period by themselves.
 
@@ -64,10 +65,10 @@ class Estimates:
             If the last day is before the first, or very far from it.
         """
         if not first <= last <= first + datetime.timedelta(MOST_GUESSED):
-            what = f"this guess goes from {first} to {last}"
+            what = SheetCause.GUESS_TOO_LONG(first=first, last=last)
             remedy = f"write a last day up to {MOST_GUESSED} days after the first"
             raise self.reader.fault(row["last"], what, remedy, "last")
-        found: dict[tuple[Span, ...], list[datetime.date]] = {}
+        found: dict[tuple[PeriodDays, ...], list[datetime.date]] = {}
         for day in days_of(first, last):
             found.setdefault(tuple(self.bookings.periods.spans_at(day)), []).append(day)
         return list(found.values())

@@ -12,7 +12,9 @@ import re
 from collections.abc import Iterable, Iterator, Sequence
 from dataclasses import dataclass, field
 
+from plantbal.causes import CausedFault
 from plantbal.faults import Fault, InputFault, Place
+from plantbal.workbook.causes import SheetCause
 from plantbal.workbook.cells import Reader
 from plantbal.workbook.sheets import Cell, NoValue, Sheet
 from plantbal.workbook.units import UNITS, unit_of
@@ -171,8 +173,8 @@ def unread_column(
         remedy = f"say --skip {head.text!r} to leave the column out" if head.text else ""
         other = "give it the head of a column that is read"
         remedy = f"{other}, or {remedy}" if remedy else f"{other}, or empty it"
-        said = f"{name} isn't read, and {what} stand in it"
-        return InputFault(said, place=first.place(head.text), text=first.text, remedy=remedy), ""
+        case = SheetCause.COLUMN_NOT_READ(column=name, content=what)
+        return CausedFault(case, place=first.place(head.text), text=first.text, remedy=remedy), ""
     if not cells:
         return None, ""
     return None, f"{(head if head.text else cells[0]).place()} {name} isn't read"
@@ -188,8 +190,8 @@ def unread_rows(reader: Reader, rows: Sequence[Sequence[Cell]]) -> Iterator[Inpu
         there = [cell for cell in cells if not reader.is_missing(cell)]
         figures = [cell for cell in there if re.match("[+-]?[0-9]", cell.text) or is_unit(cell)]
         if len(figures) > 1 and 2 * len(figures) > len(there):
-            yield InputFault(
-                "this row isn't read, and figures or units stand in it",
+            yield CausedFault(
+                SheetCause.ROW_NOT_READ(),
                 place=figures[0].place(),
                 text=figures[0].text,
                 remedy="put it below the heads of its table, or take it out",

@@ -23,6 +23,7 @@ from functools import lru_cache
 from zoneinfo import ZoneInfo
 
 from plantbal.faults import InputFault
+from plantbal.workbook.causes import SheetCause
 from plantbal.workbook.cells import EXACT, Reader
 from plantbal.workbook.settings import Settings
 from plantbal.workbook.sheets import Cell
@@ -38,7 +39,7 @@ _SAID = 3  # hours that a fault names
 
 
 @dataclass(frozen=True, slots=True)
-class Figure:
+class SeriesFigure:
     """A figure of a series: its stamp's cell, its own, and its stamp, with a zone or without."""
 
     stamp: Cell
@@ -57,7 +58,7 @@ class DayFigure:
 
 
 @dataclass
-class Days:
+class SeriesDays:
     """The figures of the days of a series, and what is wrong with others.
 
     Attributes
@@ -166,7 +167,9 @@ class Clock:
             at += _HOUR
         return found
 
-    def instants(self, reader: Reader, figures: Sequence[Figure]) -> Iterator[datetime.datetime]:
+    def instants(
+        self, reader: Reader, figures: Sequence[SeriesFigure]
+    ) -> Iterator[datetime.datetime]:
         """Give the instants of a series.
 
         Raises
@@ -182,20 +185,23 @@ class Clock:
                 continue
             instant = self._instant(at, fold=min(1, seen[at]))
             if self.local(instant) != at:
-                what = f"{at} isn't there: clocks are put forward then in {self.settings.zone}"
+                what = SheetCause.CLOCKS_FORWARD(at=at, zone=self.settings.zone)
                 remedy = "write the zone after the stamps, as in 2024-03-31T01:00:00Z"
                 raise reader.fault(figure.stamp, what, remedy)
             if seen[at] and instant == self._instant(at):
                 remedy = "leave one of both out"
                 if not self.settings.zone:
                     remedy += ", or write the plant's zone into a sheet settings"
-                raise reader.fault(figure.stamp, f"{at} is there twice", remedy)
+                raise reader.fault(figure.stamp, SheetCause.STAMP_TWICE(at=at), remedy)
             seen[at] += 1
             yield instant
 
 
 def clock_of(
-    reader: Reader, settings: Settings, figures: Sequence[Figure], every: Sequence[Figure]
+    reader: Reader,
+    settings: Settings,
+    figures: Sequence[SeriesFigure],
+    every: Sequence[SeriesFigure],
 ) -> Clock:
     """Return how the stamps of a sheet are read.
 
@@ -203,9 +209,9 @@ def clock_of(
     ----------
     reader, settings
         How its cells are written, and what holds for its figures.
-    figures : sequence of Figure
+    figures : sequence of SeriesFigure
         Those of its longest series, whose ends tell which end of its hour a stamp is.
-    every : sequence of Figure
+    every : sequence of SeriesFigure
         All of them.
 
     Raises
@@ -217,7 +223,7 @@ def clock_of(
     zoned = next((each for each in every if each.at.tzinfo), None)
     if zoned is not None and settings.zone is None:
         first = zoned
-        what = f"{first.stamp.text} has a zone, and the plant's isn't told"
+        what = SheetCause.ZONE_UNTOLD(text=first.stamp.text)
         remedy = "write zone and Europe/Berlin, or UTC, into a sheet settings"
         raise reader.fault(first.stamp, what, remedy)
     clock = Clock(settings, settings.stamps == "end")
@@ -226,8 +232,8 @@ def clock_of(
     if len(times) == 1 and not clock.is_daily and len(figures) > 1:
         time = f"{times.pop():%H:%M}"
         remedy = f"write day begins and {time} into a sheet settings if it is so"
-        what = f"{first.stamp.text} has a time of the day, {time}, as all stamps have: does the "
-        raise reader.fault(first.stamp, f"{what}plant's day begin then?", remedy)
+        what = SheetCause.DAY_BEGINS_UNTOLD(text=first.stamp.text, time=time)
+        raise reader.fault(first.stamp, what, remedy)
     if settings.stamps or clock.is_daily:
         return clock
     begins = settings.begins
@@ -237,9 +243,17 @@ def clock_of(
     if ends == [datetime.time(1), datetime.time(0)]:
         clock.ends = True
         return clock
-    what = f"from {first.stamp.text} to {last.stamp.text} aren't whole days: is a stamp the "
+    what = SheetCause.HOURS_NOT_WHOLE_DAYS(first=first.stamp.text, last=last.stamp.text)
     remedy = "write stamps and begin, or end, into a sheet settings"
-    raise reader.fault(first.stamp, what + "begin or the end of its hour?", remedy)
+    raise reader.fault(first.stamp, what, remedy)
+
+
+def are_instants(clock: Clock, figures: Sequence[SeriesFigure]) -> bool:
+    """Say whether stamps go from the begin of a day to that of another: of counters, not of hours."""
+    begins = clock.settings.begins
+    zoned = any(each.at.tzinfo for each in figures) and clock.settings.zone is None
+    ends = [] if zoned else [clock.local(_aware(clock, figures[at].at)) - begins for at in (0, -1)]
+    return len(figures) > 2 and {each.time() for each in ends} == {datetime.time(0)}
 
 
 def _aware(clock: Clock, at: datetime.datetime) -> datetime.datetime:
@@ -247,7 +261,7 @@ def _aware(clock: Clock, at: datetime.datetime) -> datetime.datetime:
     return at if at.tzinfo is not None else at.replace(tzinfo=zone)
 
 
-def _are_begins(clock: Clock, figures: Sequence[Figure]) -> bool:
+def _are_begins(clock: Clock, figures: Sequence[SeriesFigure]) -> bool:
     """Say whether each stamp is the begin of a day, so that a figure is a day's."""
     midnight = datetime.time(0)
     begins = clock.settings.begins
@@ -272,7 +286,7 @@ class Starts:
         self._hours: dict[datetime.date, list[datetime.datetime]] = {}
 
     def of(
-        self, reader: Reader, figures: Sequence[Figure]
+        self, reader: Reader, figures: Sequence[SeriesFigure]
     ) -> list[tuple[datetime.date, datetime.datetime]]:
         """Return the day and the begin of each figure's stamp.
 
@@ -297,16 +311,16 @@ class Starts:
 
 
 def summed(
-    reader: Reader, clock: Clock, name: str, figures: Sequence[Figure], starts: Starts
-) -> Days:
+    reader: Reader, clock: Clock, name: str, figures: Sequence[SeriesFigure], starts: Starts
+) -> SeriesDays:
     """Return the days of a series of hourly figures, or of one figure a day."""
-    days = Days()
+    days = SeriesDays()
     try:
         found = starts.of(reader, figures)
     except InputFault as fault:
         days.faults.append(fault)
         return days
-    hours: dict[datetime.date, dict[datetime.datetime, Figure]] = {}
+    hours: dict[datetime.date, dict[datetime.datetime, SeriesFigure]] = {}
     for figure, (day, start) in zip(figures, found):
         if clock.is_daily:
             day -= _DAY if clock.ends else datetime.timedelta(0)
@@ -327,8 +341,8 @@ def _sum_day(
     starts: Starts,
     name: str,
     day: datetime.date,
-    found: dict[datetime.datetime, Figure],
-    days: Days,
+    found: dict[datetime.datetime, SeriesFigure],
+    days: SeriesDays,
 ) -> None:
     """Add up the hours of a day.
 
@@ -341,7 +355,7 @@ def _sum_day(
     wanted = starts.hours(day)
     for instant in found.keys() - set(wanted):
         remedy = "give a figure for each hour, at its full hour"
-        raise reader.fault(found[instant].stamp, "this isn't a full hour of the day", remedy)
+        raise reader.fault(found[instant].stamp, SheetCause.NO_FULL_HOUR(), remedy)
     there = {at: each for at, each in found.items() if not reader.is_missing(each.cell)}
     if not there:
         return
@@ -349,8 +363,10 @@ def _sum_day(
     if lacks and not clock.settings.fill:
         times = [f"{clock.local(at):%H:%M}" for at in lacks]
         more = f" and {len(lacks) - _SAID} more" if len(lacks) > _SAID else ""
-        what = f"{name} has no figure for {len(lacks)} of the {len(wanted)} hours of {day}: "
-        what += f"those from {', '.join(times[:_SAID])}{more}"
+        said, counts = f"{', '.join(times[:_SAID])}{more}", (len(lacks), len(wanted))
+        what = SheetCause.HOURS_LACK(
+            name=name, lacks=counts[0], hours=counts[1], day=day, times=said
+        )
         remedy = "write them, or empty all of the day and estimate it; missing hours and 0 in a "
         raise reader.fault(first.cell, what, f"{remedy}sheet settings take such hours for 0")
     days.filled += len(lacks)
@@ -361,10 +377,10 @@ def _sum_day(
 
 
 def counted(
-    reader: Reader, clock: Clock, name: str, modulus: Decimal, figures: Sequence[Figure]
-) -> Days:
+    reader: Reader, clock: Clock, name: str, modulus: Decimal, figures: Sequence[SeriesFigure]
+) -> SeriesDays:
     """Return the days of a counter: what it went on from the begin of each to that of the next."""
-    days = Days()
+    days = SeriesDays()
     try:
         there = [each for each in figures if not reader.is_missing(each.cell)]
         instants = list(clock.instants(reader, there))
@@ -374,7 +390,7 @@ def counted(
         return days
     at = {instant: place for place, instant in enumerate(instants)}
     if instants != sorted(instants):
-        days.faults.append(reader.fault(figures[0].stamp, "the stamps don't follow each other"))
+        days.faults.append(reader.fault(figures[0].stamp, SheetCause.STAMPS_OUT_OF_ORDER()))
         return days
     for day in dict.fromkeys(map(clock.day, instants)):
         begin, end = at.get(clock.begin(day)), at.get(clock.begin(day + _DAY))
@@ -394,20 +410,22 @@ def _lack_ends(
     day: datetime.date,
     of_begin: bool,
     instants: list[datetime.datetime],
-    there: Sequence[Figure],
-    days: Days,
+    there: Sequence[SeriesFigure],
+    days: SeriesDays,
 ) -> None:
     """Keep the fault of a day whose begin or end has no figure; not of the last stamp alone."""
     missing = clock.begin(day if of_begin else day + _DAY)
     if not of_begin and instants[-1] == clock.begin(day):
         return  # the last stamp is the end of the day before
     figure = next(each for each, at in zip(there, instants) if clock.day(at) == day)
-    what = f"the counter {name} has no figure at {clock.local(missing):%Y-%m-%d %H:%M}, so what "
+    what = SheetCause.COUNTER_GAP(name=name, at=f"{clock.local(missing):%Y-%m-%d %H:%M}", day=day)
     remedy = "write it, or leave the other figures of the day out, and estimate it"
-    days.faults.append(reader.fault(figure.cell, f"{what}went on {day} isn't known", remedy))
+    days.faults.append(reader.fault(figure.cell, what, remedy))
 
 
-def _went(reader: Reader, name: str, modulus: Decimal, figures: Sequence[Figure]) -> list[Fraction]:
+def _went(
+    reader: Reader, name: str, modulus: Decimal, figures: Sequence[SeriesFigure]
+) -> list[Fraction]:
     """Return what a counter went on between its figures.
 
     Raises
@@ -419,12 +437,12 @@ def _went(reader: Reader, name: str, modulus: Decimal, figures: Sequence[Figure]
     most, went = Fraction(modulus), []
     for number, figure in zip(numbers, figures):
         if not 0 <= number < most:
-            what = f"the counter {name} begins again at {modulus:f}, and this is {figure.cell.text}"
+            what = SheetCause.COUNTER_ABOVE(name=name, modulus=modulus, text=figure.cell.text)
             raise reader.fault(figure.cell, what, "look at the figure in the sheet settings")
     for before, after, figure in zip(numbers, numbers[1:], figures[1:]):
         on = (after - before) % most
         if 2 * on >= most:
-            what = f"the counter {name} went back, or on by more than half of {modulus:f}"
+            what = SheetCause.COUNTER_BACK(name=name, modulus=modulus)
             remedy = "correct the figure; if it was set back, leave the day out and estimate it"
             raise reader.fault(figure.cell, what, remedy)
         went.append(on)

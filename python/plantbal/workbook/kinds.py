@@ -10,7 +10,7 @@ from collections.abc import Iterable
 from dataclasses import dataclass, field
 from itertools import islice
 
-from plantbal.workbook.shapes import HEADS_WITHIN, split_head
+from plantbal.workbook.shapeparts import HEADS_WITHIN, split_head
 from plantbal.workbook.sheets import Sheet
 
 _SAID = 3  # streams that a note names

@@ -4,14 +4,27 @@ from __future__ import annotations
 
 from dataclasses import replace
 
-from plantbal.workbook.sheetforms import DAY, DENSITY, FIRST, LAST, TANK, Column, SheetKind, Stage
+from plantbal.workbook.sheetforms import (
+    DAY,
+    DENSITY,
+    FIRST,
+    LAST,
+    MONTH,
+    TANK,
+    SheetColumn,
+    SheetKind,
+    Stage,
+)
 from plantbal.workbook.units import VOLUMES
 
-_PRODUCT = Column("product", "what it is called, such as diesel", needed=True)
-TEMPERATURE = Column("temperature", "in degrees Celsius")
-_DENSITY_SD = Column("error", "the standard deviation of the density, in kg/m3")
-_AT = Column("at", "the temperature at which the density was taken: 15 degrees without it")
-_BY = Column(
+_PRODUCT = SheetColumn("product", "what it is called, such as diesel", needed=True)
+TEMPERATURE = SheetColumn("temperature", "in degrees Celsius")
+TEMPERATURE_SD = SheetColumn(
+    "temperature error", "the standard deviation of the temperature: 0.5; that of gauges without it"
+)
+_DENSITY_SD = SheetColumn("error", "the standard deviation of the density, in kg/m3")
+_AT = SheetColumn("at", "the temperature at which the density was taken: 15 degrees without it")
+_BY = SheetColumn(
     "by",
     "by what it was taken, at another temperature than 15 degrees",
     words=("hydrometer", "densitometer"),
@@ -23,14 +36,14 @@ KEPT = (
         "how the volumes of products follow their temperature, and what density they have",
         (
             _PRODUCT,
-            Column(
+            SheetColumn(
                 "group",
                 "whose petroleum tables hold: 53A and 54A of crude oils, B of products, C of "
                 "a coefficient, D of lubricants; empty with rows in the sheet factors",
                 words=("crude", "products", "coefficient", "lubricants"),
             ),
-            Column("coefficient", "of expansion at 15 degrees, a degree, for table C"),
-            Column(
+            SheetColumn("coefficient", "of expansion at 15 degrees, a degree, for table C"),
+            SheetColumn(
                 "rounding",
                 "procedure: as ASTM D1250-80 rounds, without a word; none: all digits",
                 words=("procedure", "none"),
@@ -51,7 +64,7 @@ KEPT = (
         (
             _PRODUCT,
             replace(TEMPERATURE, needed=True),
-            Column("factor", "what a volume is multiplied by, such as 0.9937", True),
+            SheetColumn("factor", "what a volume is multiplied by, such as 0.9937", True),
         ),
         lambda work: work.measures.read(),
         Stage.PLANT,
@@ -61,15 +74,15 @@ KEPT = (
         "gauges",
         "what tanks and streams have beside their own rows: product, errors, floating roof",
         (
-            Column("name", "a tank, a stream or its tag", True),
+            SheetColumn("name", "a tank, a stream or its tag", True),
             replace(_PRODUCT, needed=False),
-            Column("temperature error", "the standard deviation of its temperatures: 0.5"),
-            Column("water error", "that of the levels of its free water, in mm"),
-            Column("roof", "the mass of its floating roof: 84 t"),
-            Column("roof error", "the standard deviation of that: 0.2 t"),
-            Column("rests", "the level up to which the roof stands on its legs: 1400 mm"),
-            Column("floats", "the level from which it floats: 1800 mm"),
-            Column("zone error", "of what it displaces between the two; empty refuses them"),
+            SheetColumn("temperature error", "the standard deviation of its temperatures: 0.5"),
+            SheetColumn("water error", "that of the levels of its free water, in mm"),
+            SheetColumn("roof", "the mass of its floating roof: 84 t"),
+            SheetColumn("roof error", "the standard deviation of that: 0.2 t"),
+            SheetColumn("rests", "the level up to which the roof stands on its legs: 1400 mm"),
+            SheetColumn("floats", "the level from which it floats: 1800 mm"),
+            SheetColumn("zone error", "of what it displaces between the two; empty refuses them"),
         ),
         lambda work: work.measures.read(),
         Stage.PLANT,
@@ -81,9 +94,9 @@ KEPT = (
         "the tables of free water below the product; without one it is the tank's own table",
         (
             TANK,
-            Column("level", "in mm, or with its unit", needed=True),
-            Column("volume", "the water at this level", needed=True),
-            Column("unit", "of the volumes: m3 without it", words=tuple(VOLUMES)),
+            SheetColumn("level", "in mm, or with its unit", needed=True),
+            SheetColumn("volume", "the water at this level", needed=True),
+            SheetColumn("unit", "of the volumes: m3 without it", words=tuple(VOLUMES)),
         ),
         lambda work: work.measures.read(),
         Stage.PLANT,
@@ -96,11 +109,12 @@ OF_DAYS = (
         "densities",
         "densities by day, of several days or of a ticket; of a stream, a tank or a product",
         (
-            Column("name", "a stream or its tag, a tank, or a product"),
-            Column("id", "the ticket's number, in place of a name"),
+            SheetColumn("name", "a stream or its tag, a tank, or a product"),
+            SheetColumn("id", "the ticket's number, in place of a name"),
             DAY,
             FIRST,
             LAST,
+            MONTH,
             replace(DENSITY, needed=True),
             replace(_DENSITY_SD, needed=True),
             _AT,
@@ -108,21 +122,25 @@ OF_DAYS = (
         ),
         lambda work: work.measures.read_densities(),
         said="name, day, density, error, at, by: of a stream, tank or product; or with a ticket's\n"
-        "id; or first and last; at is the temperature of the sample, by its instrument",
+        "id; or first and last, or month; at is the temperature of the sample, by its instrument",
+        is_shaped=True,
+        is_across=True,
     ),
     SheetKind(
         "temperatures",
         "temperatures of volumes by day, of several days or of a ticket",
         (
-            Column("name", "a stream or its tag, or a tank"),
-            Column("id", "the ticket's number, in place of a name"),
+            SheetColumn("name", "a stream or its tag, or a tank"),
+            SheetColumn("id", "the ticket's number, in place of a name"),
             DAY,
             FIRST,
             LAST,
+            MONTH,
             replace(TEMPERATURE, needed=True),
-            Column("error", "the standard deviation, in degrees: 0.5", True),
+            SheetColumn("error", "the standard deviation, in degrees: 0.5", True),
         ),
         lambda work: work.measures.read_temperatures(),
-        said="name, day, temperature, error; or with a ticket's id; or first and last",
+        said="name, day, temperature, error; or with a ticket's id; or first and last, or month",
+        is_shaped=True,
     ),
 )

@@ -2,6 +2,7 @@
 
 from __future__ import annotations
 
+import calendar
 import datetime
 from collections.abc import Callable, Iterator
 from dataclasses import dataclass, field
@@ -12,14 +13,16 @@ from typing import TypeVar
 
 from plantbal.volumes.factor import CONTEXT, FactorTable, Rounding
 from plantbal.volumes.groups import Group
-from plantbal.volumes.liquid import Measured, Product, Sample
-from plantbal.volumes.standard import Instrument
+from plantbal.volumes.liquid import MeasuredFigure, Product, Sample
+from plantbal.volumes.standard import DensityInstrument
 from plantbal.volumes.tank import Roof
+from plantbal.workbook.causes import SheetCause
 from plantbal.workbook.dated import Dated, DatedFigures
 from plantbal.workbook.plant import PlantReader
 from plantbal.workbook.sheets import Cell
-from plantbal.workbook.tables import Row, Tables
+from plantbal.workbook.tables import SheetRow, Tables
 from plantbal.workbook.units import GRAMS, VOLUMES
+from plantbal.workbook.wide import month_text
 
 T = TypeVar("T")
 E = TypeVar("E", bound=Enum)
@@ -70,7 +73,7 @@ class Measures:
     gauges: dict[str, Gauge] = field(default_factory=dict)
     waters: dict[str, list[tuple[int, int]]] = field(default_factory=dict)
     densities: DatedFigures[Sample] = field(default_factory=DatedFigures)
-    temperatures: DatedFigures[Measured] = field(default_factory=DatedFigures)
+    temperatures: DatedFigures[MeasuredFigure] = field(default_factory=DatedFigures)
 
     def product_of(self, name: str) -> Product | None:
         """Return the product of a tank or stream, if one is named."""
@@ -151,11 +154,13 @@ class MeasureReader:
                 own = points.setdefault(name, [])
                 if not Decimal("0.5") < factor < Decimal("1.5"):
                     remedy = "it is near 1: what a volume at the temperature is multiplied by"
-                    raise self.reader.fault(
-                        row["factor"], f"{factor} is no factor", remedy, "factor"
-                    )
+                    what = SheetCause.NOT_A_FACTOR(factor=factor)
+                    raise self.reader.fault(row["factor"], what, remedy, "factor")
                 if own and temperature <= own[-1][0]:
-                    what = f"{temperature} °C of {name} come after {own[-1][0]} °C"
+                    last = own[-1][0]
+                    what = SheetCause.FACTORS_OUT_OF_ORDER(
+                        temperature=temperature, name=name, before=last
+                    )
                     remedy = "write the temperatures of a product in rising order"
                     raise self.reader.fault(row["temperature"], what, remedy, "temperature")
                 own.append((temperature, factor))
@@ -176,13 +181,13 @@ class MeasureReader:
             with self.tables.kept():
                 product = row.text("product")
                 if product and product not in self.found.products:
-                    what = f"there is no product {product!r}"
+                    what = SheetCause.NO_PRODUCT(name=product)
                     remedy = "write it into the sheet products, or its rows into the sheet factors"
                     raise self.reader.fault(row["product"], what, remedy, "product")
                 sds = self._error(row, "temperature error"), self._error(row, "water error")
                 self.found.gauges[name] = Gauge(product, *sds, self._roof(row))
 
-    def _roof(self, row: Row) -> Roof | None:
+    def _roof(self, row: SheetRow) -> Roof | None:
         """Return the floating roof of a row; None without one."""
         if self.reader.is_missing(row["roof"]):
             return None
@@ -191,14 +196,14 @@ class MeasureReader:
         )
         if sd is None or mass is None:
             remedy = "write the error of the roof's mass, such as 0.2 t"
-            raise self.reader.fault(row["roof error"], "the roof has no error", remedy)
+            raise self.reader.fault(row["roof error"], SheetCause.ROOF_WITHOUT_ERROR(), remedy)
         rests, floats = (self._level(row, head) for head in ("rests", "floats"))
         if rests is None or floats is None or rests > floats:
-            what = "there is no critical zone of the roof"
+            what = SheetCause.NO_CRITICAL_ZONE()
             remedy = "write the level up to which it rests, and the one from which it floats"
             raise self.reader.fault(row["rests"], what, remedy, "rests")
         divided = self._divided(zone) if zone is not None else None
-        return Roof(Measured(mass, self._divided(sd)), rests, floats, divided)
+        return Roof(MeasuredFigure(mass, self._divided(sd)), rests, floats, divided)
 
     def _read_waters(self) -> None:
         """Read the tables of free water."""
@@ -215,7 +220,7 @@ class MeasureReader:
                 ml = self.reader.whole(row["volume"], exact)
                 points = found.setdefault(name, [])
                 if points and not (mm > points[-1][0] and ml >= points[-1][1]):
-                    what = f"{mm} mm of {name} don't come after {points[-1][0]} mm"
+                    what = SheetCause.WATERS_OUT_OF_ORDER(mm=mm, name=name, before=points[-1][0])
                     remedy = "write levels and volumes in rising order"
                     raise self.reader.fault(row["level"], what, remedy, "level")
                 points.append((mm, ml))
@@ -235,7 +240,7 @@ class MeasureReader:
         self,
         kind: str,
         into: DatedFigures[T],
-        figure: Callable[[Row], T],
+        figure: Callable[[SheetRow], T],
         *,
         products: bool = False,
     ) -> None:
@@ -255,45 +260,71 @@ class MeasureReader:
                         into.add(own, dated)
                 if same is not dated:
                     other = str(same.cell.place()).rstrip(":")
-                    what = f"{name} has one of these days already ({other})"
+                    what = SheetCause.DATED_TWICE(name=name, other=other)
                     raise self.reader.fault(cell, what, "leave one of both out")
 
-    def _sample(self, row: Row) -> Sample:
+    def _sample(self, row: SheetRow) -> Sample:
         """Return a density with its error, and at what temperature and by what it was taken."""
         density = self.reader.density(row["density"])
         if density is None:
-            what, remedy = "there is no density", "write one, such as 862 (kg/m3)"
+            what = SheetCause.DENSITY_MISSING()
+            remedy = "write one, such as 862 (kg/m3)"
             raise self.reader.fault(row["density"], what, remedy, "density")
         sd = self._error(row, "error")
         if sd is None:
             remedy = "write its standard deviation in kg/m3, such as 0.5"
-            raise self.reader.fault(row["error"], "the density has no error", remedy, "error")
+            what = SheetCause.DENSITY_WITHOUT_ERROR()
+            raise self.reader.fault(row["error"], what, remedy, "error")
         at = None if self.reader.is_missing(row["at"]) else self._temperature(row, "at")
-        by = self._word(row, "by", Instrument)
-        measured = Measured(decimal_of(density / 1000), sd)
+        by = self._word(row, "by", DensityInstrument)
+        measured = MeasuredFigure(decimal_of(density / 1000), sd)
         return Sample(measured, at, by, str(row["density"].place()).rstrip(":"))
 
-    def _measured(self, row: Row) -> Measured:
+    def _measured(self, row: SheetRow) -> MeasuredFigure:
         """Return a temperature with its error."""
         sd = self._error(row, "error")
         if sd is None:
             remedy = "write its standard deviation in degrees, such as 0.5"
-            raise self.reader.fault(row["error"], "the temperature has no error", remedy, "error")
-        return Measured(self._temperature(row), sd)
+            what = SheetCause.TEMPERATURE_WITHOUT_ERROR()
+            raise self.reader.fault(row["error"], what, remedy, "error")
+        return MeasuredFigure(self._temperature(row), sd)
 
-    def _days(self, row: Row) -> tuple[datetime.date | None, datetime.date | None]:
+    def _days(self, row: SheetRow) -> tuple[datetime.date | None, datetime.date | None]:
+        """Return the first and the last day of a row; None without days."""
+        if not self.reader.is_missing(row["month"]):
+            return self._month(row)
         first, last = (
             None if self.reader.is_missing(row[head]) else self.reader.day(row[head], head)
             for head in ("first" if self.reader.is_missing(row["day"]) else "day", "last")
         )
         if last is not None and (first is None or last < first):
-            what = "there is no day before the last one"
+            what = SheetCause.NO_FIRST_DAY()
             raise self.reader.fault(row["last"], what, "write the first day too", "last")
         return first, last or first
 
+    def _month(self, row: SheetRow) -> tuple[datetime.date, datetime.date]:
+        """Return the first and the last day of the month of a row.
+
+        Raises
+        ------
+        CausedFault
+            If it is none, or the row has days too.
+        """
+        cell = row["month"]
+        month = month_text(cell)
+        if not month:
+            what = SheetCause.NOT_A_MONTH(text=cell.text)
+            raise self.reader.fault(cell, what, "write it as 2024-01", "month")
+        if any(not self.reader.is_missing(row[head]) for head in ("day", "first", "last")):
+            raise self.reader.fault(
+                cell, SheetCause.MONTH_AND_DAYS(), "leave one of both out", "month"
+            )
+        first = datetime.date.fromisoformat(f"{month}-01")
+        return first, first.replace(day=calendar.monthrange(first.year, first.month)[1])
+
     # ---- cells
 
-    def _named(self, row: Row, head: str = "name", *, products: bool = False) -> str | None:
+    def _named(self, row: SheetRow, head: str = "name", *, products: bool = False) -> str | None:
         """Return the tank or stream of a row by its name or tag, or its product."""
         name = row.text(head)
         if name in self.plant.bad:
@@ -303,7 +334,7 @@ class MeasureReader:
         stream = self.plant.named(row[head], head)
         return stream.name if stream is not None else None
 
-    def _word(self, row: Row, head: str, words: type[E]) -> E | None:
+    def _word(self, row: SheetRow, head: str, words: type[E]) -> E | None:
         """Return the member of an enum that a cell names; None if it is empty."""
         if self.reader.is_missing(row[head]):
             return None
@@ -312,19 +343,20 @@ class MeasureReader:
             if word.value == text:
                 return word
         there = ", ".join(word.value for word in words)
-        what = f"{row.text(head)!r} is no {head}"
+        what = SheetCause.NO_SUCH_WORD(text=row.text(head), head=head)
         raise self.reader.fault(row[head], what, f"write one of {there}", head)
 
-    def _number(self, row: Row, head: str) -> Decimal | None:
+    def _number(self, row: SheetRow, head: str) -> Decimal | None:
         """Return a number of 0 or more; None if the cell is empty."""
         if self.reader.is_missing(row[head]):
             return None
         found = self.reader.number(row[head], head)
         if found < 0:
-            raise self.reader.fault(row[head], f"{row.text(head)} is below 0", "look at it", head)
+            what = SheetCause.BELOW_0(text=row.text(head))
+            raise self.reader.fault(row[head], what, "look at it", head)
         return found
 
-    def _error(self, row: Row, head: str) -> Decimal | None:
+    def _error(self, row: SheetRow, head: str) -> Decimal | None:
         """Return a standard deviation; None if the cell is empty."""
         found = self._number(row, head)
         return self._divided(found) if found is not None else None
@@ -333,21 +365,22 @@ class MeasureReader:
         """Return a standard deviation, if errors are limits of twice that."""
         return sd / self.reader.divisor
 
-    def _temperature(self, row: Row, head: str = "temperature") -> Decimal:
+    def _temperature(self, row: SheetRow, head: str = "temperature") -> Decimal:
         return temperature_of(self.tables, row[head], head)
 
-    def _level(self, row: Row, head: str) -> Decimal | None:
+    def _level(self, row: SheetRow, head: str) -> Decimal | None:
         if self.reader.is_missing(row[head]):
             return None
         return Decimal(self.reader.level(row[head], head))
 
-    def _kilograms(self, row: Row, head: str) -> Decimal | None:
+    def _kilograms(self, row: SheetRow, head: str) -> Decimal | None:
         """Return a mass in kg; a plain number is in tonnes."""
         if self.reader.is_missing(row[head]):
             return None
         number, unit = self.reader.split(row[head], GRAMS, head)
         if number < 0:
-            raise self.reader.fault(row[head], f"{row.text(head)} is below 0", "look at it", head)
+            what = SheetCause.BELOW_0(text=row.text(head))
+            raise self.reader.fault(row[head], what, "look at it", head)
         return decimal_of(Fraction(number) * GRAMS[unit or "t"] / 1000)
 
 
@@ -367,7 +400,7 @@ def temperature_of(tables: Tables, cell: Cell, head: str = "temperature") -> Dec
         found = reader.number(cell, head)
     if not _COLDEST <= found <= _HOTTEST:
         remedy = f"write degrees Celsius, from {_COLDEST} to {_HOTTEST}"
-        raise reader.fault(cell, f"{cell.text} is no temperature of a tank", remedy, head)
+        raise reader.fault(cell, SheetCause.NOT_A_TEMPERATURE(text=cell.text), remedy, head)
     return found
 
 

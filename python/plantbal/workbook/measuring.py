@@ -16,20 +16,22 @@ from fractions import Fraction
 from pathlib import Path
 from typing import TypeVar
 
-from plantbal.faults import Fault, InputFault
+from plantbal.causes import CausedFault
+from plantbal.faults import Place
 from plantbal.schema import schema
 from plantbal.volumes.batch import Batch, batch
-from plantbal.volumes.liquid import Liquid, Measured, Sample
+from plantbal.volumes.liquid import Liquid, MeasuredFigure, Sample
 from plantbal.volumes.tank import Content, Depth, Gauging
 from plantbal.volumes.trail import Trail, of_batch, of_tank
+from plantbal.workbook.causes import SheetCause
 from plantbal.workbook.cells import Error
 from plantbal.workbook.dated import Dated
 from plantbal.workbook.measuresheets import Measures, decimal_of, temperature_of
-from plantbal.workbook.periods import Periods
+from plantbal.workbook.periods import PeriodSheet
 from plantbal.workbook.plant import StreamRow, TankRow
 from plantbal.workbook.sheets import Cell
-from plantbal.workbook.tables import Row, Tables
-from plantbal.workbook.units import AMOUNTS, VOLUMES
+from plantbal.workbook.tables import SheetRow, Tables
+from plantbal.workbook.units import AMOUNTS, LENGTHS, VOLUMES
 
 T = TypeVar("T")
 
@@ -64,7 +66,7 @@ class Applied:
     liquid: Liquid
     batch: Batch
     density: Dated[Sample] | None
-    temperature: Dated[Measured] | None
+    temperature: Dated[MeasuredFigure] | None
     cell: Cell
 
     def variance(self, density: Fraction, temperature: Fraction) -> int:
@@ -93,7 +95,7 @@ class Measuring:
     ----------
     tables : Tables
         The tables of the workbook.
-    periods : Periods
+    periods : PeriodSheet
         The periods that a day may be in.
     found : Measures
         What was read.
@@ -102,7 +104,7 @@ class Measuring:
     """
 
     tables: Tables
-    periods: Periods
+    periods: PeriodSheet
     found: Measures
     trails: list[Trail] = field(default_factory=list)
     _used: dict[str, int] = field(default_factory=dict)
@@ -118,7 +120,7 @@ class Measuring:
         return self._applied(stream, cell, unit, density, temperature)
 
     def of_ticket(
-        self, stream: StreamRow, row: Row, days: Sequence[datetime.date]
+        self, stream: StreamRow, row: SheetRow, days: Sequence[datetime.date]
     ) -> Applied | None:
         """Return the mass of a ticket's volume; None if nothing but one density is known of it."""
         reader, name = self.tables.reader, row.text("id")
@@ -140,23 +142,39 @@ class Measuring:
         """Return the one figure of several days; None if there is none on any of them."""
         there = list(dict.fromkeys(found, None))
         if len(there) > 1:
-            what = f"{cell.text} is of days with several densities or temperatures"
+            what = SheetCause.SEVERAL_OF_TICKET(text=cell.text)
             remedy = "write the ticket's own, by its id, or in its row"
             raise self.tables.reader.fault(cell, what, remedy)
         return there[0] if there else None
 
-    def _own_temperature(self, name: str, row: Row) -> Dated[Measured] | None:
+    def _own_temperature(self, name: str, row: SheetRow) -> Dated[MeasuredFigure] | None:
         """Return the temperature in a row of a dip or a ticket; None without one."""
         cell = row["temperature"]
         if self.tables.reader.is_missing(cell):
             return None
         gauge = self.found.gauges.get(name)
-        if gauge is None or gauge.temperature_sd is None:
-            what = f"the temperature of {name} has no error"
-            remedy = "write it into the sheet gauges: name, product, temperature error"
+        sd = self._own_sd(row, "temperature error")
+        if sd is None and gauge is not None:
+            sd = gauge.temperature_sd
+        if sd is None:
+            what = SheetCause.OWN_TEMPERATURE_WITHOUT_ERROR(name=name)
+            remedy = "write it into a column temperature error, or into the sheet gauges"
             raise self.tables.reader.fault(cell, what, remedy, "temperature")
         value = temperature_of(self.tables, cell)
-        return Dated(Measured(value, gauge.temperature_sd), cell)
+        return Dated(MeasuredFigure(value, sd), cell)
+
+    def _own_sd(self, row: SheetRow, head: str) -> Decimal | None:
+        """Return a standard deviation in a row, in degrees or mm; None if it is empty."""
+        cell, reader = row[head], self.tables.reader
+        if reader.is_missing(cell):
+            return None
+        number = reader.split(cell, LENGTHS, head)
+        sd = Fraction(number[0]) * LENGTHS[number[1] or "mm"] / reader.divisor
+        if sd < 0:
+            raise reader.fault(
+                cell, SheetCause.BELOW_0(text=cell.text), "an error is 0 or more", head
+            )
+        return decimal_of(sd)
 
     def _applied(
         self,
@@ -164,7 +182,7 @@ class Measuring:
         cell: Cell,
         unit: str,
         density: Dated[Sample] | None,
-        temperature: Dated[Measured] | None,
+        temperature: Dated[MeasuredFigure] | None,
         own: Fraction | None = None,
     ) -> Applied | None:
         number, after = self.tables.reader.split(cell, AMOUNTS, stream.tag)
@@ -179,10 +197,11 @@ class Measuring:
             return None
         known = own or stream.density
         if sample is None and known is not None:
-            sample = Sample(Measured(decimal_of(known / 1000)))
+            sample = Sample(MeasuredFigure(decimal_of(known / 1000)))
         if sample is None:
             remedy = "write one into the sheet densities, or into the row of its stream"
-            raise self.tables.reader.fault(cell, f"{cell.text} {unit} have no density", remedy)
+            what = SheetCause.NO_DENSITY_OF_VOLUME(text=cell.text, unit=unit)
+            raise self.tables.reader.fault(cell, what, remedy)
         product = self.found.product_of(stream.name)
         liquid = Liquid(sample, product, temperature.value if temperature else None)
         volume = decimal_of(Fraction(number) * VOLUMES[unit])
@@ -217,7 +236,7 @@ class Measuring:
     # ---- tanks
 
     def of_dip(
-        self, tank: TankRow, row: Row, mm: int, error: Error, day: datetime.date
+        self, tank: TankRow, row: SheetRow, mm: int, error: Error, day: datetime.date
     ) -> Dipped | None:
         """Return a dip by all that was measured; None if nothing but one density is known of it."""
         reader, gauge = self.tables.reader, self.found.gauges.get(tank.name)
@@ -234,10 +253,11 @@ class Measuring:
         known = own or tank.density
         if sample is None and known is None:
             remedy = "write one, such as 862 (kg/m3), here or in the sheet densities"
-            raise reader.fault(row["density"], "the dip has no density", remedy, "density")
+            what = SheetCause.DIP_WITHOUT_DENSITY()
+            raise reader.fault(row["density"], what, remedy, "density")
         if sample is None:
             assert known is not None
-            sample = Sample(Measured(decimal_of(known / 1000)))
+            sample = Sample(MeasuredFigure(decimal_of(known / 1000)))
         measured = temperature.value if temperature is not None else None
         liquid = Liquid(sample, self.found.product_of(tank.name), measured)
         depth = self._depth(tank.points, mm, decimal_of(error.mm), row["level"])
@@ -253,14 +273,16 @@ class Measuring:
         booked = dipped.grams, dipped.variance
         self.trails.append(of_tank(fact, dipped.gauging, dipped.content, booked, source))
 
-    def _water(self, tank: TankRow, row: Row, error: Error) -> Depth:
+    def _water(self, tank: TankRow, row: SheetRow, error: Error) -> Depth:
         """Return the free water of a row, by its own table or the tank's."""
         gauge = self.found.gauges.get(tank.name)
-        sd = decimal_of(error.mm)
-        if gauge is not None and gauge.water_sd is not None:
-            sd = gauge.water_sd
+        sd = self._own_sd(row, "water error")
+        if sd is None:
+            sd = gauge.water_sd if gauge is not None else None
+        if sd is None:
+            sd = decimal_of(error.mm)
         if not sd:
-            what = f"the water of {tank.name} has no error"
+            what = SheetCause.WATER_WITHOUT_ERROR(name=tank.name)
             remedy = "write it into the column water error of the sheet gauges, in mm"
             raise self.tables.reader.fault(row["water"], what, remedy, "water")
         level = self.tables.reader.level(row["water"], "water")
@@ -275,12 +297,13 @@ class Measuring:
         if not beside:
             ends = f"{points[0][0]} to {points[-1][0]} mm" if points else "no level"
             remedy = "look at the level, or write the table as far as it goes"
-            raise self.tables.reader.fault(cell, f"the table has {ends}, and not {mm} mm", remedy)
+            what = SheetCause.OUTSIDE_OF_TABLE(ends=ends, mm=mm)
+            raise self.tables.reader.fault(cell, what, remedy)
         slopes = [Fraction(high[1] - low[1], high[0] - low[0]) for low, high in beside]
         (at, ml), slope = beside[0][0], slopes[0]
         volume = (ml + slope * (mm - at)) / 10**6
         steep = decimal_of(max(slopes) / 10**6)
-        return Depth(Measured(Decimal(mm), sd), decimal_of(volume), steep)
+        return Depth(MeasuredFigure(Decimal(mm), sd), decimal_of(volume), steep)
 
     # ---- what is said
 
@@ -289,10 +312,10 @@ class Measuring:
         """Give a fault of the block the place of a cell."""
         try:
             yield
-        except InputFault:
-            raise
-        except Fault as fault:
-            raise self.tables.reader.fault(cell, fault.what, fault.remedy) from fault
+        except CausedFault as fault:
+            if fault.place != Place():
+                raise
+            raise fault.at(cell.place(), cell.text) from fault
 
     def say(self) -> None:
         """Say what was reckoned, and which densities and temperatures change nothing."""

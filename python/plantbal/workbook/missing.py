@@ -1,4 +1,4 @@
-"""What a workbook lacks: days without a reading or a dip, and facts that stand in no period."""
+"""What a workbook lacks: days without a reading or a dip, and facts that are in no period."""
 
 from __future__ import annotations
 
@@ -57,7 +57,7 @@ class Missing:
         ]
         if outside:
             first_cell = str(outside[0].place()).rstrip(":")
-            what = f"{len(outside)} figures stand in no period, the first in {first_cell}"
+            what = f"{len(outside)} figures are in no period, the first in {first_cell}"
             self.tables.notes.append(what)
 
     def _missing_readings(self, period: str, days: list[datetime.date]) -> None:

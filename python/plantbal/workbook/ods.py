@@ -103,7 +103,7 @@ def ods_of(name: str, data: bytes) -> list[Sheet]:
                 raise InputFault(what, place=Place(file=name), remedy=remedy)
             with packed.open("content.xml") as content:
                 events = iterparse(content, events=("start", "end"), forbid_dtd=True)
-                return _Reading(name).sheets(events)
+                return _OdsReading(name).sheets(events)
 
 
 @dataclass
@@ -141,7 +141,7 @@ class _Table:
         return self.sheet
 
 
-class _Reading:
+class _OdsReading:
     """Reads the sheets of a stream of elements.
 
     Parameters
@@ -294,9 +294,9 @@ def _number(text: str) -> Decimal:
     try:
         number = Decimal(text)
     except InvalidOperation:
-        raise ValueError(f"{text[:40]!r} stands for a number") from None
+        raise ValueError(f"{text[:40]!r} is stored as a number") from None
     if not number.is_finite() or len(text) > limits.DIGITS or abs(number.adjusted()) > 400:
-        raise ValueError(f"{text[:40]!r} stands for a number")
+        raise ValueError(f"{text[:40]!r} is stored as a number")
     return number
 
 

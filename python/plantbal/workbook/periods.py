@@ -7,11 +7,11 @@ import datetime
 from collections.abc import Iterable
 
 from plantbal.session import period_days
-from plantbal.workbook.base import Span
+from plantbal.workbook.base import PeriodDays
 from plantbal.workbook.tables import Tables
 
 
-class Periods:
+class PeriodSheet:
     """Reads the sheet of periods, and says in which periods a day may be.
 
     Parameters
@@ -21,14 +21,14 @@ class Periods:
 
     Attributes
     ----------
-    spans : list of Span
+    spans : list of PeriodDays
         The periods that are known already; a day in none of them is in its calendar month.
     """
 
     def __init__(self, tables: Tables) -> None:
         self.tables = tables
         self.session = tables.session
-        self.spans: list[Span] = []
+        self.spans: list[PeriodDays] = []
 
     def read(self) -> None:
         """Declare the periods of the sheet."""
@@ -48,13 +48,13 @@ class Periods:
             last = first.replace(day=calendar.monthrange(year, month)[1])
             self.session.period(f"{year}-{month:02}", first, last)
 
-    def spans_at(self, day: datetime.date) -> list[Span]:
+    def spans_at(self, day: datetime.date) -> list[PeriodDays]:
         """Return the periods that a day may be in; its month if no period is declared."""
         if self.tables.sheets["periods"]:
-            return [Span(*map(_ordinal, period_days(each))) for each in self.session.periods]
+            return [PeriodDays(*map(_ordinal, period_days(each))) for each in self.session.periods]
         known = [span for span in self.spans if span.first <= day.toordinal() <= span.last]
         last = day.replace(day=calendar.monthrange(day.year, day.month)[1])
-        return known or [Span(_ordinal(day.replace(day=1)), _ordinal(last))]
+        return known or [PeriodDays(_ordinal(day.replace(day=1)), _ordinal(last))]
 
 
 def _ordinal(day: datetime.date) -> int:

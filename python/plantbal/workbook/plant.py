@@ -12,11 +12,12 @@ from plantbal.schema import schema
 from plantbal.session import ENV, dates_of_service, most_streams
 from plantbal.study.critical import values_of
 from plantbal.workbook.base import MOST_VARIANCE, error_said
+from plantbal.workbook.causes import SheetCause
 from plantbal.workbook.cells import Error
 from plantbal.workbook.kinds import KindEvidence, evidence_of
 from plantbal.workbook.settings import Settings, settings_of
 from plantbal.workbook.sheets import Cell
-from plantbal.workbook.tables import Row, Tables
+from plantbal.workbook.tables import SheetRow, Tables
 from plantbal.workbook.units import AMOUNTS, VOLUMES
 
 _MOST_ID = schema().limits["most_name"] - len("_2024-04-01")
@@ -118,9 +119,14 @@ class PlantReader:
         self.kinds: dict[str, str] = {}  # of the book
         self.evidence = KindEvidence()
         self.settings = Settings()
-        self.setting_rows: list[Row] = []
+        self.setting_rows: list[SheetRow] = []
         self._tank_rows: list[tuple[tuple[str, ...], dict[str, Cell]]] = []
-        tables.names_across = lambda: {*self.tanks, *self.bad}  # those at fault too
+        tables.names_across = self.names_across
+
+    def names_across(self, kind: str) -> set[str]:
+        """Return the names that may be heads in a sheet of a kind, those at fault too."""
+        found = {*self.tanks, *self.bad}
+        return found | {*self.streams, *self.tags} if kind == "densities" else found
 
     def begin(self, known: Iterable[tuple[str, ...]] = ()) -> None:
         """Begin the session: it is of version 2 if the workbook needs it, or what is known already.
@@ -230,7 +236,7 @@ class PlantReader:
         found = self.reader.error(cell, density, head="base")
         if found.share:
             remedy = "write it in tonnes a period: 0.5 % of 930,000 t are 4650 t"
-            raise self.reader.fault(cell, "a base has no figure to be a part of", remedy, "base")
+            raise self.reader.fault(cell, SheetCause.BASE_IN_PERCENT(), remedy, "base")
         return found
 
     def _base_variance(self, cell: Cell, base: Error | None, kind: str) -> int:
@@ -240,13 +246,13 @@ class PlantReader:
         """
         variance = max(1, base.variance(0)) if base else 1
         if variance > MOST_VARIANCE and kind != "metered":
-            has = f"a {kind} has a systematic error of at most {error_said(MOST_VARIANCE)}"
+            has = SheetCause.BASE_TOO_WIDE(kind=kind, most=error_said(MOST_VARIANCE))
             remedy = "write the rest into the column error of its "
             remedy += "tickets" if kind == "batch stream" else "dips"
             raise self.reader.fault(cell, has, remedy, "base")
         return min(variance, MOST_VARIANCE)
 
-    def _service(self, row: Row) -> tuple[str, ...]:
+    def _service(self, row: SheetRow) -> tuple[str, ...]:
         """Return the dates of service of a row as fields; none if it has no date."""
         since, until = (
             None if self.reader.is_missing(row[head]) else self.reader.day(row[head], head)
@@ -265,7 +271,7 @@ class PlantReader:
                 if not self.reader.is_missing(row["error"]):
                     error = self.reader.error(row["error"], density, level=True)
                 if error is not None and error.share:
-                    what = "a tank's error in percent says nothing of a level"
+                    what = SheetCause.TANK_ERROR_IN_PERCENT()
                     raise self.reader.fault(row["error"], what, "write `3 mm` or `8 t`", "error")
                 service = self._service(row)
                 self.tanks.setdefault(name, TankRow(name, error, density))
@@ -288,29 +294,28 @@ class PlantReader:
                 if self.tables.put(["strap", name, str(mm), str(ml)], cells):
                     self.tanks[name].points.append((mm, ml))
 
-    def _kind_of(self, row: Row, tag: str) -> str:
+    def _kind_of(self, row: SheetRow, tag: str) -> str:
         """Return the kind of a stream of which no kind is written: by the book, or what it has."""
         name = row.text("stream")
         if name in self.kinds:
             return self.kinds[name]
         found = self.evidence.kind(name, tag)
         if found is None:
-            what = f"{name} has tickets and readings, and no kind: batch or metered?"
+            what = SheetCause.METERED_OR_BATCH(name=name)
             self.tables.fault(
                 row["stream"], what, "write batch or metered into a column kind", "stream"
             )
         return found or "plain"
 
-    def _stream_of(self, row: Row) -> StreamRow | None:
+    def _stream_of(self, row: SheetRow) -> StreamRow | None:
         """Return a stream, or None if something of it is wrong."""
         count = len(self.tables.faults)
         tag = "" if self.reader.is_missing(row["tag"]) else row.text("tag")
         kind = row.text("kind").casefold() or self._kind_of(row, tag)
         if kind not in ("metered", "batch", "plain"):
             remedy = "write metered, batch or plain"
-            self.tables.fault(
-                row["kind"], f"{row.text('kind')!r} is no kind of stream", remedy, "kind"
-            )
+            what = SheetCause.NO_KIND_OF_STREAM(text=row.text("kind"))
+            self.tables.fault(row["kind"], what, remedy, "kind")
         unit, density, error = "", None, None
         with self.tables.kept():
             unit = self.reader.unit(row["unit"], AMOUNTS, "")
@@ -320,7 +325,7 @@ class PlantReader:
             if not self.reader.is_missing(row["error"]):
                 error = self.reader.error(row["error"], density)
         if kind == "metered" and tag and error is None and len(self.tables.faults) == count:
-            what = f"the meter {tag} has no error"
+            what = SheetCause.METER_WITHOUT_ERROR(name=tag)
             self.tables.fault(
                 row["error"], what, "write `1.5 %`, `0.2 t`, or both with `or`", "error"
             )
@@ -329,7 +334,7 @@ class PlantReader:
         name = row.text("stream")
         return StreamRow(name, tag, kind, unit, density, error, row["stream"])
 
-    def _declare_units(self, rows: list[Row]) -> None:
+    def _declare_units(self, rows: list[SheetRow]) -> None:
         listed = [row["name"] for row in self.tables.rows("units")]
         seen = {*self.tanks, *self.bad, *self.session.boundaries, ENV}
         if not self.tables.sheets["units"]:
@@ -342,13 +347,14 @@ class PlantReader:
             if not self.tables.put(["unit", cell.text], {"name": cell}):
                 self.bad.add(cell.text)
 
-    def _declare_stream(self, row: Row, stream: StreamRow) -> None:
+    def _declare_stream(self, row: SheetRow, stream: StreamRow) -> None:
         """Give a stream to the session."""
         ends = row["from"], row["to"]
         tag = self.tags.get(stream.tag) if stream.tag else None
         if tag is not None:
             other = str(tag.cell.place()).rstrip(":")
-            self.tables.fault(row["tag"], f"{stream.tag} is the tag of {tag.name} too ({other})")
+            what = SheetCause.TAG_TWICE(tag=stream.tag, name=tag.name, other=other)
+            self.tables.fault(row["tag"], what)
         if tag is not None or any(cell.text in self.bad for cell in ends):
             self.bad |= {stream.name, stream.tag} - {""} if tag is None else {stream.name}
             return
@@ -362,9 +368,8 @@ class PlantReader:
                 self.bases[stream.name] = row["base"]
             if stream.kind == "plain":
                 if not self.reader.is_missing(row["base"]):
-                    raise self.reader.fault(
-                        row["base"], "a plain stream has no base", "empty the cell", "base"
-                    )
+                    what = SheetCause.PLAIN_BASE()
+                    raise self.reader.fault(row["base"], what, "empty the cell", "base")
             cells = {"name": row["stream"], "from": ends[0], "to": ends[1], "base": row["base"]}
             cells["since"] = row["since"]
             fields = [stream.name, ends[0].text, ends[1].text, stream.kind, str(base)]
@@ -375,7 +380,7 @@ class PlantReader:
                 return
         self.bad |= {stream.name, stream.tag} - {""}
 
-    def _check_ends(self, rows: list[Row]) -> None:
+    def _check_ends(self, rows: list[SheetRow]) -> None:
         """Say which units have nothing coming in, or nothing going out: their flows would be 0."""
         ins: dict[str, Cell] = {row.text("to"): row["to"] for row in rows}
         outs: dict[str, Cell] = {row.text("from"): row["from"] for row in rows}
@@ -392,11 +397,9 @@ class PlantReader:
             if near:
                 remedy = f"did you mean {near[0]}?"
             if cell is None:
-                self.tables.notes.append(f"the unit {name} stands in no stream")
+                self.tables.notes.append(f"the unit {name} is in no stream")
             else:
-                self.tables.fault(
-                    cell, f"{name} has nothing {lacks}, so its flows would be 0", remedy
-                )
+                self.tables.fault(cell, SheetCause.DEAD_END(name=name, lacks=lacks), remedy)
 
     def read_settings(self) -> None:
         """Read what holds for all figures."""
@@ -436,7 +439,7 @@ class PlantReader:
             with self.tables.kept():
                 test = row.text("test").casefold()
                 if test not in ("global", "nodal", "measure"):
-                    what = f"{row.text('test')!r} is no test"
+                    what = SheetCause.NO_TEST(text=row.text("test"))
                     remedy = "write global, nodal or measure"
                     raise self.reader.fault(row["test"], what, remedy, "test")
                 number = Fraction(self.reader.number(row["value"], "value"))
@@ -444,7 +447,7 @@ class PlantReader:
                 if test == "global":
                     freedom = [f"{self.reader.number(row['dof'], 'dof'):f}"]
                 if number > 100 + 10 * Fraction(freedom[0] if freedom else 1):
-                    what = f"{row.text('value')} is no critical value: no test would reject"
+                    what = SheetCause.NOT_A_CRITICAL_VALUE(text=row.text("value"))
                     remedy = f"is it in thousandths? Then write {float(number / 1000):g}"
                     raise self.reader.fault(row["value"], what, remedy, "value")
                 value = str(self.reader.whole(row["value"], number * 1000))
@@ -461,6 +464,6 @@ class PlantReader:
             near = [name for name in names if name.casefold() == cell.text.casefold()]
             near += difflib.get_close_matches(cell.text, names, n=1)
             remedy = f"did you mean {near[0]}?" if near else "write it into the sheet streams"
-            what = f"there is no tag or stream {cell.text!r}" if cell.text else "there is no tag"
+            what = SheetCause.TAG_UNKNOWN(text=cell.text) if cell.text else SheetCause.NO_TAG()
             self.tables.fault(cell, what, remedy, head)
         return found

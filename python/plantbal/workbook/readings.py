@@ -5,13 +5,15 @@ from __future__ import annotations
 import datetime
 import re
 
-from plantbal.faults import Fault, InputFault
+from plantbal.causes import CausedFault
+from plantbal.faults import Fault
 from plantbal.workbook.bookings import Bookings
+from plantbal.workbook.causes import SheetCause
 from plantbal.workbook.cells import Error, Reader, day_order
 from plantbal.workbook.daily import long_by_day, wide_by_day
 from plantbal.workbook.fates import Fate, is_unit
 from plantbal.workbook.plant import PlantReader, StreamRow
-from plantbal.workbook.shapes import HEADS_WITHIN
+from plantbal.workbook.shapeparts import HEADS_WITHIN
 from plantbal.workbook.sheets import Cell
 from plantbal.workbook.tables import TOTALS, Tables
 from plantbal.workbook.units import AMOUNTS, is_rate, unit_of
@@ -66,11 +68,11 @@ class Readings:
                 return
             error = stream.error or Error()
             if stream.error is None and stream.kind == "metered":
-                what, remedy = f"the meter of {stream.name} has no error", "write it into its row"
-                raise self.reader.fault(stream.cell, what, remedy, "stream")
+                what = SheetCause.READING_WITHOUT_ERROR(name=stream.name)
+                raise self.reader.fault(stream.cell, what, "write it into its row", "stream")
             if grams == 0 and not error.grams:
                 remedy = "give its meter one in tonnes as well, such as `1.5 % or 0.2 t`"
-                what = "a reading of 0 has no error in percent"
+                what = SheetCause.ZERO_WITHOUT_ERROR()
                 raise self.reader.fault(cell, what, remedy, stream.tag)
             is_wet = self.reader.is_wet(cell, own)
             self.bookings.book(stream, day, grams, error, cell, is_wet, applied=applied)
@@ -95,15 +97,15 @@ class Readings:
                     self._read_across(lines[at], lines[at + 1 :])
                 else:
                     remedy = "write the tags of the sheet streams over the columns"
-                    what = "no row has a tag of the sheet streams"
-                    raise InputFault(what, place=sheet.place(lines[0][0].line), remedy=remedy)
+                    place = sheet.place(lines[0][0].line)
+                    raise CausedFault(SheetCause.NO_TAGS(), place=place, remedy=remedy)
         for stream in self.plant.tags.values():
             if wide and self.whole and stream.kind == "metered" and stream.tag not in found:
                 if stream.name not in found and stream.name not in self.bookings.days:
                     sheet = self.tables.sheets["readings"][0]
-                    what = f"there is no column for {stream.said}"
+                    what = SheetCause.NO_COLUMN_OF_STREAM(stream=stream.said)
                     remedy = "add it; its cells may be empty"
-                    self.tables.faults.append(InputFault(what, place=sheet.place(), remedy=remedy))
+                    self.tables.faults.append(CausedFault(what, place=sheet.place(), remedy=remedy))
         self._check_order()
 
     def check_counters(self) -> None:
@@ -194,7 +196,7 @@ class Readings:
                     self.tables.faults[-1].remedy += skip
             elif stream.name in first:
                 other = str(first[stream.name].place()).rstrip(":")
-                self.tables.fault(cell, f"{stream.said} has a column already ({other})")
+                self.tables.fault(cell, SheetCause.COLUMN_TWICE(stream=stream.said, other=other))
             else:
                 found[column] = stream
                 first[stream.name] = cell
@@ -218,7 +220,7 @@ class Readings:
                 found[column] = self.reader.unit(cell, known, "")
                 own = columns[column].unit
                 if own and own != found[column]:
-                    what = f"{cell.text} stands here, and the sheet streams has {own}"
+                    what = SheetCause.UNIT_OF_STREAM_DIFFERS(text=cell.text, unit=own)
                     raise self.reader.fault(cell, what, "write the same unit in both")
         return found
 
@@ -261,22 +263,19 @@ class Readings:
             day = self.tables.day(first)
             if day is not None and day in seen:
                 other = str(seen[day].place()).rstrip(":")
-                self.tables.fault(
-                    first, f"{day} stands above too ({other})", "leave one of both out"
-                )
+                what = SheetCause.DAY_TWICE(day=day, other=other)
+                self.tables.fault(first, what, "leave one of both out")
                 continue
             if day is not None:
                 seen[day] = first
             for beside in _headless(heads, [cells]):
                 if beside > at:
-                    self.tables.fault(
-                        cells[beside], "this column has no head", "write its tag over it"
-                    )
+                    self.tables.fault(cells[beside], SheetCause.NO_HEAD(), "write its tag over it")
             for column, cell in figures.items():
                 self.reading(columns[column], cell, day, units.get(column, ""))
         if not seen:
             self.tables.notes.append(
-                f"{heads[0].sheet.place(heads[0].line)} no day stands below this row"
+                f"{heads[0].sheet.place(heads[0].line)} there is no day below this row"
             )
         names = {stream.name for stream in columns.values()}
         self.listed |= names
@@ -290,7 +289,8 @@ class Readings:
             if column >= first and cell.text and cell.text.casefold() not in TOTALS:
                 day = self.tables.day(cell)
                 if day is not None and day in days.values():
-                    self.tables.fault(cell, f"{day} stands twice", "leave one of both out")
+                    what = SheetCause.DAY_TWICE_ACROSS(day=day)
+                    self.tables.fault(cell, what, "leave one of both out")
                 elif day is not None:
                     days[column] = day
         self._say_across(heads, lines, first)
@@ -345,7 +345,7 @@ class Readings:
             return
         if _run(turned) and not _run(own):
             own_locale = self.reader.locale
-            what = f"read as {own_locale}, days from {texts[0].text} on don't follow each other"
+            what = SheetCause.DAYS_OUT_OF_ORDER(locale=own_locale, text=texts[0].text)
             self.tables.fault(texts[0], what, f"read as {other} they do: say --locale {other}")
 
 

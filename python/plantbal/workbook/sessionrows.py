@@ -10,7 +10,7 @@ from plantbal.workbook.sheets import Cell
 from plantbal.workbook.tables import Tables
 
 
-class SessionRows:
+class RowsSheet:
     """Reads the sheets `rows` and `windows`.
 
     Parameters

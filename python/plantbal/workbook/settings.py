@@ -10,6 +10,7 @@ from decimal import Decimal
 from zoneinfo import ZoneInfo, ZoneInfoNotFoundError
 
 from plantbal.faults import InputFault
+from plantbal.workbook.causes import SheetCause
 from plantbal.workbook.cells import Reader
 from plantbal.workbook.sheets import Cell, Percent
 
@@ -72,16 +73,18 @@ class Settings:
         elif word == STAMPS and value.text.casefold() in ("begin", "end"):
             self.stamps = value.text.casefold()
         elif word == STAMPS:
-            raise reader.fault(value, f"{value.text!r} is no end of an hour", "write begin or end")
+            what = SheetCause.NO_END_OF_HOUR(text=value.text)
+            raise reader.fault(value, what, "write begin or end")
         elif word == MISSING_HOURS:
             if reader.number(value) != 0:
-                raise reader.fault(value, "an hour without a figure is 0 or a fault", "write 0")
+                raise reader.fault(value, SheetCause.MISSING_HOURS(), "write 0")
             self.fill = True
         elif word == COUNTER:
             self.counters[of.text] = _modulus(reader, value, of)
         else:
             known = ", ".join((TESTS, ZONE, BEGINS, STAMPS, MISSING_HOURS, COUNTER))
-            raise reader.fault(name, f"there is no setting {name.text!r}", f"write one of {known}")
+            what = SheetCause.NO_SETTING(text=name.text)
+            raise reader.fault(name, what, f"write one of {known}")
 
 
 def _level(reader: Reader, cell: Cell) -> float:
@@ -89,7 +92,7 @@ def _level(reader: Reader, cell: Cell) -> float:
     share = reader.error(cell, head="value").share if cell.text.endswith("%") else None
     level = float(reader.number(cell) if share is None else share * reader.divisor)
     if not 0 < level < 1:
-        what = f"{cell.text!r} is no level of a test"
+        what = SheetCause.NOT_A_LEVEL_OF_TEST(text=cell.text)
         raise reader.fault(cell, what, "write the chance of a false alarm: 5 %, or 0.05")
     return level
 
@@ -99,7 +102,7 @@ def _zone(reader: Reader, cell: Cell) -> ZoneInfo:
         return ZoneInfo(cell.text)
     except (ZoneInfoNotFoundError, ValueError, OSError) as error:
         remedy = "write it as Europe/Berlin, or UTC"
-        raise reader.fault(cell, f"there is no zone {cell.text!r}", remedy) from error
+        raise reader.fault(cell, SheetCause.NO_ZONE(text=cell.text), remedy) from error
 
 
 def _clock(reader: Reader, cell: Cell) -> datetime.timedelta:
@@ -108,7 +111,7 @@ def _clock(reader: Reader, cell: Cell) -> datetime.timedelta:
         return datetime.timedelta(hours=cell.value.hour, minutes=cell.value.minute)
     match = _CLOCK.fullmatch(cell.text)
     if match is None or isinstance(cell.value, Percent):
-        raise reader.fault(cell, f"{cell.text!r} is no time of the day", "write it as 06:00")
+        raise reader.fault(cell, SheetCause.NOT_A_CLOCK(text=cell.text), "write it as 06:00")
     return datetime.timedelta(hours=int(match.group(1)), minutes=int(match.group(2) or 0))
 
 
@@ -117,7 +120,7 @@ def _modulus(reader: Reader, value: Cell, of: Cell) -> Decimal:
     number = reader.number(value)
     if number <= 0 or not of.text:
         remedy = "write the figure at which it begins again at 0, and its tag into the column for"
-        raise reader.fault(value, "a counter needs a figure above 0, and a tag", remedy)
+        raise reader.fault(value, SheetCause.COUNTER_UNTOLD(), remedy)
     return number
 
 

@@ -20,7 +20,7 @@ class Stage(Enum):
 
 
 @dataclass(frozen=True)
-class Column:
+class SheetColumn:
     """A column of a sheet.
 
     Attributes
@@ -57,7 +57,7 @@ class SheetKind:
         What its name begins with.
     about : str
         What it is for.
-    columns : tuple of Column
+    columns : tuple of SheetColumn
         Its columns, in the order in which the template has them.
     reader : callable
         Reads the sheets of this kind; one that several kinds have is called once.
@@ -73,11 +73,13 @@ class SheetKind:
         Whether one of these shapes has a column for each tank.
     first : str
         The head over the days in the template, if it has no columns of its own.
+    without : str
+        What holds without some of its columns, or without the sheet, as the documents say it.
     """
 
     word: str
     about: str
-    columns: tuple[Column, ...]
+    columns: tuple[SheetColumn, ...]
     reader: Callable[[Converter], None]
     stage: Stage = Stage.FACTS
     plants: tuple[str, ...] = ()
@@ -85,6 +87,7 @@ class SheetKind:
     is_shaped: bool = False
     is_across: bool = False
     first: str = ""
+    without: str = ""
 
     @property
     def needed(self) -> tuple[str, ...]:
@@ -103,8 +106,9 @@ class SheetKind:
 
 
 # Columns that several kinds have.
-DENSITY = Column("density", "in kg/m3, or with its unit: 0.862 t/m3")
-TANK = Column("tank", "the tank's name", needed=True, of=("tanks", "tank"))
-DAY = Column("day", "the day", is_day=True)
-FIRST = Column("first", "the first day", is_day=True)
-LAST = Column("last", "the last day, counted too; if it is empty, the first", is_day=True)
+DENSITY = SheetColumn("density", "in kg/m3, or with its unit: 0.862 t/m3")
+TANK = SheetColumn("tank", "the tank's name", needed=True, of=("tanks", "tank"))
+DAY = SheetColumn("day", "the day", is_day=True)
+FIRST = SheetColumn("first", "the first day", is_day=True)
+MONTH = SheetColumn("month", "the month, in place of days: 2024-01")
+LAST = SheetColumn("last", "the last day, counted too; if it is empty, the first", is_day=True)

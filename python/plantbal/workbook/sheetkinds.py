@@ -10,9 +10,18 @@ from __future__ import annotations
 from dataclasses import replace
 from typing import TYPE_CHECKING
 
-from plantbal.accounts.sheet import Kind
-from plantbal.workbook.measurekinds import KEPT, OF_DAYS, TEMPERATURE
-from plantbal.workbook.sheetforms import DAY, DENSITY, FIRST, LAST, TANK, Column, SheetKind, Stage
+from plantbal.accounts.sheet import AccountKind
+from plantbal.workbook.measurekinds import KEPT, OF_DAYS, TEMPERATURE, TEMPERATURE_SD
+from plantbal.workbook.sheetforms import (
+    DAY,
+    DENSITY,
+    FIRST,
+    LAST,
+    TANK,
+    SheetColumn,
+    SheetKind,
+    Stage,
+)
 from plantbal.workbook.units import GRADES, GRAMS, VOLUMES, WET
 
 if TYPE_CHECKING:
@@ -23,24 +32,26 @@ ALL = (REFINERY, CONCENTRATOR, UTILITY)
 _TANKS = (REFINERY, CONCENTRATOR)
 _MASSES = (*GRAMS, *WET)
 _AMOUNTS = (*_MASSES, *VOLUMES)
-_UNIT = Column("unit", "of the figures: t without it; volumes want a density", words=_AMOUNTS)
-_ERROR = Column("error", "the standard deviation: 1.5 %, 0.2 t, or 1.5 % or 0.2 t; of a gauge 3 mm")
-_BASE = Column("base", "the standard deviation that it has in every period beside: 0.5 t")
-_NAME = Column("name", "1 to 32 letters, digits, _, - or .", needed=True)
+_UNIT = SheetColumn("unit", "of the figures: t without it; volumes want a density", words=_AMOUNTS)
+_ERROR = SheetColumn(
+    "error", "the standard deviation: 1.5 %, 0.2 t, or 1.5 % or 0.2 t; of a gauge 3 mm"
+)
+_BASE = SheetColumn("base", "its standard deviation in every period, in addition: 0.5 t")
+_NAME = SheetColumn("name", "1 to 32 letters, digits, _, - or .", needed=True)
 _SERVICE = (
-    Column("since", "the first day on which it is in service; empty for always", is_day=True),
-    Column(
+    SheetColumn("since", "the first day on which it is in service; empty for always", is_day=True),
+    SheetColumn(
         "until",
         "the last day on which it is in service, counted too; empty for no end",
         is_day=True,
     ),
 )
-_TAG = "the meter's tag, which stands over its column of readings; empty for none"
+_TAG = "the meter's tag, which is over its column of readings; empty for none"
 _STREAM = "the stream's name: 1 to 32 letters, digits, _, - or ."
 _END = "a unit, a tank, env, or a boundary"
-_OF_STREAM = Column("stream", _STREAM, of=("streams", "stream"))
-_OF_TAG = Column("tag", _TAG, of=("streams", "tag"))
-_AMOUNT = Column("amount", "in the unit beside it")
+_OF_STREAM = SheetColumn("stream", _STREAM, of=("streams", "stream"))
+_OF_TAG = SheetColumn("tag", _TAG, of=("streams", "tag"))
+_AMOUNT = SheetColumn("amount", "in the unit beside it")
 
 
 def _plant(work: Converter) -> None:
@@ -67,13 +78,14 @@ SHEETS: dict[str, SheetKind] = {
             Stage.PLANT,
             ALL,
             said="name (without it, units are the ends of streams that aren't tanks)",
+            without="the ends of the streams that are neither tanks nor boundaries, in their order",
         ),
         SheetKind(
             "tanks",
             "the tanks and stockpiles, with the error of their gauges or surveys",
             (
                 replace(TANK, of=None),
-                Column(
+                SheetColumn(
                     "error", "the standard deviation of the gauge: 3 mm, or 8 t; not in percent"
                 ),
                 _BASE,
@@ -84,6 +96,7 @@ SHEETS: dict[str, SheetKind] = {
             Stage.PLANT,
             _TANKS,
             is_shaped=True,
+            without="since, until: each day",
         ),
         SheetKind(
             "straps",
@@ -91,9 +104,9 @@ SHEETS: dict[str, SheetKind] = {
             "points, such as level 0 and volume 0, level 100000 and volume 1000000: 1 is 10 m3 then",
             (
                 TANK,
-                Column("level", "in mm, or with its unit: 14.62 m", needed=True),
-                Column("volume", "what the tank holds at this level", needed=True),
-                Column("unit", "of the volumes: m3 without it", words=tuple(VOLUMES)),
+                SheetColumn("level", "in mm, or with its unit: 14.62 m", needed=True),
+                SheetColumn("volume", "what the tank holds at this level", needed=True),
+                SheetColumn("unit", "of the volumes: m3 without it", words=tuple(VOLUMES)),
             ),
             _plant,
             Stage.PLANT,
@@ -101,16 +114,17 @@ SHEETS: dict[str, SheetKind] = {
             said="tank, level, volume, unit (m3 without it)",
             is_shaped=True,
             is_across=True,
+            without="unit: m3",
         ),
         SheetKind(
             "streams",
             "the streams, from one unit or tank to another; env is the world outside",
             (
-                Column("tag", _TAG),
-                Column("stream", _STREAM, needed=True),
-                Column("from", _END, needed=True),
-                Column("to", _END, needed=True),
-                Column(
+                SheetColumn("tag", _TAG),
+                SheetColumn("stream", _STREAM, needed=True),
+                SheetColumn("from", _END, needed=True),
+                SheetColumn("to", _END, needed=True),
+                SheetColumn(
                     "kind",
                     "metered: read daily; batch: booked by tickets; plain: not measured",
                     words=("metered", "batch", "plain"),
@@ -125,16 +139,18 @@ SHEETS: dict[str, SheetKind] = {
             Stage.PLANT,
             ALL,
             is_shaped=True,
+            without="kind: batch with tickets, metered with readings or a tag, plain "
+            "otherwise; unit: t; since, until: each day",
         ),
         SheetKind(
             "settings",
             "what holds for all figures: the level of the tests, the zone, hours, counters",
             (
-                Column(
+                SheetColumn(
                     "setting", "tests, zone, day begins, stamps, missing hours, or counter", True
                 ),
-                Column("value", "its value", True),
-                Column("for", "the tag of a counter"),
+                SheetColumn("value", "its value", True),
+                SheetColumn("for", "the tag of a counter"),
             ),
             _plant,
             Stage.PLANT,
@@ -146,11 +162,11 @@ SHEETS: dict[str, SheetKind] = {
             "critical",
             "critical values of the tests, such as 3.841, which rows of a session have as 3841",
             (
-                Column(
+                SheetColumn(
                     "test", "global, nodal or measure", True, words=("global", "nodal", "measure")
                 ),
-                Column("dof", "the degrees of freedom, of the global test"),
-                Column(
+                SheetColumn("dof", "the degrees of freedom, of the global test"),
+                SheetColumn(
                     "value",
                     "the critical value, such as 3.841; plantbal-desk critical gives thousandths",
                     True,
@@ -164,23 +180,23 @@ SHEETS: dict[str, SheetKind] = {
             "accounts",
             "what each stream and tank is to the month's account: product, group, owner, unit",
             (
-                Column("name", "a stream or a tank", True),
-                Column(
+                SheetColumn("name", "a stream or a tank", True),
+                SheetColumn(
                     "kind",
                     "of a stream: receipt, shipment, production, own use, flare, loss, or "
                     "internal; empty for what its ends say; empty of a tank",
-                    words=tuple(kind.value for kind in Kind),
+                    words=tuple(kind.value for kind in AccountKind),
                 ),
-                Column("product", "what it is called in the account, such as diesel"),
-                Column(
+                SheetColumn("product", "what it is called in the account, such as diesel"),
+                SheetColumn(
                     "group",
                     "the product's group, such as middle distillates; without it the " "product",
                 ),
-                Column(
+                SheetColumn(
                     "owner",
                     "whose it is: Alpha, or Alpha 60 %; Beta 40 %, or by receipts, or by " "stock",
                 ),
-                Column(
+                SheetColumn(
                     "unit",
                     "the sales unit: t without it, dmt, or a volume with its density beside",
                     words=("dmt", *_AMOUNTS),
@@ -191,6 +207,7 @@ SHEETS: dict[str, SheetKind] = {
             Stage.PLANT,
             ALL,
             said="name, kind, product, group, owner, unit, density: where a book adds each stream up",
+            without="kind: what the ends say; group: the product; unit: t",
         ),
         *KEPT,
         SheetKind(
@@ -200,6 +217,8 @@ SHEETS: dict[str, SheetKind] = {
             lambda work: work.periods.read(),
             plants=ALL,
             said="name, first, last (without it, each calendar month with a reading is a period)",
+            without="each calendar month with a reading is a period, from its first to "
+            "its last day",
         ),
         SheetKind(
             "moistures",
@@ -208,20 +227,26 @@ SHEETS: dict[str, SheetKind] = {
             (
                 _OF_TAG,
                 _OF_STREAM,
-                Column("id", "the ticket's number, each once"),
+                SheetColumn("id", "the ticket's number, each once"),
                 DAY,
                 FIRST,
                 LAST,
-                Column("moisture", "with its unit: 8.2 %; or alone, with the unit beside it", True),
-                Column("error", "the standard deviation: 3 % of the moisture, or 2500 ppm", True),
-                Column("amount", "the wet tonnes of a shift, if a day has several"),
-                Column("unit", "of the moistures: %; empty if it stands after them"),
+                SheetColumn(
+                    "moisture", "with its unit: 8.2 %; or alone, with the unit beside it", True
+                ),
+                SheetColumn(
+                    "error", "the standard deviation: 3 % of the moisture, or 2500 ppm", True
+                ),
+                SheetColumn("amount", "the wet tonnes of a shift, if a day has several"),
+                SheetColumn("unit", "of the moistures: %; empty if each figure has it"),
             ),
             lambda work: work.moistures.read(),
             plants=(CONCENTRATOR,),
             said="stream, day, moisture, error: what part of wet tonnes (wmt) is water; or with a\n"
             "ticket's id; or first and last; of a shift with its wet tonnes in amount",
             is_shaped=True,
+            without="day: every day; amount: the wet tonnes of a shift; unit: the one "
+            "after the moisture",
         ),
         *OF_DAYS,
         SheetKind(
@@ -251,12 +276,13 @@ SHEETS: dict[str, SheetKind] = {
             plants=ALL,
             said="tag, day, last, amount, unit, density, error: a guess for missing days",
             is_shaped=True,
+            without="unit and density: the stream's",
         ),
         SheetKind(
             "tickets",
             "the batches of ships, trains and trucks",
             (
-                Column("id", "the ticket's number, each once", True),
+                SheetColumn("id", "the ticket's number, each once", True),
                 replace(_OF_STREAM, needed=True),
                 replace(FIRST, needed=True),
                 LAST,
@@ -265,10 +291,12 @@ SHEETS: dict[str, SheetKind] = {
                 DENSITY,
                 _ERROR,
                 TEMPERATURE,
+                TEMPERATURE_SD,
             ),
             lambda work: work.tickets.read(),
             plants=_TANKS,
             is_shaped=True,
+            without="last: first; the others: the stream's",
         ),
         SheetKind(
             "dips",
@@ -276,55 +304,63 @@ SHEETS: dict[str, SheetKind] = {
             (
                 TANK,
                 replace(DAY, needed=True),
-                Column("level", "in mm, or with its unit: 14.62 m", True),
-                Column("unit", "of the levels: mm without it", words=("mm", "cm", "m")),
+                SheetColumn("level", "in mm, or with its unit: 14.62 m", True),
+                SheetColumn("unit", "of the levels: mm without it", words=("mm", "cm", "m")),
                 DENSITY,
-                Column("error", "the standard deviation: 3 mm, or 8 t; the tank's without it"),
+                SheetColumn("error", "the standard deviation: 3 mm, or 8 t; the tank's without it"),
                 TEMPERATURE,
-                Column("water", "the level of the free water, in mm or with its unit"),
+                TEMPERATURE_SD,
+                SheetColumn("water", "the level of the free water, in mm or with its unit"),
+                SheetColumn(
+                    "water error", "the standard deviation of it: 2 mm; gauges has it without it"
+                ),
             ),
             lambda work: work.dips.read(),
             plants=_TANKS,
             is_shaped=True,
             is_across=True,
+            without="unit: mm; density and error: the tank's",
         ),
         SheetKind(
             "assays",
             "the grades of components, each of a period, entered before it is closed",
             (
-                Column("component", "such as cu", True),
+                SheetColumn("component", "such as cu", True),
                 replace(_OF_STREAM, needed=True),
-                Column("period", "the name of a period: of a calendar month such as 2024-04", True),
-                Column(
+                SheetColumn(
+                    "period", "the name of a period: of a calendar month such as 2024-04", True
+                ),
+                SheetColumn(
                     "grade",
                     "with its unit: 0.9 %, 120 g/t, 9000 ppm; or alone, with the unit beside " "it",
                     True,
                 ),
-                Column(
+                SheetColumn(
                     "error",
                     "the standard deviation: 2 % of the grade, 180 ppm, or 2 % or 20 ppm",
                     True,
                 ),
-                Column(
+                SheetColumn(
                     "unit",
-                    "of the grades: %, ppm or g/t; empty if it stands after them",
+                    "of the grades: %, ppm or g/t; empty if each figure has it",
                     words=tuple(GRADES),
                 ),
             ),
             lambda work: work.assays.read(),
             plants=_TANKS,
             is_shaped=True,
+            without="unit: the one after the grade",
         ),
         SheetKind(
             "windows",
             "periods to reconcile at once too, if a dip between them is missing",
             (
-                Column(
+                SheetColumn(
                     "first",
                     "the name of the first period: of a calendar month such as 2024-04",
                     True,
                 ),
-                Column(
+                SheetColumn(
                     "last",
                     "the name of the last period, counted too: of a calendar month such as 2024-04",
                     True,

@@ -194,7 +194,7 @@ def _packed_of(name: str, data: bytes) -> list[Sheet]:
 def _read_open(file: BinaryIO) -> list[Sheet]:
     """Return the sheets of an open xlsx or ods file."""
     if not hasattr(file, "read"):
-        what = f"a {type(file).__name__} is no workbook"
+        what = f"a {type(file).__name__} isn't a workbook"
         raise InputFault(what, remedy="give a path, an open xlsx file, or DataFrames by sheets")
     name = str(getattr(file, "name", "the workbook"))
     data = file.read(limits.WORKBOOK_BYTES + 1)
@@ -327,7 +327,7 @@ def csv_rows(text: str, part: str, name: str, begin: int = 1) -> Iterator[CsvRow
             at = last + 1
     except (csv.Error, TypeError) as error:  # a quote can't part fields
         raise InputFault(
-            "a double quote in this row isn't closed, or stands within a field: "
+            "a double quote in this row isn't closed, or is within a field: "
             "rows after it would be lost",
             place=Place(file=name, line=at),
             remedy="take it out, or write it twice within double quotes",
@@ -366,11 +366,13 @@ def _decoded(name: str, data: bytes) -> tuple[str, list[str]]:
             what = "this is UTF-16 that is cut off or damaged"
             raise InputFault(what, place=place, remedy='save it as "CSV UTF-8"') from error
     if b"\0" in data:
-        raise InputFault("this is no text", place=place, remedy='save it as "CSV UTF-8" or as xlsx')
+        raise InputFault("this isn't text", place=place, remedy='save it as "CSV UTF-8" or as xlsx')
     try:
         return data.decode("utf-8-sig"), []
     except UnicodeDecodeError:
-        return data.decode("cp1252", errors="replace"), ["it is no UTF-8, and read as Windows-1252"]
+        return data.decode("cp1252", errors="replace"), [
+            "it isn't UTF-8, and is read as Windows-1252"
+        ]
 
 
 def _parting(text: str) -> str:

@@ -161,7 +161,7 @@ def add_arguments(parser: argparse.ArgumentParser) -> None:
         metavar="TEXT",
         action="append",
         default=[],
-        help="a text that stands for a missing reading",
+        help="a text that means a missing reading",
     )
     parser.add_argument(
         "--skip",

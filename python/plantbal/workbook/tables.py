@@ -13,14 +13,17 @@ from contextlib import contextmanager
 from dataclasses import dataclass
 from decimal import Decimal
 
+from plantbal.causes import Case, CausedFault
 from plantbal.faults import Fault, InputFault, Refusal
 from plantbal.session import Session
+from plantbal.workbook.causes import SheetCause
 from plantbal.workbook.fates import Fate, Fates, is_figure, unread_column, unread_rows
 from plantbal.workbook.base import MOST_GRAMS, MOST_VARIANCE, error_said
 from plantbal.workbook.cells import Reader
 from plantbal.workbook.sheetforms import SheetKind
 from plantbal.workbook.sheetkinds import PASSED, SHEETS
-from plantbal.workbook.shapes import HEADS_WITHIN, Shape, shape_of
+from plantbal.workbook.shapeparts import HEADS_WITHIN, Shape
+from plantbal.workbook.shapes import shape_of
 from plantbal.workbook.sheets import Cell, Sheet
 
 _HEADS_THAT_TELL = 3  # with fewer columns a sheet of another kind might be meant
@@ -32,7 +35,7 @@ TOTALS = frozenset(
 
 
 @dataclass(frozen=True)
-class Row:
+class SheetRow:
     """A row of a sheet, by the heads of its columns."""
 
     cells: Mapping[str, Cell]
@@ -78,7 +81,7 @@ class Tables:
     fates : Fates
         What became of each row.
     names_across : callable
-        Gives the names of tanks, which may be heads of columns.
+        Gives the names that may be heads of columns in a sheet of a kind.
     written : list of Cell
         The days that are texts.
     """
@@ -91,7 +94,7 @@ class Tables:
         self.notes: list[str] = []
         self.written: list[Cell] = []
         self.fates = Fates(sheets)
-        self.names_across: Callable[[], Collection[str]] = tuple
+        self.names_across: Callable[[str], Collection[str]] = lambda kind: ()
         self.sheets = self._by_kind(sheets)
 
     def _by_kind(self, sheets: list[Sheet]) -> dict[str, list[Sheet]]:
@@ -111,8 +114,8 @@ class Tables:
             near = difflib.get_close_matches(word, SHEETS, n=1, cutoff=0.8)
             if near:
                 remedy = f"call it {near[0]}"
-                what = f"there is no sheet of the kind {sheet.name!r}"
-                self.faults.append(InputFault(what, place=sheet.place(), remedy=remedy))
+                what = SheetCause.NO_SHEET_OF_NAME(name=sheet.name)
+                self.faults.append(CausedFault(what, place=sheet.place(), remedy=remedy))
             else:
                 self._pass_over(sheet, word)
         return found
@@ -130,8 +133,8 @@ class Tables:
             return
         kind = kind_of_heads(sheet)
         if kind and len(sheet.lines) > 1:
-            what = f"the sheet has the heads of the sheet {kind}, and isn't read"
-            self.faults.append(InputFault(what, place=sheet.place(), remedy=f"call it {kind}"))
+            what = SheetCause.SHEET_NOT_READ(kind=kind)
+            self.faults.append(CausedFault(what, place=sheet.place(), remedy=f"call it {kind}"))
         else:
             self.notes.append(f"{sheet.place()} the sheet is passed over")
 
@@ -143,7 +146,7 @@ class Tables:
         except Fault as fault:
             self.faults.append(fault)
 
-    def fault(self, cell: Cell, what: str, remedy: str = "", head: str = "") -> None:
+    def fault(self, cell: Cell, what: Case, remedy: str = "", head: str = "") -> None:
         """Keep a fault at a cell."""
         self.faults.append(self.reader.fault(cell, what, remedy, head))
 
@@ -174,21 +177,22 @@ class Tables:
             If it is wider than a row bears.
         """
         if found > MOST_VARIANCE and abs(grams) <= MOST_GRAMS:  # else the figure is refused
-            what = f"the error of {cell.text} is {error_said(found)}, and a row bears at most "
+            most = error_said(MOST_VARIANCE)
+            what = SheetCause.ERROR_TOO_WIDE(text=cell.text, error=error_said(found), most=most)
             remedy = "look at the error's unit, or enter the figure in several parts"
-            raise self.reader.fault(cell, what + error_said(MOST_VARIANCE), remedy)
+            raise self.reader.fault(cell, what, remedy)
         return found
 
-    def rows(self, kind: str, facts: bool = False) -> Iterator[Row]:
+    def rows(self, kind: str, facts: bool = False) -> Iterator[SheetRow]:
         """Give the rows of the sheets of a kind."""
         for sheet in self.sheets[kind]:
             with self.kept():
                 yield from self._rows_of(sheet, kind, facts)
 
-    def _rows_of(self, sheet: Sheet, kind: str, facts: bool) -> Iterator[Row]:
+    def _rows_of(self, sheet: Sheet, kind: str, facts: bool) -> Iterator[SheetRow]:
         own, shape = SHEETS[kind], Shape()
         if own.is_shaped:
-            names = self.names_across() if own.is_across else ()
+            names = self.names_across(kind) if own.is_across else ()
             shape = shape_of(sheet, kind, own.needed, names, self.reader)
         if not shape.tables:
             yield from self._rows_in(sheet, list(sheet.rows()), own, facts)
@@ -202,7 +206,7 @@ class Tables:
 
     def _rows_in(
         self, sheet: Sheet, lines: list[list[Cell]], kind: SheetKind, facts: bool
-    ) -> Iterator[Row]:
+    ) -> Iterator[SheetRow]:
         needed, others = kind.needed, kind.others
         at, heads = self._heads(sheet, lines, needed, others)
         self.fates.put(Fate.HEADS, lines[at])
@@ -220,7 +224,7 @@ class Tables:
             if facts and self.is_total(cells):
                 continue
             self.fates.put(Fate.READ, cells)
-            yield Row(row)
+            yield SheetRow(row)
 
     def beside(self, cells: list[Cell], column: int) -> Cell:
         """Return the empty cell of a column that a row doesn't reach."""
@@ -250,11 +254,11 @@ class Tables:
                 like = self._near_head(lines[at], head)
                 remedy = f"the columns are {', '.join(needed)}"
                 if others:
-                    remedy += f", and, as they are wanted, {', '.join(others)}"
+                    remedy += f", and, where they apply, {', '.join(others)}"
                 if like:
                     remedy = f"{like} is nearly its name"
                 place = sheet.place(lines[at][0].line)
-                raise InputFault(f"there is no column {head!r}", place=place, remedy=remedy)
+                raise CausedFault(SheetCause.NO_COLUMN(head=head), place=place, remedy=remedy)
         return at, heads
 
     def _wrong_heads(
@@ -267,11 +271,11 @@ class Tables:
                 continue
             head = OTHER_HEADS.get(cell.text.casefold(), cell.text.casefold())
             if heads.get(head, column) != column:
-                self.fault(cell, f"there are two columns {head!r}", "take one of both out")
+                self.fault(cell, SheetCause.TWO_COLUMNS(head=head), "take one of both out")
                 wrong.add(column)
             near = difflib.get_close_matches(cell.text.casefold(), others, n=1, cutoff=0.75)
             if near and near[0] not in heads:
-                what = f"there is no column {cell.text!r} here"
+                what = SheetCause.NO_COLUMN_HERE(head=cell.text)
                 self.fault(cell, what, f"did you mean {near[0]}?")
                 wrong.add(column)
         return wrong

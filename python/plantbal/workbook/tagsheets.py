@@ -110,7 +110,7 @@ def why_not(text: str, mark: str) -> str:
     if is_other:
         return f"{text!r} has a decimal {names[other]}: say --decimal {names[other]}"
     return (
-        f"{text!r} is no figure: digits with at most one decimal {names[mark]}; "
+        f"{text!r} isn't a number: digits with at most one decimal {names[mark]}; "
         f"say --missing {text!r} if it means that there is no reading"
     )
 
@@ -174,7 +174,7 @@ class TagSheet:
             for tag in tags:
                 name = getattr(tag, kind)
                 if name and name in seen:
-                    what = f"{name} stands in line {seen[name]} too"
+                    what = f"{name} is in line {seen[name]} too"
                     raise self.sheet.fault(tag.line, self.places[kind], what)
                 seen[name] = tag.line
         return tags
@@ -184,11 +184,11 @@ class TagSheet:
         texts = {head: field_of(row, place) for head, place in self.places.items()}
         for head in ("stream", "from", "to"):
             if not _NAME.fullmatch(texts[head]):
-                what = f"{texts[head]!r} is no name: 1 to 32 letters, digits, `_`, `-` or `.`"
+                what = f"{texts[head]!r} isn't a name: 1 to 32 letters, digits, `_`, `-` or `.`"
                 raise self.sheet.fault(line, self.places[head], what)
         tag = texts["tag"]
         if tag and not (_NAME.fullmatch(tag) and len(tag) <= _MOST_TAG):
-            what = f"{tag!r} is no tag: 1 to {_MOST_TAG} letters, digits, `_`, `-` or `.`"
+            what = f"{tag!r} isn't a tag: 1 to {_MOST_TAG} letters, digits, `_`, `-` or `.`"
             raise self.sheet.fault(line, self.places["tag"], what)
         if bool(tag) != bool(texts["error"]):
             what = "a stream with a tag has an error, one without has none"
@@ -206,7 +206,7 @@ class TagSheet:
             number = read_decimal(part[:-1].strip(), mark)
             if part[-1:] not in ("%", "t") or number is None or number <= 0:
                 forms = f"`1{mark}5 %`, `0{mark}2 t`, or both with `or` between"
-                what = f"{text!r} is no error: write {forms}"
+                what = f"{text!r} isn't an error: write {forms}"
                 raise self.sheet.fault(line, self.places["error"], what)
             if part[-1] == "%":
                 share = number / 100 / divisor
@@ -220,7 +220,7 @@ class TagSheet:
         if text:
             number = read_decimal(text.rstrip("t").strip(), self.choices.mark)
             if number is None or number < 0:
-                what = f"{text!r} is no standard deviation in tonnes"
+                what = f"{text!r} isn't a standard deviation in tonnes"
                 raise self.sheet.fault(line, self.places["base"], what)
             base = number * GRAMS_A_TONNE / self.choices.divisor
         variance = max(1, math.ceil(base * base))
@@ -270,7 +270,7 @@ class ReadingSheet:
         for line, row in self.sheet.rows:
             day = self.day_of(line, row[0])
             if day in days:
-                raise self.sheet.fault(line, 0, f"{day} stands above too")
+                raise self.sheet.fault(line, 0, f"{day} is already given above")
             for column in range(len(self.sheet.heads), len(row)):
                 if row[column]:
                     raise self.sheet.fault(line, column, "this column has no head")
@@ -287,7 +287,7 @@ class ReadingSheet:
                 return datetime.datetime.strptime(text, self.choices.date).date()
             return datetime.date.fromisoformat(text)
         except ValueError:
-            what = f"{text!r} is no day written {self.choices.date or '2024-06-30'}"
+            what = f"{text!r} isn't a day written {self.choices.date or '2024-06-30'}"
             raise self.sheet.fault(line, 0, what) from None
 
     def reading_of(self, line: int, column: int, tag: str, text: str) -> int | None:

@@ -10,7 +10,7 @@ from typing import Any
 from plantbal.faults import ToolMissing, WordsFault
 from plantbal.files import replacing
 from plantbal.statuses import ExitStatus
-from plantbal.workbook.sheetforms import Column, SheetKind
+from plantbal.workbook.sheetforms import SheetColumn, SheetKind
 from plantbal.workbook.sheetkinds import ALL, SHEETS
 from plantbal.workbook.sheets import letters
 
@@ -33,7 +33,7 @@ KINDS: dict[str, tuple[str, ...]] = {
 }
 
 
-def list_of(column: Column) -> str:
+def list_of(column: SheetColumn) -> str:
     """Return what may stand in a column, as a spreadsheet has it: words, or cells of a sheet."""
     if column.words:
         return f'"{",".join(column.words)}"'
@@ -105,7 +105,7 @@ def _set_days(sheet: Any, at: int) -> None:
     sheet.column_dimensions[letters(at)].number_format = "yyyy-mm-dd"
 
 
-def _add_list(sheet: Any, at: int, column: Column) -> None:
+def _add_list(sheet: Any, at: int, column: SheetColumn) -> None:
     from openpyxl.worksheet.datavalidation import DataValidation
 
     rule = DataValidation("list", formula1=list_of(column), allow_blank=True)

@@ -8,20 +8,21 @@ from fractions import Fraction
 
 from plantbal.workbook.amounts import amount_of
 from plantbal.workbook.base import days_of
+from plantbal.workbook.causes import SheetCause
 from plantbal.workbook.cells import Error
 from plantbal.workbook.drying import Dry, MoistureReader
 from plantbal.workbook.measuring import Applied, Measuring
 from plantbal.workbook.moisture import Moisture
 from plantbal.workbook.plant import PlantReader, StreamRow
 from plantbal.workbook.sheets import Cell
-from plantbal.workbook.tables import Row, Tables
+from plantbal.workbook.tables import SheetRow, Tables
 
 
 @dataclass(frozen=True)
 class Ticket:
     """A ticket of a batch: its row, stream, days, grams and error."""
 
-    row: Row
+    row: SheetRow
     stream: StreamRow
     first: datetime.date
     last: datetime.date
@@ -95,13 +96,14 @@ class Tickets:
         self._put_wet(wet)
         self._put_volumes(volumes)
 
-    def _error(self, row: Row, stream: StreamRow, density: Fraction | None) -> Error:
+    def _error(self, row: SheetRow, stream: StreamRow, density: Fraction | None) -> Error:
         """Return the error of a ticket: its row's, or its stream's."""
         if not self.reader.is_missing(row["error"]):
             return self.reader.error(row["error"], density)
         if stream.error is None:
             remedy = "write one here, or in the sheet streams"
-            raise self.reader.fault(row["error"], "the ticket has no error", remedy, "error")
+            what = SheetCause.TICKET_WITHOUT_ERROR()
+            raise self.reader.fault(row["error"], what, remedy, "error")
         return stream.error
 
     def _put_ticket(self, ticket: Ticket, figure: Dry) -> bool:

@@ -40,6 +40,8 @@ GRADES = {
     "mg/kg": Fraction(1),
     "kg/t": Fraction(1000),
 }
+# Of temperatures: degrees Celsius alone are read.
+TEMPERATURES = ("°C", "°F")
 AMOUNTS = GRAMS | VOLUMES | WET
 _OTHER_WORDS = {
     "tonne": "t",
@@ -59,10 +61,21 @@ _OTHER_WORDS = {
     "t/m³": "t/m3",
     "g/m³": "g/m3",
     "g/cm³": "g/cm3",
+    "kg/cbm": "kg/m3",
+    "deg c": "°C",
+    "degc": "°C",
+    "grad c": "°C",
+    "ºc": "°C",
+    "celsius": "°C",
+    "deg f": "°F",
+    "degf": "°F",
+    "ºf": "°F",
 }
 _RATE = re.compile(r"[\[(]?([^\W\d_][\w³]*)/(?:hr?|hours?|d|day|min|s)[\])]?", re.IGNORECASE)
-UNITS = frozenset({*AMOUNTS, *DENSITIES, *LENGTHS, *GRADES})
-_KNOWN = {name.casefold(): name for name in (*AMOUNTS, *DENSITIES, *LENGTHS, *GRADES)}
+UNITS = frozenset({*AMOUNTS, *DENSITIES, *LENGTHS, *GRADES, *TEMPERATURES})
+_KNOWN = {
+    name.casefold(): name for name in (*AMOUNTS, *DENSITIES, *LENGTHS, *GRADES, *TEMPERATURES)
+}
 
 
 def unit_of(text: str) -> str:

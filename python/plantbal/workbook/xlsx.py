@@ -47,7 +47,7 @@ def xlsx_of(name: str, data: bytes) -> list[Sheet]:
     if not data.startswith(b"PK"):
         old = data.startswith(b"\xd0\xcf\x11\xe0")
         raise InputFault(
-            "this is a workbook of the old form" if old else "this is no xlsx or ods workbook",
+            "this is a workbook of the old form" if old else "this isn't an xlsx or ods workbook",
             place=Place(file=name),
             remedy="save it as xlsx, or give a folder of CSV files",
         )
@@ -62,11 +62,11 @@ def xlsx_of(name: str, data: bytes) -> list[Sheet]:
         epoch = EPOCH_1904 if values.epoch.year == EPOCH_1904.year else EPOCH
         held = Held()
         pairs = zip(values.worksheets, written.worksheets)
-        return [_Reading(name, one, other, epoch).sheet(held) for one, other in pairs]
+        return [_XlsxReading(name, one, other, epoch).sheet(held) for one, other in pairs]
 
 
 @dataclass
-class _Reading:
+class _XlsxReading:
     """Reads a sheet of openpyxl in both forms.
 
     Attributes

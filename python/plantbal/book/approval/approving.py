@@ -15,7 +15,7 @@ from enum import StrEnum
 
 from plantbal.book.approval.changers import changers, marks_of_doer
 from plantbal.book.approval.identity import Marks, marks_of_line
-from plantbal.book.approval.record import Deed
+from plantbal.book.approval.record import ApprovalDeed, ApprovalRecord
 from plantbal.book.approval.rules import May, Rules
 from plantbal.book.approval.state import (
     Waiting,
@@ -29,8 +29,8 @@ from plantbal.book.approval.submitting import base_of
 from plantbal.book.approval.writing import record_for, written_for
 from plantbal.book.closing import NotClosed, prepared
 from plantbal.book.forms import is_year_file, report_file
-from plantbal.book.journal import Act, Kept, Line
-from plantbal.book.ledger import Ledger
+from plantbal.book.journal import Act, JournalLine, Kept
+from plantbal.book.ledger import YearLedger
 from plantbal.book.store import Action, Head, Store
 from plantbal.book.years import Years
 from plantbal.faults import Fault
@@ -125,16 +125,7 @@ def approve(book: Store, head: str, *, program: str | None = None, who: str = ""
     with _opened(book, head) as (waiting, rules):
         years = Years(book)
         action = _action(book, years, waiting, program)
-        record = record_for(
-            book,
-            Deed.APPROVE,
-            waiting.proposal.act,
-            waiting.proposal.of,
-            rules,
-            who=who,
-            submission=(waiting.line.number, waiting.line.digest),
-            files=waiting.record.files,
-        )
+        record = _record(book, waiting, rules, ApprovalDeed.APPROVE, who)
         record, texts, marks = written_for(book, record, rules, May.APPROVE, who)
         _check_other(book, years, waiting, rules, marks)
         lacking = rules.approvers - len(waiting.approvals) - 1
@@ -153,15 +144,7 @@ def reject(book: Store, head: str, *, why: str, who: str = "") -> Head:
     if not why.strip():
         raise Fault("there is no reason", remedy="say why, in a few words")
     with _opened(book, head) as (waiting, rules):
-        record = record_for(
-            book,
-            Deed.REJECT,
-            waiting.proposal.act,
-            waiting.proposal.of,
-            rules,
-            who=who,
-            submission=(waiting.line.number, waiting.line.digest),
-        )
+        record = _record(book, waiting, rules, ApprovalDeed.REJECT, who)
         own = waiting.record.user == record.user
         may = May.SUBMIT if own else May.APPROVE
         record, texts, _ = written_for(book, record, rules, may, who)
@@ -171,19 +154,28 @@ def reject(book: Store, head: str, *, why: str, who: str = "") -> Head:
         return book.head
 
 
-def to_sign(book: Store, head: str, *, who: str = "") -> str:
-    """Return the text that an approval signs; the parameters are those of `Book.to_sign`."""
+def to_sign(
+    book: Store, head: str, deed: ApprovalDeed = ApprovalDeed.APPROVE, *, who: str = ""
+) -> str:
+    """Return what an approval or a rejection signs; the parameters are those of `Book.to_sign`."""
     with _opened(book, head) as (waiting, rules):
-        return record_for(
-            book,
-            Deed.APPROVE,
-            waiting.proposal.act,
-            waiting.proposal.of,
-            rules,
-            who=who,
-            submission=(waiting.line.number, waiting.line.digest),
-            files=waiting.record.files,
-        ).text
+        return _record(book, waiting, rules, deed, who).text
+
+
+def _record(
+    book: Store, waiting: Waiting, rules: Rules, deed: ApprovalDeed, who: str
+) -> ApprovalRecord:
+    """Return the record of an approval or of a rejection of what waits."""
+    return record_for(
+        book,
+        deed,
+        waiting.proposal.act,
+        waiting.proposal.of,
+        rules,
+        who=who,
+        submission=(waiting.line.number, waiting.line.digest),
+        files=waiting.record.files if deed is ApprovalDeed.APPROVE else None,
+    )
 
 
 @contextmanager
@@ -232,7 +224,7 @@ def _check_other(book: Store, years: Years, waiting: Waiting, rules: Rules, mark
             )
 
 
-def marks_of_signer(book: Store, line: Line, rules: Rules) -> Marks:
+def marks_of_signer(book: Store, line: JournalLine, rules: Rules) -> Marks:
     """Return the marks of whoever has approved something by a line."""
     record = record_of(book, line)
     signed = signed_of(book, record, keys_of(book)) if record is not None else None
@@ -275,7 +267,7 @@ def _action(book: Store, years: Years, waiting: Waiting, program: str | None) ->
 def _check_figures(years: Years, waiting: Waiting) -> None:
     """Raise if a row was added since that touches the periods of a submission."""
     for period in waiting.proposal.periods:
-        ledger: Ledger = years.of_period(period)
+        ledger: YearLedger = years.of_period(period)
         base = Kept.read(waiting.proposal.bases.get(f"{ledger.name}.csv", ""))
         if base is None or ledger.touched(ledger.periods[period]) > (base.lines or 0):
             raise Voided(waiting, Void.FIGURES, period)

@@ -6,11 +6,11 @@ from collections.abc import Iterator
 from typing import TYPE_CHECKING
 
 from plantbal.book.approval.identity import Marks, marks_of_line
-from plantbal.book.approval.rules import Changed, Rules
+from plantbal.book.approval.rules import Changers, Rules
 from plantbal.book.approval.state import keys_of, record_of, signed_of
 from plantbal.book.forms import year_file
-from plantbal.book.journal import Act, Line
-from plantbal.book.ledger import Fact, Ledger
+from plantbal.book.journal import Act, JournalLine
+from plantbal.book.ledger import BookFact, YearLedger
 from plantbal.book.said import touched_by
 
 if TYPE_CHECKING:
@@ -19,38 +19,38 @@ if TYPE_CHECKING:
 
 def changers(
     book: Store,
-    ledger: Ledger,
+    ledger: YearLedger,
     period: str,
     rules: Rules,
-    changed: Changed,
+    changed: Changers,
     upto: int | None = None,
-) -> Iterator[tuple[Line, Marks]]:
+) -> Iterator[tuple[JournalLine, Marks]]:
     """Give the actions that changed a period's figures, with the marks of whoever did it.
 
     Parameters
     ----------
     book : Store
         The book, which has been opened.
-    ledger : Ledger
+    ledger : YearLedger
         The year that has the period.
     period : str
         The period.
     rules : Rules
         The rules of the book.
-    changed : Changed
+    changed : Changers
         Whether all are given, or the last one alone.
     upto : int, optional
         The last row of the year that counts.
     """
     rows = {row for row in rows_of(ledger, period) if upto is None or row <= upto}
     last = max(rows, default=0)
-    wanted = {last} if changed is Changed.LAST else rows
+    wanted = {last} if changed is Changers.LAST else rows
     found = [line for line in book.journal() if _is_of(line, ledger.name, wanted)]
-    for line in found[-1:] if changed is Changed.LAST else found:
+    for line in found[-1:] if changed is Changers.LAST else found:
         yield line, marks_of_doer(book, line, rules)
 
 
-def _is_of(line: Line, year: str, rows: set[int]) -> bool:
+def _is_of(line: JournalLine, year: str, rows: set[int]) -> bool:
     """Say whether a line added one of some rows of a year, or took the year as it was."""
     if line.act is Act.ACCEPT and line.of == year_file(year):
         return True
@@ -58,7 +58,7 @@ def _is_of(line: Line, year: str, rows: set[int]) -> bool:
     return added is not None and any(row in added for row in rows)
 
 
-def rows_of(ledger: Ledger, period: str) -> set[int]:
+def rows_of(ledger: YearLedger, period: str) -> set[int]:
     """Return the rows of a year on which the figures of a period depend, but for the plant's."""
     span = ledger.periods[period]
     found = {ledger.touched(span)}
@@ -71,7 +71,7 @@ def rows_of(ledger: Ledger, period: str) -> set[int]:
     return found - {0}
 
 
-def marks_of_doer(book: Store, line: Line, rules: Rules) -> Marks:
+def marks_of_doer(book: Store, line: JournalLine, rules: Rules) -> Marks:
     """Return the marks of whoever did an action; of an approved one, of whoever submitted it."""
     record = record_of(book, line)
     if record is not None and record.submission is not None:
@@ -81,7 +81,7 @@ def marks_of_doer(book: Store, line: Line, rules: Rules) -> Marks:
     return marks_of_line(line, rules, signed.name if signed is not None else "")
 
 
-def reopened(ledger: Ledger) -> list[str]:
+def reopened(ledger: YearLedger) -> list[str]:
     """Return the closed periods whose figures the rows change that were added to a year."""
     found: dict[str, None] = {}
     first = ledger.count - len(ledger.added) + 1
@@ -92,10 +92,10 @@ def reopened(ledger: Ledger) -> list[str]:
     return list(found)
 
 
-def _facts_of(ledger: Ledger, number: int, row: tuple[str, ...]) -> Iterator[Fact]:
+def _facts_of(ledger: YearLedger, number: int, row: tuple[str, ...]) -> Iterator[BookFact]:
     """Give the facts that a row books late, or edits."""
     if row[0] == "late":
-        yield Fact.of(row)
+        yield BookFact.of(row)
     elif row[0] in ("amend", "strike"):
         edits = ledger.edits.get(row[1], ())
         yield from (fact for at, fact in edits if at == number)

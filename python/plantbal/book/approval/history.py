@@ -11,17 +11,17 @@ import csv
 from collections.abc import Iterator
 from dataclasses import dataclass
 
-from plantbal.audit.said import Kind
+from plantbal.audit.said import SentenceKind
 from plantbal.book.answers import ANYWAY
 from plantbal.book.approval.changers import changers, marks_of_doer
-from plantbal.book.approval.identity import marks_of_line
-from plantbal.book.approval.proposal import Proposal
-from plantbal.book.approval.record import Deed, Record
+from plantbal.book.approval.identity import marks_of
+from plantbal.book.approval.proposal import SubmittedMonth
+from plantbal.book.approval.record import ApprovalDeed, ApprovalRecord
 from plantbal.book.approval.rules import May, Rules, Want, read_rules
 from plantbal.book.approval.state import keys_of, proposal_of, record_of, rules_of, signed_of
 from plantbal.book.forms import ACCOUNTS, APPROVALS, RULES, approval_file, year_file
-from plantbal.book.journal import Act, Kept, Line, printable
-from plantbal.book.ledger import Fact
+from plantbal.book.journal import Act, JournalLine, Kept, printable
+from plantbal.book.ledger import BookFact
 from plantbal.book.said import touched_by
 from plantbal.book.store import Store
 from plantbal.book.years import Years
@@ -36,7 +36,7 @@ class Looked:
 
     Attributes
     ----------
-    kind : Kind
+    kind : SentenceKind
         How it is.
     number : int
         The action; 0 if it is about the whole book.
@@ -44,7 +44,7 @@ class Looked:
         What was found, in a sentence.
     """
 
-    kind: Kind
+    kind: SentenceKind
     number: int
     said: str
 
@@ -53,10 +53,10 @@ class Looked:
 class _Approval:
     """What an action that was approved rests on."""
 
-    line: Line
-    record: Record
-    submission: Line
-    proposal: Proposal
+    line: JournalLine
+    record: ApprovalRecord
+    submission: JournalLine
+    proposal: SubmittedMonth
 
 
 class _Look:
@@ -71,26 +71,28 @@ class _Look:
         self.used: set[int] = set()
         self.changes = dict(_changes_of_closed(book, self.years))
 
-    def at(self, line: Line) -> Iterator[Looked]:
+    def at(self, line: JournalLine) -> Iterator[Looked]:
         """Give what is found of a line."""
         try:
             record = record_of(self.book, line)
         except Fault as fault:
-            yield Looked(Kind.WRONG, line.number, f"{line.said()}: {fault}")
+            yield Looked(SentenceKind.WRONG, line.number, f"{line.said()}: {fault}")
             return
         if record is not None:
             yield from self._record(line, record)
         elif any(name.startswith(f"{APPROVALS}/") for name in line.files):
             what = f"{line.said()}: its record is of another action"
-            yield Looked(Kind.WRONG, line.number, what)
+            yield Looked(SentenceKind.WRONG, line.number, what)
         if self.rules is not None:
             yield from self._approvals(line, record, self.rules)
         elif line.act is Act.CLOSE:
-            yield Looked(Kind.NOTE, line.number, f"{line.said()}: nobody has signed or approved it")
+            yield Looked(
+                SentenceKind.NOTE, line.number, f"{line.said()}: nobody has signed or approved it"
+            )
         if line.act is Act.RULES:
             self._take_rules(line, record)
 
-    def _take_rules(self, line: Line, record: Record | None) -> None:
+    def _take_rules(self, line: JournalLine, record: ApprovalRecord | None) -> None:
         """Take the rules that hold from a line on."""
         number = line.number
         if record is not None and record.submission is not None:
@@ -99,35 +101,35 @@ class _Look:
         if RULES in proposal.written:
             self.rules = read_rules(RULES, proposal.written[RULES])
 
-    def _record(self, line: Line, record: Record) -> Iterator[Looked]:
+    def _record(self, line: JournalLine, record: ApprovalRecord) -> Iterator[Looked]:
         """Give whether a record is of its line, and who has signed it."""
         before = self.lines[line.number - 2]
         place = (before.number, before.digest)
         if (record.number, record.after, record.book) != (line.number, place, self.lines[0].digest):
             what = f"{line.said()}: its record is of another place or another book"
-            yield Looked(Kind.WRONG, line.number, what)
+            yield Looked(SentenceKind.WRONG, line.number, what)
         if record.user != line.user:
             what = f"{line.said()}: its record is of another user, {record.user}"
-            yield Looked(Kind.WRONG, line.number, what)
+            yield Looked(SentenceKind.WRONG, line.number, what)
         if not before.when <= record.when <= line.when:
             what = f"{line.said()}: its record says {record.when}, which isn't between the actions"
-            yield Looked(Kind.WRONG, line.number, what)
+            yield Looked(SentenceKind.WRONG, line.number, what)
         signed = signed_of(self.book, record, self.keys)
         if signed is None:
             is_wanted = self.rules is not None and self.rules.keys
-            kind = Kind.WRONG if is_wanted else Kind.NOTE
+            kind = SentenceKind.WRONG if is_wanted else SentenceKind.NOTE
             yield Looked(kind, line.number, f"{line.said()}: nobody has signed it")
             return
-        kind = Kind.GOOD if signed.name else Kind.WRONG
+        kind = SentenceKind.GOOD if signed.name else SentenceKind.WRONG
         yield Looked(kind, line.number, f"{line.said()}: {signed.said()}")
         yield from self._stamp(line)
 
-    def _stamp(self, line: Line) -> Iterator[Looked]:
+    def _stamp(self, line: JournalLine) -> Iterator[Looked]:
         """Give what the time stamp of a signature says, as it is: an authority isn't named here."""
         name = approval_file(line.number, "tsr")
         if not self.book.has(name):
             what = f"{line.said()}: no server has stamped its time: it is what this machine said"
-            yield Looked(Kind.NOTE, line.number, what)
+            yield Looked(SentenceKind.NOTE, line.number, what)
 
     def stamps(self, authority: str) -> Iterator[Looked]:
         """Give whether the time stamps are of an authority, and what they say."""
@@ -136,40 +138,42 @@ class _Look:
             if self.book.has(token):
                 data = self.book.text(name).encode("utf-8")
                 found = stamped(data, self.book.text(token), authority)
-                kind = Kind.GOOD if found.when is not None else Kind.WRONG
+                kind = SentenceKind.GOOD if found.when is not None else SentenceKind.WRONG
                 yield Looked(kind, line.number, f"{line.said()}: {found.said()}")
 
     # ---- approvals
 
-    def _approvals(self, line: Line, record: Record | None, rules: Rules) -> Iterator[Looked]:
+    def _approvals(
+        self, line: JournalLine, record: ApprovalRecord | None, rules: Rules
+    ) -> Iterator[Looked]:
         """Give whether an action has the approvals that it wants."""
         wants = list(self._wants(line, rules))
         is_done = line.act not in (Act.SUBMIT, Act.APPROVE, Act.REJECT)
         if not (wants or record is not None) or not is_done:
             return
         said = f"{line.said()}: it wants an approval ({', '.join(wants)})"
-        if record is None or record.deed is not Deed.APPROVE or record.submission is None:
-            yield Looked(Kind.WRONG, line.number, f"{said}, and nobody has approved it")
+        if record is None or record.deed is not ApprovalDeed.APPROVE or record.submission is None:
+            yield Looked(SentenceKind.WRONG, line.number, f"{said}, and nobody has approved it")
             return
         try:
             found = self._approval(line, record)
         except Fault as fault:
-            yield Looked(Kind.WRONG, line.number, f"{line.said()}: {fault}")
+            yield Looked(SentenceKind.WRONG, line.number, f"{line.said()}: {fault}")
             return
         why = list(self._against(found, rules))
         for each in why:
-            yield Looked(Kind.WRONG, line.number, f"{line.said()}: {each}")
+            yield Looked(SentenceKind.WRONG, line.number, f"{line.said()}: {each}")
         if not why:
             by, of = record.who or record.user, found.submission
             what = f"{line.said()}: submitted by {self._who(of)} as action {of.number}"
-            yield Looked(Kind.GOOD, line.number, f"{what}, approved by {by}")
+            yield Looked(SentenceKind.GOOD, line.number, f"{what}, approved by {by}")
 
-    def _who(self, line: Line) -> str:
+    def _who(self, line: JournalLine) -> str:
         record = record_of(self.book, line)
         signed = signed_of(self.book, record, self.keys) if record is not None else None
         return (signed.name if signed is not None else "") or line.who or line.user
 
-    def _approval(self, line: Line, record: Record) -> _Approval:
+    def _approval(self, line: JournalLine, record: ApprovalRecord) -> _Approval:
         """Return what an approved action rests on.
 
         Raises
@@ -181,7 +185,7 @@ class _Look:
         number, digest = record.submission
         there = self.lines[number - 1] if 0 < number < line.number else None
         if there is None or there.digest != digest or there.act is not Act.SUBMIT:
-            raise Fault(f"action {number}, which it approves, is no submission of this book")
+            raise Fault(f"action {number}, which it approves, isn't a submission of this book")
         if number in self.used:
             raise Fault(f"action {number} was done already, or rejected")
         self.used.add(number)
@@ -200,12 +204,12 @@ class _Look:
             yield f"{len(some) + 1} of {rules.approvers} have approved it"
         yield from self._against_people([*some, line], found, rules)
 
-    def _approves(self, line: Line, submission: Line) -> bool:
+    def _approves(self, line: JournalLine, submission: JournalLine) -> bool:
         record = record_of(self.book, line) if line.act is Act.APPROVE else None
         return record is not None and record.submission == (submission.number, submission.digest)
 
     def _against_people(
-        self, approvals: list[Line], found: _Approval, rules: Rules
+        self, approvals: list[JournalLine], found: _Approval, rules: Rules
     ) -> Iterator[str]:
         """Give which of those who approved may not, and who is one person with another."""
         doer = marks_of_doer(self.book, found.submission, rules)
@@ -213,9 +217,11 @@ class _Look:
         for line in approvals:
             record = record_of(self.book, line)
             signed = signed_of(self.book, record, self.keys) if record is not None else None
-            name = (signed.name if signed is not None else "") or (record.who if record else "")
-            own = marks_of_line(line, rules, signed.name if signed is not None else "")
-            own |= {f"name {record.who}"} if record is not None and record.who else set()
+            key = signed.name if signed is not None else ""
+            name = key or (record.who if record is not None else "")
+            # A line that was approved names who submitted it; who approved it stands in its record.
+            who, user = (record.who, record.user) if record is not None else (line.who, line.user)
+            own = marks_of(user, who, rules, key) | ({f"name {who}"} if who else set())
             if own & doer:
                 yield f"{name or line.user} has submitted it and approved it"
             if any(own & other for other in marks):
@@ -253,7 +259,7 @@ class _Look:
 
     # ---- what wanted one
 
-    def _wants(self, line: Line, rules: Rules) -> Iterator[Want]:
+    def _wants(self, line: JournalLine, rules: Rules) -> Iterator[Want]:
         """Give why an action wanted an approval, by the rules that held."""
         if line.act is Act.RULES:
             yield Want.RULES
@@ -269,7 +275,7 @@ class _Look:
         if Want.AMEND in rules.wants and self._changed_closed(line):
             yield Want.AMEND
 
-    def _changed_closed(self, line: Line) -> bool:
+    def _changed_closed(self, line: JournalLine) -> bool:
         """Say whether an action changed the figures of a closed period."""
         if line.number in self.changes:
             return True
@@ -295,7 +301,7 @@ def looked(book: Store, authority: str = "") -> Iterator[Looked]:
         yield from look.stamps(authority)
     if look.rules is None:
         what = "the book has no rules: nobody had to approve anything"
-        yield Looked(Kind.NOTE, 0, what)
+        yield Looked(SentenceKind.NOTE, 0, what)
 
 
 def _changes_of_closed(book: Store, years: Years) -> Iterator[tuple[int, tuple[str, ...]]]:
@@ -319,7 +325,7 @@ def _closed_by(years: Years, year: str, rows: list[str], numbers: range) -> Iter
             continue
         ledger = years[year]
         row = next(csv.reader([text]))
-        facts = [Fact.of(row)] if row[0] == "late" else []
+        facts = [BookFact.of(row)] if row[0] == "late" else []
         facts += [fact for at, fact in ledger.edits.get(row[1], ()) if at == number]
         for fact in facts:
             touched = touched_by(ledger, fact)

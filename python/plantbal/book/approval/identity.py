@@ -9,7 +9,7 @@ from __future__ import annotations
 import re
 
 from plantbal.book.approval.rules import Rules
-from plantbal.book.journal import Line
+from plantbal.book.journal import JournalLine
 
 _NUMBER = re.compile(r"(?:.* \()?([0-9]+)\)?")
 Marks = frozenset[str]
@@ -49,6 +49,6 @@ def marks_of(user: str, who: str, rules: Rules, signed: str = "") -> Marks:
     return frozenset(found)
 
 
-def marks_of_line(line: Line, rules: Rules, signed: str = "") -> Marks:
+def marks_of_line(line: JournalLine, rules: Rules, signed: str = "") -> Marks:
     """Return the marks of a line of the journal."""
     return marks_of(line.user, line.who, rules, signed)

@@ -14,7 +14,7 @@ from plantbal.gates import Gate
 
 
 @dataclass(frozen=True)
-class Proposal:
+class SubmittedMonth:
     """What is submitted.
 
     Attributes
@@ -69,7 +69,7 @@ class Proposal:
         return {Gate(gate): reason for gate, reason in self.reasons.items()}
 
     @classmethod
-    def read(cls, file: str, text: str) -> Proposal:
+    def read(cls, file: str, text: str) -> SubmittedMonth:
         """Return the proposal of a text.
 
         Raises
@@ -85,6 +85,6 @@ class Proposal:
         except (ValueError, TypeError, KeyError, RecursionError):
             proposal = None
         if proposal is None or proposal.text != text:
-            what = "this is no action that was submitted"
+            what = "this isn't an action that was submitted"
             raise InputFault(what, place=Place(file=file), remedy="put it back, from a backup")
         return proposal

@@ -24,7 +24,7 @@ _DIGEST = re.compile(r"[0-9a-f]{64}")
 _KEYS = ("book", "number", "deed", "act", "of", "after", "submission", "who", "user", "when")
 
 
-class Deed(StrEnum):
+class ApprovalDeed(StrEnum):
     """What a record does."""
 
     RULES = "rules"
@@ -34,7 +34,7 @@ class Deed(StrEnum):
 
 
 @dataclass(frozen=True)
-class Record:
+class ApprovalRecord:
     """Who submits or approves what.
 
     Attributes
@@ -43,7 +43,7 @@ class Record:
         The book: the digest of its first action.
     number : int
         The place of this record's line in the journal.
-    deed : Deed
+    deed : ApprovalDeed
         What it does.
     act, of : str
         Which action it is about, and of what that is.
@@ -61,7 +61,7 @@ class Record:
 
     book: str
     number: int
-    deed: Deed
+    deed: ApprovalDeed
     act: str
     of: str
     after: tuple[int, str]
@@ -97,7 +97,7 @@ class Record:
         return "".join(f"{line}\n" for line in lines)
 
     @classmethod
-    def read(cls, file: str, text: str) -> Record:
+    def read(cls, file: str, text: str) -> ApprovalRecord:
         """Return the record of a text.
 
         Raises
@@ -110,7 +110,7 @@ class Record:
         except (ValueError, KeyError, IndexError, TypeError):
             record = None
         if record is None or record.text != text:
-            what = "this is no record of an approval"
+            what = "this isn't a record of an approval"
             raise InputFault(what, place=Place(file=file), remedy="put it back, from a backup")
         return record
 
@@ -126,7 +126,7 @@ def _head(text: str) -> tuple[int, str]:
     return int(found[1]), found[2]
 
 
-def _read(text: str) -> Record | None:
+def _read(text: str) -> ApprovalRecord | None:
     """Return a record of its lines, or None if they aren't those of one."""
     first, *lines = text.split("\n")
     if first != _FIRST or len(lines) < len(_KEYS):
@@ -145,10 +145,10 @@ def _read(text: str) -> Record | None:
             if kept is None:
                 return None
             files[name] = kept
-    record = Record(
+    record = ApprovalRecord(
         values["book"],
         int(values["number"]),
-        Deed(values["deed"]),
+        ApprovalDeed(values["deed"]),
         values["act"],
         values["of"],
         _head(values["after"]),

@@ -56,7 +56,7 @@ class May(StrEnum):
     APPROVE = "approve"
 
 
-class Changed(StrEnum):
+class Changers(StrEnum):
     """Who of those that changed a figure can't approve it."""
 
     LAST = "last"
@@ -64,7 +64,7 @@ class Changed(StrEnum):
 
 
 @dataclass(frozen=True)
-class Person:
+class Approver:
     """A person: the users that are theirs, by number, and what they may do."""
 
     name: str
@@ -84,7 +84,7 @@ class Rules:
         The part of a stream's flow above which estimates want one.
     approvers : int
         How many, beside whoever submits.
-    changed : Changed
+    changed : Changers
         Who can't approve what they changed.
     keys : bool
         Whether submissions and approvals are signed.
@@ -92,18 +92,18 @@ class Rules:
         The server of time stamps; empty if there is none.
     vouching : frozenset of int
         Users whose word on who acts counts.
-    people : mapping of str to Person
+    people : mapping of str to Approver
         The people, by name; empty if anybody may.
     """
 
     wants: frozenset[Want] = frozenset()
     estimates: Fraction | None = None
     approvers: int = 1
-    changed: Changed = Changed.LAST
+    changed: Changers = Changers.LAST
     keys: bool = False
     stamps: str = ""
     vouching: frozenset[int] = frozenset()
-    people: Mapping[str, Person] = field(default_factory=dict)
+    people: Mapping[str, Approver] = field(default_factory=dict)
 
     def who(self, user: int) -> str:
         """Return the person whose user a number is; nothing if that isn't said."""
@@ -152,8 +152,8 @@ def _rules(found: dict[str, Any]) -> Rules:
     if type(approvers) is not int or not 1 <= approvers <= _MOST_APPROVERS:
         raise Fault(f"approvers is {approvers!r}, and isn't a number from 1 to {_MOST_APPROVERS}")
     changed = found.get("changed", "last")
-    if changed not in list(Changed):
-        raise Fault(f"changed is {changed!r}, and isn't one of {', '.join(Changed)}")
+    if changed not in list(Changers):
+        raise Fault(f"changed is {changed!r}, and isn't one of {', '.join(Changers)}")
     stamps = sign.get("stamps", "")
     if not isinstance(stamps, str) or (stamps and not stamps.startswith(("http://", "https://"))):
         raise Fault(f"sign.stamps is {stamps!r}, and isn't the address of a server")
@@ -161,7 +161,7 @@ def _rules(found: dict[str, Any]) -> Rules:
         frozenset(named),
         _share(wants["estimates"]) if "estimates" in wants else None,
         approvers,
-        Changed(changed),
+        Changers(changed),
         _flag(sign, "keys"),
         stamps,
         frozenset(_numbers(sign.get("vouching", []), "sign.vouching")),
@@ -172,14 +172,14 @@ def _rules(found: dict[str, Any]) -> Rules:
 def _table(found: Mapping[str, Any], name: str) -> dict[str, Any]:
     table = found.get(name, {})
     if not isinstance(table, dict):
-        raise Fault(f"{name} is no table: write [{name}]")
+        raise Fault(f"{name} isn't a table: write [{name}]")
     return table
 
 
 def _check_known(found: Mapping[str, Any], where: str, *names: str) -> None:
     for name in found:
         if name not in names:
-            raise Fault(f"{where}{name} is no rule: these are {', '.join(names)}")
+            raise Fault(f"{where}{name} isn't a rule: these are {', '.join(names)}")
 
 
 def _flag(found: Mapping[str, Any], name: str) -> bool:
@@ -202,15 +202,15 @@ def _numbers(found: Any, name: str) -> Iterator[int]:
     yield from found
 
 
-def _person(name: str, found: Any) -> Person:
+def _person(name: str, found: Any) -> Approver:
     if not isinstance(found, dict) or not _NAME.fullmatch(name):
-        raise Fault(f'{name!r} is no person: write [people."anna@mill"]')
+        raise Fault(f'{name!r} isn\'t a person: write [people."anna@mill"]')
     _check_known(found, f"people.{name}.", "users", "may")
     may = found.get("may", [])
     if not isinstance(may, list) or any(each not in list(May) for each in may):
         raise Fault(f"people.{name}.may is {may!r}, and isn't a list of {', '.join(May)}")
     users = frozenset(_numbers(found.get("users", []), f"people.{name}.users"))
-    return Person(name, users, frozenset(map(May, may)))
+    return Approver(name, users, frozenset(map(May, may)))
 
 
 def _check_people(rules: Rules) -> None:
@@ -229,4 +229,4 @@ def _check_people(rules: Rules) -> None:
     both = {each.name for each in (*submits, *approves)}
     if not submits or len(approves) < rules.approvers or len(both) <= rules.approvers:
         what = f"nothing could be approved: {len(submits)} people may submit"
-        raise Fault(f"{what}, {len(approves)} may approve, and {rules.approvers} have to beside")
+        raise Fault(f"{what}, {len(approves)} may approve, and {rules.approvers} more have to")

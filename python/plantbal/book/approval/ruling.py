@@ -5,8 +5,8 @@ from __future__ import annotations
 import datetime
 from pathlib import Path
 
-from plantbal.book.approval.proposal import Proposal
-from plantbal.book.approval.record import Deed
+from plantbal.book.approval.proposal import SubmittedMonth
+from plantbal.book.approval.record import ApprovalDeed
 from plantbal.book.approval.rules import Rules, Want, read_rules
 from plantbal.book.approval.state import keys_of, rules_of
 from plantbal.book.approval.writing import record_for
@@ -53,7 +53,7 @@ def _first(book: Store, action: Action, who: str) -> dict[str, str]:
     """Return the files of the first rules: their record, and the texts as they were then."""
     number = book.head.number + 1
     rules = read_rules(RULES, action.written[RULES])
-    proposal = Proposal(
+    proposal = SubmittedMonth(
         Act.RULES,
         "",
         action.what,
@@ -61,7 +61,7 @@ def _first(book: Store, action: Action, who: str) -> dict[str, str]:
         (Want.RULES.value,),
         written=dict(action.written),
     )
-    record = record_for(book, Deed.RULES, Act.RULES, "", rules, who=who)
+    record = record_for(book, ApprovalDeed.RULES, Act.RULES, "", rules, who=who)
     return {
         approval_file(number, "json"): proposal.text,
         approval_file(number, "txt"): record.text,

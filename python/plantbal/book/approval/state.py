@@ -6,12 +6,12 @@ from collections.abc import Sequence
 from dataclasses import dataclass
 from typing import TYPE_CHECKING
 
-from plantbal.book.approval.proposal import Proposal
-from plantbal.book.approval.record import Deed, Record
+from plantbal.book.approval.proposal import SubmittedMonth
+from plantbal.book.approval.record import ApprovalDeed, ApprovalRecord
 from plantbal.book.approval.rules import Rules, read_rules
 from plantbal.book.chain import state_of
 from plantbal.book.forms import REVOKED, RULES, SIGNERS, approval_file
-from plantbal.book.journal import Act, Kept, Line
+from plantbal.book.journal import Act, JournalLine, Kept
 from plantbal.faults import InputFault, Place
 from plantbal.signing.signatures import BOOK, Keys, Signed, verified
 from plantbal.signing.signers import read_signers
@@ -63,7 +63,7 @@ def text_by_journal(book: Store, name: str) -> str | None:
     return text
 
 
-def record_of(book: Store, line: Line) -> Record | None:
+def record_of(book: Store, line: JournalLine) -> ApprovalRecord | None:
     """Return the record of a line of the journal, or None if it has none.
 
     Raises
@@ -74,10 +74,10 @@ def record_of(book: Store, line: Line) -> Record | None:
     name = approval_file(line.number, "txt")
     if name not in line.files:
         return None
-    return Record.read(str(book.path(name)), book.text(name))
+    return ApprovalRecord.read(str(book.path(name)), book.text(name))
 
 
-def proposal_of(book: Store, number: int) -> Proposal:
+def proposal_of(book: Store, number: int) -> SubmittedMonth:
     """Return the action that a line of the journal has submitted.
 
     Raises
@@ -86,10 +86,10 @@ def proposal_of(book: Store, number: int) -> Proposal:
         If what stands there is none.
     """
     name = approval_file(number, "json")
-    return Proposal.read(str(book.path(name)), book.text(name))
+    return SubmittedMonth.read(str(book.path(name)), book.text(name))
 
 
-def signed_of(book: Store, record: Record, keys: Keys) -> Signed | None:
+def signed_of(book: Store, record: ApprovalRecord, keys: Keys) -> Signed | None:
     """Return whose the signature of a record is, or None if it has none."""
     name = approval_file(record.number, "sig")
     if not book.has(name):
@@ -103,20 +103,20 @@ class Waiting:
 
     Attributes
     ----------
-    line : Line
+    line : JournalLine
         The line of the journal that has submitted it; its head is to be named by an approval.
-    record : Record
+    record : ApprovalRecord
         Its record.
-    proposal : Proposal
+    proposal : SubmittedMonth
         The action.
-    approvals : tuple of Line
+    approvals : tuple of JournalLine
         The approvals that it has, if it wants more than one.
     """
 
-    line: Line
-    record: Record
-    proposal: Proposal
-    approvals: tuple[Line, ...] = ()
+    line: JournalLine
+    record: ApprovalRecord
+    proposal: SubmittedMonth
+    approvals: tuple[JournalLine, ...] = ()
 
     @property
     def head(self) -> str:
@@ -124,10 +124,10 @@ class Waiting:
         return f"{self.line.number} {self.line.digest}"
 
 
-def waiting_in(book: Store, lines: Sequence[Line] | None = None) -> list[Waiting]:
+def waiting_in(book: Store, lines: Sequence[JournalLine] | None = None) -> list[Waiting]:
     """Return what waits for an approval in a book that is open."""
-    submitted: dict[int, Line] = {}
-    approvals: dict[int, list[Line]] = {}
+    submitted: dict[int, JournalLine] = {}
+    approvals: dict[int, list[JournalLine]] = {}
     for line in book.journal() if lines is None else lines:
         if line.act is Act.SUBMIT:
             submitted[line.number] = line
@@ -137,7 +137,7 @@ def waiting_in(book: Store, lines: Sequence[Line] | None = None) -> list[Waiting
             continue
         if line.act is Act.APPROVE:
             approvals.setdefault(record.submission[0], []).append(line)
-        elif record.deed in (Deed.APPROVE, Deed.REJECT):
+        elif record.deed in (ApprovalDeed.APPROVE, ApprovalDeed.REJECT):
             submitted.pop(record.submission[0], None)
     found = []
     for number, line in submitted.items():

@@ -5,9 +5,9 @@ from __future__ import annotations
 from collections.abc import Mapping, Sequence
 from typing import TYPE_CHECKING
 
-from plantbal.book.approval.proposal import Proposal
-from plantbal.book.approval.record import Deed
-from plantbal.book.approval.rules import May, Want
+from plantbal.book.approval.proposal import SubmittedMonth
+from plantbal.book.approval.record import ApprovalDeed, ApprovalRecord
+from plantbal.book.approval.rules import May, Rules, Want
 from plantbal.book.approval.state import rules_of, text_by_journal, waiting_in
 from plantbal.book.approval.writing import record_for, written_for
 from plantbal.book.forms import (
@@ -105,6 +105,46 @@ def submit(
     """
     from plantbal.book.store import Action
 
+    proposal, record, rules = _asked(
+        book, action, wants, periods=periods, reasons=reasons, settings=settings
+    )
+    _, texts, _ = written_for(book, record, rules, May.SUBMIT, action.who)
+    done = Action(Act.SUBMIT, action.of, action.act, action.why, action.who, action.program)
+    json_file = approval_file(record.number, "json")
+    done.written = {json_file: proposal.text, **texts}
+    book.do(done)
+    return Submission(book.head, action.act, action.of, wants)
+
+
+def submission_to_sign(
+    book: Store,
+    action: Action,
+    wants: Sequence[Want],
+    *,
+    periods: Sequence[str] = (),
+    reasons: Mapping[Gate, str] | None = None,
+    settings: RunSettings | None = None,
+) -> str:
+    """Return the text that a submission signs; the parameters are those of `submit`."""
+    return _asked(book, action, wants, periods=periods, reasons=reasons, settings=settings)[1].text
+
+
+def _asked(
+    book: Store,
+    action: Action,
+    wants: Sequence[Want],
+    *,
+    periods: Sequence[str],
+    reasons: Mapping[Gate, str] | None,
+    settings: RunSettings | None,
+) -> tuple[SubmittedMonth, ApprovalRecord, Rules]:
+    """Return what is submitted of an action, its record, and the rules that hold.
+
+    Raises
+    ------
+    Fault
+        If the book has no rules, or the same waits already.
+    """
     rules = rules_of(book)
     if rules is None:
         remedy = "plantbal-desk book rules FILE gives it some"
@@ -116,17 +156,14 @@ def submit(
             raise Fault(what, remedy=remedy)
     proposal = _proposal(book, action, wants, periods, reasons or {}, settings)
     json_file = approval_file(book.head.number + 1, "json")
-    files = {name: Kept.of(text.encode("utf-8")) for name, text in proposal.written.items()}
-    files |= {name: kept for name in proposal.bases if (kept := Kept.read(proposal.bases[name]))}
+    # What it rests on, and over that what it writes: a signature is of the new report, not of the old.
+    files = {name: kept for name in proposal.bases if (kept := Kept.read(proposal.bases[name]))}
+    files |= {name: Kept.of(text.encode("utf-8")) for name, text in proposal.written.items()}
     files[json_file] = Kept.of(proposal.text.encode("utf-8"))
     record = record_for(
-        book, Deed.SUBMIT, action.act, action.of, rules, who=action.who, files=files
+        book, ApprovalDeed.SUBMIT, action.act, action.of, rules, who=action.who, files=files
     )
-    _, texts, _ = written_for(book, record, rules, May.SUBMIT, action.who)
-    done = Action(Act.SUBMIT, action.of, action.act, action.why, action.who, action.program)
-    done.written = {json_file: proposal.text, **texts}
-    book.do(done)
-    return Submission(book.head, action.act, action.of, wants)
+    return proposal, record, rules
 
 
 def _proposal(
@@ -136,14 +173,14 @@ def _proposal(
     periods: Sequence[str],
     reasons: Mapping[Gate, str],
     settings: RunSettings | None,
-) -> Proposal:
+) -> SubmittedMonth:
     """Return an action as it is submitted, with the state of the book on which it rests."""
     named = [*_BASES, *action.appended, *action.written, *action.seen, *action.gone]
     bases = {name: str(base_of(book, name)) for name in dict.fromkeys(named)}
     how = settings or RunSettings()
     numbers = {"tests": int(how.tests), "eliminate": how.eliminate}
     numbers |= {"gap": how.gap, "sweeps": how.sweeps}
-    return Proposal(
+    return SubmittedMonth(
         action.act,
         action.of,
         action.what,

@@ -6,7 +6,7 @@ from collections.abc import Mapping
 from typing import TYPE_CHECKING
 
 from plantbal.book.approval.identity import Marks, marks_of, name_of
-from plantbal.book.approval.record import Deed, Record
+from plantbal.book.approval.record import ApprovalDeed, ApprovalRecord
 from plantbal.book.approval.rules import May, Rules
 from plantbal.book.approval.state import keys_of
 from plantbal.book.forms import approval_file
@@ -24,7 +24,7 @@ _KEY = "name your key by --key, or in PLANTBAL_KEY"
 
 def record_for(
     book: Store,
-    deed: Deed,
+    deed: ApprovalDeed,
     act: str,
     of: str,
     rules: Rules,
@@ -32,11 +32,11 @@ def record_for(
     who: str,
     submission: tuple[int, str] | None = None,
     files: Mapping[str, Kept] | None = None,
-) -> Record:
+) -> ApprovalRecord:
     """Return the record that the next line of the journal of an open book has."""
     head = book.head
     user = user_said()
-    return Record(
+    return ApprovalRecord(
         book.journal()[0].digest,
         head.number + 1,
         deed,
@@ -52,8 +52,8 @@ def record_for(
 
 
 def written_for(
-    book: Store, record: Record, rules: Rules, what: May, who: str
-) -> tuple[Record, dict[str, str], Marks]:
+    book: Store, record: ApprovalRecord, rules: Rules, what: May, who: str
+) -> tuple[ApprovalRecord, dict[str, str], Marks]:
     """Return a record as it is signed, the files of it, and the marks of whoever acts.
 
     Raises
@@ -83,7 +83,7 @@ def written_for(
     return record, files, marks_of(record.user, who, rules, signed)
 
 
-def _given(given: tuple[str, str], record: Record) -> tuple[Record, str]:
+def _given(given: tuple[str, str], record: ApprovalRecord) -> tuple[ApprovalRecord, str]:
     """Return a record that was signed elsewhere, and its signature.
 
     Raises
@@ -92,15 +92,15 @@ def _given(given: tuple[str, str], record: Record) -> tuple[Record, str]:
         If it says anything else than this record would, but for its time of the last hour.
     """
     text, signature = given
-    stated = Record.read("the signed text", text)
+    stated = ApprovalRecord.read("the signed text", text)
     late = (record.time - stated.time).total_seconds()
     if record.text.replace(record.when, stated.when) != stated.text or not 0 <= late <= 3600:
         remedy = "something was done in the book since, or an hour ago: sign what is shown now"
-        raise Fault("another text was signed than is wanted now", remedy=remedy)
+        raise Fault("what was signed isn't the text to be signed now", remedy=remedy)
     return stated, signature
 
 
-def _check_person(record: Record, rules: Rules, what: May, signed: str) -> None:
+def _check_person(record: ApprovalRecord, rules: Rules, what: May, signed: str) -> None:
     """Refuse a person that the rules don't let do something, or another's key.
 
     Raises

@@ -9,6 +9,7 @@ from plantbal.book import closing
 from plantbal.book.approval import approving, history, ruling, state
 from plantbal.book.approval.approving import Approved
 from plantbal.book.approval.history import Looked
+from plantbal.book.approval.record import ApprovalDeed
 from plantbal.book.approval.rules import Rules
 from plantbal.book.approval.state import Waiting
 from plantbal.book.library.base import Base
@@ -83,11 +84,18 @@ class Approvals(Base):
         *,
         anyway: Mapping[Gate, str] | None = None,
         settings: RunSettings | None = None,
+        record: str = "",
+        signature: str = "",
     ) -> Closed:
         """Submit the close of a period, which waits for an approval by somebody else.
 
-        The parameters are those of `close`; the head of what is returned is that which an approval
-        has to name.
+        The other parameters are those of `close`; the head of what is returned is that which an
+        approval has to name.
+
+        Parameters
+        ----------
+        record, signature : str
+            The text of `close_to_sign`, and its signature, if it was signed elsewhere.
 
         Raises
         ------
@@ -96,10 +104,24 @@ class Approvals(Base):
         Fault
             If the book has no rules, or whoever does this may not.
         """
+        store = self._store((record, signature) if signature else None)
         how = self._settings(settings)
-        return closing.submit(
-            self._store(), period, anyway=anyway or {}, settings=how, who=self.who
-        )
+        return closing.submit(store, period, anyway=anyway or {}, settings=how, who=self.who)
+
+    def close_to_sign(
+        self,
+        period: str,
+        *,
+        anyway: Mapping[Gate, str] | None = None,
+        settings: RunSettings | None = None,
+    ) -> str:
+        """Return the text that the submission of a close signs, to be signed elsewhere.
+
+        The parameters are those of `close`. What is submitted within an hour with the same reasons
+        and nothing done in the book since takes it.
+        """
+        store, how = self._store(), self._settings(settings)
+        return closing.close_to_sign(store, period, anyway=anyway or {}, settings=how, who=self.who)
 
     def waiting(self) -> list[Waiting]:
         """Return what waits for an approval."""
@@ -130,7 +152,7 @@ class Approvals(Base):
         program = str(self.program) if self.program is not None else None
         return approving.approve(store, head, program=program, who=self.who)
 
-    def reject(self, head: str, *, why: str) -> Head:
+    def reject(self, head: str, *, why: str, record: str = "", signature: str = "") -> Head:
         """Reject what was submitted, or take it back; it is done no more.
 
         Parameters
@@ -139,17 +161,20 @@ class Approvals(Base):
             The head of the submission.
         why : str
             The reason.
+        record, signature : str
+            The text of `to_sign`, and its signature, if it was signed elsewhere.
 
         Raises
         ------
         Fault
             If nothing of that head waits, or there is no reason.
         """
-        return approving.reject(self._store(), head, why=why, who=self.who)
+        store = self._store((record, signature) if signature else None)
+        return approving.reject(store, head, why=why, who=self.who)
 
-    def to_sign(self, head: str) -> str:
-        """Return the text that an approval of a submission signs, to be signed elsewhere."""
-        return approving.to_sign(self._store(), head, who=self.who)
+    def to_sign(self, head: str, deed: ApprovalDeed = ApprovalDeed.APPROVE) -> str:
+        """Return what an approval of a submission signs, to be signed elsewhere; or a rejection."""
+        return approving.to_sign(self._store(), head, deed, who=self.who)
 
     def signed(self, authority: str = "") -> list[Looked]:
         """Return who has signed and approved what, and what isn't signed or approved.

@@ -5,7 +5,7 @@ from __future__ import annotations
 import datetime
 from pathlib import Path
 
-from plantbal.book.expected import Version
+from plantbal.book.expected import BookVersion
 from plantbal.book.naming import day_of
 from plantbal.book.store import Store
 from plantbal.program import RunSettings
@@ -23,7 +23,7 @@ class Base:
         who: str = "",
         program: str | Path | None = None,
         seconds: float = 10,
-        expected: Version | None = None,
+        expected: BookVersion | None = None,
         key: str | Path | None = None,
     ) -> None:
         self.folder = Path(folder)

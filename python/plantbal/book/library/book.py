@@ -11,16 +11,16 @@ from plantbal.book.beginning import begin
 from plantbal.book.following import follow, retire
 from plantbal.book.library.approvals import Approvals
 from plantbal.book.library.base import Day, day_or_none
-from plantbal.book.library.facts import Facts
+from plantbal.book.library.facts import BookFacts
 from plantbal.book.library.looks import Looking
 from plantbal.book.library.reports import Reports
-from plantbal.book.results import Accepted, Begun, Status, Verified
+from plantbal.book.results import AcceptedFile, Begun, BookStatus, Verified
 from plantbal.book.store import Head
 from plantbal.faults import Fault
 from plantbal.workbook.options import ReadingOptions
 
 
-class Book(Facts, Reports, Looking, Approvals):
+class Book(BookFacts, Reports, Looking, Approvals):
     """A plant's book: a folder with a session for each year, its reports, and a journal.
 
     Parameters
@@ -170,7 +170,7 @@ class Book(Facts, Reports, Looking, Approvals):
 
     # ---- the book
 
-    def status(self) -> Status:
+    def status(self) -> BookStatus:
         """Return what is open or missing, which reports are old, and how full each year is."""
         return overview.status(self._store())
 
@@ -196,7 +196,7 @@ class Book(Facts, Reports, Looking, Approvals):
         """The end of its chain, after a test of its files."""
         return verifying.head_of(self.folder)
 
-    def accept(self, file: str, *, why: str) -> Accepted:
+    def accept(self, file: str, *, why: str) -> AcceptedFile:
         """Take a file that was changed by other means as it is now, or its loss.
 
         Parameters

@@ -2,18 +2,16 @@
 
 from __future__ import annotations
 
-from pathlib import Path
-
 from plantbal.book import adding, editing, estimating, showing
 from plantbal.book.adding import Why
 from plantbal.book.library.base import Base, Day, day_or_none
 from plantbal.book.meters import Meter
 from plantbal.book.reading import Given
-from plantbal.book.results import Added, Edited, Estimated, Shown
+from plantbal.book.results import Added, Edited, Estimated, ShownFact
 from plantbal.workbook.options import ReadingOptions
 
 
-class Facts(Base):
+class BookFacts(Base):
     """The facts of a book."""
 
     def add(
@@ -68,7 +66,7 @@ class Facts(Base):
 
     def show(
         self, name: str, first: Day = None, last: Day = None
-    ) -> tuple[list[Shown], Meter | None, list[str]]:
+    ) -> tuple[list[ShownFact], Meter | None, list[str]]:
         """Return what is booked of a stream or tank, its meter, and what waits in the book.
 
         Parameters
@@ -125,6 +123,19 @@ class Facts(Base):
     def strike(self, name: str, day: Day = None, *, why: str, locale: str = "") -> Edited:
         """Take a fact out; the parameters are those of `amend`."""
         return editing.strike(self._store(), name, day_or_none(day, locale), why=why, who=self.who)
+
+    def undo(self, name: str, day: Day = None, *, why: str, locale: str = "") -> Edited:
+        """Give a fact back what it was before its last change, while its period is open.
+
+        An amendment is undone by another. A struck fact is booked again, under another id. The
+        journal has both; the parameters are those of `amend`.
+
+        Raises
+        ------
+        Fault
+            If there is no such fact, it wasn't changed, or a period of it is closed.
+        """
+        return editing.undo(self._store(), name, day_or_none(day, locale), why=why, who=self.who)
 
     def estimate(
         self, period: str, stream: str = "", *, take: bool = False, why: str = ""

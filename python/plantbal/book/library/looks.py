@@ -9,6 +9,7 @@ from typing import TYPE_CHECKING
 from plantbal.book import looking, trial
 from plantbal.book.looking import Contents, FactLine, KeptReport, MonthFacts
 from plantbal.book.library.base import Base
+from plantbal.workbook.mapping.form import WorkbookMapping
 
 if TYPE_CHECKING:
     from plantbal.book.library.book import Book
@@ -67,6 +68,10 @@ class Looking(Base):
             If there is no such fact.
         """
         return looking.fact_line(self._store(), year, identity)
+
+    def mapping(self) -> WorkbookMapping | None:
+        """Return how its workbooks are read, as it keeps that, or None if it keeps nothing."""
+        return looking.mapping(self._store())
 
     @contextmanager
     def trial(self) -> Iterator[Book]:

@@ -110,7 +110,7 @@ class Reports(Base):
         return handing.handed(self._store(), period)
 
     def difference(self, period: str, *states: str) -> Difference:
-        """Return what two states of a period have otherwise, and why.
+        """Return how two states of a period differ, and why.
 
         Parameters
         ----------

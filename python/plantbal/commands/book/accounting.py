@@ -1,11 +1,11 @@
-"""The account of a period, what two reports have otherwise, and what was handed over."""
+"""The account of a period, how two reports differ, and what was handed over."""
 
 from __future__ import annotations
 
 import argparse
 from types import SimpleNamespace
 
-from plantbal.accounts.account import Level, MonthAccount, Table
+from plantbal.accounts.account import AccountTable, Level, MonthAccount
 from plantbal.accounts.posting import posting_rows, postings_of
 from plantbal.accounts.sheet import NOBODY
 from plantbal.accounts.tables import HEADS, rows_of, stock_text, text_of
@@ -51,6 +51,7 @@ def _account(options: argparse.Namespace) -> int:
     """Show the accounts."""
     book = Book(options.book)
     found = book.account(options.period)
+    options.found = found
     account = found.account
     tables = chosen(account, options.by, options.owner)
     for line in found.waiting:
@@ -80,7 +81,7 @@ def unusual_said(odd: Unusual) -> str:
 def write(
     options: argparse.Namespace,
     found: PeriodAccount,
-    tables: list[Table],
+    tables: list[AccountTable],
     since: Difference | None,
 ) -> None:
     """Write the workbook and the page, if they are wanted."""
@@ -97,7 +98,7 @@ def write(
         write_text(options.page, page_of(account, options.title, owner, found.unusual, changed))
 
 
-def chosen(account: MonthAccount, by: str | None, owner: str | None) -> list[Table]:
+def chosen(account: MonthAccount, by: str | None, owner: str | None) -> list[AccountTable]:
     """Return the accounts that are asked for.
 
     Raises
@@ -137,6 +138,7 @@ def _difference(options: argparse.Namespace) -> int:
     if len(options.states) > 2:
         raise WordsFault("there are more than two states", remedy="say FROM and TO")
     found = Book(options.book).difference(options.period, *options.states)
+    options.found = found
     for line in said(found):
         print(line)
     behind = behind_said(found.report, options.period)
@@ -198,7 +200,7 @@ def _add_posted(parser: argparse.ArgumentParser) -> None:
 def _posted(options: argparse.Namespace) -> int:
     """Record what is handed over."""
     book, period = Book(options.book, who=options.who, key=options.key), options.period
-    found = book.post(period, anyway=options.anyway, why=options.why)
+    options.found = found = book.post(period, anyway=options.anyway, why=options.why)
     if options.postings:
         write_text(options.postings, _postings_text(found))
     count = counted(len(postings_of(found.changes)), "posting")
@@ -215,7 +217,7 @@ ACCOUNT = SimpleNamespace(
     run=_account,
 )
 DIFFERENCE = SimpleNamespace(
-    __doc__="Says what two reports of a period, or a report and what was posted, have otherwise, and "
+    __doc__="Says how two reports of a period, or a report and what was posted, differ, and "
     "why.\n\n"
     "FROM and TO are a number of an earlier report, `posted` for what was handed over last, "
     "or `now` for the report that the book has. Without them it is what was posted against "

@@ -21,7 +21,9 @@ def add_arguments(parser: argparse.ArgumentParser) -> None:
     parser.add_argument(
         "--strike", action="store_true", help="strike facts that aren't in the workbook any more"
     )
-    parser.add_argument("--anyway", action="store_true", help="strike also most of what is booked")
+    parser.add_argument(
+        "--anyway", action="store_true", help="strike even if that removes most booked facts"
+    )
     parser.add_argument("--year", metavar="YEAR", help="the year of its plant (default: the last)")
     parser.add_argument(
         "--dry-run", action="store_true", help="say what would be booked, and book nothing"
@@ -31,11 +33,11 @@ def add_arguments(parser: argparse.ArgumentParser) -> None:
 
 def run(options: argparse.Namespace) -> int:
     """Add a workbook, and say what that was."""
-    asks = not options.why and _may_ask()
+    asks = not options.why and not options.json and _may_ask()
     try:
         found = Book(options.book, who=options.who, key=options.key).add(
             options.workbook,
-            why=Asked() if asks else options.why or "",
+            why=ReasonPrompt() if asks else options.why or "",
             strike=options.strike,
             anyway=options.anyway,
             year=options.year,
@@ -45,6 +47,7 @@ def run(options: argparse.Namespace) -> int:
     except Unreasoned as fault:
         print("\n".join(fault.changes[:FIRST]))
         raise
+    options.found = found
     print("\n".join(lines_of(found)))
     if options.dry_run:
         print("nothing is booked, as --dry-run says")
@@ -67,7 +70,7 @@ def _may_ask() -> bool:
     return sys.stdin.isatty()
 
 
-class Asked:
+class ReasonPrompt:
     """Reasons that are typed: an empty answer is the reason before."""
 
     def __init__(self) -> None:
@@ -81,8 +84,6 @@ class Asked:
             try:
                 typed = input(f"{said}. Why?{offer} ").strip() or self._before
             except EOFError:
-                raise WordsFault(
-                    "a reason is wanted, and none came", remedy="say --why TEXT"
-                ) from None
+                raise WordsFault("no reason given", remedy="say --why TEXT") from None
         self._before = typed
         return typed

@@ -6,7 +6,7 @@ import argparse
 from types import SimpleNamespace
 
 from plantbal.book.answers import reasons_of
-from plantbal.audit.said import Kind
+from plantbal.audit.said import SentenceKind
 from plantbal.book.approval.state import Waiting
 from plantbal.book.closing import NotClosed, unneeded
 from plantbal.book.forms import report_file
@@ -47,7 +47,7 @@ def _rules(options: argparse.Namespace) -> int:
     """Give a book rules; without a file say whether it has some."""
     book = _book(options)
     if options.rules is None and options.signers is None and options.revoked is None:
-        rules = book.rules()
+        options.found = rules = book.rules()
         if rules is None:
             print("this book has no rules: nobody has to approve anything")
             return ExitStatus.GOOD
@@ -60,6 +60,7 @@ def _rules(options: argparse.Namespace) -> int:
     head = book.set_rules(
         options.rules, signers=options.signers, revoked=options.revoked, why=options.why
     )
+    options.found = head
     print("the book has these rules from now on; who changes them wants an approval")
     print(f"head {head}")
     return ExitStatus.GOOD
@@ -80,8 +81,10 @@ def _submit(options: argparse.Namespace) -> int:
     try:
         found = _book(options).submit(options.period, anyway=given, settings=settings_of(options))
     except NotClosed as fault:
+        options.found = fault.report
         say_report(fault.report)
         raise
+    options.found = found
     if found.report is None or found.head is None:
         print(f"{found.period} is closed already")
         return ExitStatus.GOOD
@@ -112,6 +115,7 @@ def _submitted(options: argparse.Namespace) -> int:
         waiting = [each for each in waiting if each.line.number == options.number]
         if not waiting:
             raise Fault(f"action {options.number} doesn't wait for an approval")
+    options.found = waiting
     if not waiting:
         print("nothing waits for an approval")
     for each in waiting:
@@ -174,6 +178,7 @@ def _approve(options: argparse.Namespace) -> int:
         record = read_signature(options.signed)
         signature = read_signature(f"{options.signed}.sig")
     found = book.approve(options.head, record=record, signature=signature)
+    options.found = found
     said = f"{found.act} {found.of}".rstrip()
     if found.lacking:
         print(f"{said} is approved by {found.by}; {counted(found.lacking, 'approval')} to come")
@@ -190,7 +195,7 @@ def _add_reject(parser: argparse.ArgumentParser) -> None:
 
 def _reject(options: argparse.Namespace) -> int:
     """Reject what was submitted, or take it back."""
-    head = _book(options).reject(options.head, why=options.why)
+    options.found = head = _book(options).reject(options.head, why=options.why)
     print("it is rejected, and nothing of it is done")
     print(f"head {head}")
     return ExitStatus.GOOD
@@ -207,10 +212,10 @@ def _add_signed(parser: argparse.ArgumentParser) -> None:
 def _signed(options: argparse.Namespace) -> int:
     """Say who has signed and approved what."""
     authority = read_signature(options.stamps) if options.stamps else ""
-    found = _book(options).signed(authority)
+    options.found = found = _book(options).signed(authority)
     for each in found:
         print(f"{each.kind}: {each.said}")
-    wrong = sum(each.kind is Kind.WRONG for each in found)
+    wrong = sum(each.kind is SentenceKind.WRONG for each in found)
     if wrong:
         raise Fault(f"{counted(wrong, 'thing')} isn't as the rules of the book want it")
     return ExitStatus.GOOD

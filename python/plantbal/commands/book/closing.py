@@ -39,8 +39,10 @@ def _close(options: argparse.Namespace) -> int:
         given = reasons_of(options.anyway)
         found = book.close(options.period, anyway=given, settings=settings_of(options))
     except NotClosed as fault:
+        options.found = fault.report
         say_report(fault.report)
         raise
+    options.found = found
     if found.report is None:
         print(f"{found.period} is closed already")
         return ExitStatus.GOOD

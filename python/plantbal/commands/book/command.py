@@ -10,6 +10,8 @@ from collections.abc import Sequence
 from dataclasses import dataclass
 from typing import Protocol, cast
 
+from plantbal.commands.data import add_json, answer_with_json
+
 HELP = """
 The book is the current folder, or that of --book. It has
   plant.csv     the rows of the plant, with which the next year begins
@@ -27,6 +29,9 @@ The book is the current folder, or that of --book. It has
 A command is carried out as a whole or not at all, at whatever moment it is stopped; the next one
 that writes finishes what was begun. Two commands at the same time wait for each other. Each command
 first tests the files against the journal, and stops if one was changed by other means.
+
+With --json a command writes one object, of one shape for all: `command`, `status`, `found` (what it
+did or found), `said` (the lines without this word) and `fault` (what stopped it, or null).
 
 A command writes into a folder of its user, into one that a group shares, or into one that
 PLANTBAL_TRUST names (several with colons between them).
@@ -46,7 +51,7 @@ examples:
 KEY = "PLANTBAL_KEY"
 
 
-class Handler(Protocol):
+class BookHandler(Protocol):
     """What does the work of a command on a book."""
 
     def add_arguments(self, parser: argparse.ArgumentParser) -> None:
@@ -64,11 +69,11 @@ class Inner:
     home: str
     about: str
 
-    def handler(self) -> Handler:
+    def handler(self) -> BookHandler:
         """Return what does its work."""
         module, _, part = self.home.partition(":")
         found = importlib.import_module(f"plantbal.commands.book.{module}")
-        return cast(Handler, getattr(found, part) if part else found)
+        return cast(BookHandler, getattr(found, part) if part else found)
 
 
 COMMANDS: Sequence[Inner] = (
@@ -77,6 +82,7 @@ COMMANDS: Sequence[Inner] = (
     Inner("show", "showing:SHOW", "show what is booked of a stream or tank"),
     Inner("amend", "editing:AMEND", "give a fact another value, with a reason"),
     Inner("strike", "editing:STRIKE", "take a fact out, with a reason"),
+    Inner("undo", "editing:UNDO", "take the last change of a fact back, with a reason"),
     Inner(
         "estimate",
         "estimating:ESTIMATE",
@@ -96,7 +102,7 @@ COMMANDS: Sequence[Inner] = (
     Inner("rules", "approving:RULES", "say what wants an approval, by whom, and who may sign"),
     Inner("signed", "approving:SIGNED", "say who has signed and approved what"),
     Inner("quiet", "quieting:QUIET", "quiet a rule of lint for good, with a reason"),
-    Inner("difference", "accounting:DIFFERENCE", "say what two reports have otherwise, and why"),
+    Inner("difference", "accounting:DIFFERENCE", "say how two reports differ, and why"),
     Inner("posted", "accounting:POST", "record what is handed over of a period, once"),
     Inner(
         "account",
@@ -123,17 +129,21 @@ def add_arguments(parser: argparse.ArgumentParser) -> None:
         handler.add_arguments(made)
         made.add_argument("--book", metavar="FOLDER", default=".", help="the book's folder")
         made.add_argument(
-            "--who", metavar="NAME", default="", help="who does it, beside the user's own name"
+            "--who",
+            metavar="NAME",
+            default="",
+            help="who does it, in addition to the user's own name",
         )
         key = "the key with which submissions and approvals are signed (default: PLANTBAL_KEY)"
         made.add_argument("--key", metavar="FILE", default=os.environ.get(KEY) or None, help=key)
-        made.set_defaults(inner=handler.run)
+        add_json(made)
+        made.set_defaults(inner=handler.run, word=inner.word)
 
 
 def run(options: argparse.Namespace) -> int:
     """Do what the inner word says."""
+    options.prog = f"{options.prog} {options.word}" if options.json else options.prog
     try:
-        status: int = options.inner(options)
+        return answer_with_json(options.inner, options)
     finally:
         sys.stdout.flush()  # before what is said of a fault
-    return status

@@ -1,4 +1,4 @@
-"""Gives a single fact other values, or takes it out."""
+"""Gives a single fact other values, takes it out, or gives it back what it was."""
 
 from __future__ import annotations
 
@@ -38,6 +38,7 @@ def _amend(options: argparse.Namespace) -> int:
         error=options.error,
         locale=options.locale,
     )
+    options.found = found
     old, new = found.old, found.new
     assert new is not None
     if not found.is_booked:
@@ -70,11 +71,28 @@ def _strike(options: argparse.Namespace) -> int:
     found = Book(options.book, who=options.who, key=options.key).strike(
         options.name, day, why=options.why
     )
+    options.found = found
     if not found.is_booked:
         print(f"{found.old.id} is struck already")
     else:
         print(f"{found.old.id}: {found.old.said()} is struck")
         _say_older(found)
+    return ExitStatus.GOOD
+
+
+def _undo(options: argparse.Namespace) -> int:
+    """Give a fact back what it was."""
+    day = day_of(options.day, options.locale)
+    found = Book(options.book, who=options.who, key=options.key).undo(
+        options.name, day, why=options.why
+    )
+    options.found = found
+    assert found.new is not None
+    if found.new.id != found.old.id:
+        print(f"{found.old.id} was struck: {found.new.said()} is booked again as {found.new.id}")
+    else:
+        print(f"{found.old.id}: {found.old.said()} becomes {found.new.said()}, as it was")
+    _say_older(found)
     return ExitStatus.GOOD
 
 
@@ -88,4 +106,10 @@ STRIKE = SimpleNamespace(
     __doc__="Takes a reading, a dip or a ticket out, with a reason.",
     add_arguments=_add_strike,
     run=_strike,
+)
+UNDO = SimpleNamespace(
+    __doc__="Gives a reading, a dip or a ticket back what it was before its last change, with a "
+    "reason, while its period is open: by another amendment, or by booking again what was struck.",
+    add_arguments=_add_strike,
+    run=_undo,
 )

@@ -7,7 +7,7 @@ from types import SimpleNamespace
 
 from plantbal.book.library import Book
 from plantbal.book.said import reopened_said
-from plantbal.diagnosis.proposal import Basis, Proposal
+from plantbal.diagnosis.proposal import Proposal, ProposalBasis
 from plantbal.diagnosis.words import tonnes
 from plantbal.faults import WordsFault
 from plantbal.gates.words import days_said
@@ -26,10 +26,11 @@ def _add(parser: argparse.ArgumentParser) -> None:
 def _estimate(options: argparse.Namespace) -> int:
     """Propose estimates, or book them."""
     if options.take and not options.why:
-        raise WordsFault("a reason is wanted, and none came", remedy="say --why TEXT")
+        raise WordsFault("no reason given", remedy="say --why TEXT")
     book = Book(options.book, who=options.who, key=options.key)
     period, stream = options.period, options.stream
     found = book.estimate(period, stream, take=options.take, why=options.why)
+    options.found = found
     for each in found.proposals:
         print(said_of(each))
     for name in found.missing:
@@ -80,11 +81,11 @@ def _basis_said(proposal: Proposal) -> str:
     """Return what a proposal rests on."""
     beside = f"of {some_of(proposal.names)}" if proposal.names else ""
     return {
-        Basis.DAY: f"by the balance of the day, {beside}",
-        Basis.DAYS: f"by the balance between two dips, {beside}, less its own readings",
-        Basis.PERIOD: f"by the balance of the period, {beside}, less its own readings",
-        Basis.OTHERS: f"the mean of its {proposal.readings} other days",
-        Basis.EARLIER: f"the mean of its {proposal.readings} days before",
+        ProposalBasis.DAY: f"by the balance of the day, {beside}",
+        ProposalBasis.DAYS: f"by the balance between two dips, {beside}, less its own readings",
+        ProposalBasis.PERIOD: f"by the balance of the period, {beside}, less its own readings",
+        ProposalBasis.OTHERS: f"the mean of its {proposal.readings} other days",
+        ProposalBasis.EARLIER: f"the mean of its {proposal.readings} days before",
     }[proposal.basis]
 
 

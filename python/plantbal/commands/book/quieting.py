@@ -23,15 +23,17 @@ def _quiet(options: argparse.Namespace) -> int:
     book = Book(options.book, who=options.who, key=options.key)
     rule, names = options.rule, options.names
     if rule is None:
-        for each in book.quieted():
+        options.found = book.quieted()
+        for each in options.found:
             print(f"{each.code} {' '.join(each.names)}: {each.why} ({each.who}, {each.when})")
         return ExitStatus.GOOD
     if not options.why:
-        raise WordsFault("a reason is wanted, and none came", remedy="say --why TEXT")
+        raise WordsFault("no reason given", remedy="say --why TEXT")
     if options.off:
         book.heed(rule, *names, why=options.why)
     else:
         book.quiet(rule, *names, why=options.why)
+    options.found = {"rule": rule, "names": names, "is_quiet": not options.off}
     print(f"{rule} {'speaks again' if options.off else 'is quieted'} for {' '.join(names)}")
     return ExitStatus.GOOD
 

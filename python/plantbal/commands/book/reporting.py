@@ -16,7 +16,6 @@ from plantbal.book.reporting import (
 from plantbal.book.results import Reported
 from plantbal.book.said import counted
 from plantbal.book.window import undipped
-from plantbal.commands.data import add_json, write_json
 from plantbal.commands.options import add_run, settings_of
 from plantbal.files import write_text
 from plantbal.gates import line_of, unsaid
@@ -30,20 +29,16 @@ def _add_report(parser: argparse.ArgumentParser) -> None:
     parser.add_argument(
         "--session", metavar="FILE", help="write the session that asks for the reports too"
     )
-    add_json(parser)
     add_run(parser)
 
 
 def _report(options: argparse.Namespace) -> int:
     """Write the reports."""
     book = Book(options.book, who=options.who, key=options.key)
-    wants, rows = False, list[dict[str, object]]()
+    wants, options.found = False, []
     for found in book.reports(*options.periods, settings=settings_of(options)):
         output, name = found.output, found.period
-        if options.json:
-            rows.append(_row_of(found))
-            wants = wants or not output.ok
-            continue
+        options.found.append(_row_of(found))
         print(state_of(output, name))
         said = [*suspects_of(output), *found.holes, *balances_said(output), *found.missing]
         for line in [*said, *map(line_of, unsaid(found.stops))]:
@@ -51,8 +46,6 @@ def _report(options: argparse.Namespace) -> int:
         history = f", with {counted(found.edits, 'edit')}" if found.edits else ""
         print(f"{name}: {found.path}{history}" + ("" if found.is_new else ", as it was"))
         wants = wants or not output.ok
-    if options.json:
-        write_json(rows)
     if options.session:
         write_text(options.session, book.session_asking(*options.periods))
     return looks(wants)
@@ -88,6 +81,7 @@ def _window(options: argparse.Namespace) -> int:
     """Write the report of a window."""
     book = Book(options.book, who=options.who, key=options.key)
     found = book.window(options.first, options.last, settings=settings_of(options))
+    options.found = found
     for block in found.output.blocks_in_order[-1:]:
         for line in (state_of_block(block), *suspects_of_block(block), *undipped(block)):
             print(line)

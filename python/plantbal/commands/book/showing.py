@@ -6,13 +6,12 @@ import argparse
 from decimal import Decimal
 from types import SimpleNamespace
 
-from plantbal.book.ledger import Fact, plain
+from plantbal.book.ledger import BookFact, plain
 from plantbal.book.library import Book
 from plantbal.book.meters import Meter
 from plantbal.book.naming import day_of
-from plantbal.book.results import ReportState, Shown, TankApart, YearStatus
+from plantbal.book.results import ReportState, ShownFact, TankApart, YearStatus
 from plantbal.book.said import behind_said, counted
-from plantbal.commands.data import add_json, write_json
 from plantbal.schema import schema
 from plantbal.statuses import ExitStatus
 from plantbal.workbook.units import GRAMS, VOLUMES, WET
@@ -26,7 +25,6 @@ def _add_show(parser: argparse.ArgumentParser) -> None:
     parser.add_argument("name", metavar="NAME", help="a tag, stream or tank")
     parser.add_argument("first", metavar="FIRST", nargs="?", help="from this day on")
     parser.add_argument("last", metavar="LAST", nargs="?", help="up to this day")
-    add_json(parser)
     form = "how days are written, such as de"
     parser.add_argument("--locale", metavar="NAME", default="", help=form)
 
@@ -35,15 +33,13 @@ def _show(options: argparse.Namespace) -> int:
     """Show it."""
     first, last = day_of(options.first, options.locale), day_of(options.last, options.locale)
     found, meter, waiting = Book(options.book).show(options.name, first, last)
-    if options.json:
-        write_json({"waiting": waiting, "shown": found})
-        return ExitStatus.GOOD
+    options.found = {"waiting": waiting, "shown": found}
     for line in [*waiting, *(line_of(shown, meter) for shown in found)]:
         print(line)
     return ExitStatus.GOOD
 
 
-def line_of(shown: Shown, meter: Meter | None = None) -> str:
+def line_of(shown: ShownFact, meter: Meter | None = None) -> str:
     """Return what is booked of a fact, also in the unit of its meter."""
     fact = shown.fact
     line = f"{fact.id}: {fact.said()}{in_unit(fact, meter)}, error {fact.error()}"
@@ -55,7 +51,7 @@ def line_of(shown: Shown, meter: Meter | None = None) -> str:
     return f"{line}; before {', '.join(before)}" if before else line
 
 
-def in_unit(fact: Fact, meter: Meter | None) -> str:
+def in_unit(fact: BookFact, meter: Meter | None) -> str:
     """Return a reading in the unit of its meter, in brackets; nothing if that is tonnes."""
     if meter is None or fact.kind != "reading" or meter.unit in ("", "t", *WET):
         return ""
@@ -72,15 +68,11 @@ def in_unit(fact: Fact, meter: Meter | None) -> str:
 
 def _add_status(parser: argparse.ArgumentParser) -> None:
     parser.add_argument("--all", action="store_true", help="closed periods too")
-    add_json(parser)
 
 
 def _status(options: argparse.Namespace) -> int:
     """Say how the book stands."""
-    found = Book(options.book).status()
-    if options.json:
-        write_json(found)
-        return ExitStatus.GOOD
+    options.found = found = Book(options.book).status()
     lines = list(found.waiting)
     for year in found.years:
         lines += year_lines(year, options.all)

@@ -7,9 +7,9 @@ from types import SimpleNamespace
 
 from plantbal.book.library import Book
 from plantbal.book.said import counted
-from plantbal.commands.data import add_json, data_of, write_json
+from plantbal.commands.data import data_of
 from plantbal.faults import Fault
-from plantbal.statuses import ExitStatus, looks
+from plantbal.statuses import ExitStatus
 
 # ---- verify
 
@@ -20,16 +20,13 @@ def _add_verify(parser: argparse.ArgumentParser) -> None:
     )
     head = "a head that was kept elsewhere: this book has to have it"
     parser.add_argument("--head", metavar="DIGEST", action="append", default=[], help=head)
-    add_json(parser)
 
 
 def _verify(options: argparse.Namespace) -> int:
     """Test every file of the book, and say all that is wrong."""
     book = Book(options.book)
     found = book.verify(options.bundles, heads=options.head)
-    if options.json:
-        write_json({"ok": found.ok, **data_of(found)})
-        return looks(not found.ok)
+    options.found = {"ok": found.ok, **data_of(found)}
     for line in [*found.waiting, *(f"wrong: {each}" for each in found.wrong), *found.notes]:
         print(line)
     if not found.ok:
@@ -45,16 +42,13 @@ def _verify(options: argparse.Namespace) -> int:
 
 
 def _add_head(parser: argparse.ArgumentParser) -> None:
-    add_json(parser)
+    """Add no words but those of all commands on a book."""
 
 
 def _head(options: argparse.Namespace) -> int:
     """Print the head."""
-    head = Book(options.book).head
-    if options.json:
-        write_json(head)
-    else:
-        print(head)
+    options.found = head = Book(options.book).head
+    print(head)
     return ExitStatus.GOOD
 
 
@@ -71,6 +65,7 @@ def _accept(options: argparse.Namespace) -> int:
     found = Book(options.book, who=options.who, key=options.key).accept(
         options.file, why=options.why
     )
+    options.found = found
     if found.said:
         print(f"{found.file} is taken as it is: {found.said}")
     else:

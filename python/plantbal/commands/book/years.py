@@ -35,6 +35,7 @@ def _new(options: argparse.Namespace) -> int:
     """Make the book."""
     book = Book(options.book, who=options.who, program=options.program)
     found = book.begin(options.year, options.workbook, reading=reading_of(options))
+    options.found = found
     first = f"{found.year}.csv: {counted(found.rows, 'row')} of the plant"
     print("\n".join([first, *_classes(found.classes), *found.notes]))
     return ExitStatus.GOOD
@@ -56,6 +57,7 @@ def _next(options: argparse.Namespace) -> int:
         first=day_of(options.first, options.locale),
         reading=reading_of(options),
     )
+    options.found = found
     return _say_begun(found)
 
 
@@ -72,7 +74,8 @@ def _retire(options: argparse.Namespace) -> int:
     """End the service of a tank or stream."""
     day = day_of(options.day, options.locale)
     book = Book(options.book, who=options.who, program=options.program)
-    return _say_begun(book.retire(options.name, day, year=options.year))
+    options.found = book.retire(options.name, day, year=options.year)
+    return _say_begun(options.found)
 
 
 def _say_begun(found: Begun) -> int:

@@ -15,6 +15,7 @@ from dataclasses import replace
 from decimal import Decimal
 
 from plantbal.faults import InputFault
+from plantbal.workbook.cells import symbols
 from plantbal.workbook.mapping.form import (
     DAY_OF_MONTH,
     HOUR,
@@ -23,7 +24,7 @@ from plantbal.workbook.mapping.form import (
     SheetMapping,
     WorkbookMapping,
 )
-from plantbal.workbook.mapping.months import month_of
+from plantbal.workbook.mapping.months import month_of, month_word, year_of
 from plantbal.workbook.mapping.vocabulary import is_total, plain_word
 from plantbal.workbook.sheetkinds import PASSED, SHEETS
 from plantbal.workbook.sheets import Sheet, Value, letters
@@ -31,7 +32,7 @@ from plantbal.workbook.units import UNITS, is_rate, unit_of
 
 HEADS_WITHIN = 40
 _NAMED = frozenset("stream from to tank name tag".split())
-_WORDED = frozenset("kind test setting".split())
+_WORDED = frozenset("kind test setting group".split())
 # A row of a sheet: its number, and what stands in it.
 Line = tuple[int, list[Value]]
 
@@ -44,7 +45,7 @@ def applied(mapping: WorkbookMapping, sheets: Sequence[Sheet]) -> list[Sheet]:
     InputFault
         If the mapping doesn't fit the workbook.
     """
-    found = []
+    found, counters = [], dict[str, str]()
     for sheet in sheets:
         own = mapping_of(mapping, sheet)
         if own is None:
@@ -54,8 +55,23 @@ def applied(mapping: WorkbookMapping, sheets: Sequence[Sheet]) -> list[Sheet]:
             sheet.notes.append(f"the sheet is passed over: {why}")
             found.append(replace(sheet, word="about"))
         else:
-            found.append(Applying(mapping, own, sheet).sheet())
-    return found
+            applying = Applying(mapping, own, sheet)
+            found.append(applying.sheet())
+            counters |= applying.counters
+    return [*found, *_settings(mapping, counters, sheets)]
+
+
+def _settings(
+    mapping: WorkbookMapping, counters: dict[str, str], sheets: Sequence[Sheet]
+) -> list[Sheet]:
+    """Return the settings and counters of a mapping as a sheet; none if it has none."""
+    rows: list[list[Value]] = [[name, value, None] for name, value in mapping.settings.items()]
+    rows += [["counter", Decimal(figure), tag] for tag, figure in counters.items()]
+    if not rows or not sheets:
+        return []
+    heads: list[Value] = ["setting", "value", "for"]
+    lines: list[Line] = list(enumerate([heads, *rows], 1))
+    return [Sheet(sheets[0].file, "settings of the mapping", lines, word="settings")]
 
 
 def mapping_of(mapping: WorkbookMapping, sheet: Sheet) -> SheetMapping | None:
@@ -100,9 +116,31 @@ class Applying:
         self.lines: list[Line] = [(line, list(values)) for line, values in given.lines]
         self.taken: dict[int, bool] = {}  # rows that are heads, and those that are passed over
         self.notes: list[str] = []
-        self.unit_beside: tuple[int, str] | None = None  # of a long sheet without units
+        # columns that the sheet itself doesn't have
+        self.beside: dict[str, Value] = {head: self._given(v) for head, v in own.given.items()}
+        self.width = 0  # where these stand
         self.names = {plain_text(key): value for key, value in mapping.names.items()}
         self.words = {plain_word(key): value for key, value in mapping.words.items()}
+
+    def _given(self, text: str) -> Value:
+        """Return a figure of the mapping, which has a decimal point, as the sheet would write it."""
+        if re.fullmatch(r"[0-9]+(?:\.[0-9]+)?", text):
+            return Decimal(text)
+        locale = self.own.locale or self.mapping.locale
+        match = re.fullmatch(r"([0-9]+)\.([0-9]+)( .+)", text)
+        if match is None or not locale:
+            return text
+        return f"{match[1]}{symbols(locale)[0]}{match[2]}{match[3]}"
+
+    @property
+    def counters(self) -> dict[str, str]:
+        """The figures at which counters begin again, by the tags or streams of their heads."""
+        found = {}
+        for head, figure in self.own.counters.items():
+            to = self.own.columns.get(head, head)
+            if figure:
+                found[self.names.get(plain_text(to), to)] = figure
+        return found
 
     def sheet(self) -> Sheet:
         """Return the sheet of its kind."""
@@ -147,7 +185,7 @@ class Applying:
         raise InputFault(
             f"no row has the heads of the mapping: {shown}" if shown else "no row has the heads",
             place=self.given.place(),
-            remedy="look whether they are called otherwise here, and correct the mapping",
+            remedy="see what they are called here, and correct the mapping",
         )
 
     def _first_heads(self) -> int:
@@ -180,8 +218,8 @@ class Applying:
             if head in self.own.units
         }
         if self.own.unit:
-            for column, _ in self._heads_of(heads):
-                if column not in columns and column not in self.units:
+            for column, head in enumerate(heads):
+                if head is not None and column not in columns and column not in self.units:
                     self.units[column] = self.own.unit
         self.unit_lines: set[int] = set()
         for below, values in self.lines[at + 1 : at + 4]:
@@ -211,7 +249,7 @@ class Applying:
             unit = unit_of(value)
             told = self.units.get(column)
             if told is not None and unit_of(told) != unit:
-                what = f"{value} stands here, and the mapping has {told}"
+                what = f"{value} is here, but the mapping has {told}"
                 raise self.fault(line, column, what, "correct one of both")
             self.units[column] = unit
 
@@ -226,18 +264,28 @@ class Applying:
             head = heads[column] if column < len(heads) else None
             to = columns.get(column)
             if to is None:
-                row.append(self._named(head))
+                row.append(self._month(head) or self._named(head))
             else:
                 row.append(None if to in ("", TIME, HOUR, SITE) else _head_of(to))
         self.taken[line] = True
         units = {c: u for c, u in self.units.items() if c < len(row) and row[c] is not None}
         if not self.kind.columns and "value" in columns.values():
             if "unit" not in columns.values() and units:
-                self.unit_beside = len(row), next(iter(units.values()))
-                row.append("unit")
-            return [(line, row)]
+                self.beside["unit"] = next(iter(units.values()))
+            units = {}
         places: list[Value] = [units.get(column) for column in range(len(row))]
+        self.width = max(len(row), *(len(values) for _, values in self.lines))
+        if self.beside:
+            row += [None] * (self.width - len(row)) + list(self.beside)
         return [(line, row), *([(line, places)] if units else [])]
+
+    def _month(self, head: Value) -> str:
+        """Return the month that a head is, if the mapping says of which year such heads are."""
+        if not self.own.year or not isinstance(head, str) or not month_word(head):
+            return ""
+        year = year_of(self.given.name) if self.own.year == "name" else self.own.year
+        found = month_of(f"{head} {year}") if year else None
+        return f"{found[0]}-{found[1]:02}" if found else ""
 
     def _named(self, value: Value) -> Value:
         """Return a text, as it is called in the book."""
@@ -313,10 +361,8 @@ class Applying:
             elif to in _WORDED and isinstance(value, str):
                 row[column] = self.words.get(plain_word(value), value)
         self._put_time(line, row, columns, day)
-        if self.unit_beside is not None:
-            at, unit = self.unit_beside
-            row += [None] * (at - len(row))
-            row[at:] = [unit]
+        if self.beside and any(value is not None for value in row):
+            row += [None] * (self.width - len(row)) + list(self.beside.values())
         return row
 
     def _fill(self, row: list[Value], columns: dict[int, str], above: dict[int, Value]) -> None:
@@ -357,7 +403,7 @@ class Applying:
         try:
             return datetime.datetime(*month, int(value) if value == int(value) else 0)
         except ValueError as error:
-            what = f"{value} is no day of {month[0]}-{month[1]:02}"
+            what = f"{value} isn't a day of {month[0]}-{month[1]:02}"
             raise self.fault(line, column, what, "correct it, or the mapping's month") from error
 
     def _put_time(
@@ -372,7 +418,7 @@ class Applying:
                 continue
             time = _time_of(value)
             if time is None:
-                what = f"{value} is no time of the day"
+                what = f"{value} isn't a time of the day"
                 raise self.fault(line, column, what, "write it as 13:00")
             row[day] = _with_time(row[day], time)
 

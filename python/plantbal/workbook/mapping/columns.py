@@ -4,31 +4,46 @@ from __future__ import annotations
 
 from collections import Counter
 from collections.abc import Collection
-from dataclasses import dataclass, field
+from dataclasses import dataclass, field, replace
 from decimal import Decimal
 
 from plantbal.workbook.mapping.form import DAY_OF_MONTH, HOUR, OPEN, SITE, TIME, SheetMapping
-from plantbal.workbook.mapping.known import Known, tag_in
-from plantbal.workbook.mapping.months import month_of, month_word
-from plantbal.workbook.mapping.profile import ColumnProfile, SheetProfile, split_unit
+from plantbal.workbook.mapping.known import KnownPlant, tag_in
+from plantbal.workbook.mapping.months import month_of, month_of_head, month_word, year_of
+from plantbal.workbook.mapping.profile import ColumnProfile, SheetProfile, rises, split_unit
 from plantbal.workbook.mapping.vocabulary import (
     Meaning,
     column_meanings,
+    is_counter,
     is_remark,
     is_total,
+    is_weak,
     plain_word,
 )
 from plantbal.workbook.sheetforms import SheetKind
-from plantbal.workbook.units import AMOUNTS, DENSITIES, GRADES, LENGTHS, VOLUMES, is_rate
+from plantbal.workbook.units import (
+    AMOUNTS,
+    DENSITIES,
+    GRADES,
+    LENGTHS,
+    TEMPERATURES,
+    VOLUMES,
+    is_rate,
+)
+from plantbal.workbook.wide import OF_TANKS
 
 _DAYS = frozenset("day first last since until".split())
 _FIGURES = frozenset(
-    "level volume amount value density error base dof grade moisture temperature".split()
+    "level volume amount value density error base dof grade moisture temperature water".split()
 )
 _LONG = ("day", "tag", "value", "unit")
+# The kinds whose column of names has streams, tanks or products.
+_OF_ANY = ("densities", "temperatures", "gauges")
 # Units that the figures of a column may have; without one a figure has two readings.
 _UNITS_OF: dict[str, Collection[str]] = {
     "level": LENGTHS,
+    "water": LENGTHS,
+    "temperature": TEMPERATURES,
     "volume": VOLUMES,
     "amount": AMOUNTS,
     "value": AMOUNTS,
@@ -51,10 +66,12 @@ class Columns:
         The sheet.
     kind : SheetKind
         Its kind.
-    known : Known
+    known : KnownPlant
         What is known of the plant.
     has_units : bool
         Whether the streams say the units of their figures.
+    gauged : frozenset of str
+        Which errors of temperatures and water a sheet of gauges says.
     evidence : dict
         What speaks for each value, by its path within the sheet.
     languages : Counter of str
@@ -63,8 +80,9 @@ class Columns:
 
     profile: SheetProfile
     kind: SheetKind
-    known: Known
+    known: KnownPlant
     has_units: bool = False
+    gauged: frozenset[str] = frozenset()
     evidence: dict[tuple[str, ...], str] = field(default_factory=dict)
     languages: Counter[str] = field(default_factory=Counter)
 
@@ -86,16 +104,40 @@ class Columns:
         return self.known.meter(column.head)
 
     def _tank(self, column: ColumnProfile) -> str:
-        return tag_in(column.head, self.known.tanks) if self.kind.is_across else ""
+        """Return the tank in a head, or in the cell over it; of densities any name."""
+        if not self.kind.is_across:
+            return ""
+        if self.kind.word == "densities":
+            return tag_in(column.head, self.known.names)
+        return tag_in(column.head, self.known.tanks) or tag_in(column.above, self.known.tanks)
+
+    def _of_tank(self, column: ColumnProfile, tank: str) -> tuple[str, str]:
+        """Return what a column of a tank has, `level` and the like, and why; `?` if it isn't told."""
+        rest = " ".join(word for word in column.name.split() if tag_in(word, (tank,)) != tank)
+        rest = rest if tag_in(column.head, (tank,)) else column.name
+        if column.unit in TEMPERATURES:
+            return "temperature", f"its figures are in {column.unit}"
+        found = {meaning.of for meaning in column_meanings(rest)} & {*OF_TANKS} if rest else set()
+        if len(found) == 1:
+            return found.pop(), f"{rest!r} says so"
+        others = [each for each in self.profile.columns if self._tank(each) == tank]
+        if column.unit in DENSITIES:
+            return "density", f"its figures are in {column.unit}"
+        if len(others) == 1 and column.unit not in VOLUMES:
+            return "level", "it is the only column of the tank"
+        return OPEN, f"{tank} has {len(others)} columns: is it {', '.join(OF_TANKS)}?"
 
     def assigned(self) -> dict[str, str]:
         """Return what the columns are; those that are nothing known aren't there."""
         found: dict[str, str] = {}
         taken: dict[str, str] = {}
         wide = not self.kind.columns and not self.is_long
-        for exact in (True, False):
+        for sure, exact in ((True, True), (False, True), (False, False)):
             for column in self.profile.columns:
                 if column.key in found or self._tank(column) or (wide and self._tag(column)):
+                    continue
+                own = plain_word(column.name or column.head)
+                if sure and is_weak(own) and own not in self.heads:
                     continue
                 for meaning in self._meanings(column, exact, wide):
                     if meaning.of not in taken:
@@ -113,9 +155,14 @@ class Columns:
         found = []
         for meaning in column_meanings(column.name or column.head):
             whole = plain_word(meaning.word) == plain_word(column.name or column.head)
+            of_any = {"stream", "tank", "tag", "product"} - {*self.heads}
+            if self.kind.word in _OF_ANY and meaning.of in of_any:
+                meaning = replace(meaning, of="name")
             if meaning.of in heads and whole is exact and self._can_be(column, meaning.of):
                 found.append(meaning)
         own = plain_word(column.name or column.head)
+        if own in self.heads and own not in {each.of for each in found} and exact:
+            found.append(Meaning(own, "en", own))
         return sorted(found, key=lambda each: each.of != own)
 
     def _can_be(self, column: ColumnProfile, of: str) -> bool:
@@ -130,7 +177,22 @@ class Columns:
             return column.times > 0 or column.has_figures or column.has_days
         if of == "period":
             return not column.has_figures
+        if of == "month":
+            texts = [value for value in column.values if isinstance(value, str)]
+            return column.has_days or bool(texts) and all(map(month_of, texts))
+        if of in ("stream", "tank") and is_weak(column.name or column.head):
+            return self._names_known(column, of)
         return not column.has_days and not column.times
+
+    def _names_known(self, column: ColumnProfile, of: str) -> bool:
+        """Say whether a column of whatever names has streams or tanks, as far as these are known."""
+        if column.has_days or column.times:
+            return False
+        if self.kind.word == f"{of}s":
+            return True
+        there = {str(value) for value in column.values}
+        known = {*self.known.streams, *self.known.tags} if of == "stream" else {*self.known.tanks}
+        return not known or 2 * len(there & known) > len(there)
 
     def _are_numbers_of_days(self, column: ColumnProfile, of: str) -> bool:
         """Say whether a column has the days of a month by their numbers."""
@@ -167,10 +229,12 @@ class Columns:
                 self._take_other(column, columns)
             self._take_unit(column, columns.get(column.key), units, set(columns.values()))
         unit = self._unit(columns, units)
+        year, given = self._year(), self._given(columns)
+        counters = {} if self.kind.columns else self._counters(columns)
         totals = tuple(self.profile.totals)
         if totals:
             self.evidence["totals",] = "rows that begin so are sums, and aren't read"
-        by_head = any(not key.startswith("column ") for key in columns)
+        by_head = bool(columns) and not any(key.startswith("column ") for key in columns)
         return SheetMapping(
             name,
             self.kind.word,
@@ -181,6 +245,9 @@ class Columns:
             units=units,
             totals=totals,
             down=self._down(columns),
+            year=year,
+            given=given,
+            counters=counters,
         )
 
     def _month(self) -> str:
@@ -192,7 +259,7 @@ class Columns:
         for title in titles:
             found = month_of(title)
             if found:
-                self.evidence["month",] = f"{title[:60]!r} stands above the heads"
+                self.evidence["month",] = f"{title[:60]!r} is above the heads"
                 return f"{found[0]}-{found[1]:02}"
         word = month_word(name)
         self.evidence[
@@ -200,14 +267,72 @@ class Columns:
         ] = f"days are numbers, and no year is told{f' of {word}' if word else ''}"
         return OPEN
 
+    def _year(self) -> str:
+        """Return the year of heads that are months without one."""
+        bare = [c for c in self.profile.columns if month_of_head(c.head) and not month_of(c.head)]
+        if self.kind.word != "densities" or not bare:
+            return ""
+        if year_of(self.profile.sheet.name):
+            self.evidence["year",] = f"{self.profile.sheet.name!r} names the year"
+            return "name"
+        for title in self.profile.titles:
+            if year_of(title):
+                self.evidence["year",] = f"{title[:60]!r} is above the heads"
+                return year_of(title)
+        self.evidence["year",] = f"no year is told of {bare[0].head}"
+        return OPEN
+
+    def _given(self, columns: dict[str, str]) -> dict[str, str]:
+        """Return what holds for all rows of columns that the sheet doesn't have: errors are asked."""
+        there = {*columns.values()}
+        asked = []
+        if self.kind.word in ("densities", "temperatures") and "error" not in there:
+            asked.append(("error", "0.5"))
+        for of, such in (("temperature", "0.5"), ("water", "2 mm")):
+            is_there = of in there or any(to.endswith(f" {of}") for to in there)
+            if self.kind.word in ("dips", "tickets") and is_there:
+                if f"{of} error" in {*self.kind.heads} - there - self.gauged:
+                    asked.append((f"{of} error", such))
+        for head, such in asked:
+            units = (
+                "degrees" if "temperature" in (head.split()[0], self.kind.word[:-1]) else "kg/m3"
+            )
+            units = "mm" if head.startswith("water") else units
+            self.evidence[
+                "given", head
+            ] = f"no error is told: a standard deviation, in {units}: {such}"
+        return {head: OPEN for head, _ in asked}
+
+    def _counters(self, columns: dict[str, str]) -> dict[str, str]:
+        """Ask whether figures that only rise are those of a counter, which are subtracted."""
+        found = {}
+        texts = [self.profile.sheet.name, *self.profile.titles]
+        for column in self.profile.columns:
+            if not self._tag(column) or columns.get(column.key) in ("", OPEN):
+                continue
+            said = next((text for text in [column.head, *texts] if is_counter(text)), "")
+            if rises(column.decimals, noisy=not said):
+                found[column.key] = OPEN
+                why = f"{said[:60]!r} says counter" if said else "its figures only rise"
+                self.evidence["counters", column.key] = (
+                    f"{why}: the figure at which it begins again, such as 1000000, "
+                    'or "" if each figure is an amount'
+                )
+        return found
+
     def _take_other(self, column: ColumnProfile, columns: dict[str, str]) -> None:
         """Take a column that is none of the kind's: of a tag, a tank, remarks or sums."""
         wide = not self.kind.columns and not self.is_long
         name = self._tank(column) or (self._tag(column) if wide else "")
+        if name and self.kind.word == "dips":
+            self._take_tank(column, name, columns)
+            return
         if name:
             if name != column.head:
                 columns[column.key] = name
-                self.evidence["columns", column.key] = f"{name} stands in it"
+                self.evidence["columns", column.key] = f"it has {name}"
+            return
+        if self.kind.word == "densities" and month_of_head(column.head):
             return
         if not column.there:
             return
@@ -221,7 +346,15 @@ class Columns:
             if open_:
                 columns[column.key] = OPEN
                 what = "a tag of the plant" if wide else f"one of {', '.join(self.heads)}"
-                self.evidence[path] = f'figures stand in it: {what}, or "" if it isn\'t to be read'
+                self.evidence[path] = f'it has figures: {what}, or "" if it isn\'t to be read'
+
+    def _take_tank(self, column: ColumnProfile, tank: str, columns: dict[str, str]) -> None:
+        """Take a column of a tank for its level, or for what else it has of it."""
+        of, said = self._of_tank(column, tank)
+        to = OPEN if of == OPEN else tank if of == "level" else f"{tank} {of}"
+        if to != column.head:
+            columns[column.key] = to
+            self.evidence["columns", column.key] = f"{tank} is in its head or over it; {said}"
 
     # ---- units
 
@@ -230,12 +363,14 @@ class Columns:
     ) -> None:
         """Take the unit of a column; without one, what its figures leave open is a question."""
         path = "units", column.key
-        is_wide = bool(self._tank(column)) or (not self.kind.columns and bool(self._tag(column)))
-        if to in ("", OPEN, None) and not is_wide:
+        of = (to or "").rpartition(" ")[2]
+        is_wide = self._is_wide(column)
+        if to in ("", OPEN) or to is None and not is_wide:
             return
         allowed = _UNITS_OF.get(to or "")
         if is_wide:
             allowed = AMOUNTS if not self.kind.columns else {*VOLUMES, *LENGTHS}
+            allowed = _UNITS_OF.get(of, DENSITIES if self.kind.word == "densities" else allowed)
         if allowed is None or not (column.there or is_wide):
             return
         if column.unit and (column.unit in allowed or is_rate(column.unit)):
@@ -248,8 +383,14 @@ class Columns:
         if not column.numbers or (to == "value" and self.kind.columns):
             return  # each figure has its own unit, or none is needed
         guess, said = self._guess_unit(column, to or "")
-        if guess is not None:
+        if guess is not None and to != "temperature":
             units[column.key], self.evidence[path] = guess, said
+
+    def _is_wide(self, column: ColumnProfile) -> bool:
+        """Say whether a column has the figures of a tag, a tank, a name or a month."""
+        if self.kind.word == "densities" and month_of_head(column.head):
+            return True
+        return bool(self._tank(column)) or (not self.kind.columns and bool(self._tag(column)))
 
     def _guess_unit(self, column: ColumnProfile, to: str) -> tuple[str | None, str]:
         """Return the unit of figures without one, by their size; `?` if that doesn't decide."""
@@ -279,15 +420,18 @@ class Columns:
 
     def _unit(self, columns: dict[str, str], units: dict[str, str]) -> str:
         """Return the unit of all figures below tags or tanks, if their columns don't say it."""
+        others = tuple(f" {of}" for of in OF_TANKS)
         wide = [
             column
             for column in self.profile.columns
-            if self._tank(column) or (not self.kind.columns and self._tag(column))
+            if self._is_wide(column) and not columns.get(column.key, "").endswith((*others, OPEN))
         ]
         lacks = [column for column in wide if column.key not in units and column.numbers]
         if not lacks or (not self.kind.columns and (self.has_units or self.is_long)):
             return ""
-        to = {"straps": "volume", "dips": "level"}.get(self.kind.word, "amount")
+        to = {"straps": "volume", "dips": "level", "densities": "density"}.get(
+            self.kind.word, "amount"
+        )
         merged = ColumnProfile(0, "", values=[v for each in lacks for v in each.values], numbers=1)
         guess, said = self._guess_unit(merged, to)
         if guess:
@@ -308,5 +452,5 @@ class Columns:
             ):
                 found.append(column.head)
                 said = f"{column.blanks} of {column.blanks + column.there} of its cells are empty"
-                self.evidence["down",] = f"{said}: each has what stands above it"
+                self.evidence["down",] = f"{said}: each takes the value above it"
         return tuple(found)

@@ -11,8 +11,8 @@ from plantbal.book.store import METERS, Store
 from plantbal.book.years import Years
 from plantbal.files import write_text
 from plantbal.workbook.mapping.form import mapping_text
-from plantbal.workbook.mapping.known import Known
-from plantbal.workbook.mapping.proposing import Proposal, propose
+from plantbal.workbook.mapping.known import KnownPlant
+from plantbal.workbook.mapping.proposing import MappingProposal, propose
 from plantbal.workbook.sheets import read_workbook
 
 HELP = """
@@ -44,7 +44,7 @@ def add_arguments(parser: argparse.ArgumentParser) -> None:
 
 def run(options: argparse.Namespace) -> int:
     """Write the mapping, and say which questions are open."""
-    known = known_of(options.book) if options.book else Known()
+    known = known_of(options.book) if options.book else KnownPlant()
     found = propose(read_workbook(options.workbook), known, options.plant)
     write_text(options.out, text_of(found, options.workbook))
     questions = found.open()
@@ -57,20 +57,18 @@ def run(options: argparse.Namespace) -> int:
     return 1 if questions else 0
 
 
-def text_of(found: Proposal, workbook: str | Path) -> str:
+def text_of(found: MappingProposal, workbook: str | Path) -> str:
     """Return the file of a proposal."""
     head = (
         f"How {Path(workbook).name} is read, as plantbal-desk map proposes it. Look at each line.\n"
     )
-    head += (
-        "What stands left of = is the workbook's; right of it is what it is taken for; # says why."
-    )
+    head += "Left of = is what the workbook has; right of it is what it is taken for; # says why."
     if found.open():
         head += '\nA "?" is a question: write the answer in its place.'
     return mapping_text(found.mapping, found.evidence, head)
 
 
-def known_of(folder: str | Path) -> Known:
+def known_of(folder: str | Path) -> KnownPlant:
     """Return the tags, streams and tanks of a book."""
     store = Store(folder)
     with store.opened(reading=True):
@@ -79,4 +77,4 @@ def known_of(folder: str | Path) -> Known:
     tags = tuple(meter.tag for meter in meters.values() if meter.tag)
     tanks = tuple(row[1] for row in last.plant if row[0] == "tank")
     streams = tuple(row[1] for row in last.plant if row[0] == "stream")
-    return Known(tags, streams, tanks)
+    return KnownPlant(tags, streams, tanks)

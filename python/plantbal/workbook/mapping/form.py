@@ -25,6 +25,7 @@ FORM = 1
 # What a column may be beside the heads of its kind.
 DAY_OF_MONTH, TIME, HOUR, SITE = "day of month", "time", "hour", "plant"
 _LONG = ("day", "tag", "value", "unit")
+_SHEET_TABLES = ("columns", "units", "given", "counters")
 
 
 @dataclass(frozen=True)
@@ -55,6 +56,12 @@ class SheetMapping:
         The heads below which an empty cell has what stands above it.
     totals : tuple of str
         What rows begin with that are passed over.
+    year : str
+        The year of months that are heads without one: ``2024``, or ``name`` for the sheet's name.
+    given : dict of str to str
+        What holds in each row of a column of its kind that the sheet doesn't have.
+    counters : dict of str to str
+        The figure at which the counter of a head begins again at 0; empty if it is none.
     """
 
     name: str
@@ -68,6 +75,9 @@ class SheetMapping:
     units: Mapping[str, str] = field(default_factory=dict)
     down: tuple[str, ...] = ()
     totals: tuple[str, ...] = ()
+    year: str = ""
+    given: Mapping[str, str] = field(default_factory=dict)
+    counters: Mapping[str, str] = field(default_factory=dict)
 
 
 @dataclass(frozen=True)
@@ -88,6 +98,8 @@ class WorkbookMapping:
         What streams, tanks and units are called in the workbook, and what in the book.
     words : dict of str to str
         Words for kinds and tests, and what they mean.
+    settings : dict of str to str
+        What a sheet settings would say: `zone`, `day begins`, `stamps` and so on.
     sheets : tuple of SheetMapping
         Its sheets.
     """
@@ -99,6 +111,7 @@ class WorkbookMapping:
     plant: str = ""
     names: Mapping[str, str] = field(default_factory=dict)
     words: Mapping[str, str] = field(default_factory=dict)
+    settings: Mapping[str, str] = field(default_factory=dict)
     sheets: tuple[SheetMapping, ...] = ()
 
 
@@ -124,11 +137,11 @@ def parse_mapping(name: str, text: str) -> WorkbookMapping:
         told = tomllib.loads(text)
     except (tomllib.TOMLDecodeError, RecursionError) as error:
         remedy = "correct it, or let plantbal-desk map write it again"
-        raise InputFault(f"this is no TOML: {error}", place=place, remedy=remedy) from error
-    return _Reading(name, text).mapping(told)
+        raise InputFault(f"this isn't TOML: {error}", place=place, remedy=remedy) from error
+    return _MappingReading(name, text).mapping(told)
 
 
-class _Reading:
+class _MappingReading:
     """Takes a mapping from what TOML gives, with the line of what is wrong."""
 
     def __init__(self, name: str, text: str) -> None:
@@ -141,7 +154,7 @@ class _Reading:
             raise self.fault("form", f"this is a mapping of the form {told.get('form')}", "write 1")
         sheets = told.pop("sheet", [])
         if not isinstance(sheets, list) or not all(isinstance(each, dict) for each in sheets):
-            raise self.fault("sheet", "this is no list of sheets", "write [[sheet]] over each")
+            raise self.fault("sheet", "this isn't a list of sheets", "write [[sheet]] over each")
         found = WorkbookMapping(**self.checked(told, WorkbookMapping, "the mapping"))
         made = tuple(map(self.sheet, sheets))
         self._check_open()
@@ -167,7 +180,20 @@ class _Reading:
         self._locale(found.locale)
         if found.month and not re.fullmatch(r"name|\?|[0-9]{4}-(0[1-9]|1[0-2])", found.month):
             remedy = "write it as 2024-01, or name if the sheet's name says it"
-            raise self.fault("month", f"{found.month!r} is no month", remedy)
+            raise self.fault("month", f"{found.month!r} isn't a month", remedy)
+        if found.year and not re.fullmatch(r"name|\?|20[0-9]{2}", found.year):
+            remedy = "write it as 2024, or name if the sheet's name says it"
+            raise self.fault("year", f"{found.year!r} isn't a year", remedy)
+        for head, figure in found.counters.items():
+            if figure not in ("", OPEN) and not re.fullmatch("[1-9][0-9]{0,17}", figure):
+                what = f"{figure!r} is no figure at which a counter begins again"
+                raise self.fault(head, what, "write a whole number, such as 1000000")
+        for head in found.given:
+            if found.kind in SHEETS and head not in {
+                each.head for each in SHEETS[found.kind].columns
+            }:
+                what = f"the sheet {found.kind} has no column {head!r}"
+                raise self.fault(head, what, f"it has {', '.join(SHEETS[found.kind].heads)}")
         return found
 
     def _check_columns(self, found: SheetMapping) -> None:
@@ -179,7 +205,7 @@ class _Reading:
             if not column or column == OPEN or column in known or not kind.columns:
                 continue
             if kind.is_across and column not in COLUMN_NAMES:
-                continue  # the name of a tank
+                continue  # the name of a tank, perhaps with what of it stands there
             near = difflib.get_close_matches(column, known, n=1)
             remedy = (
                 f"did you mean {near[0]}?" if near else f"the columns are {', '.join(kind.heads)}"
@@ -219,7 +245,7 @@ class _Reading:
             are = "question is" if len(open_) == 1 else "questions are"
             lines = ", ".join(map(str, open_[:8])) + (" .." if len(open_) > 8 else "")
             raise InputFault(
-                f'{len(open_)} {are} open: a "?" stands in the lines {lines}',
+                f'{len(open_)} {are} open: a "?" is in the lines {lines}',
                 place=Place(file=self.name, line=open_[0]),
                 remedy="write in its place what is right; the remark beside it says what may be",
             )
@@ -272,11 +298,11 @@ def mapping_text(mapping: WorkbookMapping, evidence: Mapping[Path_, str], head: 
     """Return the file of a mapping, with the evidence of each value beside it."""
     lines = [*(f"# {_plain(line)}" for line in head.splitlines()), f"form = {FORM}"]
     lines += _pairs_of(mapping, evidence, ())
-    for key in ("names", "words"):
+    for key in ("names", "words", "settings"):
         lines += _table(key, getattr(mapping, key), evidence, (key,))
     for at, sheet in enumerate(mapping.sheets):
         lines += ["", "[[sheet]]", *_pairs_of(sheet, evidence, ("sheet", at))]
-        for key in ("columns", "units"):
+        for key in _SHEET_TABLES:
             lines += _table(f"sheet.{key}", getattr(sheet, key), evidence, ("sheet", at, key))
     return "\n".join(lines) + "\n"
 
@@ -285,7 +311,7 @@ def _pairs_of(form: Any, evidence: Mapping[Path_, str], path: Path_) -> Iterator
     """Give the lines of the values of a table that aren't tables themselves."""
     for each in fields(form):
         value = getattr(form, each.name)
-        if each.name in ("sheets", "names", "words", "columns", "units"):
+        if each.name in ("sheets", "names", "words", "settings", *_SHEET_TABLES):
             continue
         if (
             value == each.default

@@ -8,7 +8,7 @@ from dataclasses import dataclass
 
 
 @dataclass(frozen=True)
-class Known:
+class KnownPlant:
     """What is known of the plant before its workbook is: from a book.
 
     Attributes

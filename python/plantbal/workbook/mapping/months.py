@@ -42,6 +42,17 @@ def month_of(text: str) -> tuple[int, int] | None:
     return None
 
 
+def year_of(text: str) -> str:
+    """Return the one year that a text names; empty if it names none, or several."""
+    years = set(_YEAR.findall(text))
+    return str(years.pop()) if len(years) == 1 else ""
+
+
+def month_of_head(text: str) -> bool:
+    """Say whether a head is a month, with its year or without one."""
+    return bool(month_of(text)) or bool(month_word(text)) and len(text.split()) < 3
+
+
 def pattern_of(name: str) -> str:
     """Return a sheet's name with `*` for what is different each month."""
     pattern = _NUMBERS.sub("*", name)

@@ -4,6 +4,7 @@ from __future__ import annotations
 
 import datetime
 import re
+from collections import Counter
 from collections.abc import Sequence
 from dataclasses import dataclass, field
 from decimal import Decimal
@@ -14,6 +15,7 @@ from plantbal.workbook.sheets import NoValue, Percent, Sheet, Value, letters
 from plantbal.workbook.units import UNITS, is_rate, unit_of
 
 HEADS_WITHIN = 40
+_MANY = 20  # steps by which figures rise that aren't called a counter's
 _SAMPLE = 400  # rows below the heads that are looked at
 _DATE = re.compile(
     r"[0-9]{1,4}\s?[./-]\s?[0-9]{1,2}\s?[./-]\s?[0-9]{1,4}\.?([ T].*)?|[0-9]{1,2}\.?[ -][^\W\d]+\.?[ -][0-9]{4}"
@@ -42,6 +44,10 @@ class ColumnProfile:
         How many cells are days, numbers, other texts, empty, and figures with a unit after them.
     values : list of Value
         What stands below.
+    above : str
+        What stands over its head, or over one to its left if its own cell is empty.
+    is_again : bool
+        Whether its head is that of another column too.
     """
 
     at: int
@@ -56,11 +62,13 @@ class ColumnProfile:
     mixed: int = 0
     times: int = 0
     values: list[Value] = field(default_factory=list)
+    above: str = ""
+    is_again: bool = False
 
     @property
     def key(self) -> str:
         """How a mapping calls it."""
-        return self.head or f"column {letters(self.at + 1)}"
+        return self.head if self.head and not self.is_again else f"column {letters(self.at + 1)}"
 
     @property
     def there(self) -> int:
@@ -168,7 +176,20 @@ def profile_of(sheet: Sheet, known: Sequence[str] = ()) -> SheetProfile:
             _count(column, values[at] if at < len(values) else None)
         if column.head or column.there:
             found.columns.append(column)
+    _take_above(found)
     return found
+
+
+def _take_above(found: SheetProfile) -> None:
+    """Give each column what stands over its head, and say which heads are there several times."""
+    above = found.sheet.lines[found.at - 1][1] if found.at else []
+    counts = Counter(column.head for column in found.columns)
+    text = ""
+    for column in found.columns:
+        value = above[column.at] if column.at < len(above) else None
+        text = value if isinstance(value, str) else text
+        column.above = text
+        column.is_again = counts[column.head] > 1
 
 
 def _head_row(sheet: Sheet, known: set[str]) -> int | None:
@@ -176,6 +197,7 @@ def _head_row(sheet: Sheet, known: set[str]) -> int | None:
     best, place = 0.0, None
     least = 1 if all(len(values) < 2 for _, values in sheet.lines) else 2
     for at, (_, values) in enumerate(sheet.lines[:HEADS_WITHIN]):
+        values = _as_heads(values)
         texts = [value for value in values if isinstance(value, str)]
         others = [value for value in values if value is not None and not isinstance(value, str)]
         texts = [text for text in texts if not _DATE.fullmatch(text)]
@@ -191,9 +213,42 @@ def _head_row(sheet: Sheet, known: set[str]) -> int | None:
         score = len(texts) + 2 * words + 2 * len(plain & known) - len(others)
         below = [each for _, row in sheet.lines[at + 1 : at + 5] for each in row]
         figures = sum(each is not None and not isinstance(each, str) for each in below)
-        if score > best and len(texts) >= least and (figures or words >= least or plain & known):
+        if (
+            score > best
+            and len(texts) >= least
+            and (figures or 2 * words >= len(texts) or words >= least or plain & known)
+        ):
             best, place = score, at
     return place
+
+
+def _as_heads(values: list[Value]) -> list[Value]:
+    """Return a row with the days that begin months, if there are several, as texts of months."""
+    months = [value for value in values if _begins_month(value)]
+    if len(months) < 2:
+        return values
+    return [f"{value:%Y-%m}" if _begins_month(value) else value for value in values]
+
+
+def _begins_month(value: Value) -> bool:
+    return isinstance(value, datetime.datetime) and value.day == 1 and value.hour == 0
+
+
+def rises(numbers: Sequence[Decimal], *, noisy: bool) -> bool:
+    """Say whether figures rise, as a counter's do, which begins again at most once.
+
+    Parameters
+    ----------
+    numbers : sequence of Decimal
+        The figures in the order of their rows.
+    noisy : bool
+        Whether there have to be many, and the steps between them differ.
+    """
+    steps = [after - before for before, after in zip(numbers, numbers[1:])]
+    falls = [step for step in steps if step < 0]
+    if len(steps) < (_MANY if noisy else 2) or len(falls) > 1 or not any(s > 0 for s in steps):
+        return False
+    return not noisy or len({step for step in steps if step > 0}) > 2
 
 
 def _is_sum(values: list[Value], totals: list[str]) -> bool:
@@ -236,7 +291,7 @@ def _column(
     at: int, heads: list[Value], units: list[Value], units_row: int | None
 ) -> ColumnProfile:
     """Return a column with its head and its unit."""
-    head = heads[at] if at < len(heads) else None
+    head = _as_heads(heads)[at] if at < len(heads) else None
     text = head if isinstance(head, str) else ""
     name, unit = split_unit(text)
     column = ColumnProfile(at, text, name, unit, "its head says so" if unit else "")

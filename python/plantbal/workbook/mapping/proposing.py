@@ -10,14 +10,14 @@ from __future__ import annotations
 
 import re
 from collections import Counter
-from collections.abc import Iterable, Sequence
+from collections.abc import Iterable, Mapping, Sequence
 from dataclasses import dataclass, field, replace
 from decimal import Decimal
 
 from plantbal.workbook.mapping.columns import Columns
 from plantbal.workbook.mapping.form import OPEN, SITE, Path_, SheetMapping, WorkbookMapping
-from plantbal.workbook.mapping.known import Known, tag_in
-from plantbal.workbook.mapping.months import pattern_of
+from plantbal.workbook.mapping.known import KnownPlant, tag_in
+from plantbal.workbook.mapping.months import month_of_head, pattern_of
 from plantbal.workbook.mapping.names import is_name, name_of
 from plantbal.workbook.mapping.profile import ColumnProfile, SheetProfile, profile_of
 from plantbal.workbook.mapping.vocabulary import (
@@ -51,7 +51,7 @@ _NONE = ("", OPEN)
 
 
 @dataclass
-class Proposal:
+class MappingProposal:
     """A mapping that is proposed.
 
     Attributes
@@ -60,10 +60,13 @@ class Proposal:
         The mapping; a `?` stands where a question is open.
     evidence : dict
         What speaks for each of its values.
+    known : KnownPlant
+        What is known of the plant, by the book and by the workbook.
     """
 
     mapping: WorkbookMapping
     evidence: dict[Path_, str] = field(default_factory=dict)
+    known: KnownPlant = KnownPlant()
 
     def open(self) -> list[str]:
         """Return the questions that are open, a sentence each."""
@@ -80,9 +83,9 @@ def _values(mapping: WorkbookMapping) -> Iterable[tuple[Path_, str]]:
     yield from ((("names", key), value) for key, value in mapping.names.items())
     yield from ((("words", key), value) for key, value in mapping.words.items())
     for at, sheet in enumerate(mapping.sheets):
-        for key in ("kind", "locale", "month", "unit", "plant"):
+        for key in ("kind", "locale", "month", "year", "unit", "plant"):
             yield ("sheet", at, key), getattr(sheet, key)
-        for key in ("columns", "units"):
+        for key in ("columns", "units", "given", "counters"):
             for head, value in getattr(sheet, key).items():
                 yield ("sheet", at, key, head), value
 
@@ -95,28 +98,38 @@ def _said(mapping: WorkbookMapping, path: Path_) -> str:
     return f"{sheet}: {' '.join(map(str, path[2:]))}"
 
 
-def propose(sheets: Sequence[Sheet], known: Known = Known(), plant: str = "") -> Proposal:
+def propose(
+    sheets: Sequence[Sheet],
+    known: KnownPlant = KnownPlant(),
+    plant: str = "",
+    kinds: Mapping[str, str] | None = None,
+) -> MappingProposal:
     """Return the mapping that is proposed for a workbook.
 
     Parameters
     ----------
     sheets : sequence of Sheet
         The workbook.
-    known : Known
+    known : KnownPlant
         What a book knows of its plant.
     plant : str
         Which plant is read, if the workbook has several.
+    kinds : dict of str to str, optional
+        What somebody says that sheets are, by their names.
     """
-    return _Proposing(sheets, known, plant).proposal()
+    return _Proposing(sheets, known, plant, kinds or {}).proposal()
 
 
 class _Proposing:
     """Looks at a workbook, and collects what is proposed and why."""
 
-    def __init__(self, sheets: Sequence[Sheet], known: Known, plant: str) -> None:
+    def __init__(
+        self, sheets: Sequence[Sheet], known: KnownPlant, plant: str, said: Mapping[str, str]
+    ) -> None:
         self.sheets = [sheet for sheet in sheets if sheet.lines]
         self.known = known
         self.plant = plant
+        self.said = said
         self.evidence: dict[Path_, str] = {}
         self.languages: Counter[str] = Counter()
         self.of_sheets: dict[int, Counter[str]] = {}
@@ -124,7 +137,7 @@ class _Proposing:
         self.words: dict[str, str] = {}
         self.kinds: dict[int, tuple[str, str]] = {}
 
-    def proposal(self) -> Proposal:
+    def proposal(self) -> MappingProposal:
         """Return it."""
         self.profiles = [profile_of(sheet, self.known.names) for sheet in self.sheets]
         self._learn()
@@ -142,7 +155,7 @@ class _Proposing:
             words=self.words,
             sheets=tuple(made),
         )
-        return Proposal(mapping, self.evidence)
+        return MappingProposal(mapping, self.evidence, self.known)
 
     # ---- the plant
 
@@ -155,7 +168,7 @@ class _Proposing:
             for word, into in (("streams", (tags, streams)), ("tanks", (tanks,))):
                 if self._by_heads(profile, (word,)) != word:
                     continue
-                found = Columns(profile, SHEETS[word], Known()).assigned()
+                found = Columns(profile, SHEETS[word], KnownPlant()).assigned()
                 heads = ("tag", "stream") if word == "streams" else ("tank",)
                 for head, names in zip(heads, into):
                     column = next((profile.column(k) for k, v in found.items() if v == head), None)
@@ -165,7 +178,7 @@ class _Proposing:
                 column = next((c for c in profile.columns if "tank" in _meant(c.name)), None)
                 tanks += _texts(column.values) if column else []
         own = self.known
-        self.known = Known(
+        self.known = KnownPlant(
             tuple(dict.fromkeys([*own.tags, *tags])),
             tuple(dict.fromkeys([*own.streams, *streams])),
             tuple(dict.fromkeys([*own.tanks, *tanks])),
@@ -176,6 +189,8 @@ class _Proposing:
     def _kind(self, at: int) -> tuple[str, str]:
         """Return the kind of a sheet, and what speaks for it."""
         profile, name = self.profiles[at], self.sheets[at].name
+        if name in self.said:
+            return self.said[name], "as it was said"
         plain = re.split(r"[^a-z]", name.strip().casefold(), maxsplit=1)[0]
         if plain in PASSED:
             return "", "sheets of this name are passed over"
@@ -183,10 +198,12 @@ class _Proposing:
         by_name = plain if plain in SHEETS else meaning.of if meaning else ""
         by_name = by_name if by_name in SHEETS else ""
         said = f"its name is {plain}" if plain in SHEETS else meaning.said() if meaning else ""
-        by_shape, shape_said = self._by_shape(profile)
+        by_shape, shape_said = self._by_shape(profile, by_name)
         if by_shape:
             return by_shape, shape_said
         by_heads = self._by_heads(profile, _BY_HEADS)
+        if by_name == "densities" and self._is_dated(profile):
+            return by_name, said
         if by_name and by_name != by_heads and self._fits(profile, by_name):
             return by_name, said
         if by_heads:
@@ -204,6 +221,11 @@ class _Proposing:
             OPEN,
             f"there are figures in it, and neither name nor heads say what: {_kinds_said()}",
         )
+
+    def _is_dated(self, profile: SheetProfile) -> bool:
+        """Say whether a sheet has densities of names or tickets, with or without their days."""
+        heads = set(Columns(profile, SHEETS["densities"], self.known).assigned().values())
+        return "density" in heads and bool(heads & {"name", "id"})
 
     def _fits(self, profile: SheetProfile, word: str) -> bool:
         """Say whether a sheet has the columns that a kind needs."""
@@ -225,16 +247,25 @@ class _Proposing:
                     return word
         return ""
 
-    def _by_shape(self, profile: SheetProfile) -> tuple[str, str]:
+    def _by_shape(self, profile: SheetProfile, by_name: str) -> tuple[str, str]:
         """Return the kind of a sheet that has tags or tanks over its columns, and why."""
         if profile.at is None:
             return "", ""
         days = [column for column in profile.columns if column.has_days]
         tags = [c for c in profile.columns if self.known.meter(c.head)]
-        tanks = [c for c in profile.columns if tag_in(c.head, self.known.tanks) and c.has_figures]
+        tanks = [
+            c
+            for c in profile.columns
+            if c.has_figures
+            and (tag_in(c.head, self.known.tanks) or tag_in(c.above, self.known.tanks))
+        ]
         heads = self._by_heads(profile, ("streams", "tickets", "assays", "moistures", "estimates"))
-        if len(tags) > 1 and len(tags) >= len(tanks) and not heads:
-            return "readings", f"{len(tags)} of its heads are tags or streams of the plant"
+        if by_name == "densities" and (tags or tanks) and not heads:
+            return "densities", "its name says so, and names of the plant are its heads"
+        if (len(tags) > 1 or tags and days) and len(tags) >= len(tanks) and not heads:
+            count = "1 of its heads is a tag or stream" if len(tags) == 1 else ""
+            count = count or f"{len(tags)} of its heads are tags or streams"
+            return "readings", f"{count} of the plant"
         if tanks and not heads and 2 * len(tanks) >= len(profile.columns) - 2:
             return self._of_tanks(profile, tanks, days)
         known = {*self.known.tanks}
@@ -247,6 +278,11 @@ class _Proposing:
                 and "level" in {m for c in profile.columns for m in _meant(c.name)}
             ):
                 return "straps", f"{len(over)} tanks are over pairs of levels and volumes"
+        months = [c for c in profile.columns if month_of_head(c.head)]
+        if (len(months) > 1 or by_name == "densities") and not heads and not days:
+            said = _densities_said(profile, months, by_name)
+            if said:
+                return "densities", said
         found = {m for c in profile.columns for m in _meant(c.name)}
         if days and {"tag", "value"} <= found and "level" not in found and not heads:
             return "readings", "it has a row for each figure: a day, a tag and a value"
@@ -286,7 +322,9 @@ class _Proposing:
             self.evidence[(*path, "name")] = f"{self.sheets[at].name!r} names a month"
         if kind in ("", OPEN):
             return SheetMapping(name, kind)
-        columns = Columns(self.profiles[at], SHEETS[kind], self.known, self._streams_have_units())
+        columns = Columns(
+            self.profiles[at], SHEETS[kind], self.known, self._streams_have_units(), self._gauged()
+        )
         found = columns.mapping(name)
         for key, text in columns.evidence.items():
             self.evidence[(*path, *key)] = text
@@ -306,6 +344,14 @@ class _Proposing:
             self.known.names
         )
 
+    def _gauged(self) -> frozenset[str]:
+        """Return the columns that the sheets of gauges have."""
+        found: set[str] = set()
+        for at, (kind, _) in self.kinds.items():
+            if kind == "gauges":
+                found |= {*Columns(self.profiles[at], SHEETS[kind], self.known).assigned().values()}
+        return frozenset(found)
+
     def _take_names(self, profile: SheetProfile, found: SheetMapping) -> None:
         """Propose names of streams, tanks and units that a session can have, and words for kinds."""
         for key, column in found.columns.items():
@@ -317,10 +363,10 @@ class _Proposing:
             ):
                 for text in own.names():
                     self._take_name(text, is_end=column in ("from", "to"))
-            if column == "kind":
+            if column in ("kind", "group"):
                 for text in own.names():
                     meaning = value_meaning(text)
-                    if meaning and meaning.of != text and meaning.of != "env":
+                    if meaning and meaning.of != text and _is_word(meaning.of, column):
                         self.words[text] = meaning.of
                         self.evidence[("words", text)] = meaning.said()
         for column_ in profile.columns:
@@ -433,7 +479,7 @@ class _Proposing:
         for at, sheet in enumerate(made):
             rest = rests.get(at, "")
             self.evidence["sheet", at, "plant"] = f"its name has {rest!r}" if rest else ""
-            found.append(_of_plant(sheet, rest))
+            found.append(_of_plant(sheet, rest, self.plant))
         return found
 
     def _rests(self, made: Sequence[SheetMapping]) -> dict[int, str]:
@@ -453,7 +499,39 @@ class _Proposing:
         self.plant = matched[0] if matched else OPEN
 
 
-def _of_plant(sheet: SheetMapping, plant: str) -> SheetMapping:
+def _densities_said(profile: SheetProfile, months: list[ColumnProfile], by_name: str) -> str:
+    """Return why columns of months have densities: name or title say it, or the figures are so."""
+    if not months or not all(column.has_figures for column in months if column.there):
+        return ""
+    titles = [*profile.titles, *(column.name for column in profile.columns)]
+    said = [text for text in titles if "density" in _meant(text) or "densities" in _sheets_of(text)]
+    if by_name == "densities" or said:
+        why = "its name says so" if by_name == "densities" else f"{said[0][:60]!r} is in it"
+        return f"{why}, and {len(months)} heads are months"
+    numbers = [number for column in months for number in column.decimals]
+    if numbers and (
+        all(500 <= each <= 1200 for each in numbers)
+        or all(Decimal("0.5") <= each <= Decimal("1.2") for each in numbers)
+    ):
+        ends = f"{min(numbers)} to {max(numbers)}"
+        return f"{len(months)} heads are months, and the figures, {ends}, are as densities are"
+    return ""
+
+
+def _is_word(of: str, column: str) -> bool:
+    """Say whether a meaning is one of a column of kinds, or of groups of products."""
+    groups = ("crude", "products", "coefficient", "lubricants")
+    return (of in groups) == (column == "group") and of != "env"
+
+
+def _sheets_of(text: str) -> set[str]:
+    return {meaning.of for meaning in sheet_meanings(text)}
+
+
+def _of_plant(sheet: SheetMapping, plant: str, wanted: str) -> SheetMapping:
+    """Return a sheet with its plant; of one that isn't read nothing is asked."""
+    if plant and wanted not in ("", OPEN, plant):
+        return SheetMapping(sheet.name, "" if sheet.kind == OPEN else sheet.kind, plant=plant)
     return replace(sheet, plant=plant) if plant else sheet
 
 

@@ -50,9 +50,10 @@ SHEET_WORDS: _Words = {
         "fr": "barème; barèmes; barémage; jaugeage; barèmes de jaugeage",
     },
     "readings": {
-        "en": "reading; readings; daily; hourly; meter readings; daily readings; daily flows; data",
+        "en": "reading; readings; daily; hourly; meter readings; daily readings; daily flows; data; "
+        "counters; totalizers",
         "de": "ablesungen; messwerte; tageswerte; tagesmengen; stundenwerte; mengen; zählerstände",
-        "es": "lecturas; mediciones; diario; datos diarios; horario; valores diarios",
+        "es": "lecturas; mediciones; diario; datos diarios; horario; valores diarios; contadores",
         "fr": "relevés; mesures; journalier; relevés journaliers; horaire; valeurs journalières",
     },
     "dips": {
@@ -131,10 +132,10 @@ COLUMN_WORDS: _Words = {
         "fr": "repère; instrument; compteur; point; capteur; tag",
     },
     "stream": {
-        "en": "stream; stream name; flow; line; pipe; movement",
-        "de": "strom; stoffstrom; leitung; stromname; bezeichnung; rohrleitung",
-        "es": "corriente; flujo; línea; nombre de corriente",
-        "fr": "flux; courant; ligne; désignation",
+        "en": "stream; stream name; flow; line; pipe; movement; name; description",
+        "de": "strom; stoffstrom; leitung; stromname; bezeichnung; rohrleitung; name; beschreibung",
+        "es": "corriente; flujo; línea; nombre de corriente; nombre; descripción",
+        "fr": "flux; courant; ligne; désignation; nom; description",
     },
     "from": {
         "en": "from; source; origin",
@@ -192,10 +193,10 @@ COLUMN_WORDS: _Words = {
         "fr": "jusqu'au; jusqu'à; en service jusqu'au; valable jusqu'au",
     },
     "tank": {
-        "en": "tank; tank no; vessel; stockpile; tk",
-        "de": "tank; behälter; tank-nr; tank nr; behälter-nr; lagertank; halde",
-        "es": "tanque; depósito; tk",
-        "fr": "bac; réservoir; cuve",
+        "en": "tank; tank no; vessel; stockpile; tk; name",
+        "de": "tank; behälter; tank-nr; tank nr; behälter-nr; lagertank; halde; name; bezeichnung",
+        "es": "tanque; depósito; tk; nombre",
+        "fr": "bac; réservoir; cuve; nom",
     },
     "level": {
         "en": "level; dip; innage; gauge; height; liquid level; reading",
@@ -247,6 +248,13 @@ COLUMN_WORDS: _Words = {
         "es": "cantidad; peso; masa; neto; peso neto; volumen; valor",
         "fr": "quantité; poids; masse; net; poids net; volume; valeur",
     },
+    "month": {"en": "month", "de": "monat", "es": "mes", "fr": "mois"},
+    "water": {
+        "en": "water; free water; water dip; water level; fw; water cut level",
+        "de": "wasser; freies wasser; wasserstand; freiwasser",
+        "es": "agua; agua libre; nivel de agua",
+        "fr": "eau; eau libre; niveau d'eau",
+    },
     "component": {
         "en": "component; element; analyte; metal",
         "de": "komponente; element; stoff; metall",
@@ -280,7 +288,12 @@ COLUMN_WORDS: _Words = {
     },
     "name": {"en": "name", "de": "name; bezeichnung", "es": "nombre", "fr": "nom; désignation"},
     "product": {"en": "product", "de": "produkt", "es": "producto", "fr": "produit"},
-    "group": {"en": "group", "de": "gruppe; produktgruppe", "es": "grupo", "fr": "groupe"},
+    "group": {
+        "en": "group; astm; astm table; petroleum table; table",
+        "de": "gruppe; produktgruppe; astm-tabelle; tabelle",
+        "es": "grupo; tabla astm; tabla",
+        "fr": "groupe; table astm; table",
+    },
     "owner": {
         "en": "owner",
         "de": "eigentümer; besitzer",
@@ -290,8 +303,8 @@ COLUMN_WORDS: _Words = {
     "setting": {"en": "setting", "de": "einstellung", "es": "ajuste", "fr": "réglage"},
     "for": {"en": "for", "de": "für", "es": "para", "fr": "pour"},
     "temperature": {
-        "en": "temperature; temp; temp.",
-        "de": "temperatur; temp; temp.",
+        "en": "temperature; temp; temp.; tank temperature; product temperature",
+        "de": "temperatur; temp; temp.; tanktemperatur; produkttemperatur",
         "es": "temperatura; temp",
         "fr": "température; temp",
     },
@@ -322,6 +335,25 @@ VALUE_WORDS: _Words = {
         "es": "no medido; sin medir; sin medida; ninguno; calculado",
         "fr": "non mesuré; non mesurée; sans; aucun; calculé",
     },
+    "crude": {
+        "en": "54a; table 54a; crude oil; crude oils",
+        "de": "rohöl",
+        "es": "crudo; crudos",
+        "fr": "brut; pétrole brut",
+    },
+    "products": {
+        "en": "54b; table 54b; refined products; refined; product",
+        "de": "produkte; mineralölprodukte",
+        "es": "productos; refinados",
+        "fr": "produits; produits raffinés",
+    },
+    "coefficient": {"en": "54c; table 54c", "de": "koeffizient", "es": "coeficiente", "fr": "54c"},
+    "lubricants": {
+        "en": "54d; table 54d; lubes; lube oils",
+        "de": "schmieröle; schmierstoffe",
+        "es": "lubricantes",
+        "fr": "lubrifiants",
+    },
     "env": {
         "en": "env; outside; external; environment; world; off-site; offsite; atmosphere",
         "de": "umwelt; außen; aussen; extern; außerhalb; umgebung; atmosphäre",
@@ -339,6 +371,15 @@ _REMARK_WORDS = frozenset(
     "anmerkungen remarque remarques commentaire commentaires observaciones observación nota notas "
     "description beschreibung descripción bearbeiter operator operador opérateur initials kürzel "
     "schicht shift turno poste kw wochentag weekday".split()
+)
+
+_COUNTER_WORDS = frozenset(
+    "counter counters totalizer totalizers totaliser totalisers register registers index zähler "
+    "zählerstand zählerstände contador contadores totalizador compteur compteurs".split()
+)
+# Heads that name whatever a row is of: for a column only if no other head says what it is.
+_WEAK = frozenset(
+    "name bezeichnung nombre nom désignation description beschreibung descripción reading".split()
 )
 
 
@@ -404,6 +445,17 @@ def column_meanings(head: str) -> list[Meaning]:
     for word in (words[0], words[-1]):
         found += _COLUMNS.get(word, ())
     return list(dict.fromkeys(found))
+
+
+def is_weak(head: str) -> bool:
+    """Say whether a head names whatever its row is of."""
+    return plain_word(head) in _WEAK
+
+
+def is_counter(text: str) -> bool:
+    """Say whether a head or a name speaks of a counter."""
+    words = re.split(r"[\W\d_]+", plain_word(text))
+    return any(word in _COUNTER_WORDS for word in words)
 
 
 def value_meaning(text: str) -> Meaning | None:

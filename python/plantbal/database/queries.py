@@ -1,6 +1,6 @@
-"""The mapping of a database: where it is, which queries give which sheets, and where to push.
+"""The queries of a database: where it is, which query gives which sheet, and where to push.
 
-It is a TOML file that a person writes:
+They are in a TOML file that a person writes:
 
     [source]
     url = "postgresql://reader@historian.example/plant"   # or sqlite:///lims.db, or another
@@ -18,6 +18,7 @@ It is a TOML file that a person writes:
     good = ["Good", 192]
     bad = ["Bad", 0]
     changed = "changed"              # the column that says when the source changed the row
+    vanished = "ask"                 # what was pulled and isn't there any more; or "strike", "keep"
 
     [limits]
     rows = 2000000
@@ -36,10 +37,14 @@ from pathlib import Path
 from typing import Any
 
 from plantbal import limits
+from plantbal.book.vanished import Vanished
 from plantbal.faults import InputFault, Place, read_text
 from plantbal.workbook.sheetkinds import SHEETS
 
 _NAME = re.compile(r"[A-Za-z_][A-Za-z0-9_ $-]{0,62}")
+_KEYS = ("sheet", "sql", "quality", "good", "bad", "changed", "vanished")
+# The kinds of facts that the rows of a sheet are.
+_FACTS = {"readings": "reading", "estimates": "reading", "dips": "dip", "tickets": "transfer"}
 _SECTIONS = ("source", "settings", "query", "limits", "push")
 # The sheets of facts that a query may give; the plant is that of the book.
 QUERIED = (
@@ -64,6 +69,8 @@ class Query:
         The codes of figures that are taken, and of those that are missing.
     changed : str
         The column that says when the source changed the row last; empty if there is none.
+    vanished : Vanished
+        What becomes of a fact that was pulled by it and isn't there any more.
     """
 
     sheet: str
@@ -72,6 +79,12 @@ class Query:
     good: frozenset[str] = frozenset()
     bad: frozenset[str] = frozenset()
     changed: str = ""
+    vanished: Vanished = Vanished.ASK
+
+    @property
+    def kind(self) -> str:
+        """The kind of the facts that it gives; empty if it gives none itself."""
+        return _FACTS.get(self.sheet, "")
 
 
 @dataclass(frozen=True)
@@ -93,8 +106,8 @@ class Push:
 
 
 @dataclass(frozen=True)
-class DatabaseMapping:
-    """What a mapping says.
+class Queries:
+    """What a file of queries says.
 
     Attributes
     ----------
@@ -106,7 +119,7 @@ class DatabaseMapping:
         Where its password is: ``env NAME`` or ``file PATH``; empty for none, or a `.pgpass`.
     settings : mapping of str to str
         The settings of a workbook.
-    queries : sequence of Query
+    all : sequence of Query
         The queries.
     most : Most
         The limits.
@@ -118,13 +131,13 @@ class DatabaseMapping:
     url: str
     password: str = ""
     settings: Mapping[str, str] = field(default_factory=dict)
-    queries: Sequence[Query] = ()
+    all: Sequence[Query] = ()
     most: Most = Most()
     push: Push | None = None
 
 
-def read_mapping(path: str | Path) -> DatabaseMapping:
-    """Return what a mapping says.
+def read_queries(path: str | Path) -> Queries:
+    """Return what a file of queries says.
 
     Raises
     ------
@@ -137,12 +150,12 @@ def read_mapping(path: str | Path) -> DatabaseMapping:
     except tomllib.TOMLDecodeError as error:
         place = Place(file=source)
         remedy = "docs/PYTHON.md has one, under databases"
-        raise InputFault(f"this is no TOML: {error}", place=place, remedy=remedy) from error
-    return _Reader(source).mapping(found)
+        raise InputFault(f"this isn't TOML: {error}", place=place, remedy=remedy) from error
+    return _Reader(source).queries(found)
 
 
 class _Reader:
-    """Reads the tables of a mapping, and says what is wrong with them."""
+    """Reads the tables of a file of queries, and says what is wrong with them."""
 
     def __init__(self, file: str) -> None:
         self.file = file
@@ -151,9 +164,9 @@ class _Reader:
         """Return a fault of this file."""
         return InputFault(what, place=Place(file=self.file), text=text, remedy=remedy)
 
-    def mapping(self, found: dict[str, Any]) -> DatabaseMapping:
-        """Return the mapping that the tables of a file say."""
-        self._known(found, _SECTIONS, "the mapping")
+    def queries(self, found: dict[str, Any]) -> Queries:
+        """Return the queries that the tables of a file say."""
+        self._known(found, _SECTIONS, "the file")
         source = self._table(found, "source")
         self._known(source, ("url", "password"), "[source]")
         url = self._text(source, "url", "[source]")
@@ -164,25 +177,27 @@ class _Reader:
         settings = {name: str(value) for name, value in self._table(found, "settings").items()}
         queries = found.get("query", [])
         if not isinstance(queries, list) or not all(isinstance(each, dict) for each in queries):
-            raise self.fault("query is no list of tables", "write [[query]] over each")
-        return DatabaseMapping(
+            raise self.fault("query isn't a list of tables", "write [[query]] over each")
+        every = tuple(self._query(each, at) for at, each in enumerate(queries, 1))
+        self._check_kinds(every)
+        return Queries(
             self.file,
             url,
             password,
             settings,
-            tuple(self._query(each, at) for at, each in enumerate(queries, 1)),
+            every,
             self._most(self._table(found, "limits")),
             self._push(self._table(found, "push")) if "push" in found else None,
         )
 
     def _query(self, found: dict[str, Any], at: int) -> Query:
         where = f"query {at}"
-        self._known(found, ("sheet", "sql", "quality", "good", "bad", "changed"), where)
+        self._known(found, _KEYS, where)
         sheet = self._text(found, "sheet", where)
         if sheet not in QUERIED:
             assert set(QUERIED) <= set(SHEETS)
             raise self.fault(
-                f"{where}: {sheet!r} is no sheet of facts", f"say {', '.join(QUERIED)}"
+                f"{where}: {sheet!r} isn't a sheet of facts", f"say {', '.join(QUERIED)}"
             )
         quality = self._text(found, "quality", where, "")
         good, bad = (self._codes(found.get(name, []), where, name) for name in ("good", "bad"))
@@ -194,12 +209,30 @@ class _Reader:
         if good & bad:
             both = ", ".join(sorted(good & bad))
             raise self.fault(f"{where}: {both} is good and bad", "leave one of both out")
-        changed = self._text(found, "changed", where, "")
-        return Query(sheet, self._text(found, "sql", where), quality, good, bad, changed)
+        changed, sql = self._text(found, "changed", where, ""), self._text(found, "sql", where)
+        return Query(sheet, sql, quality, good, bad, changed, self._vanished(found, where))
+
+    def _vanished(self, found: dict[str, Any], where: str) -> Vanished:
+        """Return what becomes of facts that vanish."""
+        text = self._text(found, "vanished", where, Vanished.ASK.value)
+        for each in Vanished:
+            if each.value == text:
+                return each
+        words = ", ".join(each.value for each in Vanished)
+        raise self.fault(f"{where}: vanished is {text!r}", f"write one of {words}", text)
+
+    def _check_kinds(self, queries: Sequence[Query]) -> None:
+        """Refuse two queries of facts of a kind that vanish in two ways."""
+        first: dict[str, Query] = {}
+        for each in queries:
+            if each.kind and first.setdefault(each.kind, each).vanished is not each.vanished:
+                sheets = f"{first[each.kind].sheet} and {each.sheet}"
+                what = f"two queries of {sheets} differ in what becomes of facts that vanish"
+                raise self.fault(what, "write the same vanished in both")
 
     def _codes(self, found: Any, where: str, name: str) -> frozenset[str]:
         if not isinstance(found, list) or not all(isinstance(each, str | int) for each in found):
-            raise self.fault(f"{where}: {name} is no list of codes", 'write ["Good", 192]')
+            raise self.fault(f"{where}: {name} isn't a list of codes", 'write ["Good", 192]')
         return frozenset(str(each).casefold() for each in found)
 
     def _most(self, found: dict[str, Any]) -> Most:
@@ -208,7 +241,7 @@ class _Reader:
         self._known(found, tuple(ranges), "[limits]")
         for name, value in found.items():
             if isinstance(value, bool) or not isinstance(value, int) or value < 1:
-                raise self.fault(f"[limits] {name} is no whole number above 0", "write one")
+                raise self.fault(f"[limits] {name} isn't a whole number above 0", "write one")
             if value > ranges[name]:
                 remedy = f"write at most {ranges[name]:,}, and ask for fewer days at once"
                 raise self.fault(f"[limits] {name} is {value:,}", remedy)
@@ -219,7 +252,7 @@ class _Reader:
         own = {name: self._text(found, name, "[push]") for name in found}
         for name, value in own.items():
             if not _NAME.fullmatch(value):
-                what = f"[push] {name} {value!r} is no name of a table"
+                what = f"[push] {name} {value!r} isn't a name of a table"
                 raise self.fault(what, "letters, digits and _, at most 63", value)
         return Push(**own)
 
@@ -231,7 +264,7 @@ class _Reader:
     def _table(self, found: Mapping[str, Any], name: str) -> dict[str, Any]:
         own = found.get(name, {})
         if not isinstance(own, dict):
-            raise self.fault(f"{name} is no table", f"write [{name}] over it")
+            raise self.fault(f"{name} isn't a table", f"write [{name}] over it")
         return own
 
     def _text(
