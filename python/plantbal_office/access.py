@@ -36,7 +36,7 @@ class Scope(Enum):
 
 
 @dataclass(frozen=True)
-class Rule:
+class AccessRule:
     """Who may do one thing at one address.
 
     Attributes
@@ -78,7 +78,7 @@ CLOSES = frozenset({Role.APPROVER})
 SPEAKS = frozenset({Role.CLERK, Role.ENGINEER, Role.APPROVER, Role.AUDITOR})
 
 
-def _rules() -> Iterable[Rule]:
+def _rules() -> Iterable[AccessRule]:
     """Give the rules of the whole desk."""
     for address, method in (
         ("people:signin", "GET"),
@@ -86,34 +86,34 @@ def _rules() -> Iterable[Rule]:
         ("people:language", "POST"),
         ("alive", "GET"),
     ):
-        yield Rule(address, method, Scope.ANYBODY)
+        yield AccessRule(address, method, Scope.ANYBODY)
     for address, method in (
         ("plants:list", "GET"),
         ("people:signout", "POST"),
         ("deeds:outcome", "GET"),
     ):
-        yield Rule(address, method, Scope.PERSON)
-    for address in ("plants:open", "plants:begin"):
-        yield Rule(address, "GET", Scope.SERVICE)
-        yield Rule(address, "POST", Scope.SERVICE)
+        yield AccessRule(address, method, Scope.PERSON)
+    for address in ("plants:open", "plants:begin", "plants:mapping"):
+        yield AccessRule(address, "GET", Scope.SERVICE)
+        yield AccessRule(address, "POST", Scope.SERVICE)
     for address, method, roles in _OF_PLANTS:
-        yield Rule(address, method, Scope.PLANT, roles)
+        yield AccessRule(address, method, Scope.PLANT, roles)
 
 
 # The door of an office's service; a desk of one person has none of these.
 _OF_SERVICE = (
-    Rule("service:signin", "GET", Scope.ANYBODY),
-    Rule("service:signin", "POST", Scope.ANYBODY),
-    Rule("service:second", "GET", Scope.ANYBODY),
-    Rule("service:second", "POST", Scope.ANYBODY),
-    Rule("service:oidc", "GET", Scope.ANYBODY),
-    Rule("service:back", "GET", Scope.ANYBODY),
-    Rule("service:signout", "POST", Scope.PERSON),
-    Rule("service:enroll", "GET", Scope.PERSON),
-    Rule("service:enroll", "POST", Scope.PERSON),
-    Rule("service:password", "GET", Scope.PERSON),
-    Rule("service:password", "POST", Scope.PERSON),
-    Rule("service:log", "GET", Scope.SERVICE),
+    AccessRule("service:signin", "GET", Scope.ANYBODY),
+    AccessRule("service:signin", "POST", Scope.ANYBODY),
+    AccessRule("service:second", "GET", Scope.ANYBODY),
+    AccessRule("service:second", "POST", Scope.ANYBODY),
+    AccessRule("service:oidc", "GET", Scope.ANYBODY),
+    AccessRule("service:back", "GET", Scope.ANYBODY),
+    AccessRule("service:signout", "POST", Scope.PERSON),
+    AccessRule("service:enroll", "GET", Scope.PERSON),
+    AccessRule("service:enroll", "POST", Scope.PERSON),
+    AccessRule("service:password", "GET", Scope.PERSON),
+    AccessRule("service:password", "POST", Scope.PERSON),
+    AccessRule("service:log", "GET", Scope.SERVICE),
 )
 
 _OF_PLANTS: tuple[tuple[str, str, frozenset[Role]], ...] = (
@@ -122,21 +122,27 @@ _OF_PLANTS: tuple[tuple[str, str, frozenset[Role]], ...] = (
     ("plants:next", "GET", RECONCILES),
     ("plants:next", "POST", RECONCILES),
     ("plants:retire", "POST", RECONCILES),
+    ("plants:task", "POST", SPEAKS),
+    ("plants:done", "POST", SPEAKS),
     ("enter:drop", "GET", ENTERS),
     ("enter:drop", "POST", ENTERS),
     ("enter:seen", "GET", ENTERS),
+    ("enter:mapping", "GET", ENTERS),
+    ("enter:mapping", "POST", ENTERS),
     ("enter:book", "POST", ENTERS),
     ("enter:forget", "POST", ENTERS),
     ("enter:template", "GET", SEES),
     ("enter:grid", "GET", ENTERS),
     ("enter:grid", "POST", ENTERS),
     ("enter:judge", "POST", ENTERS),
+    ("enter:tests", "POST", ENTERS),
     ("look:statement", "GET", SEES),
     ("look:earlier", "GET", SEES),
     ("look:stream", "GET", SEES),
     ("look:fact", "GET", SEES),
     ("look:journal", "GET", SEES),
     ("look:drawing", "GET", SEES),
+    ("look:proof", "GET", SEES),
     ("look:export", "GET", SEES),
     ("correct:amend", "GET", RECONCILES),
     ("correct:amend", "POST", RECONCILES),
@@ -169,11 +175,11 @@ _OF_PLANTS: tuple[tuple[str, str, frozenset[Role]], ...] = (
     ("notes:bundle", "GET", SEES),
 )
 
-RULES: dict[tuple[str, str], Rule] = {(rule.address, rule.method): rule for rule in _rules()}
+RULES: dict[tuple[str, str], AccessRule] = {(rule.address, rule.method): rule for rule in _rules()}
 SERVICE_RULES = {(rule.address, rule.method): rule for rule in _OF_SERVICE}
 
 
-def rule_of(address: str, method: str) -> Rule | None:
+def rule_of(address: str, method: str) -> AccessRule | None:
     """Return the rule of an address, or None if there is none: then nobody may."""
     asked = address, "GET" if method == "HEAD" else method
     return RULES.get(asked) or SERVICE_RULES.get(asked)

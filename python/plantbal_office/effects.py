@@ -11,9 +11,9 @@ from collections.abc import Callable, Iterable, Sequence
 from dataclasses import dataclass, field, replace
 
 from plantbal.book.changes import Changes
-from plantbal.book.ledger import Fact
+from plantbal.book.ledger import BookFact
 from plantbal.book.library import Book
-from plantbal.book.looking import Contents, Month
+from plantbal.book.looking import BookMonth, Contents
 from plantbal.book.reporting import suspects_of
 from plantbal.book.results import Added, Reported, ReportState
 from plantbal.faults import Fault
@@ -21,6 +21,7 @@ from plantbal.gates import Stop
 from plantbal.report.blocks import Block
 from plantbal.report.output import Output, parse_report
 from plantbal_office.plants.models import Plant
+from plantbal_office.sentences import verdict_said
 from plantbal_office.shelf import contents_of, plain_book, run_settings
 
 # How many months a preview makes the reports of, the latest ones, and how many flows it names.
@@ -89,12 +90,12 @@ class Shift:
 
 
 @dataclass(frozen=True)
-class Effect:
+class ActionEffect:
     """What an action would do to a month.
 
     Attributes
     ----------
-    month : Month
+    month : BookMonth
         The month, as it would be.
     before, after : Said or None
         What the report says that is kept, and the one that would be.
@@ -106,7 +107,7 @@ class Effect:
         Why there would be no report.
     """
 
-    month: Month
+    month: BookMonth
     before: Said | None
     after: Said | None
     shifts: tuple[Shift, ...] = ()
@@ -124,7 +125,7 @@ class Trial:
         What the action returned; None if it has a fault.
     fault : Fault or None
         Why it can't be done.
-    effects : tuple of Effect
+    effects : tuple of ActionEffect
         What it would do to each month that it touches.
     left_out : tuple of str
         Months that it touches and whose reports weren't made.
@@ -132,7 +133,7 @@ class Trial:
 
     result: object = None
     fault: Fault | None = None
-    effects: tuple[Effect, ...] = ()
+    effects: tuple[ActionEffect, ...] = ()
     left_out: tuple[str, ...] = field(default=())
 
 
@@ -142,12 +143,12 @@ def said_of(output: Output, stops: Sequence[Stop] = (), holes: Sequence[str] = (
     if block is None or block.solved is None:
         return Said("; ".join(output.why) or "no report", "bad", stops=tuple(stops))
     whole = block.whole or {}
-    level = "look" if stops else "good"
+    level = "look" if stops or whole.get("verdict") != "accept" else "good"
     if whole.get("verdict") == "reject" or block.solved["state"] != "converged":
         level = "bad"
     critical = whole.get("critical")
     return Said(
-        block.verdict,
+        verdict_said(block),
         level,
         int(block.solved["low"]) / 1000 if critical else None,
         int(critical) / 1000 if critical else None,
@@ -206,7 +207,7 @@ def tried(
     return Trial(result, None, effects, tuple(names[: len(names) - len(some)]))
 
 
-def _effect(plant: Plant, book: Book, kept: Contents, then: Contents, name: str) -> Effect:
+def _effect(plant: Plant, book: Book, kept: Contents, then: Contents, name: str) -> ActionEffect:
     """Return what an action on a copy does to a month."""
     month = then.month(name)
     assert month is not None
@@ -215,10 +216,12 @@ def _effect(plant: Plant, book: Book, kept: Contents, then: Contents, name: str)
     try:
         report: Reported = next(iter(book.reports(name, settings=run_settings())))
     except Fault as fault:
-        return Effect(month, old, None, fault=str(fault))
+        return ActionEffect(month, old, None, fault=str(fault))
     shifts = shifts_of(before, report.output)
     new = said_of(report.output, report.stops, report.holes)
-    return Effect(month, old, new, tuple(shifts[:MOST_FLOWS]), max(0, len(shifts) - MOST_FLOWS))
+    return ActionEffect(
+        month, old, new, tuple(shifts[:MOST_FLOWS]), max(0, len(shifts) - MOST_FLOWS)
+    )
 
 
 def kept_output(plant: Plant, kept: Contents, name: str) -> Output | None:
@@ -232,7 +235,7 @@ def kept_output(plant: Plant, kept: Contents, name: str) -> Output | None:
 # ---- which months
 
 
-def months_of(facts: Iterable[Fact], contents: Contents) -> list[str]:
+def months_of(facts: Iterable[BookFact], contents: Contents) -> list[str]:
     """Return the months that some facts touch, in the order of their days."""
     spans = {(fact.first, fact.last, fact.kind == "dip") for fact in facts}
     return [
@@ -256,7 +259,7 @@ def months_added(result: object, contents: Contents) -> list[str]:
     return [month.name for month in contents.months if month.name in touched]
 
 
-def facts_in(changes: Changes, struck: bool) -> list[Fact]:
+def facts_in(changes: Changes, struck: bool) -> list[BookFact]:
     """Return the facts that a workbook brings, changes or strikes."""
     found = [fact for _, fact in changes.new]
     for change in [*changes.changed, *changes.left]:

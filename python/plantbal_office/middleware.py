@@ -16,7 +16,7 @@ from django.utils.translation import gettext as _
 
 from plantbal.book.expected import Moved
 from plantbal.faults import Fault, Faults, InputFault, ToolMissing
-from plantbal_office.access import Role, Rule, Scope, rule_of
+from plantbal_office.access import AccessRule, Role, Scope, rule_of
 from plantbal_office.plants.models import Plant
 
 Answer = Callable[[HttpRequest], HttpResponse]
@@ -102,7 +102,7 @@ class Access:
         return _refused(request, rule, kwargs)
 
 
-def _refused(request: HttpRequest, rule: Rule, kwargs: dict[str, Any]) -> HttpResponse | None:
+def _refused(request: HttpRequest, rule: AccessRule, kwargs: dict[str, Any]) -> HttpResponse | None:
     """Return what is said to a person who may not, and note the plant and the roles."""
     roles: frozenset[Role] = frozenset()
     if request.user.is_administrator:

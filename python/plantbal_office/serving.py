@@ -109,7 +109,7 @@ class Desk:
 
         application: Any = with_static(get_wsgi_application())
         try:
-            return make_server(HOST, port, application, Threaded, Quiet)
+            return make_server(HOST, port, application, Threaded, QuietHandler)
         except OSError as error:
             what = f"port {port}: {error.strerror}"
             raise Fault(what, remedy="leave --port out: then a free one is taken") from error
@@ -141,7 +141,7 @@ class Threaded(socketserver.ThreadingMixIn, WSGIServer):
     request_queue_size = 64
 
 
-class Quiet(WSGIRequestHandler):
+class QuietHandler(WSGIRequestHandler):
     """Answers requests, and writes no line for each."""
 
     def log_message(self, format: str, *args: Any) -> None:  # noqa: A002

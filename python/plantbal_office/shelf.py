@@ -16,7 +16,7 @@ from typing import Any, TypeVar
 from django.conf import settings
 from django.http import HttpRequest
 
-from plantbal.book.expected import Version
+from plantbal.book.expected import BookVersion
 from plantbal.book.forms import CHECKS, PENDING, there
 from plantbal.book.library import Book
 from plantbal.book.looking import Contents, MonthFacts
@@ -30,7 +30,7 @@ _MOST = {"contents": 12, "facts": 3, "page": 12, "status": 12, "picture": 12}
 Mark = tuple[tuple[str, int, int, int, int], ...]
 
 
-class Kept:
+class LatestMade:
     """What was made of books, the latest of each kind."""
 
     def __init__(self) -> None:
@@ -60,7 +60,7 @@ class Kept:
         return made
 
 
-KEPT = Kept()
+KEPT = LatestMade()
 
 
 def mark_of(folder: Path) -> Mark:
@@ -92,9 +92,9 @@ def book_of(request: HttpRequest, *, expected: bool = False) -> Book:
     expected : bool
         Whether the book has to be as the form of the request says that it was shown.
     """
-    version = Version.read(request.POST.get("version", "")) if expected else None
+    version = BookVersion.read(request.POST.get("version", "")) if expected else None
     if expected and version is None:
-        version = Version(0, "")
+        version = BookVersion(0, "")
     return Book(
         request.plant.folder,
         who=who_of(request),

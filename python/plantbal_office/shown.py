@@ -3,28 +3,33 @@
 from __future__ import annotations
 
 import datetime
+from collections.abc import Iterable
 from decimal import Decimal
-from typing import Any
+from typing import TYPE_CHECKING, Any
 
 from django import template
 from django.conf import settings
 from django.http import HttpRequest
 from django.utils import formats
-from django.utils.html import format_html
+from django.utils.html import format_html, format_html_join
 from django.utils.safestring import SafeString
 from django.utils.translation import get_language
 
-from plantbal.accounts.posting import Change
+from plantbal.accounts.posting import PostingChange
 from plantbal.book.causes import change_row
 from plantbal.amounts import tonnes_of, tonnes_text
 from plantbal.book.ledger import plain
 from plantbal.book.results import ReportState
 from plantbal.faults import Fault
-from plantbal.gates import Stop, said_of
+from plantbal.gates import Stop
 from plantbal_office.access import Role, rule_of
 from plantbal_office.deeds.once import new_key
 from plantbal_office.plants.models import Plant
+from plantbal_office.sentences import change_said, error_said, fact_said, figure, stop_said
 from plantbal_office.shelf import contents_of
+
+if TYPE_CHECKING:
+    from plantbal_office.enter.grid import GridCell
 
 register = template.Library()
 
@@ -43,11 +48,7 @@ def context(request: HttpRequest) -> dict[str, Any]:
 
 def in_language(text: str) -> str:
     """Return figures that have commas between thousands as the person's language writes them."""
-    marks = {
-        ",": formats.get_format("THOUSAND_SEPARATOR"),
-        ".": formats.get_format("DECIMAL_SEPARATOR"),
-    }
-    return "".join(marks.get(each, each) for each in text)
+    return figure(text)
 
 
 def latest_month(plant: Plant) -> str:
@@ -118,7 +119,12 @@ def moment(text: str) -> str:
 @register.filter
 def stop(found: Stop) -> str:
     """Return what there is to look at before a close, as a sentence."""
-    return said_of(found)
+    return stop_said(found)
+
+
+register.filter("fact", fact_said)
+register.filter("error", error_said)
+register.filter("change", change_said)
 
 
 # How high the picture of a stream's days is, in the units of its view.
@@ -158,7 +164,19 @@ def figures(text: str) -> str:
 
 
 @register.filter
-def change_cells(change: Change) -> list[str]:
+def gridcells(cells: Iterable[GridCell]) -> SafeString:
+    """Return the cells of a day: a month of many meters has thousands, and a template is slow."""
+    text = (
+        '<td role="gridcell" data-name="{}" data-day="{}" data-part="amount" data-was="{}" '
+        'class="{}" tabindex="-1">{}</td>'
+    )
+    return format_html_join(
+        "", text, ((c.label, c.day.isoformat(), c.text, c.mark, c.text) for c in cells)
+    )
+
+
+@register.filter
+def change_cells(change: PostingChange) -> list[str]:
     """Return the cells of a change between two reports."""
     cells = change_row(change)
     return [*cells[:3], *(in_language(cell) for cell in cells[3:6])]

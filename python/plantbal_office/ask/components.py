@@ -4,7 +4,7 @@ from __future__ import annotations
 
 from plantbal.report.output import Output
 from plantbal.study.recovering import lines_of_shares
-from plantbal.study.recovery import Balance, balances_of, mass_of
+from plantbal.study.recovery import ComponentBalance, balances_of, mass_of
 
 _FIGURES = ("t", "± t", "grade", "± of it", "in sd", "share", "±")
 
@@ -13,7 +13,7 @@ def rows_of(output: Output) -> list[tuple[str, list[dict[str, object]]]]:
     """Return the components of a report, each with a row for each stream."""
     found: list[tuple[str, list[dict[str, object]]]] = []
     for block in balances_of(output) if any(b.component for b in output.blocks_in_order) else []:
-        lines = lines_of_shares(Balance(block, mass=mass_of(output, block)).shares())
+        lines = lines_of_shares(ComponentBalance(block, mass=mass_of(output, block)).shares())
         rows: list[dict[str, object]] = [
             {
                 "stream": line["stream"],

@@ -18,8 +18,8 @@ from django.utils.translation import gettext_lazy
 from plantbal.accounts.posting import postings_of
 from plantbal.balance.known import Class
 from plantbal.balance.planning import named, state_of
-from plantbal.balance.worth import Change, Instrument, State, changed, changes_of
-from plantbal.book.looking import Month
+from plantbal.balance.worth import Instrument, PeriodState, SpreadChange, changed, changes_of
+from plantbal.book.looking import BookMonth
 from plantbal.book.results import ReportState
 from plantbal.faults import Fault
 from plantbal.report.output import Output, parse_report
@@ -61,12 +61,12 @@ def menu(request: HttpRequest) -> HttpResponse:
 
 
 def difference(request: HttpRequest, period: str) -> HttpResponse:
-    """Show what two states of a month have otherwise, and why."""
+    """Show how two states of a month differ, and why."""
     month = month_of(request, period)
     words = request.GET.get("between", "")
     states = tuple(words.split(" ")) if words else ()
     if len(states) not in (0, 2) or any(len(each) > 12 for each in states):
-        raise Fault(_("these are no two states"), remedy=_("choose them from the list"))
+        raise Fault(_("these aren't two states"), remedy=_("choose them from the list"))
     version = contents_of(request.plant).version
     found = plain_book(request.plant).difference(period, *states)
     choices = [f"{number} now" for number in range(1, month.earlier + 1)]
@@ -125,7 +125,7 @@ def window(request: HttpRequest) -> HttpResponse:
 
 
 @dataclass(frozen=True)
-class Asked:
+class WhatIfLine:
     """A line of a what-if: a flow or a grade, and its ± now and then; None if nothing knows it."""
 
     name: str
@@ -141,12 +141,12 @@ class Asked:
         return abs(self.after - self.before) > 0.001 * max(self.before, 1e-9)
 
 
-def asked_of(change: Change) -> Asked:
+def asked_of(change: SpreadChange) -> WhatIfLine:
     """Return a line of a what-if."""
     factor, unit = (100.0, "%") if change.component else (1.0, "t")
     name = f"{change.component} in {change.stream}" if change.component else change.stream
     known = [kind is not Class.UNOBSERVABLE for kind in (change.kind_before, change.kind_after)]
-    return Asked(
+    return WhatIfLine(
         name,
         factor * change.before if known[0] else None,
         factor * change.after if known[1] else None,
@@ -154,10 +154,10 @@ def asked_of(change: Change) -> Asked:
     )
 
 
-def plan_of(plant: Plant, month: Month) -> State:
+def plan_of(plant: Plant, month: BookMonth) -> PeriodState:
     """Return the flows and errors of a month, on which others are put."""
 
-    def make() -> State:
+    def make() -> PeriodState:
         session = plain_book(plant).session_asking(month.name)
         return state_of(session.encode("ascii"), month.name, month.name, settings.PLANTBAL_PROGRAM)
 
@@ -180,7 +180,7 @@ def whatif(request: HttpRequest, period: str) -> HttpResponse:
     return render(request, "ask/whatif.html", words)
 
 
-def _whatif(state: State, add: str, lose: str) -> list[Asked]:
+def _whatif(state: PeriodState, add: str, lose: str) -> list[WhatIfLine]:
     """Return the ± of flows and grades before and after."""
     more: list[Instrument] = []
     for text in filter(None, (each.strip() for each in add.split(";"))):

@@ -19,17 +19,17 @@ _SECONDS = 8.0
 
 
 @dataclass(frozen=True)
-class Shown:
+class ShownWindow:
     """A window: the body of its page, and what tanks held at dips that nobody took."""
 
     body: str
     held: tuple[str, ...]
 
 
-def window_shown(plant: Plant, first: str, last: str) -> Shown | None:
+def window_shown(plant: Plant, first: str, last: str) -> ShownWindow | None:
     """Return the report of a window as it is kept, or None if there is none."""
 
-    def make() -> Shown | None:
+    def make() -> ShownWindow | None:
         try:
             kept = plain_book(plant).kept_window(first, last)
         except Fault:
@@ -39,6 +39,6 @@ def window_shown(plant: Plant, first: str, last: str) -> Shown | None:
         page = render(prepared, title=kept.period, seconds=_SECONDS)
         blocks = [each for each in parse_report(kept.text, name).blocks_in_order if each.window]
         held = tuple(undipped(blocks[-1])) if blocks else ()
-        return Shown(inner_main(page), held)
+        return ShownWindow(inner_main(page), held)
 
     return KEPT.of(Path(plant.folder), "page", ("window", first, last), make)

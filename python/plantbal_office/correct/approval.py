@@ -8,6 +8,7 @@ from django.shortcuts import render
 from django.urls import reverse
 from django.utils.translation import gettext as _
 
+from plantbal.book.approval.record import ApprovalDeed
 from plantbal.book.approval.state import Waiting
 from plantbal.faults import Fault
 from plantbal.gates import Gate
@@ -19,12 +20,19 @@ _ROWS = 40  # of what waits
 
 
 def submit(request: HttpRequest, period: str) -> HttpResponse:
-    """Submit the close of a month."""
+    """Submit the close of a month; or give the text that this signs, as a file."""
     anyway = {gate: request.POST.get(f"why-{gate.value}", "").strip() for gate in Gate}
     given = {gate: why[: _REASON + 1] for gate, why in anyway.items() if why}
+    if request.POST.get("answer") == "text":
+        book = book_of(request, expected=True)
+        text = book.close_to_sign(period, anyway=given, settings=run_settings())
+        return _text(text, "submission.txt")
+    record, signature = _signed(request)
 
     def act() -> str:
-        done = book_of(request, expected=True).submit(period, anyway=given, settings=run_settings())
+        done = book_of(request, expected=True).submit(
+            period, anyway=given, settings=run_settings(), record=record, signature=signature
+        )
         what = _("{name} is submitted, and waits for an approval by somebody else.")
         messages.success(request, what.format(name=done.period))
         return reverse("correct:waiting", args=[request.plant.slug])
@@ -56,24 +64,32 @@ def _rows(waiting: Waiting) -> list[str]:
 
 
 def to_sign(request: HttpRequest) -> HttpResponse:
-    """Give the text that an approval signs, as a file."""
-    book = book_of(request)
-    text = book.to_sign(request.GET.get("head", ""))
+    """Give the text that an approval or a rejection signs, as a file."""
+    deed = (
+        ApprovalDeed.REJECT
+        if request.GET.get("deed") == ApprovalDeed.REJECT.value
+        else ApprovalDeed.APPROVE
+    )
+    return _text(book_of(request).to_sign(request.GET.get("head", ""), deed), f"{deed.value}.txt")
+
+
+def _text(text: str, name: str) -> HttpResponse:
+    """Give a text as a file."""
     answer = HttpResponse(text, content_type="text/plain; charset=utf-8")
-    answer["Content-Disposition"] = 'attachment; filename="approval.txt"'
+    answer["Content-Disposition"] = f'attachment; filename="{name}"'
     return answer
 
 
 def approve(request: HttpRequest) -> HttpResponse:
     """Approve what was shown, or reject it with a reason."""
     head, why = request.POST.get("head", ""), request.POST.get("why", "").strip()
-    signature, record = _file(request, "signature"), _file(request, "record")
     is_rejected = request.POST.get("answer") == "reject"
+    record, signature = _signed(request)
 
     def act() -> str:
         book = book_of(request)
         if is_rejected:
-            book.reject(head, why=why[:_REASON])
+            book.reject(head, why=why[:_REASON], record=record, signature=signature)
             messages.success(request, _("It is rejected, and nothing of it is done."))
         else:
             done = book.approve(head, record=record, signature=signature)
@@ -88,11 +104,28 @@ def approve(request: HttpRequest) -> HttpResponse:
     return once(request, act)
 
 
+def _signed(request: HttpRequest) -> tuple[str, str]:
+    """Return the text that was signed and its signature, if the book wants that.
+
+    Raises
+    ------
+    Fault
+        If it wants it and one of the two isn't there.
+    """
+    record, signature = _file(request, "record"), _file(request, "signature")
+    rules = plain_book(request.plant).rules()
+    is_wanted = rules is not None and rules.keys
+    if bool(record) != bool(signature) or (is_wanted and not signature):
+        remedy = _("take the text to be signed, sign it by the command shown, and send both files")
+        raise Fault(_("this book wants it signed"), remedy=remedy)
+    return record, signature
+
+
 def _file(request: HttpRequest, name: str) -> str:
     """Return the text of a small file of a form; nothing without one."""
     found = request.FILES.get(name)
     if found is None:
         return ""
     if found.size > 1 << 16:
-        raise Fault(_("this is no signature"), remedy=_("send the file that ssh-keygen has made"))
+        raise Fault(_("this isn't a signature"), remedy=_("send the file that ssh-keygen has made"))
     return str(found.read().decode("ascii", "replace"))

@@ -14,14 +14,14 @@ from django.utils.translation import gettext as _
 from django.utils.translation import gettext_lazy
 
 from plantbal.book.closing import NotClosed
-from plantbal.book.expected import Version
-from plantbal.book.ledger import Fact
+from plantbal.book.expected import BookVersion
+from plantbal.book.ledger import BookFact
 from plantbal.book.library import Book
 from plantbal.book.looking import Contents, FactLine
 from plantbal.book.results import Closed, Edited, Estimated
 from plantbal.commands.book.estimating import said_of as proposal_said
 from plantbal.faults import Fault
-from plantbal.gates import Gate, Stop, about, remedy_of, said_of
+from plantbal.gates import Gate, Stop
 from plantbal.lint.findings import RULES
 from plantbal_office.deeds.once import once
 from plantbal_office.effects import TRIED, Said, Trial, months_of, tried
@@ -29,13 +29,14 @@ from plantbal_office.effects import said_of as report_said
 from plantbal_office.enter.typed import typing_locale
 from plantbal_office.look.views import month_of
 from plantbal_office.plants.standing import stand_of
+from plantbal_office.sentences import fact_said, gate_about, stop_remedy, stop_said
 from plantbal_office.shelf import book_of, contents_of, plain_book, run_settings
 
 MOST_ROUNDS = 6
 REASON = 80  # letters, as a row of a session bears
 
 
-class Change(forms.Form):
+class ChangeForm(forms.Form):
     """Another value of a fact."""
 
     amount = forms.CharField(label=gettext_lazy("Amount with its unit"), max_length=40)
@@ -46,7 +47,7 @@ class Change(forms.Form):
     why = forms.CharField(label=gettext_lazy("Reason"), max_length=REASON)
 
 
-class Reason(forms.Form):
+class ReasonForm(forms.Form):
     """A reason."""
 
     why = forms.CharField(label=gettext_lazy("Reason"), max_length=REASON)
@@ -56,15 +57,15 @@ class Reason(forms.Form):
 
 
 @dataclass(frozen=True)
-class Asked:
+class AskedFact:
     """What is asked for of a fact: the fact, the version of its book, and how the page is headed."""
 
     found: FactLine
-    version: Version
+    version: BookVersion
     title: str
 
 
-def named(found: Fact) -> tuple[str, str | None]:
+def named(found: BookFact) -> tuple[str, str | None]:
     """Return the words that name a fact: its place and its day, or of a ticket its id."""
     return (found.id, None) if found.kind == "transfer" else (found.place, str(found.first))
 
@@ -74,7 +75,7 @@ def amend(request: HttpRequest, year: str, identity: str) -> HttpResponse:
     version = contents_of(request.plant).version
     found = plain_book(request.plant).fact(year, identity)
     words = request.POST if request.method == "POST" else request.GET
-    form = Change(words if "amount" in words else None)
+    form = ChangeForm(words if "amount" in words else None)
     name, day = named(found.shown.fact)
     locale = typing_locale()
 
@@ -90,7 +91,7 @@ def amend(request: HttpRequest, year: str, identity: str) -> HttpResponse:
             locale=locale,
         )
 
-    return _changed(request, Asked(found, version, _("Amend")), form, act)
+    return _changed(request, AskedFact(found, version, _("Amend")), form, act)
 
 
 def strike(request: HttpRequest, year: str, identity: str) -> HttpResponse:
@@ -98,17 +99,17 @@ def strike(request: HttpRequest, year: str, identity: str) -> HttpResponse:
     version = contents_of(request.plant).version
     found = plain_book(request.plant).fact(year, identity)
     words = request.POST if request.method == "POST" else request.GET
-    form = Reason(words if "why" in words else None)
+    form = ReasonForm(words if "why" in words else None)
     name, day = named(found.shown.fact)
 
     def act(book: Book) -> Edited:
         return book.strike(name, day, why=form.cleaned_data["why"].strip())
 
-    return _changed(request, Asked(found, version, _("Strike")), form, act)
+    return _changed(request, AskedFact(found, version, _("Strike")), form, act)
 
 
 def _changed(
-    request: HttpRequest, asked: Asked, form: forms.Form, act: Callable[[Book], Edited]
+    request: HttpRequest, asked: AskedFact, form: forms.Form, act: Callable[[Book], Edited]
 ) -> HttpResponse:
     """Show the form of a change, or what it would do, or do it."""
     found = asked.found
@@ -147,47 +148,32 @@ def edited_said(done: Edited) -> str:
     if not done.is_booked:
         return _("{id} was so already.").format(id=done.old.id)
     if done.new is None:
-        return _("{id} is struck: {was}.").format(id=done.old.id, was=done.old.said())
+        return _("{id} is struck: {was}.").format(id=done.old.id, was=fact_said(done.old))
     what = _("{id}: {was} becomes {now}.")
-    return what.format(id=done.old.id, was=done.old.said(), now=done.new.said())
+    return what.format(id=done.old.id, was=fact_said(done.old), now=fact_said(done.new))
 
 
 def undo(request: HttpRequest, year: str, identity: str) -> HttpResponse:
-    """Give a fact the value back that it had, by an amendment, while its period is open."""
+    """Give a fact back what it was, by an amendment or a new fact, while its period is open."""
     found = plain_book(request.plant).fact(year, identity)
-    form = Reason(request.POST)
+    form = ReasonForm(request.POST)
 
     def deed() -> str:
-        if found.closed:
-            what = _("{name} is closed").format(name=found.closed[0])
-            raise Fault(what, remedy=_("amend it instead: the difference is then handed over"))
-        if found.shown.struck or not found.shown.before:
-            raise Fault(_("there is nothing to undo by an amendment"), remedy=_("enter it again"))
         if not form.is_valid():
-            raise Fault(_("a reason is wanted, of at most 80 letters"))
-        was = found.shown.before[-1]
-        name, day = named(was)
-        amount, density = texts_of(was)
-        done = book_of(request, expected=True).amend(
-            name,
-            day,
-            amount,
-            density=density,
-            error=was.error().replace(",", ""),
-            why=form.cleaned_data["why"].strip(),
-        )
-        messages.success(request, edited_said(done))
-        return reverse("look:fact", args=[request.plant.slug, found.year, found.shown.fact.id])
+            raise Fault(_("give a reason of at most 80 letters"))
+        why = form.cleaned_data["why"].strip()
+        fact = found.shown.fact
+        done = book_of(request, expected=True).undo(fact.id, fact.first, why=why)
+        assert done.new is not None
+        if done.new.id == fact.id:
+            messages.success(request, edited_said(done))
+        else:
+            what = _("{id} was struck: {now} is booked again as {new}.")
+            said = what.format(id=fact.id, now=fact_said(done.new), new=done.new.id)
+            messages.success(request, said)
+        return reverse("look:fact", args=[request.plant.slug, found.year, done.new.id])
 
     return once(request, deed)
-
-
-def texts_of(fact: Fact) -> tuple[str, str]:
-    """Return the amount and the density of a fact as they are typed, with decimal points."""
-    if fact.kind == "dip":
-        mm, _at, density = fact.said().partition(" at ")
-        return mm.replace(",", ""), density.replace(",", "")
-    return fact.said().replace(",", ""), ""
 
 
 # ---- estimates
@@ -199,11 +185,11 @@ def estimate(request: HttpRequest, period: str) -> HttpResponse:
     words = request.POST if request.method == "POST" else request.GET
     stream = words.get("stream", "")[:40]
     if request.method == "POST":
-        form = Reason(request.POST)
+        form = ReasonForm(request.POST)
 
         def deed() -> str:
             if not form.is_valid():
-                raise Fault(_("a reason is wanted, of at most 80 letters"))
+                raise Fault(_("give a reason of at most 80 letters"))
             why = form.cleaned_data["why"].strip()
             done = book_of(request, expected=True).estimate(period, stream, take=True, why=why)
             for each in done.proposals:
@@ -225,7 +211,7 @@ def estimate(request: HttpRequest, period: str) -> HttpResponse:
         "lines": [(each, proposal_said(each)) for each in found.proposals],
         "trial": trial,
         "version": version,
-        "form": Reason(),
+        "form": ReasonForm(),
         "section": "statement",
     }
     return render(request, "correct/estimate.html", answer)
@@ -264,23 +250,24 @@ def close(request: HttpRequest, period: str) -> HttpResponse:
     if month.closed:
         words = {"month": month, "section": "statement", "stand": stand_of(request.plant, month)}
         return render(request, "correct/closed.html", words)
-    version = contents_of(request.plant).version
+    version, rules = contents_of(request.plant).version, plain_book(request.plant).rules()
     said, stops = _asked(request, period)
     gates = list(dict.fromkeys(stop.gate for stop in stops))
     words = {
         "month": month,
         "said": said,
-        "gates": [(gate, about(gate), _of(gate, stops)) for gate in gates],
+        "gates": [(gate, gate_about(gate), _of(gate, stops)) for gate in gates],
         "version": version,
         "section": "statement",
-        "ruled": plain_book(request.plant).rules() is not None,
+        "ruled": rules is not None,
+        "keys": rules is not None and rules.keys,
     }
     return render(request, "correct/close.html", words)
 
 
 def _of(gate: Gate, stops: list[Stop]) -> list[tuple[str, str]]:
     """Return what there is to look at of a gate, and what to do."""
-    return [(said_of(each), remedy_of(each)) for each in stops if each.gate is gate]
+    return [(stop_said(each), stop_remedy(each)) for each in stops if each.gate is gate]
 
 
 def _asked(request: HttpRequest, period: str) -> tuple[Said, list[Stop]]:
@@ -318,14 +305,14 @@ def _close(request: HttpRequest, period: str, given: dict[Gate, str]) -> str:
 def quiet(request: HttpRequest) -> HttpResponse:
     """Show which rules are quieted, and quiet one or have it speak again."""
     if request.method == "POST":
-        form = Reason(request.POST)
+        form = ReasonForm(request.POST)
         code = request.POST.get("code", "")[:40]
         names = request.POST.get("names", "")[:400].split()
         off = request.POST.get("off") == "yes"
 
         def deed() -> str:
             if not form.is_valid():
-                raise Fault(_("a reason is wanted, of at most 80 letters"))
+                raise Fault(_("give a reason of at most 80 letters"))
             book, why = book_of(request, expected=True), form.cleaned_data["why"].strip()
             (book.heed if off else book.quiet)(code, *names, why=why)
             what = (

@@ -20,8 +20,13 @@ from django.utils import timezone
 from django.utils.translation import gettext as _
 from django.utils.translation import gettext_lazy
 
+from plantbal.book.library import Book
+from plantbal.book.library.base import day_or_none
+from plantbal.book.reading import Tabled
 from plantbal.faults import Fault, InputFault, Place
+from plantbal.workbook.mapping.form import WorkbookMapping
 from plantbal.workbook.options import ReadingOptions
+from plantbal.workbook.sheets import read_workbook
 from plantbal_office.enter.models import Drop
 
 LOCALES = [
@@ -33,7 +38,7 @@ LOCALES = [
     ("fr", gettext_lazy("French: 1 234,5 and 30/04/2024")),
     ("de_CH", gettext_lazy("Swiss: 1’234.5 and 30.04.2024")),
 ]
-ENDINGS = (".xlsx", ".xlsm", ".csv", ".txt", ".tsv")
+ENDINGS = (".xlsx", ".xlsm", ".ods", ".csv", ".txt", ".tsv")
 TABLES = (".csv", ".txt", ".tsv")
 MOST_FILES = 60
 LONGEST_NAME = 100
@@ -78,8 +83,8 @@ def checked_name(name: str) -> str:
         what = _("this name of a file is too long, or has signs that none has")
         raise InputFault(what, place=place, remedy=_("rename the file"))
     if not name.lower().endswith(ENDINGS):
-        what = _("this is no workbook that is read here")
-        remedy = _("save it as .xlsx, or its sheets as .csv")
+        what = _("this isn't a workbook that is read here")
+        remedy = _("save it as .xlsx or .ods, or its sheets as .csv")
         raise InputFault(what, place=place, remedy=remedy)
     return name
 
@@ -133,24 +138,36 @@ def _copy(file: UploadedFile, place: Path) -> None:
             out.write(part)
 
 
-@contextmanager
-def dropped(request: HttpRequest, wanted: bool = True) -> Iterator[Path | None]:
-    """Give the workbook that came by a form, in a folder that goes away in the end.
+def one_of(request: HttpRequest) -> tuple[str, list[UploadedFile]]:
+    """Return the one workbook that came by a form: its name, and its files.
 
     Raises
     ------
     Fault
-        If there is none and one is wanted, or there are several.
+        If there is none, or there are several.
     """
     found = workbooks_of(files_in(request), request.POST.get("called", ""))
-    if not found and not wanted:
-        yield None
-        return
     if len(found) != 1:
         what = _("there is no workbook") if not found else _("these are several workbooks")
         raise Fault(what, remedy=_("choose the workbook of the plant, or all CSV files of it"))
+    return found[0]
+
+
+@contextmanager
+def dropped(request: HttpRequest) -> Iterator[Path | None]:
+    """Give the workbook that came by a form, in a folder that goes away in the end, or None.
+
+    Raises
+    ------
+    Fault
+        If there are several.
+    """
+    if not files_in(request):
+        yield None
+        return
+    found = one_of(request)
     with tempfile.TemporaryDirectory(prefix="plantbal-drop-") as made:
-        yield write(Path(made), *found[0])
+        yield write(Path(made), *found)
 
 
 def without_folders(text: str) -> str:
@@ -177,9 +194,31 @@ def path_of(drop: Drop) -> Path:
     return path
 
 
+def tabled_of(drop: Drop) -> Tabled:
+    """Return what was typed into the grid: its sheets are ours, whatever mapping the book has.
+
+    Raises
+    ------
+    Fault
+        If its files are gone.
+    """
+    days = [(name, day_or_none(day)) for name, day in drop.cleared]
+    cleared = tuple((name, day) for name, day in days if day is not None)
+    folder = folder_of(drop) / drop.name
+    sheets = read_workbook(path_of(drop)) if folder.exists() or not cleared else []
+    return Tabled(drop.name, sheets, cleared)
+
+
+def typed_reading(book: Book, locale: str) -> ReadingOptions:
+    """Return how what was typed is read: of the book's mapping what its words and errors are."""
+    mapping = book.mapping() or WorkbookMapping()
+    return ReadingOptions(locale, mapping.missing, (), mapping.limits)
+
+
 def keep(request: HttpRequest, name: str, files: Sequence[UploadedFile], locale: str) -> Drop:
-    """Keep a workbook until it is booked."""
-    drop = Drop(person=request.user, plant=request.plant, name=name, locale=locale)
+    """Keep a workbook until it is booked; that of a new plant until its book is begun."""
+    plant = getattr(request, "plant", None)
+    drop = Drop(person=request.user, plant=plant, name=name, locale=locale)
     try:
         write(folder_of(drop), name, files)
     except BaseException:

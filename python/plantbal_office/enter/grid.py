@@ -6,16 +6,17 @@ import datetime
 from dataclasses import dataclass
 from decimal import Decimal
 
+from django.core.files.base import ContentFile
 from django.http import Http404, HttpRequest, HttpResponse, JsonResponse
 from django.shortcuts import render
 from django.urls import reverse
 
 
 from plantbal.amounts import tonnes_of
-from plantbal.book.ledger import Fact, plain
-from plantbal.book.looking import Flow, Month, Vessel
+from plantbal.book.ledger import BookFact, plain
+from plantbal.book.looking import BookMonth, BookStream, Vessel
 from plantbal.book.meters import Meter
-from plantbal.book.results import Shown
+from plantbal.book.results import ShownFact
 from plantbal.estimates import is_marked
 from plantbal.faults import Fault
 from plantbal.model.plant import in_service
@@ -24,7 +25,7 @@ from plantbal_office.deeds.once import once
 from plantbal_office.enter.drops import write, folder_of
 from plantbal_office.enter.judging import Judged, judge, judge_ticket
 from plantbal_office.enter.models import Drop
-from plantbal_office.enter.typed import KINDS, SHEETS, cells_of, file_of, typing_locale
+from plantbal_office.enter.typed import KINDS, SHEETS, cells_of, file_of, parted, typing_locale
 from plantbal_office.look.views import month_of
 from plantbal_office.shelf import contents_of, facts_of
 from plantbal_office.shown import in_language
@@ -35,7 +36,7 @@ MOST_JUDGED = 400
 
 
 @dataclass(frozen=True)
-class Cell:
+class GridCell:
     """A cell of the grid: what is booked, as it would be typed, and how it is marked."""
 
     label: str
@@ -51,8 +52,8 @@ class Dip:
 
     tank: str
     day: datetime.date
-    level: Cell
-    density: Cell
+    level: GridCell
+    density: GridCell
     grams: int | None
     ml: int | None
     is_end: bool
@@ -67,16 +68,17 @@ def grid(request: HttpRequest, period: str, kind: str) -> HttpResponse:
     if request.method == "POST":
 
         def act() -> str:
-            rows = cells_of(request.POST.get("cells", ""))
+            rows, cleared = parted(kind, cells_of(request.POST.get("cells", "")))
             drop = Drop(
                 person=request.user,
                 plant=request.plant,
                 name=f"typed_{period}_{kind}",
                 locale=typing_locale(),
                 is_typed=True,
+                cleared=cleared,
             )
-            file = file_of(kind, rows)
-            write(folder_of(drop), drop.name, [file])
+            if rows:
+                write(folder_of(drop), drop.name, [file_of(kind, rows)])
             drop.save(force_insert=True)
             return reverse("enter:seen", args=[request.plant.slug, drop.pk])
 
@@ -105,9 +107,24 @@ def grid(request: HttpRequest, period: str, kind: str) -> HttpResponse:
     return render(request, "enter/grid.html", words, status=400 if fault else 200)
 
 
+def tests(request: HttpRequest) -> HttpResponse:
+    """Go on to what tests at a level would say: the critical values that the plant may need."""
+
+    def act() -> str:
+        drop = Drop(
+            person=request.user, plant=request.plant, name="tests_at_5_percent", is_typed=True
+        )
+        sheet = ContentFile(b"setting,value\ntests,0.05\n", name="settings.csv")
+        write(folder_of(drop), drop.name, [sheet])
+        drop.save(force_insert=True)
+        return reverse("enter:seen", args=[request.plant.slug, drop.pk])
+
+    return once(request, act)
+
+
 def readings_of(
-    request: HttpRequest, month: Month
-) -> tuple[list[Flow], list[tuple[datetime.date, list[Cell]]]]:
+    request: HttpRequest, month: BookMonth
+) -> tuple[list[BookStream], list[tuple[datetime.date, list[GridCell]]]]:
     """Return the meters of a month, and for each day what is booked of each."""
     flows = [
         each for each in contents_of(request.plant).flows[month.year] if each.kind == "metered"
@@ -121,22 +138,22 @@ def readings_of(
     return flows, rows
 
 
-def label_of(place: Flow) -> str:
+def label_of(place: BookStream) -> str:
     """Return how a workbook calls a meter: by its tag, or else by its stream."""
     return place.meter.tag if place.meter is not None and place.meter.tag else place.name
 
 
-def _reading(flow: Flow, day: datetime.date, shown: Shown | None) -> Cell:
+def _reading(flow: BookStream, day: datetime.date, shown: ShownFact | None) -> GridCell:
     """Return the cell of a reading."""
     label = label_of(flow)
     if shown is None:
         served = in_service(flow.service, day.toordinal())
-        return Cell(label, day, "", "missing" if served else "off")
+        return GridCell(label, day, "", "missing" if served else "off")
     mark = "amended" if shown.before else "estimated" if is_marked(shown.fact.id) else ""
-    return Cell(label, day, in_language(typed_of(shown.fact, flow.meter)), mark)
+    return GridCell(label, day, in_language(typed_of(shown.fact, flow.meter)), mark)
 
 
-def typed_of(fact: Fact, meter: Meter | None) -> str:
+def typed_of(fact: BookFact, meter: Meter | None) -> str:
     """Return a reading as it would be typed: in the unit of its meter, to six digits after the point."""
     unit = meter.unit if meter is not None else ""
     if unit in ("", "t", *WET):
@@ -148,7 +165,7 @@ def typed_of(fact: Fact, meter: Meter | None) -> str:
     return plain(round(Decimal(number.numerator) / Decimal(number.denominator), 6))
 
 
-def dips_of(request: HttpRequest, month: Month) -> list[Dip]:
+def dips_of(request: HttpRequest, month: BookMonth) -> list[Dip]:
     """Return the dips of a month: of each tank at its ends, and on each other day that has one."""
     found = facts_of(request.plant, month.name)
     there = {(each.fact.place, each.fact.first): each for each in found.facts if not each.struck}
@@ -162,7 +179,9 @@ def dips_of(request: HttpRequest, month: Month) -> list[Dip]:
     return rows
 
 
-def _dip(state: object, tank: Vessel, day: datetime.date, shown: Shown | None, is_end: bool) -> Dip:
+def _dip(
+    state: object, tank: Vessel, day: datetime.date, shown: ShownFact | None, is_end: bool
+) -> Dip:
     """Return the row of a dip."""
     from plantbal.model.state import State
     from plantbal_office.enter.judging import volume_at
@@ -172,7 +191,7 @@ def _dip(state: object, tank: Vessel, day: datetime.date, shown: Shown | None, i
         mark = "missing" if is_end else ""
         usual = tank.meter.density if tank.meter is not None else None
         text = in_language(plain(Decimal(round(usual)) / 1000)) if usual else ""
-        level, dense = Cell(tank.name, day, "", mark, "level"), Cell(
+        level, dense = GridCell(tank.name, day, "", mark, "level"), GridCell(
             tank.name, day, text, "", "density"
         )
         return Dip(tank.name, day, level, dense, None, None, is_end)
@@ -180,8 +199,8 @@ def _dip(state: object, tank: Vessel, day: datetime.date, shown: Shown | None, i
     mm, density = shown.fact.values
     ml = volume_at(state.plant.tables.get(tank.name, []), mm)
     grams = ml * density // 10**6 if ml is not None else None
-    level = Cell(tank.name, day, in_language(f"{mm:,}"), mark, "level")
-    dense = Cell(tank.name, day, in_language(plain(Decimal(density) / 1000)), "", "density")
+    level = GridCell(tank.name, day, in_language(f"{mm:,}"), mark, "level")
+    dense = GridCell(tank.name, day, in_language(plain(Decimal(density) / 1000)), "", "density")
     return Dip(tank.name, day, level, dense, grams, ml, is_end)
 
 

@@ -11,7 +11,7 @@ import datetime
 from dataclasses import dataclass
 from fractions import Fraction
 
-from plantbal.book.looking import Flow, Month, MonthFacts, Vessel
+from plantbal.book.looking import BookMonth, BookStream, MonthFacts, Vessel
 from plantbal.book.naming import cell_of
 from plantbal.faults import Fault
 from plantbal.model.causes import Reason, Refused
@@ -20,6 +20,7 @@ from plantbal.model.words import refusal_of
 from plantbal.workbook.cells import Error, Reader, check_locale
 from plantbal_office.look.days import place_of
 from plantbal_office.plants.models import Plant
+from plantbal_office.sentences import refusal_said
 from plantbal_office.shelf import contents_of, facts_of
 
 # A reading beyond this many times the median of its others, or below a part of it, is told.
@@ -50,7 +51,7 @@ class Judged:
 
 
 def judge(
-    plant: Plant, month: Month, name: str, day: str, words: dict[str, str], locale: str
+    plant: Plant, month: BookMonth, name: str, day: str, words: dict[str, str], locale: str
 ) -> Judged:
     """Return what is said of a typed reading or dip."""
     try:
@@ -58,7 +59,7 @@ def judge(
         place = place_of(contents_of(plant), month, name)
         found = facts_of(plant, month.name)
         reader = Reader(check_locale(locale))
-        if isinstance(place, Flow):
+        if isinstance(place, BookStream):
             return _reading(found, place, when, words.get("amount", ""), reader)
         return _dip(found, place, when, words, reader)
     except (Fault, ValueError) as error:
@@ -67,7 +68,7 @@ def judge(
 
 
 def _reading(
-    found: MonthFacts, place: Flow, day: datetime.date, text: str, reader: Reader
+    found: MonthFacts, place: BookStream, day: datetime.date, text: str, reader: Reader
 ) -> Judged:
     """Return what is said of a reading."""
     meter = place.meter
@@ -135,15 +136,14 @@ def _refused(state: State, fields: tuple[str, ...]) -> str:
     answer = state.judge(fields)
     if not isinstance(answer, Refused) or answer.reason is Reason.DAY_TAKEN:
         return ""
-    refusal = refusal_of(state, fields, answer)
-    return f"{refusal.said}: {refusal.remedy}" if refusal.remedy else refusal.said
+    return refusal_said(refusal_of(state, fields, answer))
 
 
-def judge_ticket(plant: Plant, month: Month, words: dict[str, str], locale: str) -> Judged:
+def judge_ticket(plant: Plant, month: BookMonth, words: dict[str, str], locale: str) -> Judged:
     """Return what is said of a typed ticket."""
     try:
         place = place_of(contents_of(plant), month, words.get("stream", ""))
-        if not isinstance(place, Flow) or place.kind == "metered":
+        if not isinstance(place, BookStream) or place.kind == "metered":
             raise Fault(
                 f"{place.name} has no tickets", remedy="name a stream that is sold or bought"
             )

@@ -19,7 +19,7 @@ _LETTERS = 26
 
 
 @dataclass
-class Spot:
+class PictureCell:
     """A cell of a picture: what stands there, and what is wrong with it."""
 
     text: str
@@ -28,25 +28,25 @@ class Spot:
 
 
 @dataclass
-class Row:
+class PictureRow:
     """A row of a picture: its number, its cells, and whether rows before it are left out."""
 
     number: int
-    cells: list[Spot]
+    cells: list[PictureCell]
     is_cut: bool = False
 
 
 @dataclass
-class Picture:
+class SheetPicture:
     """A part of a sheet, with the faults at its cells."""
 
     name: str
     columns: list[str]
-    rows: list[Row]
+    rows: list[PictureRow]
 
 
 @dataclass(frozen=True)
-class At:
+class FaultPlace:
     """Where a fault stands in a sheet; 0 is the whole row, or the whole column."""
 
     line: int
@@ -71,7 +71,7 @@ def all_of(fault: Fault) -> Sequence[Fault]:
     return fault.faults if isinstance(fault, Faults) else (fault,)
 
 
-def pictures_of(fault: Fault, workbook: Path) -> tuple[list[Picture], list[Fault]]:
+def pictures_of(fault: Fault, workbook: Path) -> tuple[list[SheetPicture], list[Fault]]:
     """Return the pictures of a workbook's faults, and those that have no cell.
 
     Parameters
@@ -85,7 +85,7 @@ def pictures_of(fault: Fault, workbook: Path) -> tuple[list[Picture], list[Fault
         sheets = read_workbook(workbook)
     except Fault:
         return [], list(all_of(fault))
-    by_sheet: dict[int, list[At]] = defaultdict(list)
+    by_sheet: dict[int, list[FaultPlace]] = defaultdict(list)
     rest: list[Fault] = []
     for each in all_of(fault):
         at = _sheet_of(each.place, sheets)
@@ -93,7 +93,7 @@ def pictures_of(fault: Fault, workbook: Path) -> tuple[list[Picture], list[Fault
         if at is None or not line or sum(map(len, by_sheet.values())) >= MOST:
             rest.append(each)
             continue
-        by_sheet[at].append(At(line, column, each.what, each.remedy))
+        by_sheet[at].append(FaultPlace(line, column, each.what, each.remedy))
     return [_picture(sheets[at], found) for at, found in by_sheet.items()], rest
 
 
@@ -107,9 +107,9 @@ def _sheet_of(place: Place, sheets: Sequence[Sheet]) -> int | None:
     return None
 
 
-def _picture(sheet: Sheet, faults: Iterable[At]) -> Picture:
+def _picture(sheet: Sheet, faults: Iterable[FaultPlace]) -> SheetPicture:
     """Return the part of a sheet that its faults are in, below its head."""
-    wrong: dict[int, list[At]] = defaultdict(list)
+    wrong: dict[int, list[FaultPlace]] = defaultdict(list)
     for each in faults:
         wrong[each.line].append(each)
     numbers = [number for number, _ in sheet.lines]
@@ -130,14 +130,14 @@ def _picture(sheet: Sheet, faults: Iterable[At]) -> Picture:
         if whole and cells:
             cells[0].faults += [each.what for each in whole]
             cells[0].remedies += [each.remedy for each in whole if each.remedy]
-        rows.append(Row(number, cells, is_cut=bool(before) and number > before + 1))
+        rows.append(PictureRow(number, cells, is_cut=bool(before) and number > before + 1))
         before = number
-    return Picture(
+    return SheetPicture(
         Path(sheet.file).name if sheet.is_csv else sheet.name, list(map(letters, columns)), rows
     )
 
 
-def _columns(wrong: dict[int, list[At]], widest: int) -> list[int]:
+def _columns(wrong: dict[int, list[FaultPlace]], widest: int) -> list[int]:
     """Return which columns are shown: the first, and those near a fault if there are many."""
     if widest <= 2 * BESIDE:
         return list(range(1, widest + 1))
@@ -147,8 +147,8 @@ def _columns(wrong: dict[int, list[At]], widest: int) -> list[int]:
     return sorted(near)[: 3 * BESIDE]
 
 
-def _spot(value: object, faults: Sequence[At]) -> Spot:
+def _spot(value: object, faults: Sequence[FaultPlace]) -> PictureCell:
     """Return a cell of a picture."""
     text = "" if value is None else str(value)[:80]
     remedies = [each.remedy for each in faults if each.remedy]
-    return Spot(text, [each.what for each in faults], list(dict.fromkeys(remedies)))
+    return PictureCell(text, [each.what for each in faults], list(dict.fromkeys(remedies)))

@@ -55,16 +55,28 @@ def _is_text(value: object) -> bool:
     return isinstance(value, str) and len(value) <= LONGEST and value.isprintable()
 
 
-def file_of(kind: str, rows: Sequence[Mapping[str, str]]) -> ContentFile:
-    """Return the sheet of what was typed.
+def parted(
+    kind: str, rows: Sequence[Mapping[str, str]]
+) -> tuple[list[Mapping[str, str]], list[list[str]]]:
+    """Return the rows with a figure, and the names and days of the cells that were cleared.
 
     Raises
     ------
     Fault
-        If nothing was.
+        If nothing was typed and nothing cleared.
     """
     if not rows:
         raise Fault(_("nothing was typed"), remedy=_("type a figure, or leave the page"))
+    figure = {"readings": "amount", "dips": "level"}.get(kind)
+    if figure is None:
+        return list(rows), []
+    typed = [row for row in rows if row.get(figure)]
+    name = "name" if kind == "readings" else "tank"
+    return typed, [[row.get(name, ""), row.get("day", "")] for row in rows if not row.get(figure)]
+
+
+def file_of(kind: str, rows: Sequence[Mapping[str, str]]) -> ContentFile:
+    """Return the sheet of what was typed."""
     table = _readings(rows) if kind == "readings" else _table(SHEETS[kind], rows)
     out = io.StringIO()
     csv.writer(out, lineterminator="\n").writerows(table)

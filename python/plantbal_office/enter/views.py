@@ -26,11 +26,14 @@ from plantbal_office.enter.drops import (
     files_in,
     forget,
     keep,
-    options_of,
     path_of,
+    tabled_of,
+    typed_reading,
     without_folders,
     workbooks_of,
 )
+from plantbal_office.enter.mapped import mapped_at, reading_of
+from plantbal_office.enter.mapping import is_wanted
 from plantbal_office.enter.models import Drop
 from plantbal_office.enter.picture import pictures_of
 from plantbal_office.plants.models import Plant
@@ -79,15 +82,17 @@ def drop(request: HttpRequest) -> HttpResponse:
 
 
 def act_of(found: Drop, how: dict[str, object], why: str) -> Callable[[Book], Added]:
-    """Return what adds a workbook to a book."""
+    """Return what adds a workbook, or what was typed, to a book."""
 
     def act(book: Book) -> Added:
+        if found.is_typed:
+            return book.add(tabled_of(found), why=why, reading=typed_reading(book, found.locale))
         return book.add(
             path_of(found),
             why=why,
             strike=bool(how.get("strike")),
             anyway=bool(how.get("anyway")),
-            reading=options_of(found.locale),
+            reading=reading_of(found),
         )
 
     return act
@@ -95,7 +100,7 @@ def act_of(found: Drop, how: dict[str, object], why: str) -> Callable[[Book], Ad
 
 def trial_of(plant: Plant, found: Drop, how: dict[str, object]) -> Trial:
     """Return what a workbook would do, which is found out on a copy of the book."""
-    key = str(found.pk), bool(how.get("strike")), bool(how.get("anyway"))
+    key = str(found.pk), mapped_at(found), bool(how.get("strike")), bool(how.get("anyway"))
     act = act_of(found, how, TRIED)
     return KEPT.of(Path(plant.folder), "trial", key, lambda: tried(plant, act, months_added))
 
@@ -106,14 +111,20 @@ def seen(request: HttpRequest, drop: str) -> HttpResponse:
     form = How(request.GET)
     how = form.cleaned_data if form.is_valid() else {}
     version = contents_of(request.plant).version
+    is_mapped = mapped_at(found) > 0
+    if not found.is_typed and not is_mapped and "plain" not in request.GET:
+        if is_wanted(request.plant, found):
+            return redirect("enter:mapping", request.plant.slug, found.pk)
     trial = trial_of(request.plant, found, how)
     words = {"drop": found, "version": version, "how": How(initial=how), "section": "enter"}
     words |= {"strike": bool(how.get("strike")), "anyway": bool(how.get("anyway"))}
+    words["is_mapped"] = is_mapped
     if trial.fault is not None:
         pictures, rest = pictures_of(trial.fault, path_of(found))
         words |= {"fault": trial.fault, "pictures": pictures, "rest": rest}
         return render(request, "enter/faults.html", words)
     words |= what_of(trial)
+    words["strike"] = words["added"].struck
     return render(request, "enter/seen.html", words)
 
 

@@ -6,9 +6,9 @@ import datetime
 from collections.abc import Iterator
 from dataclasses import dataclass
 
-from plantbal.book.ledger import Fact
-from plantbal.book.looking import Contents, Flow, Month, MonthFacts, Vessel
-from plantbal.book.results import ReportState, Shown
+from plantbal.book.ledger import BookFact
+from plantbal.book.looking import BookMonth, BookStream, Contents, MonthFacts, Vessel
+from plantbal.book.results import ReportState, ShownFact
 from plantbal.commands.book.showing import in_unit
 from plantbal.estimates import is_marked
 from plantbal.faults import Fault
@@ -28,7 +28,7 @@ class Day:
     ----------
     day : date
         The day.
-    shown : Shown or None
+    shown : ShownFact or None
         What is booked; None if nothing is.
     is_missing : bool
         Whether something should be.
@@ -41,14 +41,14 @@ class Day:
     """
 
     day: datetime.date
-    shown: Shown | None
+    shown: ShownFact | None
     is_missing: bool = False
     is_estimate: bool = False
     in_unit: str = ""
     usual: float | None = None
 
     @property
-    def fact(self) -> Fact | None:
+    def fact(self) -> BookFact | None:
         """The fact."""
         return self.shown.fact if self.shown is not None else None
 
@@ -57,11 +57,11 @@ class Day:
 class Year:
     """A month of a stream: its booked flow in grams, and whether the month is closed."""
 
-    month: Month
+    month: BookMonth
     flow: int | None
 
 
-def place_of(contents: Contents, month: Month, name: str) -> Flow | Vessel:
+def place_of(contents: Contents, month: BookMonth, name: str) -> BookStream | Vessel:
     """Return the stream or the tank of a name.
 
     Raises
@@ -69,21 +69,21 @@ def place_of(contents: Contents, month: Month, name: str) -> Flow | Vessel:
     Fault
         If there is none.
     """
-    some: list[Flow | Vessel] = [*contents.flows[month.year], *contents.vessels[month.year]]
+    some: list[BookStream | Vessel] = [*contents.flows[month.year], *contents.vessels[month.year]]
     for each in some:
         if name in (each.name, each.meter.tag if each.meter is not None else None):
             return each
     raise Fault(f"there is no stream or tank {name} in {month.name}", text=name)
 
 
-def days_of(plant: Plant, month: Month, place: Flow | Vessel) -> list[Day]:
+def days_of(plant: Plant, month: BookMonth, place: BookStream | Vessel) -> list[Day]:
     """Return the days of a stream or a tank in a month, the days without a figure too."""
     found: MonthFacts = facts_of(plant, month.name)
     own = [each for each in found.facts if each.fact.place == place.name]
-    if isinstance(place, Flow) and place.kind != "metered":
+    if isinstance(place, BookStream) and place.kind != "metered":
         return [_day(each.fact.first, each, place, None) for each in own]
     live = {each.fact.first: each for each in own if not each.struck}
-    struck: dict[datetime.date, Shown] = {e.fact.first: e for e in own if e.struck}
+    struck: dict[datetime.date, ShownFact] = {e.fact.first: e for e in own if e.struck}
     middle = _median([e.fact.values[0] for e in live.values()])
     return [
         _day(day, live.get(day) or struck.get(day), place, middle, is_wanted=is_wanted)
@@ -91,20 +91,20 @@ def days_of(plant: Plant, month: Month, place: Flow | Vessel) -> list[Day]:
     ]
 
 
-def _days(month: Month, place: Flow | Vessel) -> Iterator[tuple[datetime.date, bool]]:
+def _days(month: BookMonth, place: BookStream | Vessel) -> Iterator[tuple[datetime.date, bool]]:
     """Give the days of a month, and on which a figure is wanted; of a tank the evening before."""
     first = month.first - _DAY if isinstance(place, Vessel) else month.first
     for number in range(first.toordinal(), month.last.toordinal() + 1):
         day = datetime.date.fromordinal(number)
         served = in_service(place.service, number)
         is_end = day in (first, month.last)
-        yield day, served and (is_end or isinstance(place, Flow))
+        yield day, served and (is_end or isinstance(place, BookStream))
 
 
 def _day(
     day: datetime.date,
-    shown: Shown | None,
-    place: Flow | Vessel,
+    shown: ShownFact | None,
+    place: BookStream | Vessel,
     middle: float | None,
     *,
     is_wanted: bool = False,

@@ -34,18 +34,25 @@ _ROW = re.compile(
 _HOLE = re.compile(r'<li><p class="hole">.*?</ul></li>', re.DOTALL)
 _HEAD = re.compile(r"<b>(.*?)</b>", re.DOTALL)
 _STREAM = re.compile(r"[A-Za-z0-9_.-]+")
+# The bounds and certificates of a period, and how many bytes of them are within its page.
+_PROOF = re.compile(r'<details class="proof"><summary>(.*?)</summary>.*?</details>', re.DOTALL)
+MOST_PROOF = 600_000
 # How long Graphviz has for the drawing of a page.
 SECONDS = 8.0
 
 
 @dataclass(frozen=True)
-class Shown:
-    """A statement as it is shown: what is in it, its foot, and what there is to say of it."""
+class ShownStatement:
+    """A statement as it is shown: what is in it, its foot, and what there is to say of it.
+
+    The bounds and certificates of a large plant are apart, and come after the page.
+    """
 
     body: str
     foot: str
     has_worth: bool
     said: tuple[str, ...]
+    proof: str = ""
 
 
 def prepared_of(plant: Plant, period: str, number: int | None = None) -> tuple[Prepared, Source]:
@@ -68,21 +75,33 @@ def whole_page(plant: Plant, period: str) -> str:
     return render(prepared, title=title, origin=origin, seconds=SECONDS, parts=added.parts)
 
 
-def statement_of(plant: Plant, period: str, number: int | None = None) -> Shown:
+def statement_of(plant: Plant, period: str, number: int | None = None) -> ShownStatement:
     """Return the statement of a month as the desk shows it."""
 
-    def make() -> Shown:
+    def make() -> ShownStatement:
         prepared, source = prepared_of(plant, period, number)
         added = booked(plant.folder, source.rows if number is None else ())
         page = render(prepared, title=period, seconds=SECONDS, parts=added.parts)
-        return Shown(
-            linked(plant, period, _inner(_MAIN, page)),
+        body, proof = _parted(plant, period, number, _inner(_MAIN, page))
+        return ShownStatement(
+            linked(plant, period, body),
             _inner(_FOOT, page),
             "without-worth" not in page.partition("<body")[2].partition(">")[0],
             tuple(added.said),
+            proof,
         )
 
     return KEPT.of(Path(plant.folder), "page", (period, number), make)
+
+
+def _parted(plant: Plant, period: str, number: int | None, body: str) -> tuple[str, str]:
+    """Return the body of a statement, and its bounds and certificates if they come after it."""
+    found = _PROOF.search(body)
+    if number is not None or found is None or len(found[0]) <= MOST_PROOF:
+        return body, ""
+    address = escape(reverse("look:proof", args=[plant.slug, period]))
+    there = f'<div data-load="{address}"><a href="{address}">{found[1]}</a></div>'
+    return body[: found.start()] + there + body[found.end() :], found[0]
 
 
 def _inner(pattern: re.Pattern[str], page: str) -> str:

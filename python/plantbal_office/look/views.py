@@ -10,7 +10,7 @@ from django.http import Http404, HttpRequest, HttpResponse
 from django.shortcuts import render
 from django.utils.translation import gettext as _
 
-from plantbal.book.looking import Flow, Month
+from plantbal.book.looking import BookMonth, BookStream
 from plantbal.book.results import ReportState
 from plantbal.commands.book.showing import in_unit
 from plantbal.estimates import is_marked
@@ -26,7 +26,7 @@ LINES = 200  # of the journal on a page
 XLSX = "application/vnd.openxmlformats-officedocument.spreadsheetml.sheet"
 
 
-def month_of(request: HttpRequest, period: str) -> Month:
+def month_of(request: HttpRequest, period: str) -> BookMonth:
     """Return the month that an address names."""
     month = contents_of(request.plant).month(period)
     if month is None:
@@ -64,6 +64,14 @@ def notes_on(request: HttpRequest, about: str) -> dict[str, object]:
     return {"about": about, "notes": found}
 
 
+def proof(request: HttpRequest, period: str) -> HttpResponse:
+    """Give the bounds and certificates of a large plant, which its page loads after itself."""
+    month = month_of(request, period)
+    if month.report is ReportState.MISSING:
+        raise Fault(_("there is no report yet"), remedy=_("make one first"))
+    return HttpResponse(statement_of(request.plant, period).proof)
+
+
 def earlier(request: HttpRequest, period: str, number: int) -> HttpResponse:
     """Show an earlier report of a month, which went out once."""
     month = month_of(request, period)
@@ -91,7 +99,7 @@ def stream(request: HttpRequest, period: str, name: str) -> HttpResponse:
     words = {
         "month": month,
         "place": place,
-        "is_tank": not isinstance(place, Flow),
+        "is_tank": not isinstance(place, BookStream),
         "days": days,
         "tops": _bars([each.fact.values[0] if each.fact else None for each in days]),
         "years": months_of(request.plant, place.name),

@@ -4,6 +4,7 @@ from __future__ import annotations
 
 import hashlib
 import json
+import os
 import tempfile
 from pathlib import Path, PurePosixPath
 
@@ -14,6 +15,7 @@ from django.http import Http404, HttpRequest, HttpResponse
 from django.utils.http import url_has_allowed_host_and_scheme
 from django.utils.translation import gettext as _
 
+from plantbal.book.writing import sync
 from plantbal.faults import Fault, InputFault, Place
 from plantbal_office.deeds.once import once
 from plantbal_office.look.views import month_of
@@ -115,6 +117,10 @@ def _attach(note: Note, file: UploadedFile) -> None:
         for part in file.chunks():
             digest.update(part)
             out.write(part)
+        out.flush()
+        os.fsync(out.fileno())
+    for inner in (folder(), folder().parent, folder().parent.parent):
+        sync(inner)  # before the database says that it is kept
     note.name, note.kind, note.sha256 = name, KINDS[ending], digest.hexdigest()
 
 

@@ -24,9 +24,15 @@ ONE = "desk"  # the name of the one person of a desk without names
 class SignIn(forms.Form):
     """A name and a password."""
 
-    name = forms.CharField(label=gettext_lazy("Name"), max_length=150)
+    name = forms.CharField(
+        label=gettext_lazy("Name"),
+        max_length=150,
+        widget=forms.TextInput({"autocomplete": "username"}),
+    )
     password = forms.CharField(
-        label=gettext_lazy("Password"), max_length=200, widget=forms.PasswordInput
+        label=gettext_lazy("Password"),
+        max_length=200,
+        widget=forms.PasswordInput({"autocomplete": "current-password"}),
     )
 
 

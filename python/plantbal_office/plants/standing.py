@@ -15,9 +15,9 @@ from pathlib import Path
 from django.utils.translation import gettext as _
 from django.utils.translation import gettext_lazy, ngettext
 
-from plantbal.book.looking import Month
+from plantbal.book.looking import BookMonth
 from plantbal.book.reporting import stops_in
-from plantbal.book.results import ReportState, Status
+from plantbal.book.results import BookStatus, ReportState
 from plantbal.gates import Gate, Stop
 from plantbal.report.output import Output, parse_report
 from plantbal_office.access import Role
@@ -61,7 +61,7 @@ class Stand:
 
     Attributes
     ----------
-    month : Month
+    month : BookMonth
         The month.
     standing : Standing
         The word for it.
@@ -77,7 +77,7 @@ class Stand:
         The report, if it has one.
     """
 
-    month: Month
+    month: BookMonth
     standing: Standing
     waits: str
     whom: tuple[Role, ...]
@@ -91,12 +91,17 @@ class Stand:
         return str(WORDS[self.standing])
 
     @property
+    def is_untested(self) -> bool:
+        """Whether its report wasn't tested for want of critical values."""
+        return any(stop.gate is Gate.UNTESTED and stop.values for stop in self.stops)
+
+    @property
     def sign(self) -> str:
         """A sign for it."""
         return SIGNS[self.standing]
 
 
-def status_of(plant: Plant) -> Status:
+def status_of(plant: Plant) -> BookStatus:
     """Return how the book of a plant stands."""
     return KEPT.of(Path(plant.folder), "status", (), plain_book(plant).status)
 
@@ -110,14 +115,14 @@ def stands_of(plant: Plant) -> list[Stand]:
     ]
 
 
-def stand_of(plant: Plant, month: Month) -> Stand:
+def stand_of(plant: Plant, month: BookMonth) -> Stand:
     """Return how a month stands."""
     years = status_of(plant).years
     missing = [each.missing for year in years for each in year.periods if each.name == month.name]
     return _stand(plant, month, missing[0] if missing else ())
 
 
-def _stand(plant: Plant, month: Month, missing: Sequence[str]) -> Stand:
+def _stand(plant: Plant, month: BookMonth, missing: Sequence[str]) -> Stand:
     """Return how a month stands, by its report and by what is missing."""
     if month.closed:
         if month.report is ReportState.CURRENT:

@@ -2,15 +2,18 @@
 
 from django.urls import path
 
-from plantbal_office.plants import views
+from plantbal_office.plants import beginning, tasks, views
 
 app_name = "plants"
 urlpatterns = [
     path("", views.plants, name="list"),
     path("open", views.open_book, name="open"),
-    path("begin", views.begin, name="begin"),
+    path("begin", beginning.begin, name="begin"),
+    path("begin/<uuid:drop>", beginning.mapping, name="mapping"),
     path("p/<slug:plant>/", views.months, name="months"),
     path("p/<slug:plant>/verify", views.verify, name="verify"),
     path("p/<slug:plant>/next", views.next_year, name="next"),
+    path("p/<slug:plant>/task", tasks.give, name="task"),
+    path("p/<slug:plant>/done/<int:task>", tasks.done, name="done"),
     path("p/<slug:plant>/retire", views.retire, name="retire"),
 ]

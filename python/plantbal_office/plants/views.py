@@ -2,6 +2,8 @@
 
 from __future__ import annotations
 
+from collections.abc import Mapping, Sequence
+from dataclasses import dataclass
 from pathlib import Path
 
 from django import forms
@@ -14,19 +16,23 @@ from django.utils.text import slugify
 from django.utils.translation import gettext as _
 from django.utils.translation import gettext_lazy
 
-from plantbal.book.expected import Version
+from plantbal.book.expected import BookVersion
 from plantbal.book.library import Book
 from plantbal.faults import Fault
 from plantbal_office.access import Role
 from plantbal_office.deeds.once import once
 from plantbal_office.enter.drops import LOCALES, dropped, options_of, without_folders
 from plantbal_office.people.models import Membership
-from plantbal_office.plants.models import Plant
+from plantbal_office.plants.models import Plant, Task
 from plantbal_office.plants.standing import Stand, Standing, stands_of, status_of
-from plantbal_office.shelf import book_of, contents_of, plain_book, who_of
+from plantbal_office.plants.tasks import members_of, names_by_role, open_tasks
+from plantbal_office.shelf import book_of, contents_of, plain_book
 
 # What one person's desk lets its person be in each plant.
 ALL = (Role.CLERK, Role.ENGINEER, Role.APPROVER)
+
+
+YEAR = r"^[0-9]{4}[A-Za-z0-9_-]{0,28}$"
 
 
 class OpenBook(forms.Form):
@@ -36,21 +42,10 @@ class OpenBook(forms.Form):
     folder = forms.CharField(label=gettext_lazy("Folder of its book"), max_length=1000)
 
 
-class BeginBook(OpenBook):
-    """A folder for a new book, and its first year."""
-
-    year = forms.RegexField(
-        r"^[0-9]{4}[A-Za-z0-9_-]{0,28}$", label=gettext_lazy("First year"), max_length=32
-    )
-    locale = forms.ChoiceField(
-        label=gettext_lazy("Numbers and days"), choices=LOCALES, required=False
-    )
-
-
 class NextYear(forms.Form):
     """The next year of a book."""
 
-    year = forms.RegexField(r"^[0-9]{4}[A-Za-z0-9_-]{0,28}$", label=gettext_lazy("Year"))
+    year = forms.RegexField(YEAR, label=gettext_lazy("Year"))
     first = forms.DateField(label=gettext_lazy("First day"), required=False)
     locale = forms.ChoiceField(
         label=gettext_lazy("Numbers and days"), choices=LOCALES, required=False
@@ -59,7 +54,8 @@ class NextYear(forms.Form):
 
 def plants(request: HttpRequest) -> HttpResponse:
     """Show the plants in which the person has a role, and how the months of each stand."""
-    own = Plant.objects.filter(memberships__person=request.user).distinct()
+    own = list(Plant.objects.filter(memberships__person=request.user).distinct())
+    tasks = open_tasks(own)
     found = []
     for plant in own:
         try:
@@ -67,10 +63,33 @@ def plants(request: HttpRequest) -> HttpResponse:
             fault = None
         except Fault as error:
             stands, fault = [], error
-        waiting = [each for each in stands if each.standing is not Standing.CLOSED]
+        waiting = _waiting(plant, stands, tasks)
         found.append({"plant": plant, "stands": stands[-14:], "waiting": waiting, "fault": fault})
     request.roles = frozenset({Role.ADMINISTRATOR} if request.user.is_administrator else ())
     return render(request, "plants/list.html", {"found": found})
+
+
+@dataclass(frozen=True)
+class WaitingMonth:
+    """A month, with who has the roles that it waits for, and with its tasks."""
+
+    stand: Stand
+    whom: Sequence[tuple[Role, list[str]]] = ()
+    tasks: Sequence[Task] = ()
+
+
+def _waiting(
+    plant: Plant, stands: Sequence[Stand], tasks: Mapping[tuple[int, str], list[Task]]
+) -> list[WaitingMonth]:
+    """Return the months that wait for something, each with for what, of whom, and its tasks."""
+    names = {} if settings.PLANTBAL_KEY else names_by_role(plant)
+    found = []
+    for stand in stands:
+        own = tasks.get((plant.pk, stand.month.name), [])
+        if stand.standing is not Standing.CLOSED or own:
+            whom = [(role, names.get(role, [])) for role in stand.whom]
+            found.append(WaitingMonth(stand, whom, own))
+    return found
 
 
 def register(request: HttpRequest, name: str, folder: Path) -> Plant:
@@ -124,47 +143,18 @@ def open_book(request: HttpRequest) -> HttpResponse:
     return render(request, "plants/open.html", words, status=400 if form.errors else 200)
 
 
-def begin(request: HttpRequest) -> HttpResponse:
-    """Begin a book with the workbook of a plant."""
-    form = BeginBook(request.POST or None)
-    if request.method == "POST" and form.is_valid():
-        words = form.cleaned_data
-
-        def act() -> str:
-            with dropped(request) as workbook:
-                assert workbook is not None
-                book = Book(
-                    Path(words["folder"]).expanduser(),
-                    who=who_of(request),
-                    program=settings.PLANTBAL_PROGRAM,
-                )
-                made = book.begin(words["year"], workbook, reading=options_of(words["locale"]))
-            plant = register(request, words["name"], book.folder)
-            plant.locale = words["locale"]
-            plant.save()
-            messages.success(request, _("The book is begun: {year}.").format(year=made.year))
-            for note in made.notes:
-                messages.info(request, without_folders(note))
-            return reverse("plants:months", args=[plant.slug])
-
-        try:
-            return once(request, act)
-        except Fault as fault:
-            form.add_error(None, without_folders(str(fault)))
-            for line in getattr(fault, "lines", ()):
-                form.add_error(None, without_folders(line))
-    answer = {"form": form, "title": _("Begin a book")}
-    return render(request, "plants/begin.html", answer, status=400 if form.errors else 200)
-
-
 def months(request: HttpRequest) -> HttpResponse:
     """Show the months of a plant, and what each waits for, and of whom."""
     contents = contents_of(request.plant)
     stands = stands_of(request.plant)
     status = status_of(request.plant)
+    waiting = _waiting(request.plant, stands, open_tasks([request.plant]))
+    shown = {each.stand.month.name: each for each in waiting}
+    rows = [shown.get(each.month.name, WaitingMonth(each)) for each in reversed(stands)]
     words = {
         "version": contents.version,
-        "stands": list(reversed(stands)),
+        "rows": rows,
+        "members": members_of(request.plant),
         "status": status,
         "years": [(each, _used(each.facts)) for each in status.years],
         "windows": contents.windows,
@@ -188,7 +178,7 @@ def next_year(request: HttpRequest) -> HttpResponse:
         words = form.cleaned_data
 
         def act() -> str:
-            with dropped(request, wanted=False) as workbook:
+            with dropped(request) as workbook:
                 made = book_of(request, expected=True).next(
                     words["year"],
                     plant=workbook,
@@ -203,7 +193,7 @@ def next_year(request: HttpRequest) -> HttpResponse:
             return once(request, act)
         except Fault as fault:
             form.add_error(None, without_folders(str(fault)))
-    version: Version = contents_of(request.plant).version
+    version: BookVersion = contents_of(request.plant).version
     answer = {"form": form, "version": version, "title": _("Begin the next year")}
     return render(request, "plants/next.html", answer, status=400 if form.errors else 200)
 

@@ -40,7 +40,7 @@ class BookKept:
 
 
 @dataclass(frozen=True)
-class Manifest:
+class BackupManifest:
     """What a backup has: when it was made, its books, and the SHA-256 of each of its files."""
 
     version: int
@@ -53,7 +53,7 @@ class Manifest:
         return (json.dumps(asdict(self), indent=1) + "\n").encode("utf-8")
 
     @classmethod
-    def read(cls, data: bytes) -> Manifest:
+    def read(cls, data: bytes) -> BackupManifest:
         """Return the manifest of its text.
 
         Raises
@@ -111,7 +111,7 @@ def members(file: IO[bytes]) -> Iterator[tuple[str, bytes]]:
                 parts = member.name.split("/")
                 is_safe = ".." not in parts and "" not in parts and "." not in parts
                 if not (member.isreg() and is_safe and _NAME.fullmatch(member.name)):
-                    what = f"{member.name[:80]!r} is no file of a backup"
+                    what = f"{member.name[:80]!r} isn't a file of a backup"
                     raise InputFault(what, remedy="plantbal-office backup writes no such file")
                 if member.size > INPUT_BYTES:
                     raise InputFault(f"{member.name} has {member.size:,} bytes")
@@ -133,10 +133,15 @@ def encrypted(path: Path, recipients: Sequence[str]) -> Iterator[IO[bytes]]:
         if not recipients:
             yield file
             return
-        with subprocess.Popen(_words(recipients), stdin=subprocess.PIPE, stdout=file) as process:
-            assert process.stdin is not None
-            yield process.stdin
-            process.stdin.close()
+        process = subprocess.Popen(_words(recipients), stdin=subprocess.PIPE, stdout=file)
+        assert process.stdin is not None
+        try:
+            with process.stdin as written:
+                yield written
+        except BrokenPipeError:
+            pass  # it has ended, and says why on standard error
+        finally:
+            process.wait()
     if process.returncode != 0:
         raise Fault("the backup can't be encrypted", remedy=f"look at {', '.join(recipients)}")
 

@@ -19,14 +19,15 @@ from django.conf import settings
 
 from plantbal.book.forms import CHECKS, LOCK, PENDING, there
 from plantbal.book.store import Store
+from plantbal.book.writing import sync
 from plantbal.faults import Fault, read_bytes
 from plantbal_office.plants.models import Plant
 from plantbal_office.service.archives import (
     DATABASE,
     MANIFEST,
     VERSION,
+    BackupManifest,
     BookKept,
-    Manifest,
     Packing,
     encrypted,
 )
@@ -74,7 +75,7 @@ def back_up(config: Config, path: Path, recipients: Sequence[str] | None) -> Bac
                 books = [_book(packing, number, *each) for number, each in enumerate(stores)]
                 _files(packing)
                 made = datetime.datetime.now(datetime.timezone.utc)
-                manifest = Manifest(
+                manifest = BackupManifest(
                     VERSION, made.strftime("%Y-%m-%dT%H:%M:%SZ"), tuple(books), packing.digests
                 )
                 count = len(packing.digests)
@@ -84,6 +85,7 @@ def back_up(config: Config, path: Path, recipients: Sequence[str] | None) -> Bac
             digest = hashlib.file_digest(file, "sha256").hexdigest()
             os.fsync(file.fileno())
         os.rename(part, path)
+        sync(path.parent)
     finally:
         part.unlink(missing_ok=True)
     return BackedUp(count, len(books), digest, bool(wanted))

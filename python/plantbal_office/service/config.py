@@ -132,11 +132,14 @@ def _config(path: Path, values: dict[str, Any]) -> Config:
                 raise ValueError(f"[{table}] has no {name}: it may have {', '.join(names)}")
     hosts = values["hosts"]
     if not isinstance(hosts, list) or not hosts or "*" in hosts:
-        raise ValueError("hosts is no list of names by which browsers call the service")
+        raise ValueError("hosts isn't a list of names by which browsers call the service")
     sign_in = values.get("sign_in", {})
     ldap = values.get("ldap", {})
     if ldap and not _is_safe(ldap):
         raise ValueError("ldap.server sends passwords as they are: say ldaps://, or start_tls")
+    oidc = values.get("oidc", {})
+    if oidc and not str(oidc["server"]).startswith(("https://", "http://127.0.0.1:")):
+        raise ValueError("oidc.server sends codes as they are: say https://")
     return Config(
         path,
         tuple(map(str, hosts)),
@@ -145,7 +148,7 @@ def _config(path: Path, values: dict[str, Any]) -> Config:
         str(values.get("program", "")),
         values.get("database", {}),
         ldap,
-        values.get("oidc", {}),
+        oidc,
         Second(sign_in.get("second", "approvers")),
         60 * int(sign_in.get("idle_minutes", 30)),
         3600 * int(sign_in.get("hours", 12)),

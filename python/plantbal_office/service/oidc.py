@@ -17,6 +17,8 @@ from plantbal_office.service.models import Event
 from plantbal_office.service.views import entered
 
 _PROVIDER = "provider"
+# What comes of a provider that doesn't answer, or answers something else than it should.
+_FAILED = (AuthlibBaseError, OSError, ValueError, KeyError)
 
 
 def _client() -> object:
@@ -39,20 +41,28 @@ def leave(request: HttpRequest) -> HttpResponse:
     """Go to the provider."""
     client = _client()
     back = request.build_absolute_uri(reverse("service:back"))
-    return client.authorize_redirect(request, back)  # type: ignore[attr-defined]
+    try:
+        return client.authorize_redirect(request, back)  # type: ignore[attr-defined]
+    except _FAILED as error:
+        locks.note(request, Event.Kind.FAILED, "", f"oidc: {type(error).__name__}")
+        what = _("the provider doesn't answer")
+        return said(request, Fault(what, remedy=_("try again later, or sign in by name")), 503)
 
 
 def back(request: HttpRequest) -> HttpResponse:
     """Come back from the provider: whoever it names signs in, if that account is there."""
     client = _client()
+    why, name = "", ""
     try:
         token = client.authorize_access_token(request)  # type: ignore[attr-defined]
-    except (AuthlibBaseError, OSError, ValueError, KeyError) as error:
-        locks.note(request, Event.Kind.FAILED, "", f"oidc: {type(error).__name__}")
+        name = str((token.get("userinfo") or {}).get(settings.PLANTBAL_OIDC["claim"], ""))
+    except _FAILED as error:
+        why = type(error).__name__
+    if not name:
+        locks.note(request, Event.Kind.FAILED, "", f"oidc: {why or 'no name'}")
         what = _("the provider didn't say who you are")
         return said(request, Fault(what, remedy=_("begin at the sign-in again")), 403)
-    name = str((token.get("userinfo") or {}).get(settings.PLANTBAL_OIDC["claim"], ""))
-    person = Person.objects.filter(username=name, is_active=True).first() if name else None
+    person = Person.objects.filter(username=name, is_active=True).first()
     if person is None:
         locks.note(request, Event.Kind.FAILED, name, "oidc: no account")
         what = _("there is no account for you here")

@@ -16,7 +16,7 @@ from pathlib import Path
 from django.conf import settings
 from django.db import connection
 
-from plantbal.audit.said import Kind
+from plantbal.audit.said import SentenceKind
 from plantbal.audit.runwords import words_read, words_shown
 from plantbal.book.approval.history import looked
 from plantbal.book.forms import report_file, year_file
@@ -31,25 +31,32 @@ from plantbal.files import write_bytes
 from plantbal.program import call
 from plantbal.report.output import parse_report
 from plantbal_office.plants.models import Plant
-from plantbal_office.service.archives import DATABASE, MANIFEST, BookKept, Manifest, members, opened
+from plantbal_office.service.archives import (
+    DATABASE,
+    MANIFEST,
+    BackupManifest,
+    BookKept,
+    members,
+    opened,
+)
 from plantbal_office.service.backup import database_secrets, database_words
 from plantbal_office.service.config import Config
 
 
 @dataclass(frozen=True)
-class Found:
+class RestoreFinding:
     """What was found: good, note or wrong, and a sentence."""
 
-    kind: Kind
+    kind: SentenceKind
     said: str
 
     @property
     def is_wrong(self) -> bool:
         """Whether it isn't as it should be."""
-        return self.kind is Kind.WRONG
+        return self.kind is SentenceKind.WRONG
 
 
-def restore(config: Config, path: Path, identity: str | None) -> Iterator[Found]:
+def restore(config: Config, path: Path, identity: str | None) -> Iterator[RestoreFinding]:
     """Put a backup into this service, and give what a look at all of it finds.
 
     Parameters
@@ -70,13 +77,16 @@ def restore(config: Config, path: Path, identity: str | None) -> Iterator[Found]
     with tempfile.TemporaryDirectory(dir=config.state, prefix="restore.") as name:
         room = Path(name)
         manifest = _unpacked(path, identity, room)
-        yield Found(Kind.GOOD, f"the digests of its {len(manifest.files)} files hold")
+        yield RestoreFinding(
+            SentenceKind.GOOD, f"the digests of its {len(manifest.files)} files hold"
+        )
         folders = {book.number: _place(config, room, book) for book in manifest.books}
         _put_database(room / DATABASE)
         _put_files(room / "files")
         for book in manifest.books:
             Plant.objects.filter(slug=book.plant).update(folder=str(folders[book.number]))
-        yield Found(Kind.GOOD, f"the database of {manifest.made} is restored")
+        os.sync()  # before anybody throws the backup away
+        yield RestoreFinding(SentenceKind.GOOD, f"the database of {manifest.made} is restored")
     for book in manifest.books:
         yield from verified(folders[book.number], book.head)
 
@@ -95,7 +105,7 @@ def _check_empty(config: Config) -> None:
         raise Fault(f"{config.books} isn't empty", remedy="restore into an empty service")
 
 
-def _unpacked(path: Path, identity: str | None, room: Path) -> Manifest:
+def _unpacked(path: Path, identity: str | None, room: Path) -> BackupManifest:
     """Unpack a backup into a folder, and return its manifest once all digests hold.
 
     Raises
@@ -114,7 +124,7 @@ def _unpacked(path: Path, identity: str | None, room: Path) -> Manifest:
             write_bytes(target, data)
     if digests.pop(MANIFEST, None) is None:
         raise Fault(f"{path} has no {MANIFEST}: it is cut, or no backup")
-    manifest = Manifest.read((room / MANIFEST).read_bytes())
+    manifest = BackupManifest.read((room / MANIFEST).read_bytes())
     for name in sorted({*digests, *manifest.files}):
         if digests.get(name) != manifest.files.get(name):
             raise Fault(f"{name} isn't as the backup says, and nothing was restored")
@@ -126,7 +136,7 @@ def _place(config: Config, room: Path, book: BookKept) -> Path:
     config.books.mkdir(parents=True, exist_ok=True)
     target = config.books / book.plant
     if target.exists() or "/" in book.plant or book.plant.startswith("."):
-        raise Fault(f"{target} is there already, or is no place for a book")
+        raise Fault(f"{target} is there already, or isn't a place for a book")
     os.rename(room / "books" / str(book.number), target)
     return target
 
@@ -156,22 +166,24 @@ def _put_files(room: Path) -> None:
 # ---- verifying
 
 
-def verified(folder: Path, head: str = "") -> Iterator[Found]:
+def verified(folder: Path, head: str = "") -> Iterator[RestoreFinding]:
     """Give what a look at a book finds: its chain, its approvals, and each report made again."""
     found = Book(folder).verify(heads=[head] if head else [])
     for line in found.wrong:
-        yield Found(Kind.WRONG, line)
+        yield RestoreFinding(SentenceKind.WRONG, line)
     if found.ok:
-        yield Found(Kind.GOOD, f"{folder}: {found.files} files are as the journal says")
+        yield RestoreFinding(
+            SentenceKind.GOOD, f"{folder}: {found.files} files are as the journal says"
+        )
     store = Store(folder)
     with store.opened(reading=True, tested=False):
         for each in looked(store):
-            if each.kind is not Kind.NOTE:
-                yield Found(each.kind, f"{folder}: {each.said}")
+            if each.kind is not SentenceKind.NOTE:
+                yield RestoreFinding(each.kind, f"{folder}: {each.said}")
         yield from _reports(store)
 
 
-def _reports(store: Store) -> Iterator[Found]:
+def _reports(store: Store) -> Iterator[RestoreFinding]:
     """Give whether the program writes each report again, to the byte."""
     years, count = Years(store), 0
     for ledger in years.all():
@@ -187,8 +199,10 @@ def _reports(store: Store) -> Iterator[Found]:
             count += 1
             if _rows(written.decode("ascii")) != _rows(text):
                 what = f"the program writes another report of {period} than is kept"
-                yield Found(Kind.WRONG, f"{store.folder}: {what}")
-    yield Found(Kind.GOOD, f"{store.folder}: the program has written {count} reports again")
+                yield RestoreFinding(SentenceKind.WRONG, f"{store.folder}: {what}")
+    yield RestoreFinding(
+        SentenceKind.GOOD, f"{store.folder}: the program has written {count} reports again"
+    )
 
 
 def _rows(report: str) -> list[str]:

@@ -17,7 +17,7 @@ from plantbal.faults import Fault, ToolMissing
 from plantbal.files import write_text
 from plantbal_office.service.config import read_config
 
-_CONFIG = """# plantbal-office: docs/OFFICE.md has all that may stand here
+_CONFIG = """# plantbal-office: docs/OFFICE.md has all that this file may have
 hosts = ["{host}"]
 books = "{books}"
 state = "{state}"

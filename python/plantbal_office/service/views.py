@@ -24,10 +24,14 @@ _PENDING, _SECONDS = "second", 300
 _SHOWN = 500  # events
 
 
-class Code(forms.Form):
+class CodeForm(forms.Form):
     """A code of a second factor."""
 
-    code = forms.CharField(label=gettext_lazy("Code of six digits"), max_length=12)
+    code = forms.CharField(
+        label=gettext_lazy("Code of six digits"),
+        max_length=12,
+        widget=forms.TextInput({"autocomplete": "one-time-code", "inputmode": "numeric"}),
+    )
 
 
 def safe_next(request: HttpRequest) -> str:
@@ -83,7 +87,7 @@ def second(request: HttpRequest) -> HttpResponse:
     person = Person.objects.filter(pk=pending[0], is_active=True).first()
     if person is None:
         return redirect("people:signin")
-    form, status = Code(request.POST or None), 200
+    form, status = CodeForm(request.POST or None), 200
     if request.method == "POST" and form.is_valid():
         name = person.get_username()
         if locks.is_locked(request, name):
@@ -105,7 +109,7 @@ def enroll(request: HttpRequest) -> HttpResponse:
     if factors.has_one(request.user):
         return redirect("/")
     secret = factors.secret_for(request.user)
-    form = Code(request.POST or None)
+    form = CodeForm(request.POST or None)
     if request.method == "POST" and form.is_valid():
         if factors.takes(request.user, form.cleaned_data["code"], confirm=True):
             locks.note(request, Event.Kind.ENROLLED, request.user.get_username())

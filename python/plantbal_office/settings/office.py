@@ -30,7 +30,8 @@ DATABASES = {
         "PASSWORD": secret_of(CONFIG.database["password_file"])
         if "password_file" in CONFIG.database
         else "",
-        "CONN_MAX_AGE": 60,
+        # A connection to this machine takes some milliseconds, and none outlives a restart of the database.
+        "CONN_MAX_AGE": 0,
     }
 }
 
@@ -47,7 +48,7 @@ if CONFIG.ldap:
     from django_auth_ldap.config import LDAPSearch
 
     # Who has no account here isn't let in, whatever the directory says; roles are given here.
-    AUTHENTICATION_BACKENDS.append("django_auth_ldap.backend.LDAPBackend")
+    AUTHENTICATION_BACKENDS.append("plantbal_office.service.directory.Directory")
     AUTH_LDAP_SERVER_URI = CONFIG.ldap["server"]
     AUTH_LDAP_START_TLS = bool(CONFIG.ldap.get("start_tls", False))
     AUTH_LDAP_BIND_DN = CONFIG.ldap.get("bind", "")
@@ -83,3 +84,7 @@ SESSION_SAVE_EVERY_REQUEST = True
 SESSION_EXPIRE_AT_BROWSER_CLOSE = True
 LANGUAGE_COOKIE_SECURE = True
 CSRF_COOKIE_SECURE = True
+
+# What Django's check of a deployment says besides: our own middleware sets the header against frames, TLS is the proxy's, and
+# other names of the same domain aren't ours to bind.
+SILENCED_SYSTEM_CHECKS = ["security.W002", "security.W005", "security.W008", "security.W021"]

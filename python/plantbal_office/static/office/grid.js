@@ -11,7 +11,7 @@
   if (!active) return;
   active.tabIndex = 0;
   const where = cell => { const row = all.findIndex(cells => cells.includes(cell)); return [row, all[row].indexOf(cell)]; };
-  const changed = () => all.flat().filter(cell => cell.classList.contains('changed'));
+  const edited = new Set(), changed = () => all.flat().filter(cell => edited.has(cell));
 
   function go(cell, focus = true) {
     if (!cell) return;
@@ -27,12 +27,15 @@
   function put(cell, text) {
     cell.textContent = text;
     cell.classList.toggle('changed', text !== cell.dataset.was);
+    if (text !== cell.dataset.was) edited.add(cell); else edited.delete(cell);
     for (const name of ['level', 'said']) delete cell.dataset[name];
     cell.classList.remove('fault', 'look');
     cell.removeAttribute('title'); cell.removeAttribute('aria-invalid');
+    const isCleared = !text && Boolean(cell.dataset.was) && cell.dataset.part !== 'density';
+    cell.classList.toggle('cleared', isCleared);
+    if (isCleared) { cell.title = cell.dataset.said = form.dataset.cleared; if (cell === active) told.textContent = cell.title; }
     if (text !== cell.dataset.was && text) { waiting.add(cell); clearTimeout(timer); timer = setTimeout(judge, 250); }
-    const count = changed().length;
-    counted.textContent = count ? String(count) : '';
+    counted.textContent = edited.size ? String(edited.size) : '';
   }
   function edit(text) {
     if (input) return;
@@ -66,7 +69,7 @@
     if (steps) move(...steps);
     else if (event.key === 'Enter' || event.key === 'F2') edit();
     else if (event.key === 'Escape') put(active, active.dataset.was);
-    else if (event.key === 'Delete' || event.key === 'Backspace') put(active, kind === 'readings' || kind === 'dips' ? active.dataset.was : '');
+    else if (event.key === 'Delete' || event.key === 'Backspace') put(active, '');
     else if (event.key === 'Home') go(all[where(active)[0]][0]);
     else if (event.key === 'End') go(all[where(active)[0]].at(-1));
     else if (event.key.length === 1) edit(event.key);
@@ -96,7 +99,7 @@
     const cells = kind === 'readings' ? changed() : [...new Set(changed().map(cell => cell.closest('tr')))].map(row => cellsOf(row)[0]);
     const found = cells.map(rowOf);
     delete form.dataset.sending;
-    return found;
+    return kind === 'dips' ? found.filter((row, at) => row.level || cells[at].dataset.was) : found;
   }
   async function judge() {
     const cells = [...waiting].slice(0, 400);
@@ -122,5 +125,5 @@
     if (said.level) { told.textContent = `${cell.dataset.name || ''} ${cell.dataset.day || ''} ${said.said}`.trim(); told.className = `told ${said.level}`; }
   }
   form.addEventListener('submit', () => { if (input) input.blur(); form.elements.cells.value = JSON.stringify(gathered()); leaving = true; });
-  addEventListener('beforeunload', event => { if (!leaving && changed().length) event.preventDefault(); });
+  addEventListener('beforeunload', event => { if (!leaving && edited.size) event.preventDefault(); });
 })();

@@ -55,3 +55,9 @@ for (const shape of document.querySelectorAll('[data-style]'))
     const [name, value] = part.split(':').map(text => text.trim());
     if (name && value) shape.style.setProperty(name, value);
   }
+// What is too long for a page comes after it.
+for (const place of document.querySelectorAll('[data-load]'))
+  fetch(place.dataset.load).then(answer => answer.ok ? answer.text() : Promise.reject(answer.status)).then(text => {
+    const made = new DOMParser().parseFromString(text, 'text/html').body.firstElementChild;
+    if (made) place.replaceWith(made);
+  }).catch(() => {}); // its link is there

@@ -7,12 +7,20 @@
   const canvas = figure.querySelector('.canvas'), section = figure.closest('.period');
   let scale = 1;
   const base = () => svg.viewBox.baseVal.width;
-  const zoom = by => {
+  // What was found, or else the middle, stays in the middle.
+  const keep = change => {
+    const x = (canvas.scrollLeft + canvas.clientWidth / 2) / canvas.scrollWidth, y = (canvas.scrollTop + canvas.clientHeight / 2) / canvas.scrollHeight;
+    change();
+    const found = svg.querySelector('g.found');
+    if (found) found.scrollIntoView({block: 'nearest', inline: 'center'});
+    else canvas.scrollTo(x * canvas.scrollWidth - canvas.clientWidth / 2, y * canvas.scrollHeight - canvas.clientHeight / 2);
+  };
+  const zoom = by => keep(() => {
     scale = by ? Math.min(8, Math.max(.2, scale * by)) : 1;
     if (scale === 1) { svg.style.removeProperty('width'); svg.style.removeProperty('max-height'); svg.classList.remove('zoomed'); return; }
     svg.classList.add('zoomed');
     svg.style.width = `${Math.round(base() * scale)}px`;
-  };
+  });
   for (const button of document.querySelectorAll('[data-zoom]')) button.addEventListener('click', () => zoom(Number(button.dataset.zoom)));
   canvas.addEventListener('wheel', event => { if (event.ctrlKey) { event.preventDefault(); zoom(event.deltaY < 0 ? 1.15 : .87); } }, {passive: false});
   let from = null;
