@@ -117,7 +117,7 @@ def fixture_two(book: Type, tmp_path: Path) -> Type:
     assert (said.status, said.err) == (0, "")
     grams = (9500 * 4_708_000_000 // 20_000 + 2_000_000) * 1_250_000 // 10**6
     assert said.out.splitlines() == [
-        "2024-2.csv: from 2024-05-01 on; 9 rows of the plant",
+        "2024-2.csv: from 2024-05-01 on; 10 rows of the plant",
         f"SILO: {grams / 10**6:,} t at the end of 2024-04-30 and as the opening",
     ]
     return book

@@ -29,7 +29,7 @@ from scipy.stats import chi2, ncx2, norm  # noqa: E402
 from plantbal.study.critical import of_each  # noqa: E402
 from plantbal.diagnosis.balances import Balances  # noqa: E402
 from plantbal.diagnosis.days import Days  # noqa: E402
-from plantbal.diagnosis.diagnose import Told, told_holes  # noqa: E402
+from plantbal.diagnosis.diagnose import DiagnosedHole, told_holes  # noqa: E402
 from plantbal.diagnosis.evidence import Evidence  # noqa: E402
 from plantbal.diagnosis.gross import Limits, holes_of, sets_of_equals  # noqa: E402
 from plantbal.diagnosis.words import told_said  # noqa: E402
@@ -78,7 +78,7 @@ def wrong(month: Month, kind: str, size: int, rng: random.Random) -> Guilty:
     return Guilty(ticket.stream, -ticket.tonnes, ticket.day)
 
 
-def told(data: bytes, daily: bool = True) -> tuple[Study, Balances, list[Told]]:
+def told(data: bytes, daily: bool = True) -> tuple[Study, Balances, list[DiagnosedHole]]:
     """Return the study of a month, its balances, and what is told of its holes, with their days."""
     ledger = Ledger("a month", data)
     assert not ledger.refused, list(ledger.refused)[:1]

@@ -23,7 +23,7 @@ from mutated import rebound
 from test_bundle_container import month as stated
 
 from plantbal.audit.archive import bundle_files
-from plantbal.book.journal import HEAD_TEXT, Act, Kept, Line, following, read_journal
+from plantbal.book.journal import HEAD_TEXT, Act, JournalLine, Kept, following, read_journal
 from plantbal.audit.bundle import packed
 from plantbal.audit.changed import digest
 from plantbal.faults import Fault
@@ -213,7 +213,7 @@ class Books:
         if name == "journal.csv":
             data = rebound(data) if how else data
         elif how == 1:
-            last = Line(0, "", "", "", Act.ACCEPT, name, files={name: Kept.of(data)})
+            last = JournalLine(0, "", "", "", Act.ACCEPT, name, files={name: Kept.of(data)})
             lines = [*self._lines, following(self._lines, last)]
             text = HEAD_TEXT + "".join(line.text for line in lines)
             (self.mill / "journal.csv").write_text(text, encoding="utf-8")
@@ -333,7 +333,7 @@ class Fleets:
         output.parent.mkdir(parents=True, exist_ok=True)
         output.write_bytes(data)
         try:
-            gather(self._night, self._site, night.Kept(run, len(data), {}), given)
+            gather(self._night, self._site, night.KeptPlant(run, len(data), {}), given)
         except Fault:
             return 1
         return 0

@@ -24,7 +24,7 @@ def office(source: Path, form: str, room: Path) -> Path:
     try:
         words = ["soffice", f"-env:UserInstallation=file://{profile}", "--headless"]
         words += ["--convert-to", form, "--outdir", str(room), str(source)]
-        subprocess.run(words, check=True, capture_output=True, timeout=120)
+        subprocess.run(words, check=True, capture_output=True, timeout=300)
     finally:
         shutil.rmtree(profile, ignore_errors=True)
     return room / f"{source.stem}.{form}"
@@ -59,7 +59,10 @@ def daily(day: int) -> tuple[Decimal, ...]:
 
 
 def refinery() -> dict[str, Rows]:
-    """A refinery's January: English and German sheets, titles, units, sums, hours, mm and m."""
+    """A refinery's January: English and German sheets, titles, units, sums, hours, mm and m.
+
+    A density that changes by month has a sheet of its own, with the months across.
+    """
     return {
         "Cover": [["Haldenbek refinery"], ["Month end workbook, January 2024"]],
         "Flow list": [
@@ -68,8 +71,8 @@ def refinery() -> dict[str, Rows]:
             ["Tag", "Stream", "From", "To", "Unit", "Density", "Accuracy", "Remarks"],
             ["", "", "", "", "", "kg/m3", "", ""],
             ["FI-101", "CRUDE", "outside", "CDU", "t", None, "0.5 %", "custody"],
-            ["FI-102", "NAPHTHA", "CDU", "outside", "m3", 720, "1 %", ""],
-            ["FI-103", "GAS OIL", "CDU", "T101", "t", None, "1 %", "since 2019"],
+            ["FI-102", "NAPHTHA", "CDU", "outside", "m3", None, "1 %", ""],
+            ["FI-103", "GAS OIL", "CDU", "T101", "t", 842, "1 %", "since 2019"],
             ["FI-104", "RESIDUE", "CDU", "T102", "t", None, "1.5 % or 2 t", ""],
             ["FI-201", "PIPELINE", "T102", "outside", "t", None, "0.8 %", "hourly"],
             [None, "DIESEL_SHIP", "T101", "outside", None, None, "0.3 %", "tickets"],
@@ -96,6 +99,11 @@ def refinery() -> dict[str, Rows]:
                 ]
                 for at in range(32)
             ),
+        ],
+        "Dichten": [
+            ["Dichten bei 15 °C (kg/m³), Labor"],
+            ["Strom", *(datetime.datetime(2023 + at // 12, at % 12 + 1, 1) for at in (11, 12, 13))],
+            ["NAPHTHA", 719.2, 720.4, 721],
         ],
         "Daily January 2024": [
             ["Daily meter readings"],
@@ -124,7 +132,7 @@ def grams_of_streams() -> dict[str, Decimal]:
     tonne = 10**6
     return {
         "CRUDE": crude * tonne,
-        "NAPHTHA": naphtha * Decimal("0.720") * tonne,
+        "NAPHTHA": naphtha * Decimal("0.7204") * tonne,
         "GAS_OIL": gas_oil * tonne,
         "RESIDUE": residue * tonne,
         "PIPELINE": sum(map(hourly, range(24 * 31)), Decimal(0)) * tonne,

@@ -125,7 +125,7 @@ class Refinery:
     def month(self, month: str) -> Sheets:
         """The tickets and dips of a month."""
         first, last = month_days(month)
-        eve, dips = first - DAY, []
+        dips: Rows = []
         tickets: Rows = [["id", "stream", "first", "last", "amount", "error"]]
 
         def book(

@@ -13,6 +13,8 @@ from dataclasses import dataclass
 from pathlib import Path
 
 BIN = Path("/usr/lib/postgresql/15/bin")
+# How long a statement of a test may take, in seconds: on a machine with nothing else it is one.
+LONGEST = 300
 PASSWORD = "a pass'word:of @tests"
 
 
@@ -46,7 +48,7 @@ def _as(user: str, words: list[object], **given: object) -> subprocess.Completed
         ids = f"--reuid={found.pw_uid}", f"--regid={found.pw_gid}"
         texts = ["setpriv", *ids, "--clear-groups", *texts]
     return subprocess.run(
-        texts, capture_output=True, text=True, timeout=60, cwd="/", **given  # type: ignore[call-overload,no-any-return]
+        texts, capture_output=True, text=True, timeout=LONGEST, cwd="/", **given  # type: ignore[call-overload,no-any-return]
     )
 
 
@@ -79,7 +81,20 @@ def served(room: Path) -> Iterator[Server]:
         given = f"-h 127.0.0.1 -p {port} -k {folder} {small}"
         log = folder / "log"
         begun = _as(
-            user, [BIN / "pg_ctl", "-D", data, "-w", "-t", "50", "-l", log, "-o", given, "start"]
+            user,
+            [
+                BIN / "pg_ctl",
+                "-D",
+                data,
+                "-w",
+                "-t",
+                str(LONGEST - 10),
+                "-l",
+                log,
+                "-o",
+                given,
+                "start",
+            ],
         )
         assert begun.returncode == 0, (begun.stderr, log.read_text(encoding="utf-8"))
         server = Server(folder, port, user)

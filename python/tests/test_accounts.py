@@ -12,12 +12,12 @@ from conftest import example
 from hypothesis import HealthCheck, given, settings
 from hypothesis import strategies as some
 
-from plantbal.accounts.account import Level, MonthAccount, Rolled, Table
-from plantbal.accounts.entries import Line
-from plantbal.accounts.month import Basis, Flow, Gain, Month
+from plantbal.accounts.account import AccountTable, Level, MonthAccount, Rolled
+from plantbal.accounts.entries import AccountLine
+from plantbal.accounts.month import Basis, Gain, Month, MonthFlow
 from plantbal.accounts.posting import parse_posted
 from plantbal.accounts.shares import split
-from plantbal.accounts.sheet import Account, Accounts, Kind, Ownership, Rule, SalesUnit
+from plantbal.accounts.sheet import Account, AccountKind, Accounts, Ownership, SalesUnit, SplitRule
 from plantbal.accounts.spread import Sum, deviations
 from plantbal.accounts.stock import Opened, Why, rolled
 from plantbal.accounts.trend import Unusual, unusual
@@ -34,7 +34,7 @@ DAY = datetime.timedelta(1)
 
 def fixed(**parts: int) -> Ownership:
     """Shares in percent."""
-    return Ownership(Rule.FIXED, {name: Fraction(part, 100) for name, part in parts.items()})
+    return Ownership(SplitRule.FIXED, {name: Fraction(part, 100) for name, part in parts.items()})
 
 
 # ---- shares
@@ -83,8 +83,8 @@ def books(draw: some.DrawFn) -> tuple[list[Month], Accounts]:
     rules = [
         fixed(Alpha=60, Beta=40),
         fixed(Beta=100),
-        Ownership(Rule.BY_RECEIPTS),
-        Ownership(Rule.BY_STOCK),
+        Ownership(SplitRule.BY_RECEIPTS),
+        Ownership(SplitRule.BY_STOCK),
         Ownership(),
     ]
     rows = [
@@ -103,21 +103,21 @@ def books(draw: some.DrawFn) -> tuple[list[Month], Accounts]:
                 (f"OUT_{tank}", tank, "env", out),
                 (f"FED_{tank}", tank, "U", feed := draw(grams)),
             ):
-                flows[name] = Flow(
+                flows[name] = MonthFlow(
                     name, start, end, amount, draw(some.sampled_from([None, amount]))
                 )
             unit += feed
             dip = draw(some.one_of(some.none(), some.integers(0, 10**13)))
             gains[tank] = Gain(tank, into - out - feed, dip, begins=draw(some.booleans()))
-        flows["GAS"] = Flow("GAS", "U", "env", unit, None, Basis.REST)
+        flows["GAS"] = MonthFlow("GAS", "U", "env", unit, None, Basis.REST)
         last = first + 29 * DAY
         months.append(Month(f"m{number}", first, last, flows, gains))
         first = last + draw(some.integers(1, 2)) * DAY
     rows += [
-        Account(f"IN_{tank}", Kind.RECEIPT, "crude", "g-c", fixed(Alpha=50, Beta=50))
+        Account(f"IN_{tank}", AccountKind.RECEIPT, "crude", "g-c", fixed(Alpha=50, Beta=50))
         for tank in tanks[:2]
     ]
-    rows.append(Account("GAS", Kind.FLARE, "gas", "g-g", draw(some.sampled_from(rules))))
+    rows.append(Account("GAS", AccountKind.FLARE, "gas", "g-g", draw(some.sampled_from(rules))))
     return months, Accounts(rows)
 
 
@@ -143,20 +143,20 @@ def test_each_account_closes(found: tuple[list[Month], Accounts]) -> None:
         whole = account.plant.closing
         for level in (account.groups, account.products, account.owners):
             assert not level or sum(table.closing for table in level) == whole
-        for line in Line:
+        for line in AccountLine:
             _assert_adds_up(account.plant, account.groups, line)
         closing = {table.name: table.closing for table in account.owners}
         opening = {
-            table.name: table.lines[Line.OPENING].grams
+            table.name: table.lines[AccountLine.OPENING].grams
             for table in account.owners
-            if Line.OPENING in table.lines
+            if AccountLine.OPENING in table.lines
         }
         if owned:
             assert {k: v for k, v in opening.items() if v} == {k: v for k, v in owned.items() if v}
         owned = closing
 
 
-def _assert_adds_up(plant: Table, parts: list[Table], line: Line) -> None:
+def _assert_adds_up(plant: AccountTable, parts: list[AccountTable], line: AccountLine) -> None:
     grams = [table.lines[line].grams for table in parts if line in table.lines]
     whole = plant.lines[line].grams if line in plant.lines else 0
     assert sum(grams) == whole, line
@@ -202,19 +202,19 @@ def test_why_stock_is_adjusted() -> None:
 def test_regraded_and_direct() -> None:
     """By hand: a ship's crude into a tank of slops, fuel gas burned, naphtha shipped at once."""
     flows = [
-        Flow("SHIP", "env", "T", 100),
-        Flow("FEED", "T", "U", 60),
-        Flow("FUEL", "U", "env", 20),
-        Flow("NAPHTHA", "U", "env", 40),
-        Flow("LOOP", "U", "V", 5),
-        Flow("BACK", "V", "U", 5),
+        MonthFlow("SHIP", "env", "T", 100),
+        MonthFlow("FEED", "T", "U", 60),
+        MonthFlow("FUEL", "U", "env", 20),
+        MonthFlow("NAPHTHA", "U", "env", 40),
+        MonthFlow("LOOP", "U", "V", 5),
+        MonthFlow("BACK", "V", "U", 5),
     ]
     rows = [
-        Account("SHIP", Kind.RECEIPT, "crude", "crude"),
+        Account("SHIP", AccountKind.RECEIPT, "crude", "crude"),
         Account("T", None, "slops", "slops"),
-        Account("FEED", Kind.INTERNAL, "slops", "slops"),
-        Account("FUEL", Kind.OWN_USE, "fuel gas", "gas"),
-        Account("NAPHTHA", Kind.SHIPMENT, "naphtha", "light"),
+        Account("FEED", AccountKind.INTERNAL, "slops", "slops"),
+        Account("FUEL", AccountKind.OWN_USE, "fuel gas", "gas"),
+        Account("NAPHTHA", AccountKind.SHIPMENT, "naphtha", "light"),
     ]
     one = Month("m", FIRST, FIRST, {f.name: f for f in flows}, {"T": Gain("T", 40, 8)})
     account = Rolled([one], Accounts(rows)).account("m")
@@ -243,18 +243,22 @@ def test_sales_units() -> None:
     """By hand: 800 t at 0.8 t/m3 are 1,000 m3; a tank of another density leaves the difference."""
     unit, tank = SalesUnit("m3", Fraction(800_000)), SalesUnit("m3", Fraction(1_000_000))
     rows = [
-        Account("IN", Kind.RECEIPT, "oil", "oil", unit=unit),
+        Account("IN", AccountKind.RECEIPT, "oil", "oil", unit=unit),
         Account("T", None, "oil", "oil", unit=tank),
     ]
     one = Month(
         "m",
         FIRST,
         FIRST,
-        {"IN": Flow("IN", "env", "T", 800 * 10**6)},
+        {"IN": MonthFlow("IN", "env", "T", 800 * 10**6)},
         {"T": Gain("T", 800 * 10**6, 0)},
     )
     table = Rolled([one], Accounts(rows)).account("m").products[0]
-    assert (table.unit, table.lines[Line.RECEIPTS].sales, table.expansion) == ("m3", 1000, -200)
+    assert (table.unit, table.lines[AccountLine.RECEIPTS].sales, table.expansion) == (
+        "m3",
+        1000,
+        -200,
+    )
     assert SalesUnit("bbl", Fraction(862_000)).amount(10**9) == 10**9 / (
         Fraction("0.158987294928") * 862_000
     )
@@ -272,18 +276,18 @@ m.1-a,m,T,closing stock,,,oil,oil,95
 @pytest.mark.parametrize(
     "old, new, said",
     [
-        ("posting,", "posted,", "line 1: this is no file of what was posted"),
-        (POSTED, "", "line 1: this is no file of what was posted"),
-        ("oil,95", "oil,95\r\r", "this is no row of what was posted"),
-        ("receipts", "rec\reipts", "this is no row"),
-        ("oil,95", 'oil,"95', "this is no CSV"),
-        ("m.1-a,m,T", "m.2-b,m,T", "line 3: this is no row of what was posted"),
-        ("T,closing stock,,", "IN,flow,receipts,stock T", "line 3: this is no row"),
-        ("oil,95", "oil", "line 3: this is no row"),
-        ("95", "", "line 3: this is no row"),
-        ("95", "--5", "line 3: this is no row"),
-        ("95", "9" * 5000, "line 3: this is no row"),
-        ("95", "\u0661", "line 3: this is no row"),
+        ("posting,", "posted,", "line 1: this isn't a file of what was posted"),
+        (POSTED, "", "line 1: this isn't a file of what was posted"),
+        ("oil,95", "oil,95\r\r", "this isn't a row of what was posted"),
+        ("receipts", "rec\reipts", "this isn't a row"),
+        ("oil,95", 'oil,"95', "this isn't CSV"),
+        ("m.1-a,m,T", "m.2-b,m,T", "line 3: this isn't a row of what was posted"),
+        ("T,closing stock,,", "IN,flow,receipts,stock T", "line 3: this isn't a row"),
+        ("oil,95", "oil", "line 3: this isn't a row"),
+        ("95", "", "line 3: this isn't a row"),
+        ("95", "--5", "line 3: this isn't a row"),
+        ("95", "9" * 5000, "line 3: this isn't a row"),
+        ("95", "\u0661", "line 3: this isn't a row"),
     ],
 )
 def test_damaged_postings(old: str, new: str, said: str) -> None:
@@ -294,7 +298,7 @@ def test_damaged_postings(old: str, new: str, said: str) -> None:
 
 
 def test_a_posting_that_the_journal_has_not() -> None:
-    line = journal.Line(
+    line = journal.JournalLine(
         1, "", "", "", journal.Act.POSTED, "m", files={"posted/m.1.csv": journal.Kept.of(b"x")}
     )
     assert line_of_posting([line], "m", 1) is line
@@ -310,12 +314,14 @@ def test_a_posting_that_the_journal_has_not() -> None:
 
 def receipts_of(first: str, grams: int, deviation: float | None = None) -> MonthAccount:
     """The account of a month in which a unit received so much, with a ±."""
-    flows = [Flow("IN", "env", "U", grams), Flow("OUT", "U", "env", grams)]
+    flows = [MonthFlow("IN", "env", "U", grams), MonthFlow("OUT", "U", "env", grams)]
     day = datetime.date.fromisoformat(first)
     one = Month(first, day, day, {flow.name: flow for flow in flows})
-    account = Rolled([one], Accounts([Account("IN", Kind.RECEIPT, "ore", "ore")])).account(first)
+    account = Rolled([one], Accounts([Account("IN", AccountKind.RECEIPT, "ore", "ore")])).account(
+        first
+    )
     lines = dict(account.plant.lines)
-    lines[Line.RECEIPTS] = replace(lines[Line.RECEIPTS], deviation=deviation)
+    lines[AccountLine.RECEIPTS] = replace(lines[AccountLine.RECEIPTS], deviation=deviation)
     return replace(account, plant=replace(account.plant, lines=lines))
 
 

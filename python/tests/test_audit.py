@@ -216,7 +216,7 @@ def test_a_bundle_and_the_books(say: Desk, month: Path, tmp_path: Path) -> None:
 
 # Which file is changed, what stands there, what is put in its place, and what is said.
 CHANGES = [
-    (SESSION, b"12408500000", b"12408500001", "1 stands there, and 0 was archived; its SHA-256 is"),
+    (SESSION, b"12408500000", b"12408500001", "found 1, archived 0; its SHA-256 is"),
     (SESSION, b"FILTERED", b"FILTERAD", "session.csv: lines 1 to 50: the first change is in these"),
     (SESSION, b"12408500000", b"12408500001", "the value of ORE is"),
     (SESSION, b"critical,nodal,5002", b"critical,nodal,5003", "critical value of the nodal test"),
@@ -229,13 +229,23 @@ CHANGES = [
     (OUTPUT, b"refused,1,3,name", b"refused,1,4,number", "by the rules the code is 3"),
     (OUTPUT, b"refused,1,3,name", b"refused,2,3,name", "by the rules it isn't"),
     (OUTPUT, b"node,env,0\n", b"node,env,1\n", "fails test 4"),
-    (SUMMARY, b"2 rows refused", b"1 rows refused", "summary.txt: line 12, character 1: '1 rows"),
+    (
+        SUMMARY,
+        b"2 rows refused",
+        b"1 rows refused",
+        "summary.txt: line 12, character 1: found '1 rows",
+    ),
     (SUMMARY, b"T06:00:00Z", b"T07:00:00Z", "summary.txt: line 2"),
     (MANIFEST, b'"refused": 2', b'"refused": 1', "manifest.json: line 21"),
-    (MANIFEST, b"T06:00:00Z", b"T07:00:00Z", "manifest.json: line 7, character 24: 7 stands there"),
-    (MANIFEST, b'"archive": 4', b'"archive": 5', "it says that it is of version 5"),
-    (MANIFEST, b'"archive": 4', b'"archive": 1', "its item 'program' isn't of its form"),
-    (MANIFEST, b'"archive": 4', b'"archive": 2', "its items aren't those of its version"),
+    (
+        MANIFEST,
+        b"T06:00:00Z",
+        b"T07:00:00Z",
+        "manifest.json: line 7, character 24: found 7, archived 6",
+    ),
+    (MANIFEST, b'"archive": 6', b'"archive": 8', "it says that it is of version 8"),
+    (MANIFEST, b'"archive": 6', b'"archive": 1', "its item 'program' isn't of its form"),
+    (MANIFEST, b'"archive": 6', b'"archive": 2', "its items aren't those of its version"),
     (MANIFEST, b"--gap 10", b"--gap 11", "writes 'report,2024-04,0,"),
     (MANIFEST, b"run --gap", b"rum --gap", "aren't those of a run"),
     (MANIFEST, b'"period": "2024-06"', b'"period": "2024-07"', "the session has no period 2024-07"),
@@ -243,7 +253,7 @@ CHANGES = [
     (MANIFEST, b'"commit":', b'"by": "me",\n    "commit":', "its item 'program' isn't of its form"),
     (MANIFEST, b"{", b"[", "this isn't JSON"),
     (DIGESTS, b"0", b"1", "SHA256SUMS"),
-    (DIGESTS, b"  session.csv", b"  sesshin.csv", "is no digest of a file of the bundle"),
+    (DIGESTS, b"  session.csv", b"  sesshin.csv", "isn't a digest of a file of the bundle"),
     (DIGESTS, b"  session.csv\n", b"  session.csv", "SHA256SUMS: line"),
     (DIGESTS, b"  output.csv\n", b"  output.csv\n\n", "SHA256SUMS: line 3, character 1"),
 ]
@@ -294,7 +304,7 @@ def told(text: bytes, place: int, digit: int) -> str:
     line = text.count(b"\n", 0, place) + 1
     character = place - text.rfind(b"\n", 0, place)
     there = f"line {line}, character {character}: "
-    return f"{there}{chr(digit)} stands there, and {chr(text[place])} was archived"
+    return f"{there}found {chr(digit)}, archived {chr(text[place])}"
 
 
 def assert_refused_there(said: Said, name: str, text: bytes, place: int, digit: int) -> None:
@@ -494,8 +504,8 @@ REPORTS: list[tuple[str, Edit, str]] = [
     ("a period", lambda t: t.replace(b",day2,", b",day3,"), "this is a report of day3"),
     ("a report less", lambda t: b"", "there is no block to check"),
     ("cut", lambda t: t[: t.rindex(b"end,")], "the file ends within a block"),
-    ("a name", lambda t: t.replace(b"F1", b"G1"), "stream G1 from env to SPLITTER stands where"),
-    ("a node", lambda t: t.replace(b"MIXER", b"MIXED"), "node MIXED stands where"),
+    ("a name", lambda t: t.replace(b"F1", b"G1"), "found stream G1 from env to SPLITTER where"),
+    ("a node", lambda t: t.replace(b"MIXER", b"MIXED"), "found node MIXED where"),
     (
         "a variance",
         lambda t: t.replace(b"64200000,1000000000000", b"64200000,1000000000001"),
@@ -526,7 +536,7 @@ def test_reports_that_are_not_the_session_s(
 
 def test_what_is_no_bundle(say: Desk, month: Path, tmp_path: Path) -> None:
     said = say("audit", example("two_meters.out.csv"))
-    assert said.status == 1 and "is no bundle: name its session too" in said.err
+    assert said.status == 1 and "isn't a bundle: name its session too" in said.err
     cut = tmp_path / "cut.zip"
     cut.write_bytes(month.read_bytes()[:-300])
     said = say("audit", cut)
@@ -653,6 +663,21 @@ def test_bundles_of_earlier_forms(say: Desk, month: Path, tmp_path: Path, versio
             zipped.writestr(entry_of(name), made[name])
     said = say("audit", bundle)
     assert said.status == 0 and "note: " in said.out and "the zip's own bytes" in said.out
+
+
+@pytest.mark.parametrize("version", [3, 4, 5])
+def test_bundles_without_approvals(say: Desk, month: Path, tmp_path: Path, version: int) -> None:
+    """Bundles from before there was a head, the ± of each flow or approvals hold as they are."""
+    files = files_of(month)
+    now = Manifest.read(files[MANIFEST])
+    made = bundle_files(files[SESSION], files[OUTPUT], replace(now, archive=version))
+    assert "± t" in files[SUMMARY].decode()
+    assert ("±" in made[SUMMARY].decode()) == (version == 5)
+    assert (b'"book"' in made[MANIFEST]) == (version > 3) and b'"approvals"' not in made[MANIFEST]
+    bundle = tmp_path / "b.zip"
+    bundle.write_bytes(packed(made))
+    said = say("audit", bundle)
+    assert said.status == 0 and "everything holds" in said.out, said.out
 
 
 def entry_of(name: str) -> zipfile.ZipInfo:

@@ -152,17 +152,21 @@ def test_a_sheet_of_pulps_that_can_not_be(tmp_path: Path) -> None:
         ("FEED,solids,20", "FEED,solids,1200", "line 2, column 3 (value): 1200 % can't be the"),
         ("FEED,solids", "FEAD,solids", "line 2, column 1 (stream): there is no stream FEAD"),
         ("20,%", "20,", "line 2, column 3 (value): the grade 20 has no unit"),
-        ("1452", "1.45", "line 3, column 3 (density): 1.45 kg/m3 is no density"),
+        ("1452", "1.45", "line 3, column 3 (density): 1.45 kg/m3 isn't a density"),
         (
             "1452",
             "452",
             "line 3, column 3 (value): a pulp of 0.452 t/m3 isn't between water and solids",
         ),
         ("2.65 t/m3", "", "line 3, column 6 (solids density): there is no density"),
-        ("1 %,,,THICKENER", "0 %,,,THICKENER", "line 4, column 5 (error): '0 %' is no error"),
-        ("FLOC,water", "UNDER,water", "line 4, column 1 (stream): the water of UNDER stands above"),
+        ("1 %,,,THICKENER", "0 %,,,THICKENER", "line 4, column 5 (error): '0 %' isn't an error"),
+        (
+            "FLOC,water",
+            "UNDER,water",
+            "line 4, column 1 (stream): the water of UNDER is already given above",
+        ),
         (",,,,,THICKENER,\n", ",,,,,MILL,\n", "line 5, column 7 (from): there is no unit MILL"),
-        ("OVER,water", "OVER,wet", "line 5, column 2 (measure): 'wet' is no measure"),
+        ("OVER,water", "OVER,wet", "line 5, column 2 (measure): 'wet' isn't a measure"),
         ("measure", "kind", "no row has the heads stream, measure, value, error"),
     ):
         assert old in PULPS, old

@@ -32,7 +32,7 @@ __all__ = ["fixture_book"]
 
 def test_new_and_add(book: Type, tmp_path: Path) -> None:
     rows = rows_of(tmp_path)
-    assert rows[0] == "unit,MILL" and rows[8:10] == [
+    assert rows[:2] == ["version,2", "unit,MILL"] and rows[9:11] == [
         "critical,global,2,5990",
         "period,2024-04,2024-04-01,2024-04-30",
     ]
@@ -50,8 +50,8 @@ def test_new_and_add(book: Type, tmp_path: Path) -> None:
     ]
     assert journal_of(tmp_path / "mill") == [
         ["who", "action", "of", "what", "why", "rows"],
-        ["anna", "new", "2024", "plant", "", "2024: 1 to 9"],
-        ["anna", "add", "", "april", "", "2024: 10 to 19"],
+        ["anna", "new", "2024", "plant", "", "2024: 1 to 10"],
+        ["anna", "add", "", "april", "", "2024: 11 to 20"],
     ]
 
 
@@ -79,13 +79,13 @@ def test_a_changed_figure_wants_a_reason(book: Type, tmp_path: Path) -> None:
     before = files_of(tmp_path / "mill")
     said = book("add", folder(tmp_path / "april", sheets))
     assert said.status == 1 and said.out == "F-1_2024-04-02: 1,200 t becomes 1,210 t\n"
-    assert "1 fact is booked otherwise: say why: --why" in said.err
+    assert "1 fact is booked with other values: say why: --why" in said.err
     assert files_of(tmp_path / "mill") == before
     said = book("add", tmp_path / "april", "--why", "second look")
     assert "2024.csv: amended: 1\nF-1_2024-04-02: 1,200 t becomes 1,210 t\n" in said.out
     variance = (12_100_000) ** 2
     assert rows_of(tmp_path)[-1] == f"amend,F-1_2024-04-02,1210000000,{variance},second look"
-    last = ["anna", "add", "", "april", "second look", "2024: 20"]
+    last = ["anna", "add", "", "april", "second look", "2024: 21"]
     assert journal_of(tmp_path / "mill")[-1] == last
 
 
@@ -112,7 +112,7 @@ def test_a_reason_is_asked_for(
     monkeypatch.setattr("plantbal.commands.book.adding._may_ask", lambda: True)
     before = files_of(tmp_path / "mill")
     said = book("add", folder(tmp_path / "april", month()))
-    assert said.status == 2 and "a reason is wanted, and none came: say --why TEXT" in said.err
+    assert said.status == 2 and "no reason given: say --why TEXT" in said.err
     assert files_of(tmp_path / "mill") == before
 
 
@@ -213,7 +213,7 @@ def test_one_file_and_an_estimate(book: Type, tmp_path: Path) -> None:
     assert rows_of(tmp_path)[-1] == wanted
     (tmp_path / "other.csv").write_text("checked,by\ncu,FEED\n", encoding="utf-8")
     said = book("add", tmp_path / "other.csv").out
-    assert "other.csv: line 2: no day stands below this row" in said
+    assert "other.csv: line 2: there is no day below this row" in said
 
 
 FAULTY: dict[str, tuple[Sheets, str]] = {
@@ -300,7 +300,7 @@ def _excel(text: str) -> object:
 
 
 def test_a_new_meter(book: Type, tmp_path: Path) -> None:
-    """It is added before the first close, and refused after it."""
+    """It is added before the first close, and after it with the day on which it begins."""
     new = PLANT | {"streams": [*PLANT["streams"], ["W-1", "WASTE", "MILL", "env", "", "1 t"]]}
     assert "1 row of the plant" in book("add", folder(tmp_path / "plant", new)).out
     assert text_of(tmp_path / "mill" / "plant.csv").splitlines()[-1].startswith("stream,WASTE")
@@ -308,7 +308,14 @@ def test_a_new_meter(book: Type, tmp_path: Path) -> None:
     book("close", "2024-04", *ANYWAY)
     more = PLANT | {"streams": [*new["streams"], ["W-2", "LOSS", "MILL", "env", "", "1 t"]]}
     said = book("add", folder(tmp_path / "plant", more))
-    assert said.status == 1 and "what is new of the plant comes before the first close" in said.err
+    assert (
+        said.status == 1
+        and "write a day after the closed periods into its column since" in said.err
+    )
+    days = ["since", "", "", "", "", "2024-05-01"]
+    more["streams"] = [[*row, day] for row, day in zip(more["streams"], days, strict=True)]
+    assert "1 row of the plant" in book("add", folder(tmp_path / "plant", more)).out
+    assert rows_of(tmp_path)[-1].startswith("stream,LOSS,MILL,env,metered,1,2024-05-01,")
 
 
 @pytest.mark.parametrize("names", ["streams", "streams tanks", "streams straps", "tanks straps"])
@@ -409,11 +416,11 @@ NOT_AMENDED = [
     (["F-1", "2024-04-09", "1 t"], "F-1 has no figure of 2024-04-09 in this book"),
     (["F-9", "2024-04-01", "1 t"], "there is no tag, stream or tank F-9: the tags are F-1, P-1"),
     (["truck-9", "1 t"], "there is no fact truck-9 in this book"),
-    (["F-1", "2024-04-01", "1 mm"], "'1 mm' is no figure"),
+    (["F-1", "2024-04-01", "1 mm"], "'1 mm' isn't a number"),
     (["F-1", "2024-04-01", "1.234 t"], "'1.234' is a decimal number in one country"),
     (["F-1", "2024-04-01", "99999999 t"], "GRAMS is '99999999000000'"),
     (["F-1", "04/05/2024", "1 t"], "'04/05/2024' can be read as two days"),
-    (["SILO", "2024-04-30", "1 t"], "'1 t' is no figure"),
+    (["SILO", "2024-04-30", "1 t"], "'1 t' isn't a number"),
     (["SILO", "2024-04-30", "25 m"], "MM is 25000, and the table of SILO goes from 0 to 20000"),
 ]
 
@@ -525,9 +532,9 @@ def test_report_close_and_late(book: Type, tmp_path: Path) -> None:
         "earlier/2024-04.1.csv",
     ]
     assert text_of(tmp_path / "mill/reports/2024-04.csv").splitlines()[-3:] == [
-        "edit,74,amend,truck-04,a digit short",
-        "edit,75,close,,",
-        "edit,76,late,truck-5,",
+        "edit,75,amend,truck-04,a digit short",
+        "edit,76,close,,",
+        "edit,77,late,truck-5,",
     ]
     assert "as it was" in book("report", "2024-04").out
     assert book("report", "2024-03").err.endswith("in this book: the periods are 2024-04\n")
@@ -566,7 +573,7 @@ def test_no_book(say: Desk, tmp_path: Path) -> None:
     assert said.status == 3 and "there is no book in" in said.err
     assert list(tmp_path.iterdir()) == []
     said = say("book", "new", "24", tmp_path, "--book", tmp_path)
-    assert "'24' is no year: say four digits" in said.err
+    assert "'24' isn't a year: say four digits" in said.err
 
 
 def test_a_book_that_was_changed_by_hand(book: Type, tmp_path: Path) -> None:
@@ -574,16 +581,16 @@ def test_a_book_that_was_changed_by_hand(book: Type, tmp_path: Path) -> None:
     before = path.read_text(encoding="utf-8")
     path.write_text(before + "reading,x,FEED,2024-04-09,1.5,1\n", encoding="utf-8")
     said = book("status")
-    assert "2024.csv: line 20: 1 line stands after what action 2 (add april" in said.err
+    assert "2024.csv: line 21: there is 1 line after what action 2 (add april" in said.err
     assert "put the file back as it was" in said.err
     assert book("accept", "2024.csv", "--why", "a try").status == 0
     said = book("status")
-    assert "2024.csv: line 20, record 20: reading x: GRAMS is '1.5' (refused 4, number)" in said.err
+    assert "2024.csv: line 21, record 21: reading x: GRAMS is '1.5' (refused 4, number)" in said.err
     assert "rows of a book are written by its commands alone" in said.err
     path.write_text(before + "amend,F-1_2024-04-01,1,1,wh", encoding="utf-8")
     assert book("status").status == 1
     assert book("accept", "2024.csv", "--why", "another").status == 0
-    assert "2024.csv: line 20: its last line has no end" in book("status").err
+    assert "2024.csv: line 21: its last line has no end" in book("status").err
     assert "there is a book in" in book("new", "2025", tmp_path / "plant").err
 
 

@@ -32,7 +32,7 @@ from months import (
 )
 
 from plantbal.accounts.account import MonthAccount, Rolled
-from plantbal.accounts.entries import Line
+from plantbal.accounts.entries import AccountLine
 from plantbal.accounts.stock import Opened, Why
 from plantbal.book.accounting import rolled_of
 from plantbal.book.store import Store
@@ -139,7 +139,7 @@ def test_over_a_close_of_the_year(tmp_path: Path, monkeypatch: pytest.MonkeyPatc
     left = stocks[OUT_OF_SERVICE]
     assert (left.why, left.closing, left.adjustment) == (Why.ENDS, 0, -left.opening)
     assert stocks[INTO_SERVICE].opened is Opened.BOOKED and stocks[INTO_SERVICE].opening
-    opens = [account[1].plant.lines[Line.OPENING].grams for account in (before, after)]
+    opens = [account[1].plant.lines[AccountLine.OPENING].grams for account in (before, after)]
     assert opens == [account[0].plant.closing for account in (before, after)]
     assert opens[0] != opens[1] and before[1].plant.closing == after[1].plant.closing
 
@@ -241,7 +241,7 @@ def test_reopened_month(refinery: Path, tmp_path: Path, say: Desk) -> None:
     assert "have the same figures" in typed_("difference", "2024-01").out
     # February opens otherwise, and its adjustment takes that back
     february = typed_("difference", "2024-02").out
-    assert "stock adjustment" in february and "the month before is booked otherwise" in february
+    assert "stock adjustment" in february and "the month before is booked differently" in february
     assert_sums_to_0(rolled(book))
     assert typed_("verify").status == 0
 
@@ -395,17 +395,17 @@ ROWS = [["SHIP_crude1", "receipt", "crude", "", "", "bbl", "860"]]
         ),
         (["FLARE", "receipt", "", "", "", "", ""], "FLARE is no receipt: it comes from UNITS"),
         (["SHIP_crude1", "shipment", "", "", "", "", ""], "it goes to crude1, within the plant"),
-        (["FEED_crude1", "production", "", "", "", "", ""], "it goes to UNITS, which is no tank"),
+        (["FEED_crude1", "production", "", "", "", "", ""], "it goes to UNITS, which isn't a tank"),
         (["crude1", "receipt", "", "", "", "", ""], "column 2 (kind): crude1 is a tank"),
-        (["FLARE", "flame", "", "", "", "", ""], "'flame' is no kind of account"),
+        (["FLARE", "flame", "", "", "", "", ""], "'flame' isn't a kind of account"),
         (["FLARE", "", "gas", "", "", "bbl", ""], "column 6 (unit): the unit bbl has no density"),
-        (["FLARE", "", "gas", "", "", "barrles", ""], "'barrles' is no unit"),
+        (["FLARE", "", "gas", "", "", "barrles", ""], "'barrles' isn't a unit"),
         (
             ["FLARE", "", "gas", "", "A 60 %; B 30 %", "", ""],
             "column 5 (owner): these shares add up to 90 %",
         ),
         (["FLARE", "", "gas", "", "A 1/3; B 1/3", "", ""], "these shares add up to 66.66666667 %"),
-        (["FLARE", "", "gas", "", "A 60 %; A 40 %", "", ""], "A stands here twice"),
+        (["FLARE", "", "gas", "", "A 60 %; A 40 %", "", ""], "A is here twice"),
         (["FLARE", "", "gas", "", "60 % or so", "", ""], "isn't a list of shares"),
         (
             ["SHIP_crude1", "", "", "", "by receipts", "", ""],

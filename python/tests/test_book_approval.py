@@ -15,9 +15,9 @@ from conftest import Desk, Said, text_of
 
 from plantbal import Book
 from plantbal.book.approval.approving import SamePerson, Void, Voided
-from plantbal.audit.said import Kind
-from plantbal.book.approval.proposal import Proposal
-from plantbal.book.approval.record import Record
+from plantbal.audit.said import SentenceKind
+from plantbal.book.approval.proposal import SubmittedMonth
+from plantbal.book.approval.record import ApprovalDeed, ApprovalRecord
 from plantbal.book.approval.rules import Want, read_rules
 from plantbal.book.approval.submitting import Submitted
 from plantbal.book.journal import HEAD_TEXT, chained, read_journal
@@ -80,7 +80,7 @@ def submit(mill: Path) -> str:
 
 def wrong(mill: Path) -> list[str]:
     """What a look at the whole book finds wrong."""
-    return [each.said for each in Book(mill).signed() if each.kind is Kind.WRONG]
+    return [each.said for each in Book(mill).signed() if each.kind is SentenceKind.WRONG]
 
 
 def test_a_close_by_two(mill: Path, user: As, tmp_path: Path) -> None:
@@ -306,6 +306,25 @@ def test_estimates(book: Type, user: As, tmp_path: Path) -> None:
         Book(mill).approve(head)
 
 
+def test_by_a_user_who_vouches(book: Type, user: As, tmp_path: Path) -> None:
+    """As a service does: its user acts for people by name, and two of them are two."""
+    del book
+    mill = tmp_path / "mill"
+    (tmp_path / "rules").write_text(
+        f"[wants]\nclose = true\n[sign]\nvouching = [{OTTO}]\n", "ascii"
+    )
+    user(OTTO)
+    Book(mill, who="eva").set_rules(tmp_path / "rules")
+    given = {gate: "as it is" for gate in _gates()}
+    head = str(Book(mill, who="lisa").submit("2024-04", anyway=given).head)  # type: ignore[arg-type]
+    with pytest.raises(SamePerson, match="submitted action 4 yourself"):
+        Book(mill, who="lisa").approve(head)
+    Book(mill, who="paul").approve(head)
+    assert wrong(mill) == []
+    said = [each.said for each in Book(mill).signed() if each.kind is SentenceKind.GOOD]
+    assert any("submitted by lisa as action 4, approved by paul" in each for each in said), said
+
+
 # ---- keys
 
 
@@ -346,22 +365,48 @@ def test_signed(keys: Path, user: As, tmp_path: Path) -> None:
     shutil.copytree(mill, tmp_path / "copy")
     Book(mill, key=keys / "paul").approve(head)
     assert wrong(mill) == []
-    said = [each.said for each in Book(mill).signed() if each.kind is Kind.GOOD]
+    said = [each.said for each in Book(mill).signed() if each.kind is SentenceKind.GOOD]
     assert any("signed by anna with the key SHA256:" in each for each in said)
     assert any("signed by paul with the key SHA256:" in each for each in said)
     assert any("submitted by anna as action 4, approved by" in each for each in said)
-    notes = [each.said for each in Book(mill).signed() if each.kind is Kind.NOTE]
+    notes = [each.said for each in Book(mill).signed() if each.kind is SentenceKind.NOTE]
     assert any("no server has stamped its time" in each for each in notes)
     # signed elsewhere, as a browser's user does
     other = tmp_path / "copy"
     text = Book(other).to_sign(head)
     made = sign(text.encode(), keys / "paul", BOOK)
-    with pytest.raises(Fault, match="another text was signed"):
+    with pytest.raises(Fault, match="what was signed isn't the text"):
         Book(other).approve(head, record=text.replace("approve", "reject"), signature=made)
     with pytest.raises(Fault, match="it doesn't fit what is signed"):
         Book(other).approve(head, record=text, signature=sign(b"x", keys / "paul", BOOK))
     assert Book(other).approve(head, record=text, signature=made).lacking == 0
     assert wrong(other) == []
+
+
+def test_submitted_and_rejected_with_a_signature_made_elsewhere(
+    keys: Path, user: As, tmp_path: Path
+) -> None:
+    """The text of a submission and of a rejection is given, signed and taken, for these alone."""
+    mill, given = tmp_path / "mill", {gate: "as it is" for gate in _gates()}
+    user(ANNA)
+    text = Book(mill).close_to_sign("2024-04", anyway=given)  # type: ignore[arg-type]
+    made = sign(text.encode(), keys / "anna", BOOK)
+    with pytest.raises(Fault, match="what was signed isn't the text"):
+        other = {gate: "another reason" for gate in _gates()}
+        Book(mill).submit("2024-04", anyway=other, record=text, signature=made)  # type: ignore[arg-type]
+    found = Book(mill).submit("2024-04", anyway=given, record=text, signature=made)  # type: ignore[arg-type]
+    with pytest.raises(Fault, match="close 2024-04 waits already"):
+        Book(mill).close_to_sign("2024-04", anyway=given)  # type: ignore[arg-type]
+    head = str(found.head)
+    user(PAUL)
+    text = Book(mill).to_sign(head, ApprovalDeed.REJECT)
+    made = sign(text.encode(), keys / "paul", BOOK)
+    with pytest.raises(Fault, match="what was signed isn't the text"):
+        Book(mill).approve(head, record=text, signature=made)
+    Book(mill).reject(head, why="too early", record=text, signature=made)
+    assert Book(mill).waiting() == [] and wrong(mill) == []
+    said = [each.said for each in Book(mill).signed() if each.kind is SentenceKind.GOOD]
+    assert any("signed by paul with the key SHA256:" in each for each in said)
 
 
 def test_keys_that_end(keys: Path, user: As, tmp_path: Path) -> None:
@@ -404,7 +449,7 @@ def test_time_stamps(book: Type, user: As, tmp_path: Path) -> None:
         user(PAUL)
         Book(mill, key=room / "paul").approve(str(head))
     said = [(each.kind, each.said) for each in Book(mill).signed(own) if "stamp" in each.said]
-    assert len(said) == 2 and all(kind is Kind.GOOD for kind, _ in said), said
+    assert len(said) == 2 and all(kind is SentenceKind.GOOD for kind, _ in said), said
     assert any("isn't believed" in each.said for each in Book(mill).signed(other))
 
 
@@ -471,7 +516,7 @@ def test_forms(tmp_path: Path) -> None:
     )
     for text, what in (
         ("x", "Expected"),
-        ("colour = 1", "colour is no rule"),
+        ("colour = 1", "colour isn't a rule"),
         ("approvers = 0", "isn't a number from 1"),
         ("approvers = true", "isn't a number from 1"),
         ('changed = "none"', "isn't one of last, any"),
@@ -479,7 +524,7 @@ def test_forms(tmp_path: Path) -> None:
         ("[wants]\nclose = 1", "isn't true or false"),
         ('[sign]\nstamps = "file:///x"', "isn't the address"),
         ('[people.a]\nmay = ["all"]', "isn't a list of submit, approve"),
-        ('[people."a b"]\nmay = []', "is no person"),
+        ('[people."a b"]\nmay = []', "isn't a person"),
         (people.format(1), "the user 1 is of a and of b"),
         ("approvers = 2\n" + people.format(2), "nothing could be approved"),
         ("[sign]\nvouching = [1]\n" + people.format(2), "vouches for others"),
@@ -491,9 +536,9 @@ def test_forms(tmp_path: Path) -> None:
     assert float(rules.estimates) == 0.025 and rules.who(2) == "b" and Want.RULES == "rules"
     for text in ("", "x", "{}", "[1]", json.dumps({"act": "close", "of": "x"})):
         with pytest.raises(InputFault):
-            Proposal.read("x.json", text)
+            SubmittedMonth.read("x.json", text)
         with pytest.raises(InputFault):
-            Record.read("x.txt", text)
+            ApprovalRecord.read("x.txt", text)
 
 
 def test_by_commands(mill: Path, user: As, say: Desk, tmp_path: Path) -> None:

@@ -16,7 +16,7 @@ from conftest import Desk, example, text_of
 
 from plantbal.audit.linked import manifest_of
 from plantbal.book.chain import Chain, checks_of, checks_text
-from plantbal.book.journal import HEAD_TEXT, Act, Kept, Line, chained, read_journal
+from plantbal.book.journal import HEAD_TEXT, Act, JournalLine, Kept, chained, read_journal
 from plantbal.book.store import Action, Store
 from plantbal.faults import InputFault
 
@@ -69,19 +69,19 @@ def lose(name: str) -> Edit:
 
 # What is changed by hand in a book, and what is said: the file and its line, and how it is wrong.
 EDITS: dict[str, tuple[Edit, str, str]] = {
-    "a unit": (put("2024.csv", "unit,MILL", "unit,MILK"), "2024.csv: line 1:", "unit,MILK"),
-    "a table": (put("2024.csv", "20000,4710", "20000,4711"), "2024.csv: line 4:", "action 1 (new"),
-    "a stream": (put("2024.csv", "MILL,SILO", "SILO,MILL"), "2024.csv: line 6:", "this isn't what"),
-    "a limit": (put("2024.csv", "global,2,5990", "global,2,9990"), "2024.csv: line 9:", "9990"),
-    "a period": (put("2024.csv", "04-30\nread", "04-29\nread"), "2024.csv: line 10:", "(add april"),
-    "a reading": (put("2024.csv", "02,FEED,2024-04-02,12", "02,FEED,2024-04-02,13"), "13:", "1300"),
-    "a ticket": (put("2024.csv", "04-01,800000000", "04-01,900000000"), "line 17:", "9000000"),
-    "a dip": (put("2024.csv", ",9500,", ",9600,"), "2024.csv: line 19:", "SILO_2024-04-30"),
-    "an amendment": (put("2024.csv", "1300000000", "1400000000"), "line 20:", "(amend F-1_2024-04"),
-    "a reason": (put("2024.csv", "log book", "log bock"), "2024.csv: line 20:", "action 3 (amend"),
+    "a unit": (put("2024.csv", "unit,MILL", "unit,MILK"), "2024.csv: line 2:", "unit,MILK"),
+    "a table": (put("2024.csv", "20000,4710", "20000,4711"), "2024.csv: line 5:", "action 1 (new"),
+    "a stream": (put("2024.csv", "MILL,SILO", "SILO,MILL"), "2024.csv: line 7:", "this isn't what"),
+    "a limit": (put("2024.csv", "global,2,5990", "global,2,9990"), "2024.csv: line 10:", "9990"),
+    "a period": (put("2024.csv", "04-30\nread", "04-29\nread"), "2024.csv: line 11:", "(add april"),
+    "a reading": (put("2024.csv", "02,FEED,2024-04-02,12", "02,FEED,2024-04-02,13"), "14:", "1300"),
+    "a ticket": (put("2024.csv", "04-01,800000000", "04-01,900000000"), "line 18:", "9000000"),
+    "a dip": (put("2024.csv", ",9500,", ",9600,"), "2024.csv: line 20:", "SILO_2024-04-30"),
+    "an amendment": (put("2024.csv", "1300000000", "1400000000"), "line 21:", "(amend F-1_2024-04"),
+    "a reason": (put("2024.csv", "log book", "log bock"), "2024.csv: line 21:", "action 3 (amend"),
     "a struck fact": (
         put("2024.csv", "strike,P-1_", "strike,F-1_"),
-        "line 21:",
+        "line 22:",
         "action 4 (strike",
     ),
     "a row less": (
@@ -91,7 +91,7 @@ EDITS: dict[str, tuple[Edit, str, str]] = {
     ),
     "the last row": (
         lines("2024.csv", lambda rows: rows.pop()),
-        "line 21:",
+        "line 22:",
         "the last line is gone",
     ),
     "a row more": (
@@ -101,22 +101,22 @@ EDITS: dict[str, tuple[Edit, str, str]] = {
     ),
     "a row at the end": (
         as_bytes("2024.csv", lambda data: data + b"unit,Z\n"),
-        "line 22:",
-        "stands after what action 5",
+        "line 23:",
+        "after what action 5",
     ),
     "rows swapped": (lines("2024.csv", swap(12)), "2024.csv: line 12:", "this isn't what action 2"),
     "other line ends": (
         as_bytes("2024.csv", lambda data: data.replace(b"\n", b"\r\n")),
         "2024.csv: line 1:",
-        "unit,MILL\\r",
+        "version,2\\r",
     ),
     "a mark at its begin": (
         as_bytes("2024.csv", lambda data: b"\xef\xbb\xbf" + data),
         "line 1:",
-        "\\ufeffunit",
+        "\\ufeffversion",
     ),
     "the year is lost": (lose("2024.csv"), "2024.csv:", "it is gone; action 5 (report 2024-04;"),
-    "the plant": (put("plant.csv", "unit,MILL", "unit,MILK"), "plant.csv: line 1:", "unit,MILK"),
+    "the plant": (put("plant.csv", "unit,MILL", "unit,MILK"), "plant.csv: line 2:", "unit,MILK"),
     "a meter": (put("meters.csv", "1 % or 5 t", "9 % or 5 t"), "meters.csv: line 2:", "9 % or"),
     "a report": (
         put("reports/2024-04.csv", "2024-04,second", "2024-04,third"),
@@ -159,7 +159,7 @@ EDITS: dict[str, tuple[Edit, str, str]] = {
     "a journal of no text": (
         as_bytes("journal.csv", lambda data: b"\xff" + data),
         "journal.csv:",
-        "no UTF-8 text",
+        "isn't UTF-8 text",
     ),
     "a journal without a line": (
         as_bytes("journal.csv", lambda data: HEAD_TEXT.encode()),
@@ -195,11 +195,11 @@ def test_what_the_journal_says(mill: Path) -> None:
     year, reports = "2024.csv", ["reports/2024-04.csv", "reports/earlier/2024-04.1.csv"]
     assert files == [["plant.csv", "meters.csv", year], [year], [year], [year], [*reports, year]]
     assert [row["files"].split("2024.csv ")[1].split(" ")[0] for row in rows] == [
-        "9",
-        "19",
+        "10",
         "20",
         "21",
-        "21",
+        "22",
+        "22",
     ]
     assert len(rows[0]["program"]) == 64 and rows[1]["program"] == ""
 
@@ -230,11 +230,11 @@ def test_without_the_digits_of_lines(mill: Path, say: Desk, tmp_path: Path) -> N
     put("2024.csv", "02,FEED,2024-04-02,12", "02,FEED,2024-04-02,13")(mill)
     said = say("book", "status", *words).err
     assert "2024.csv: it isn't what action 2 (add april; " in said
-    assert "in its lines 10 to 19: put the file back" in said
+    assert "in its lines 11 to 20: put the file back" in said
     (mill / ".checks").write_text(checks_text({"2024.csv": checks_of(before.encode())}), "ascii")
-    assert "2024.csv: line 13:" in say("book", "status", *words).err
+    assert "2024.csv: line 14:" in say("book", "status", *words).err
     (mill / ".checks").write_bytes(b"\xff2024.csv zz\n\n 1\n2024.csv 12345678")
-    assert "in its lines 10 to 19" in say("book", "status", *words).err
+    assert "in its lines 11 to 20" in say("book", "status", *words).err
     (mill / "2024.csv").write_text(before, encoding="utf-8")
     (mill / ".checks").write_bytes("2024-ü.csv 12345678\nplant.csv 1234567ü\n".encode())
     assert say("book", "strike", "F-1", "2024-04-01", "--why", "x", *words).status == 0
@@ -259,15 +259,15 @@ def test_to_take_a_file_as_it_is(mill: Path, book: Type) -> None:
     assert book("accept", "2024.csv", "--why", "typed into it").status == 0
     assert book("amend", "F-1", "2024-04-01", "9 t", "--why", "x").status == 0
     said = book("verify")
-    assert said.status == 0 and "action 8 (accept 2024.csv line 13: this isn't what" in said.out
+    assert said.status == 0 and "action 8 (accept 2024.csv line 14: this isn't what" in said.out
     assert "a file was taken as it was: typed into it" in said.out
     put("2024.csv", "9000000", "8000000")(mill)
-    assert "2024.csv: line 22: this isn't what action 9 (amend" in book("status").err
+    assert "2024.csv: line 23: this isn't what action 9 (amend" in book("status").err
     put("2024.csv", "8000000", "9000000")(mill)
     lines("journal.csv", lambda rows: rows.pop())(mill)
     assert "journal.csv: line 10: it is cut here" in book("status").err
     assert book("accept", "journal.csv", "--why", "as it is").status == 0
-    assert "2024.csv: line 22: 1 line stands after what action 8 (accept" in book("status").err
+    assert "2024.csv: line 23: there is 1 line after what action 8 (accept" in book("status").err
     assert book("accept", "2024.csv", "--why", "as it is").status == 0
     assert book("status").status == 0
 
@@ -288,10 +288,10 @@ def test_rows_that_no_command_writes(mill: Path, book: Type, say: Desk, tmp_path
         assert book("accept", "2024.csv", "--why", "x").status == 0
         for words in (("status",), ("show", "F-1"), ("add", tmp_path / "april")):
             said = book(*words)
-            assert said.status == 1 and f"2024.csv: line 10: {what}" in said.err, (new, said.err)
+            assert said.status == 1 and f"2024.csv: line 11: {what}" in said.err, (new, said.err)
     for year in ("0000", "0001", "9999", "1899"):
         said = say("book", "new", year, tmp_path / "plant", "--book", tmp_path / "other")
-        assert said.status == 1 and "is no year: say four digits, 1900 to 2199" in said.err, year
+        assert said.status == 1 and "isn't a year: say four digits, 1900 to 2199" in said.err, year
 
 
 def test_an_older_copy(mill: Path, book: Type, tmp_path: Path) -> None:
@@ -310,7 +310,7 @@ def test_an_older_copy(mill: Path, book: Type, tmp_path: Path) -> None:
     assert "it is an older copy" in said.out
     assert book("verify", "--head", later.split(" ")[1]).status == 1
     assert book("verify", "--head", f"6 {head.split(' ')[1]}").status == 1
-    assert "is no head of a book" in book("verify", "--head", "xyz").err
+    assert "isn't a head of a book" in book("verify", "--head", "xyz").err
 
 
 def test_files_that_the_journal_does_not_know(mill: Path, book: Type) -> None:
@@ -343,23 +343,23 @@ def test_what_stood_there(mill: Path, book: Type) -> None:
     (mill / "mill_2024-04.zip").unlink()
     kept = Store(mill)
     with kept.opened():
-        row = "report,2024-04,third\nedit,20,amend,F-1_2024-04-02,log book\n"
+        row = "report,2024-04,third\nedit,21,amend,F-1_2024-04-02,log book\n"
         kept.do(Action(Act.REPORT, "2024-04", written={reports: row}))
     put("2024.csv", "log book", "log bock")(mill)
-    what = f"there stood what {reports} calls edit,20,amend,F-1_2024-04-02,log book"
+    what = f"there stood what {reports} calls edit,21,amend,F-1_2024-04-02,log book"
     assert what in book("status").err
 
 
 # ---- books of older versions
 
 OLD = """when,who,what,why,rows
-2024-05-01T08:00:00Z,anna,new 2024 plant,,2024: 1 to 9
-2024-05-01T08:01:00Z,anna,add april,,2024: 10 to 19
-2024-05-02T08:01:00Z,anna,"amend F-1_2024-04-02 1,300 t",log book,2024: 20
+2024-05-01T08:00:00Z,anna,new 2024 plant,,2024: 1 to 10
+2024-05-01T08:01:00Z,anna,add april,,2024: 11 to 20
+2024-05-02T08:01:00Z,anna,"amend F-1_2024-04-02 1,300 t",log book,2024: 21
 2024-05-02T08:02:00Z,anna,strike P-1_2024-04-03,"two
-lines",2024: 21
-2024-05-02T08:03:00Z,anna,report 2024-04,,2024: up to 21
-2024-05-02T08:04:00Z,anna,window 2024-04 2024-05,,2024: up to 20
+lines",2024: 22
+2024-05-02T08:03:00Z,anna,report 2024-04,,2024: up to 22
+2024-05-02T08:04:00Z,anna,window 2024-04 2024-05,,2024: up to 21
 """
 
 
@@ -389,7 +389,7 @@ def test_an_old_book_begins_its_chain(mill: Path, book: Type, tmp_path: Path) ->
     assert said.status == 0 and "what was changed before it can't be known" in said.out
     assert "2024-04: open, changed since its report" in book("status").out
     put("2024.csv", "02,FEED,2024-04-02,12", "02,FEED,2024-04-02,13")(mill)
-    assert "2024.csv: line 13: this isn't what action 7 (begin" in book("status").err
+    assert "2024.csv: line 14: this isn't what action 7 (begin" in book("status").err
 
 
 def test_old_journals_that_were_spoilt(mill: Path, book: Type) -> None:
@@ -410,7 +410,7 @@ def test_lines_there_and_back() -> None:
     """Whatever stands in their cells; a line of one letter more is none."""
     texts = ["", "a", 'quote " and, comma', "'; drop", "Zürich", "=1+1", "\\n"]
     made = chained(
-        Line(0, "2024-05-01T08:00:00Z", text, text, act, of, text, text, text, "", files)
+        JournalLine(0, "2024-05-01T08:00:00Z", text, text, act, of, text, text, text, "", files)
         for text, act in zip(texts, [Act.NEW, *Act])
         for of in ("2024" if act in (Act.NEW, Act.NEXT) else text,)
         for files in ({"2024.csv": Kept.of(b"a\n"), "plant.csv": Kept.of(None)},)
@@ -426,7 +426,7 @@ def test_lines_there_and_back() -> None:
 @pytest.mark.parametrize("year", ["", "24", "2024/x", "2024" + "a" * 29, "[" * 5000])
 def test_a_year_of_another_form(year: str) -> None:
     """Its name is that of a file, so a stranger's journal can't choose it freely."""
-    line = Line(0, "2024-05-01T08:00:00Z", "", "", Act.NEW, year)
+    line = JournalLine(0, "2024-05-01T08:00:00Z", "", "", Act.NEW, year)
     whole = HEAD_TEXT + "".join(each.text for each in chained([line]))
     with pytest.raises(InputFault, match="j: line 2: "):
         read_journal("j", whole)
@@ -436,7 +436,7 @@ def test_how_long_a_test_takes(tmp_path: Path) -> None:
     """A year of 200,000 facts is tested in some tenths of a second."""
     row = b"reading,FI-302_2024-04-18,TAILS,2024-04-18,12188000000,33423360000000000\n"
     data = row * 200_000
-    last = chained([Line(0, "", "", "", Act.NEW, files={"2024.csv": Kept.of(data)})])
+    last = chained([JournalLine(0, "", "", "", Act.NEW, files={"2024.csv": Kept.of(data)})])
     chain = Chain(last, lambda name: data, str, tmp_path)
     begin = time.process_time()
     assert list(chain.differences()) == []
@@ -446,7 +446,8 @@ def test_how_long_a_test_takes(tmp_path: Path) -> None:
 def test_rows_stay(mill: Path, tmp_path: Path) -> None:
     """The fixture's rows are those that the table of edits means."""
     assert [row.split(",")[0] for row in rows_of(tmp_path)] == [
-        *["unit", "tank", "strap", "strap", "stream", "stream", "stream", "critical", "critical"],
+        *["version", "unit", "tank", "strap", "strap", "stream", "stream", "stream"],
+        *["critical", "critical"],
         "period",
         *["reading"] * 6,
         "transfer",
@@ -510,7 +511,7 @@ def test_bundles_are_a_chain(mill: Path, book: Type, say: Desk, tmp_path: Path) 
     put("plant.csv", "unit,MILL", "unit,MILK")(mill)
     said = say("archive", session, "--out", tmp_path / "3.zip", "--book", mill)
     assert (
-        said.status == 1 and "plant.csv: line 1" in said.err and not (tmp_path / "3.zip").exists()
+        said.status == 1 and "plant.csv: line 2" in said.err and not (tmp_path / "3.zip").exists()
     )
 
 

@@ -69,7 +69,7 @@ def test_what_is_quieted_stops_nothing_and_is_listed(book: Type, say: Desk, tmp_
     assert "FEED is below 0 on 2024-04-05" in found.out and "[negative]" in found.out
     for words, why in (
         (("estimated", "FEED"), "is of a single month"),
-        (("refused", "FEED"), "is no rule that can be quieted"),
+        (("refused", "FEED"), "isn't a rule that can be quieted"),
         (("negative",), "negative is quieted for names alone"),
     ):
         said = book("quiet", *words, "--why", "x")

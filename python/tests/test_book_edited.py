@@ -14,7 +14,7 @@ from hypothesis import HealthCheck, given, settings
 from hypothesis import strategies as st
 
 from plantbal import convert
-from plantbal.book.ledger import FACT_KINDS, Fact
+from plantbal.book.ledger import FACT_KINDS, BookFact
 from plantbal.book.store import Store
 from plantbal.book.years import Years
 from plantbal.program import call
@@ -112,7 +112,7 @@ def reported(session: Session, period: str) -> Block:
     return block_of(output, period)
 
 
-def nameless(facts: Iterable[Fact]) -> set[Fact]:
+def nameless(facts: Iterable[BookFact]) -> set[BookFact]:
     """Facts without their ids."""
     return {replace(fact, id="") for fact in facts}
 
@@ -152,7 +152,7 @@ def test_a_book_reports_the_last_workbook(
             typed("report", period, *mill)
             found = block_of((room / "mill/reports" / f"{period}.csv").read_bytes(), period)
             assert found == reported(whole.session, period)
-        facts = [Fact.of(row) for row in whole.session if row[0] in FACT_KINDS]
+        facts = [BookFact.of(row) for row in whole.session if row[0] in FACT_KINDS]
         years = Years(Store(room / "mill"))
         for ledger in years.all():
             wanted = [fact for fact in facts if ledger in years.of_fact(fact)]

@@ -103,7 +103,7 @@ def test_a_foreign_action(book: Type, tmp_path: Path) -> None:
     mill, outside = tmp_path / "mill", tmp_path / "outside.csv"
     row = "unit,X\n"
     bad: dict[str, list[Any] | Any] = {
-        "which is no file of a book": [
+        "which isn't a file of a book": [
             [{"file": name, "from": None, "text": row}]
             for name in (str(outside), "../outside.csv", "reports/../../outside.csv", ".lock")
         ],
@@ -346,7 +346,7 @@ def test_new_writes_over_nothing(say: Desk, book: Type, tmp_path: Path) -> None:
     (mill / "2023.csv").write_bytes(whole["2024.csv"])
     assert "2023.csv: it is there already" in book(*new).err
     (mill / "2023.csv").write_text("day,F-1\n2023-01-01,5\n", encoding="utf-8")
-    assert book(*new).status == 0, "a sheet that begins with a year is no year of a book"
+    assert book(*new).status == 0, "a sheet that begins with a year isn't a year of a book"
 
 
 def test_reports_never_meet(tmp_path: Path, book: Type) -> None:

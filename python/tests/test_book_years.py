@@ -22,15 +22,15 @@ from books import (
 from conftest import Desk, Said
 
 from plantbal.book.contents import contents_of
-from plantbal.book.ledger import Fact
+from plantbal.book.ledger import BookFact
 
 __all__ = ["fixture_book", "fixture_two"]
 
 
 def test_next(two: Type, tmp_path: Path) -> None:
     rows = rows_of(tmp_path, "2024-2")
-    assert rows[:9] == rows_of(tmp_path)[:9]
-    assert rows[9:] == [row for row in rows_of(tmp_path) if "SILO_2024-04-30" in row]
+    assert rows[:10] == rows_of(tmp_path)[:10]
+    assert rows[10:] == [row for row in rows_of(tmp_path) if "SILO_2024-04-30" in row]
     assert two("next", "2024-2").out == "2024-2.csv is there already\n"
     assert two("next", "2023").status == 1 and two("next", "24").status == 1
 
@@ -39,7 +39,7 @@ def test_a_dip_of_the_eve_is_one_in_both_years(two: Type, tmp_path: Path) -> Non
     assert two("amend", "SILO", "2024-04-30", "9501", "--why", "again").status == 0
     for year in ("2024", "2024-2"):
         assert rows_of(tmp_path, year)[-1].startswith("amend,SILO_2024-04-30,9501,")
-    assert journal_of(tmp_path / "mill")[-1][-1] == "2024: 20; 2024-2: 11"
+    assert journal_of(tmp_path / "mill")[-1][-1] == "2024: 21; 2024-2: 12"
     sheets = month(month="05")
     sheets["dips"][1][2] = "9502"
     two("add", folder(tmp_path / "may", sheets), "--why", "once more")
@@ -105,7 +105,7 @@ def test_a_new_meter_with_the_next_year(book: Type, tmp_path: Path) -> None:
 def test_contents_by_the_program(program: Path, first: tuple[int, int]) -> None:
     plant = [("strap", "T", str(first[0]), str(first[1])), ("strap", "T", "9999", "99999999")]
     day = datetime.date(2024, 4, 30)
-    dip = Fact("dip", "d", "T", day, day, (777, 861_234), 1)
+    dip = BookFact("dip", "d", "T", day, day, (777, 861_234), 1)
     volume = first[1] + (777 - first[0]) * (99_999_999 - first[1]) // (9999 - first[0])
     assert contents_of(plant, [dip]) == {"T": volume * 861_234 // 10**6}
 
@@ -138,14 +138,16 @@ def test_a_plant_that_was_spoilt(book: Type, tmp_path: Path) -> None:
     path = tmp_path / "mill" / "plant.csv"
     plant = path.read_text(encoding="utf-8")
     path.write_text(plant + "unit,WET MILL\n", encoding="utf-8")
-    assert "plant.csv: line 10: 1 line stands after what action 1 (new" in book("next", "2025").err
+    assert (
+        "plant.csv: line 11: there is 1 line after what action 1 (new" in book("next", "2025").err
+    )
     assert book("accept", "plant.csv", "--why", "a new mill").status == 0
     said = book("next", "2024-2")
-    assert "plant.csv: line 10, record 10: unit WET MILL: NAME is 'WET MILL'" in said.err
+    assert "plant.csv: line 11, record 11: unit WET MILL: NAME is 'WET MILL'" in said.err
     path.write_text(plant + "close,2024-04\n", encoding="utf-8")
     assert book("accept", "plant.csv", "--why", "closed").status == 0
     said = book("next", "2024-2")
-    assert said.status == 1 and "plant.csv: line 10, record 10: close 2024-04" in said.err
+    assert said.status == 1 and "plant.csv: line 11, record 11: close 2024-04" in said.err
 
 
 def test_a_ticket_that_moves_from_year_to_year(two: Type, tmp_path: Path) -> None:

@@ -17,7 +17,7 @@ from test_foreign import line
 
 from plantbal import Session, Uncertified, certify, check, run, solve
 from plantbal.faults import Fault, InputFault
-from plantbal.study.solver import Task
+from plantbal.study.solver import EngineTask
 
 TONNE = 10**6
 # Two meters in a row, 100 t and 104 t, each with a standard deviation of 1 t: 102 t flow, and the
@@ -100,9 +100,14 @@ def test_uncertified(program: Path, flows: Any, multipliers: Any, test: str, sai
     [
         ({"A": 102}, None, {}, "flows: row d: there is no flow of B"),
         ({"A": 102, "B": float("nan")}, None, {}, "there is no flow of B"),
-        ({"A": 102, "B": float("inf")}, None, {}, "flows: row d, B: it is inf, which is no number"),
+        (
+            {"A": 102, "B": float("inf")},
+            None,
+            {},
+            "flows: row d, B: it is inf, which isn't a number",
+        ),
         ({"A": 102, "B": True}, None, {}, "row d, B: it is True, of type bool"),
-        ({"A": 102, "B": "x"}, None, {}, "row d, B: it is 'x', which is no number"),
+        ({"A": 102, "B": "x"}, None, {}, "row d, B: it is 'x', which isn't a number"),
         ({"A": 102, "B": 102, "C": 1}, None, {}, "row d, C: there is no stream of this name"),
         ({"A": 102, "B": 102}, {"V": 1}, {}, "multipliers: row d, V: there is no node"),
         ({"A": 102, "B": 102}, {}, {}, "multipliers: row d: there is no multiplier of U"),
@@ -122,7 +127,7 @@ def test_component() -> None:
         certify(example("flotation_copper.csv"), {})
 
 
-def by_lstsq(task: Task, with_multipliers: bool) -> Any:
+def by_lstsq(task: EngineTask, with_multipliers: bool) -> Any:
     """Solve a task by numpy: minimise half the weighted squares, subject to the balances."""
     streams, nodes = task.streams, list(task.nodes[1:])
     balance = numpy.zeros((len(nodes), len(streams)))

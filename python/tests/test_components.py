@@ -23,7 +23,7 @@ from plantbal.page.command import page
 from plantbal.report.blocks import Block
 from plantbal.report.parsing import parse_rows
 from plantbal.report.output import read_report
-from plantbal.study.recovery import Balance, balances_of, mass_of, products_of, together
+from plantbal.study.recovery import ComponentBalance, balances_of, mass_of, products_of, together
 from plantbal.workbook.cells import Reader
 from plantbal.workbook.sheets import Cell, Sheet
 
@@ -99,7 +99,7 @@ def test_tables_of_an_output() -> None:
 
 
 def test_recovery() -> None:
-    balances = [Balance(block) for block in balances_of(read_report(OUT))]
+    balances = [ComponentBalance(block) for block in balances_of(read_report(OUT))]
     feed, tailings, concentrate = balances[0].shares()
     assert (feed.stream, feed.way, feed.share, feed.grams) == ("FEED", "in", 1.0, 108950180)
     assert (tailings.stream, concentrate.stream) == ("TAILINGS", "CONCENTRATE")
@@ -154,7 +154,7 @@ def test_recovery_has_both_errors() -> None:
     errors = columns(block, "variance") ** 0.5 / true
     sampled = rng.normal(grades, errors, (count, 3))
     carried = fit(sampled * flows, (errors * flows) ** 2, node)
-    found = {each.stream: each for each in Balance(block, mass=mass).shares()}
+    found = {each.stream: each for each in ComponentBalance(block, mass=mass).shares()}
     names = [row["name"] for row in block.streams]
     for at, name in enumerate(names):
         for mine, samples in (
@@ -163,7 +163,7 @@ def test_recovery_has_both_errors() -> None:
             (found[name].share_sd, carried[:, at] / carried[:, names.index("FEED")]),
         ):
             assert mine == pytest.approx(float(samples.std()), rel=0.02, abs=1e-12), name
-    alone = {each.stream: each for each in Balance(block).shares()}
+    alone = {each.stream: each for each in ComponentBalance(block).shares()}
     assert alone["FEED"].sd < 0.95 * found["FEED"].sd  # meters count
     fed = next(row for row in block.streams if row["name"] == "FEED")
     flow = next(row for row in mass.streams if row["name"] == "FEED")
@@ -201,7 +201,7 @@ def test_share_that_is_not_known() -> None:
         session.reading(name, name, "2024-05-01", grams=grams * 10**6, variance=10**10)
     session.assay("cu", "A", "d", ppm=9000, variance=100)
     session.component("cu", "d")
-    shares = Balance(run(session).blocks_in_order[-1]).shares()
+    shares = ComponentBalance(run(session).blocks_in_order[-1]).shares()
     assert {each.stream: each.grams for each in shares} == {"A": 900000, "B": None, "C": None}
     assert all(each.share != each.share for each in shares)
     assert products_of(shares, []) == ["C"]
@@ -222,7 +222,7 @@ def test_recovery_of_a_mill_in_a_mine(say: Desk, tmp_path: Path) -> None:
     session.report("d")
     session.component("cu", "d")
     output = run(session)
-    balance = Balance(output.blocks_in_order[-1], ["FEED"])
+    balance = ComponentBalance(output.blocks_in_order[-1], ["FEED"])
     shares = {each.stream: each for each in balance.shares()}
     assert list(shares) == ["FEED", "PILE", "CONC", "TAILS"]
     carried = {name: balance.grams(name) or 0 for name in ("FEED", "CONC", "TAILS")}
@@ -257,7 +257,7 @@ def test_recovery_over_a_change_of_the_plant() -> None:
             session.reading(f"{name}{number}", name, day, tonnes=tonnes, variance=10**10)
             session.assay("cu", name, f"d{number}", ppm=9000, variance=900)
         session.component("cu", f"d{number}")
-    balances = [Balance(block) for block in balances_of(run(session))]
+    balances = [ComponentBalance(block) for block in balances_of(run(session))]
     shares = {each.stream: each for each in together(balances)}
     assert {name: each.grams for name, each in shares.items()} == {
         "A": 1_800_000,
@@ -343,7 +343,7 @@ def test_audit_without_the_report(say: Desk, program: Path, tmp_path: Path) -> N
     output.write_text(run(session, program=program).to_csv(), encoding="utf-8")
     found = say("audit", output, session, "--no-program")
     assert found.status == 0, found.out
-    assert "so its values aren't held against the assays" in found.out
+    assert "so its values aren't compared with the assays" in found.out
 
 
 def test_from_frames() -> None:
@@ -445,7 +445,7 @@ def test_workbook(say: Desk, tmp_path: Path, program: Path) -> None:
     said = say("convert", book).err
     assert "1.5 g/t with the error 5 % would become 2 ppm with an error of 1 ppm" in said
     assert "3 g/t with the error 2 % would become 3 ppm" in said and "component au_mg" in said
-    assert "120 % is no grade" in said and "rounded" not in said
+    assert "120 % isn't a grade" in said and "rounded" not in said
 
 
 def test_the_program_agrees() -> None:

@@ -278,30 +278,30 @@ REFUSED: dict[str, tuple[Make, dict[str, Any], str]] = {
     "a rate in the row of units": (
         english([PLAIN[0], ["", "kg/h", "m3/h"], *PLAIN[1:]]),
         {},
-        "line 2, column 2 (unit): 'kg/h' is no unit: a figure is what flowed in all of its day, "
+        "line 2, column 2 (unit): 'kg/h' isn't a unit: a figure is what flowed in all of its day, "
         "not a rate: write it in kg",
     ),
     "a rate after a figure": (
         english(wide(days("%Y-%m-%d"), ["517 t/h", *FEED[1:]], PRODUCT)),
         {},
-        "line 2, column 2 (F-1): '517 t/h' is no figure: a figure is what flowed in all of its",
+        "line 2, column 2 (F-1): '517 t/h' isn't a number: a figure is what flowed in all of its",
     ),
     "the day first where the month is": (
         english(wide([*days("%m/%d/%Y")[:2], "13/04/2024"], FEED, PRODUCT)),
         {"locale": "en"},
-        "'13/04/2024' is no day: --locale en has the month first: say --locale en_GB",
+        "'13/04/2024' isn't a day: --locale en has the month first: say --locale en_GB",
     ),
     "the month first where the day is": (
         english(wide([*days("%d/%m/%Y")[:2], "04/13/2024"], FEED, PRODUCT)),
         {"locale": "en_GB"},
-        "'04/13/2024' is no day: --locale en_GB has the day first: write it as 2024-06-30",
+        "'04/13/2024' isn't a day: --locale en_GB has the day first: write it as 2024-06-30",
     ),
     "a critical value in thousandths, in a folder": (
         lambda room: folder_of(
             room, sheet_with([["test", "dof", "value"], ["global", "1", "3841"]], "critical")
         ),
         {},
-        "line 2, column 3 (value): 3841 is no critical value: no test would reject: is it in",
+        "line 2, column 3 (value): 3841 isn't a critical value: no test would reject: is it in",
     ),
     "a boundary that isn't named": (
         lambda room: folder_of(
@@ -314,7 +314,7 @@ REFUSED: dict[str, tuple[Make, dict[str, Any], str]] = {
     "a letter in a figure": (
         excel(wide(DAYS, ["1169O.5", 1, 1], numbers(PRODUCT))),
         {},
-        "plant.xlsx!readings!B2: '1169O.5' is no figure: correct it, or say --missing",
+        "plant.xlsx!readings!B2: '1169O.5' isn't a number: correct it, or say --missing",
     ),
     "a formula without a value": (
         excel(wide(DAYS, [1, "=B2+1", 1], numbers(PRODUCT))),
@@ -324,7 +324,7 @@ REFUSED: dict[str, tuple[Make, dict[str, Any], str]] = {
     "a formula that fails": (
         excel(wide(DAYS, [1, 1, "#REF!"], numbers(PRODUCT))),
         {},
-        "plant.xlsx!readings!B4: #REF! stands here: its formula fails",
+        "plant.xlsx!readings!B4: #REF!: the formula of this cell fails",
     ),
     "a figure shown as a date": (
         excel(wide(DAYS, [1, DAYS[0], 1], numbers(PRODUCT))),
@@ -350,12 +350,12 @@ REFUSED: dict[str, tuple[Make, dict[str, Any], str]] = {
     "no day": (
         english(wide(["2024-04-31", *days("%Y-%m-%d")[1:]], FEED, PRODUCT)),
         {},
-        "line 2, column 1 (day): '2024-04-31' is no day",
+        "line 2, column 1 (day): '2024-04-31' isn't a day",
     ),
     "a day twice": (
         excel(wide([DAYS[0], DAYS[0], DAYS[2]], numbers(FEED), numbers(PRODUCT))),
         {},
-        "plant.xlsx!readings!A3: 2024-04-01 stands above too (",
+        "plant.xlsx!readings!A3: 2024-04-01 is already given above (",
     ),
     "a tag that isn't there": (
         excel([["Day", "F-1", "P-l"], *wide(DAYS, numbers(FEED), numbers(PRODUCT))[1:]]),
@@ -397,7 +397,7 @@ REFUSED: dict[str, tuple[Make, dict[str, Any], str]] = {
             ),
         ),
         {},
-        "plant.xlsx!streams!E2: '5' is no error with its unit: write `1.5 %`",
+        "plant.xlsx!streams!E2: '5' isn't an error with its unit: write `1.5 %`",
     ),
     "wet tonnes": (
         english(units_below(["", "t", "wmt"], FEED)),
@@ -409,13 +409,13 @@ REFUSED: dict[str, tuple[Make, dict[str, Any], str]] = {
             room, sheet_with([["test", "dof", "value"], ["global", 1, 3841]], "critical")
         ),
         {},
-        "plant.xlsx!critical!C2: 3841 is no critical value: no test would reject: is it in "
+        "plant.xlsx!critical!C2: 3841 isn't a critical value: no test would reject: is it in "
         "thousandths? Then write 3.841",
     ),
     "an unknown unit": (
         english(units_below(["", "t", "tons"], FEED)),
         {},
-        "line 2, column 3 (unit): 'tons' is no unit: write t for 1,000 kg",
+        "line 2, column 3 (unit): 'tons' isn't a unit: write t for 1,000 kg",
     ),
     "a volume without a density": (
         english(units_below(["", "m3", "t"], FEED)),
@@ -541,7 +541,7 @@ def test_a_period_from_the_26th_to_the_25th(tmp_path: Path) -> None:
     assert found.ok and [period.name for period in found.session.periods] == ["IV"]
     lacks = "IV: no reading of F-1 (FEED) on 2024-03-26 to 2024-03-31, so"
     assert found.notes[0].startswith(lacks)
-    assert found.notes[-1].startswith("8 figures stand in no period, the first in ")
+    assert found.notes[-1].startswith("8 figures are in no period, the first in ")
 
 
 @pytest.mark.parametrize("word", ["", "-", "n/a", "#NV", "#N/A", "Bad", "no data", "offline"])
@@ -727,7 +727,7 @@ REFINERY = [
         2,
         "862",
         "862000",
-        "dips.csv: line 2, column 4 (density): 862000 kg/m3 is no density",
+        "dips.csv: line 2, column 4 (density): 862000 kg/m3 isn't a density",
     ),
     ("dips", 2, "862", "", "dips.csv: line 2, column 4 (density): the dip has no density"),
     (
@@ -749,7 +749,7 @@ REFINERY = [
         2,
         "8 t",
         "8",
-        "tanks.csv: line 2, column 2 (error): '8' is no error with its unit: write `3 mm` or `8 t`",
+        "tanks.csv: line 2, column 2 (error): '8' isn't an error with its unit: write `3 mm` or `8 t`",
     ),
     ("tanks", 2, "8 t", "", "dips.csv: line 2: the dip has no error"),
     ("straps", 3, "500", "0", "straps.csv: line 3, column 2: strap TK_CRUDE: MM is 0"),
@@ -765,7 +765,7 @@ REFINERY = [
         3,
         "metered",
         "meter",
-        "streams.csv: line 3, column 5 (kind): 'meter' is no kind of stream",
+        "streams.csv: line 3, column 5 (kind): 'meter' isn't a kind of stream",
     ),
     (
         "streams",
@@ -848,7 +848,7 @@ def test_units_of_volume(tmp_path: Path, amount: str, unit: str, density: str, g
             "this is a workbook of the old form: save it as xlsx",
         ),
         ("plant.xlsx", b"PKnot", "this workbook can't be read"),
-        ("plant.xlsx", b"text", "this is no xlsx or ods workbook"),
+        ("plant.xlsx", b"text", "this isn't an xlsx or ods workbook"),
         (
             "none/streams.csv",
             b"",

@@ -75,10 +75,10 @@ def test_open_file(tmp_path: Path) -> None:
 @pytest.mark.parametrize(
     "given, said",
     [
-        (3, "a int is no workbook: give a path, an open xlsx file, or DataFrames"),
+        (3, "a int isn't a workbook: give a path, an open xlsx file, or DataFrames"),
         ({"streams": 3}, "streams is of type int: give a pandas.DataFrame"),
         ({}, "there is no sheet streams"),
-        (io.BytesIO(b"x"), "the workbook: this is no xlsx or ods workbook"),
+        (io.BytesIO(b"x"), "the workbook: this isn't an xlsx or ods workbook"),
         ({"streams": STREAMS, "readings": WIDE * 1e308 * 10}, r"column 2 \(F1\): it is inf"),
         ({"streams": STREAMS.assign(error=[[], 1])}, r"streams: line 2, column 5 \(error\): it is"),
     ],
@@ -92,4 +92,6 @@ def test_fault_in_a_table() -> None:
     readings = WIDE.astype(object)
     readings.iloc[1, 0] = "1O2"
     said = convert({"streams": STREAMS, "readings": readings}).said()
-    assert said and said[0].startswith("readings: line 3, column 2 (F1): '1O2' is no"), said
+    assert said and said[0].startswith(
+        "readings: line 3, column 2 (F1): '1O2' isn't a number"
+    ), said

@@ -6,22 +6,21 @@ import os
 import shutil
 import signal
 import sqlite3
-import subprocess
-import sys
 import time
 from collections.abc import Callable, Iterator
 from pathlib import Path
 
 import pytest
 from books import ANYWAY, PLANT, files_of, folder, journal_of, month, rows_of
-from conftest import TOP, Desk, text_of
+from conftest import Desk, text_of
 from postgres import BIN, PASSWORD, Server, served
 
-from plantbal.database.mapping import read_mapping
+from plantbal import desk
+from plantbal.database.queries import read_queries
 from plantbal.database.pushing import tables_sql
 
 pytestmark = pytest.mark.skipif(not (BIN / "postgres").exists(), reason="there is no postgresql-15")
-KILLS = int(os.environ.get("PLANTBAL_KILLS", "3"))
+KILLS = int(os.environ.get("PLANTBAL_KILLS", "10"))  # make kills tries 100 of each
 
 # As a historian keeps them: a row an hour and tag, in doubles, with a quality; and as a LIMS does.
 HISTORIAN = """
@@ -139,7 +138,7 @@ def test_a_month_pulled_twice_is_as_by_workbook(
         "changed at the source at 2024-05-02T08:15:00Z (historian.toml)" in edits["F-1_2024-04-02"]
     )
     assert "changed at the source at 2024-05-03T09:00:00Z (historian.toml)" in edits["truck-04"]
-    assert journal_of(mill)[-1][3] == "historian.toml 2024-04-01 to 2024-04-30"
+    assert journal_of(mill)[-1][1:4] == ["pull", "historian.toml", "2024-04-01 to 2024-04-30"]
 
 
 def without_reason(row: str) -> str:
@@ -155,6 +154,99 @@ def test_late_facts(say: Desk, mill: Path, mapping: Path, tables: Server, tmp_pa
     assert rows_of(tmp_path)[-1].startswith(
         "late,transfer,truck-05,TRUCKS,2024-04-02,2024-04-02,12500000,"
     )
+
+
+GONE = "DELETE FROM tickets WHERE id = 'truck-04'"
+
+
+@pytest.mark.parametrize("vanished", ["", "ask", "keep", "strike"])
+def test_a_row_that_vanished(
+    say: Desk, mill: Path, mapping: Path, tables: Server, tmp_path: Path, vanished: str
+) -> None:
+    """It is told and asked, kept or struck; what a workbook brought is never taken for vanished."""
+    hand = {
+        "tickets": [["id", "stream", "first", "amount"], ["typed", "TRUCKS", "2024-04-02", "9"]]
+    }
+    assert say("pull", mapping, "--book", mill, *DAYS).status == 0
+    assert say("book", "add", folder(tmp_path / "hand", hand), "--book", mill).status == 0
+    before = rows_of(tmp_path)
+    tables.sql(GONE)
+    text = text_of(mapping)
+    if vanished:
+        text = text.replace('sheet = "tickets"', f'sheet = "tickets"\nvanished = "{vanished}"')
+    mapping.write_text(text, encoding="utf-8")
+    said = say("pull", mapping, "--book", mill, *DAYS)
+    told = "truck-04: 800 t is booked, and isn't in historian.toml any more" in said.out
+    assert told == (vanished in ("", "ask")) and "typed" not in said.out, said
+    assert said.status == (1 if told else 0), said
+    struck = rows_of(tmp_path)[len(before) :]
+    wanted = ["strike,truck-04,not at the source any more (historian.toml)"]
+    assert struck == (wanted if vanished == "strike" else [])
+    if vanished == "strike":
+        assert "nothing new" in say("pull", mapping, "--book", mill, *DAYS).out
+        tables.sql("INSERT INTO tickets VALUES ('truck-04', 'TRUCKS', '2024-04-01', 800, now())")
+        assert say("pull", mapping, "--book", mill, *DAYS).status == 0
+        assert any("truck-04" in row for row in rows_of(tmp_path)[len(before) + 1 :]), "it is back"
+
+
+def test_most_vanished(say: Desk, mill: Path, mapping: Path, tables: Server) -> None:
+    """A source that is nearly empty is a fault, and nothing is struck."""
+    text = text_of(mapping).replace('sheet = "readings"', 'sheet = "readings"\nvanished = "strike"')
+    mapping.write_text(text, encoding="utf-8")
+    assert say("pull", mapping, "--book", mill, *DAYS).status == 0
+    before = files_of(mill)
+    tables.sql('DELETE FROM hist."Samples"; DELETE FROM dips')
+    said = say("pull", mapping, "--book", mill, *DAYS)
+    assert said.status != 0 and "facts that are booked aren't in historian.toml" in said.err, said
+    assert files_of(mill) == before
+
+
+ODBC = """
+[source]
+url = "odbc://reader@127.0.0.1/plant?driver=PostgreSQL+Unicode&port={port}"
+password = "env HISTORIAN_PASSWORD"
+[[query]]
+sheet = "readings"
+sql = '''SELECT CAST(at AS date) AS day, tag, round(sum(value)::numeric, 6) AS value
+         FROM hist."Samples" WHERE at >= :first AND at < :last GROUP BY 1, 2'''
+[[query]]
+sheet = "dips"
+sql = "SELECT tank, day, mm AS level FROM dips WHERE day BETWEEN :eve AND :last"
+[[query]]
+sheet = "tickets"
+sql = '''SELECT id, stream, day AS "first", tonnes AS amount FROM tickets
+         WHERE day BETWEEN :first AND :last'''
+[push]
+schema = "erp"
+"""
+DRIVER = Path("/usr/lib/x86_64-linux-gnu/odbc/psqlodbcw.so")
+
+
+@pytest.mark.skipif(not DRIVER.exists(), reason="there is no odbc-postgresql")
+def test_odbc(
+    say: Desk,
+    mill: Path,
+    mapping: Path,
+    erp: Callable[[], list[str]],
+    tables: Server,
+    tmp_path: Path,
+) -> None:
+    """The same tables by ODBC give the same book as by the database's own driver, and take a push."""
+    path = tmp_path / "odbc" / "odbc.toml"
+    path.parent.mkdir()
+    path.write_text(ODBC.format(port=tables.port), encoding="utf-8")
+    other = tmp_path / "odbc" / "mill"
+    plant = tmp_path / "plant"
+    assert say("book", "new", "2024", plant, "--book", other).status == 0
+    said = say("pull", path, "--book", other, *DAYS)
+    assert said.status == 0 and "6 readings, 1 ticket, 2 dips" in said.out, said
+    own = [row for row in rows_of(tmp_path) if not row.startswith("report,")]
+    assert sorted(rows_of(tmp_path / "odbc")) == sorted(own)
+    for said_ in (say("push", path, "2024-04", "--book", mill) for _ in range(2)):
+        assert said_.status == 0, said_
+    assert len(erp()) == 1
+    said = say("pull", path, "--book", other, *DAYS)
+    assert PASSWORD not in said.out + said.err + "".join(files_of(other).values())
 
 
 def test_quality(say: Desk, mill: Path, mapping: Path, tables: Server) -> None:
@@ -258,11 +350,13 @@ def test_what_a_mapping_may_not_say(say: Desk, mill: Path, tmp_path: Path) -> No
         'url = "nonsense"': "[source] url is none",
         'url = "sqlite:///none.db"': "there is no such database",
         'url = "x"\npassword = "hunter2"': "isn't the place of a password",
-        'url = "x"\n[[query]]\nsheet = "streams"\nsql = "x"': "'streams' is no sheet of facts",
-        'url = "x"\n[limits]\nrows = 0': "no whole number above 0",
-        'url = "x"\n[push]\nschema = "a\\"; DROP"': "is no name of a table",
+        'url = "x"\n[[query]]\nsheet = "streams"\nsql = "x"': "'streams' isn't a sheet of facts",
+        'url = "x"\n[limits]\nrows = 0': "isn't a whole number above 0",
+        'url = "x"\n[push]\nschema = "a\\"; DROP"': "isn't a name of a table",
         'url = "x"\nuser = "y"': "[source] has 'user'",
-        "url = = 3": "this is no TOML",
+        "url = = 3": "this isn't TOML",
+        'url = "x"\n[[query]]\nsheet = "dips"\nsql = "x"\nvanished = "no"': "vanished is 'no'",
+        'url = "odbc:///?odbc_connect=DSN%3Dx%3BPWD%3Dhunter2"': "[source] url has a password",
     }
     path = tmp_path / "m.toml"
     for text, what in cases.items():
@@ -287,7 +381,7 @@ def fixture_erp(
     """A month that is pulled and reported, and tables for it."""
     assert say("pull", mapping, "--book", mill, *DAYS).status == 0
     assert say("book", "report", "2024-04", "--book", mill, "--program", program).status in (0, 1)
-    tables.sql("CREATE SCHEMA erp; " + tables_sql(read_mapping(mapping)))
+    tables.sql("CREATE SCHEMA erp; " + tables_sql(read_queries(mapping)))
     tables.sql(
         "GRANT USAGE ON SCHEMA erp TO reader; GRANT ALL ON ALL TABLES IN SCHEMA erp TO reader"
     )
@@ -331,11 +425,12 @@ def test_killed(
     whole = timed(mapping, kept, "pull", *DAYS)
     wanted = files_of(kept)
     shutil.copytree(mill, tmp_path / "report")
+    hit = 0
     for at in range(KILLS):
         room = tmp_path / "tried"
         shutil.rmtree(room, ignore_errors=True)
         shutil.copytree(mill, room)
-        killed(mapping, room, whole * (at + 0.5) / KILLS, "pull", *DAYS)
+        hit += killed(mapping, room, whole * (at + 0.5) / KILLS, "pull", *DAYS)
         assert timed(mapping, room, "pull", *DAYS), "it is pulled again"
         assert rows(room) == rows(kept), f"after kill {at} of {KILLS}"
     assert wanted
@@ -343,35 +438,47 @@ def test_killed(
     there = erp()
     for at in range(KILLS):
         tables.sql("TRUNCATE erp.plantbal_pushes CASCADE")
-        killed(mapping, tmp_path / "report", whole * (at + 0.5) / KILLS, "push", "2024-04")
+        hit += killed(mapping, tmp_path / "report", whole * (at + 0.5) / KILLS, "push", "2024-04")
         half = erp()
         assert half in ([], there), "all of it is there, or nothing"
         timed(mapping, tmp_path / "report", "push", "2024-04")
         assert erp() == there, f"after kill {at} of {KILLS}"
+    assert hit >= KILLS // 2, f"only {hit} of {2 * KILLS} kills came before the end"
+    print(f"{2 * KILLS} kills, {hit} of them before the command had ended")
 
 
 def rows(book: Path) -> str:
     return text_of(book / "2024.csv")
 
 
-def begun(mapping: Path, book: Path, *words: str) -> subprocess.Popen[bytes]:
-    path = {"PYTHONPATH": str(TOP / "python"), "PYTHONDONTWRITEBYTECODE": "1"}
-    first, *more = words
-    command = [sys.executable, "-m", "plantbal", first, mapping, *more, "--book", book]
-    return subprocess.Popen(command, env={**os.environ, **path}, stdout=subprocess.DEVNULL)
+def begun(mapping: Path, book: Path, *words: str) -> int:
+    """A process that carries out a command: a copy of this one, so that no time goes to imports."""
+    pid = os.fork()
+    if pid:
+        return pid
+    status = 70
+    try:
+        nothing = os.open(os.devnull, os.O_WRONLY)
+        os.dup2(nothing, 1), os.dup2(nothing, 2)
+        first, *more = words
+        status = desk.call(desk.desk_parser(), [first, str(mapping), *more, "--book", str(book)])
+    finally:
+        os._exit(status)
 
 
 def timed(mapping: Path, book: Path, *words: str) -> float:
     begin = time.monotonic()
-    assert begun(mapping, book, *words).wait(300) == 0
+    _, status = os.waitpid(begun(mapping, book, *words), 0)
+    assert os.waitstatus_to_exitcode(status) == 0
     return time.monotonic() - begin
 
 
-def killed(mapping: Path, book: Path, seconds: float, *words: str) -> None:
-    process = begun(mapping, book, *words)
+def killed(mapping: Path, book: Path, seconds: float, *words: str) -> bool:
+    """Kill a command after some seconds, and return whether it was still at work."""
+    pid = begun(mapping, book, *words)
     time.sleep(seconds)
-    process.send_signal(signal.SIGKILL)
-    process.wait(300)
+    os.kill(pid, signal.SIGKILL)
+    return os.WIFSIGNALED(os.waitpid(pid, 0)[1])
 
 
 def test_sqlite(say: Desk, mill: Path, tmp_path: Path, program: Path) -> None:
@@ -397,7 +504,7 @@ sql = "SELECT tank, day, level FROM dips WHERE day BETWEEN :eve AND :last"
             for tag, value in zip(("F-1", "P-1"), values):
                 base.execute("INSERT INTO daily VALUES (?, ?, ?)", (day, tag, float(value)))
         base.executemany("INSERT INTO dips VALUES (?, ?, ?)", april["dips"][1:])
-        base.executescript(tables_sql(read_mapping(path)))
+        base.executescript(tables_sql(read_queries(path)))
     said = say("pull", path, "--book", mill, *DAYS)
     assert (said.status, said.err) == (0, ""), said
     assert "6 readings, 2 dips" in said.out and "query 1: 6 are floats" in said.out

@@ -52,7 +52,7 @@ def test_help_of(command: desk.Command) -> None:
 
 
 @pytest.mark.parametrize(
-    "module", ["plantbal", "plantbal.session.builder", "plantbal.report.trend"]
+    "module", ["plantbal", "plantbal.runs", "plantbal.session.builder", "plantbal.report.trend"]
 )
 def test_examples_of_docstrings(module: str) -> None:
     found = doctest.testmod(importlib.import_module(module))

@@ -2,12 +2,11 @@
 
 from __future__ import annotations
 
-import re
 from collections.abc import Callable
 
 import pytest
 
-from documentation import answers, checks, citations, forms, rust, statement
+from documentation import answers, chapters, checks, citations, forms, links, rust, statement
 from documentation.command import main
 from documentation.sources import Sources, imports
 
@@ -64,6 +63,9 @@ def test_what_is_cited_is_there() -> None:
 CHECKED: list[tuple[str, str, Check, str]] = [
     ("docs/ASSURANCE.md", "| `pb_gap`, `no_edit` | nothing |", citations.edits, "no_edit"),
     ("docs/GUIDE.md", "    reading,no,A,2024-05-01,1,1", citations.rows_of_examples, "reading,no"),
+    ("docs/GUIDE.md", "[to](NOWHERE.md)", links.complaints, "NOWHERE.md leads to no file"),
+    ("docs/GUIDE.md", "[to](AUDIT.md#no)", links.complaints, "AUDIT.md#no leads to no heading"),
+    ("README.md", "![it](docs/no.png)", links.complaints, "docs/no.png leads to no file"),
     ("docs/STATEMENT.md", "", checks.stale, "docs/STATEMENT.md is stale"),
 ]
 
@@ -114,13 +116,18 @@ def test_numbers_of_forms_only_fall() -> None:
     assert f"\n{name} {there}\n" in forms.document(more)
 
 
+def all_pages(sources: Sources) -> str:
+    """The pages of what must be believed, one after another."""
+    return "\n".join(statement.documents(sources).values())
+
+
 def test_modules_by_another_name_are_followed() -> None:
     """A definition that is cited through a module's name stands on the page."""
     path = "crates/pb_cli/specs/Run.antt"
     text = SAME.text(path)
     line = next(one for one in text.splitlines() if "pb_limits.specs.Limits" in one)
     other = text.replace(line, "use Rattle.pb_limits.specs.Limits as limits")
-    page = statement.document(Sources({path: other.replace("most_bytes", "limits.most_bytes")}))
+    page = all_pages(Sources({path: other.replace("most_bytes", "limits.most_bytes")}))
     assert "\nmost_bytes = " in page
     assert "`limits.` stands before `pb_limits/specs/Limits.antt`" in page
 
@@ -135,7 +142,7 @@ def test_imports() -> None:
 
 
 def test_page_has_the_ends_and_the_laws() -> None:
-    page = statement.document(SAME)
+    page = all_pages(SAME)
     for shown in ("trait Source {", "trait Sink {", "Model for StdSource", "Model for Words {"):
         assert shown in page
     for law in ("OwnReportsLaw", "EditedFileLaw", "DecidedLaw"):
@@ -189,34 +196,53 @@ def test_functions_of_code() -> None:
 
 def chapters_with(old: str, new: str) -> Sources:
     """Sources in which the list of chapters has another text in one place."""
-    text = SAME.text(statement.CHAPTERS)
+    text = SAME.text(chapters.CHAPTERS)
     assert text.count(old) == 1
-    return Sources({statement.CHAPTERS: text.replace(old, new)})
+    return Sources({chapters.CHAPTERS: text.replace(old, new)})
 
 
-def test_page_is_in_chapters_with_their_paragraphs() -> None:
-    page = statement.document(SAME)
-    titles = list(statement.plan(SAME))
-    heads = [f"\n## {title}\n\n" for title in ("The heart of it", *titles)]
-    places = [page.index(head) for head in heads]
-    assert places == sorted(places) and len(titles) == 8
-    words = " ".join(page.split())
-    for title in titles:
-        assert f"## {title} {' '.join(' '.join(statement.opening(SAME, title)).split())}" in words
-    for _, name in statement.HEART:
-        front, rest = page[: places[1]], page[places[1] :]
-        defined = re.compile(rf"^(?:abbrev |pub |record )+{name}\b", re.M)
-        assert defined.search(front) and not defined.search(rest)
+def test_pages_have_each_definition_once_and_the_core_first() -> None:
+    pages = statement.documents(SAME)
+    found = statement.page_of(SAME).chapters
+    core = pages[statement.STATEMENT]
+    assert [one.path for one in found[:2]] == [statement.STATEMENT] * 2
+    places = [
+        core.index(f"\n## {head}")
+        for head in ("1. ", "2. ", "You may stop here", statement.HEART_TITLE)
+    ]
+    assert places == sorted(places) and len(found) == 10
+    assert set(pages) == {one.path for one in found}
+    whole = "\n".join(pages.values())
+    for chapter in found:
+        opening = SAME.text(f"{chapters.OPENINGS}/{chapter.opening}.md").strip()
+        assert opening in pages[chapter.path] and "**By hand.**" in opening
+        for _, one in chapter.definitions:
+            assert whole.count(f"\n{one.lines[0]}\n") >= 1 and one.text in whole
+    named = [(spec.path, one.name) for chapter in found for spec, one in chapter.definitions]
+    assert len(named) == len(set(named))
 
 
 @pytest.mark.parametrize(
     "old, new, said",
     [
-        (" pb_io ", " ", "no chapter for crates/pb_io/specs/"),
-        (" pb_io ", " pb_io pb_nowhere ", "names what isn't on the page: pb_nowhere"),
-        ("What a check says\n", "What else\n", "has no paragraph 'What else'"),
+        (
+            " IsCheapest",
+            " IsCheap",
+            "begins a chapter with what isn't there: IsCheap of pb_advise/Advice",
+        ),
+        (
+            "pb_check/Laws IsSound",
+            "pb_check/Nowhere IsSound",
+            "what isn't there: IsSound of pb_check/Nowhere",
+        ),
+        (
+            "    pb_elim/Laws DecidedLaw\n",
+            "    pb_elim/Laws DecidedLaw\n    pb_arrays/ShownStream class_number\n",
+            "don't reach the same: .* of crates/pb_arrays/specs/",
+        ),
+        ("    pb_advise/Advice IsAdvice IsCheapest\n", "", "each chapter has roots"),
     ],
 )
-def test_a_file_without_a_chapter_is_told(old: str, new: str, said: str) -> None:
+def test_a_wrong_list_of_chapters_is_told(old: str, new: str, said: str) -> None:
     with pytest.raises(SystemExit, match=said):
-        statement.document(chapters_with(old, new))
+        statement.page_of(chapters_with(old, new))

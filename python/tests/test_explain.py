@@ -13,7 +13,7 @@ from hypothesis import given, settings
 from hypothesis import strategies as st
 from test_program import PLANT, PLANT_2, QUICK, lines_of, record, refused_by
 
-from plantbal.explain import Explanation, Text, Told, explain_bytes
+from plantbal.explain import ExplainedRow, Explanation, Text, explain_bytes
 from plantbal.session import LIMITS
 
 SMALL = """unit,U
@@ -43,7 +43,7 @@ CASES = [
     (1, "", "Unit,X", "KIND", "did you mean unit?"),
     (1, "", "# a remark", "KIND", "a session has no comments"),
     (1, "", " unit,X", "KIND", "take the space beside 'unit' out"),
-    (1, "", '"unit,X"', "KIND", "the whole row stands between double quotes"),
+    (1, "", '"unit,X"', "KIND", "the whole row is in double quotes"),
     (1, "", ",unit,X", "KIND", "a row begins with its kind"),
     (1, "", "solved,1,converged,0,0,0,0,0", "KIND", "is this an output?"),
     (1, "stream", "stream,X,env,U,meterd,1", "field 5", "did you mean metered?"),
@@ -248,13 +248,13 @@ KINDS = {
 }
 
 
-def only(found: Explanation) -> Told:
+def only(found: Explanation) -> ExplainedRow:
     """The one row that is explained."""
     assert len(found.rows) == 1, str(found)
     return found.rows[0]
 
 
-def marked(told: Told) -> str:
+def marked(told: ExplainedRow) -> str:
     """What stands over the mark."""
     assert told.mark is not None
     begin, count = told.mark
@@ -418,9 +418,9 @@ FULL = [
 
 
 FULL_2 = [
-    ("most_boundaries", 1, "boundary,K", "1 boundaries are there"),
-    ("most_streams", 6, "tank,X,1,2024-03-05,2024-03-20", "6 streams and tanks are there"),
-    ("most_assays", 2, "assay,cu,B,n,1,1", "2 assays are there"),
+    ("most_boundaries", 1, "boundary,K", "1 boundaries are the limit"),
+    ("most_streams", 6, "tank,X,1,2024-03-05,2024-03-20", "6 streams and tanks are the limit"),
+    ("most_assays", 2, "assay,cu,B,n,1,1", "2 assays are the limit"),
     ("most_nodes", 3, "window,p,n", "it would have 9 nodes, and at most 3 may be"),
     ("most_periods_of_window", 1, "window,p,n", "2 periods are from p to n"),
 ]

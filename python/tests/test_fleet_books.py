@@ -9,13 +9,15 @@ import json
 from pathlib import Path
 
 import pytest
+import test_fleet_limits
 from books import PLANT, folder, month, typed
 from conftest import Desk
 from hostile import NAMES, hanging
 from test_fleet import SITE, folder_of, row_of, rows_of
-from test_fleet_limits import fixture_shut  # noqa: F401
 
 from plantbal.fleet.sites import sites
+
+fixture_shut = test_fleet_limits.fixture_shut
 
 NIGHT = "2026-11-29"
 

@@ -22,9 +22,9 @@ from plantbal.faults import InputFault
 from plantbal.fleet import limits, outline
 from plantbal.fleet.given import Given, SessionTooLarge, _digest
 from plantbal.fleet.job import limits as limits_of_job
-from plantbal.fleet.night import Kept, Night, Run
+from plantbal.fleet.night import KeptPlant, Night, Run
 from plantbal.fleet.outline import Outline, outline_of
-from plantbal.fleet.rows import Plant
+from plantbal.fleet.rows import FleetPlant
 from plantbal.fleet.sites import Site, sites
 from plantbal.fleet.taking import Taker
 from plantbal.inert import inert
@@ -183,7 +183,7 @@ def test_what_is_left_of_a_night(tmp_path: Path) -> None:
         assert night.kept(site, asked) is None, new
 
 
-def kept(tmp_path: Path, output: str, session: str = GOOD) -> tuple[Night, Site, Kept, Given]:
+def kept(tmp_path: Path, output: str, session: str = GOOD) -> tuple[Night, Site, KeptPlant, Given]:
     """What is kept of a plant that has this output."""
     night = Night(tmp_path / "out", NIGHT, Path("plantbal"), "", ["other"])
     site = Site("a", tmp_path / "a.csv")
@@ -192,7 +192,7 @@ def kept(tmp_path: Path, output: str, session: str = GOOD) -> tuple[Night, Site,
     folder = night.folder_of(site)
     folder.mkdir(parents=True, exist_ok=True)
     night.output_of(site).write_text(output)
-    return night, site, Kept(run, len(output), {}), Given.read(site.path)
+    return night, site, KeptPlant(run, len(output), {}), Given.read(site.path)
 
 
 def test_taking_in(tmp_path: Path) -> None:
@@ -205,7 +205,7 @@ def test_taking_in(tmp_path: Path) -> None:
         (good.replace(",0,2,", ",x,2,"), Taker(), "unreadable", ""),
     ):
         with taker:
-            plants: list[Plant] = []
+            plants: list[FleetPlant] = []
             taker.plant(*kept(tmp_path, output), plants.append)
             taker.finish()
             (plant,) = plants
@@ -221,7 +221,7 @@ def test_a_reader_that_is_killed(tmp_path: Path, monkeypatch: pytest.MonkeyPatch
     from plantbal.fleet import taking
 
     night, site, what, given = kept(tmp_path, "")
-    task, server = taking.Task(site, night, what, given), taking.Server(1 << 30, 0.5)
+    task, server = taking.TakingTask(site, night, what, given), taking.Server(1 << 30, 0.5)
     for done, end in (
         (lambda _: os._exit(9), taking.End.SIGNAL),
         (lambda _: "x" * 1000, taking.End.FAULT),
@@ -230,7 +230,7 @@ def test_a_reader_that_is_killed(tmp_path: Path, monkeypatch: pytest.MonkeyPatch
         (lambda _: time.sleep(9), taking.End.TIME),
         (lambda _: 7, taking.End.DONE),
     ):
-        monkeypatch.setattr(taking.Task, "done", done)
+        monkeypatch.setattr(taking.TakingTask, "done", done)
         monkeypatch.setattr(taking, "TOLD_BYTES", 500)
         server.stop()
         assert pickle.loads(server.answer(task)).end is end, end

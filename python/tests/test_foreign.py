@@ -14,7 +14,7 @@ from plantbal import Output, Session, check, read_report, run, solve
 from plantbal.faults import Fault
 from plantbal.program import call
 from plantbal.report.output import parse_report
-from plantbal.study.plant import Plant
+from plantbal.study.plant import NumberedPlant
 from plantbal.study.uncertified import Uncertified
 
 NAMES = ["heat_exchanger", "refinery_day", "badly_typed", "concentrator/session"]
@@ -79,7 +79,7 @@ def test_change(program: Path, say: Desk) -> None:
     "words, said",
     [
         (["--change", "F7", "1"], "there is no stream F7"),
-        (["--change", "F3", "1.5"], "'1.5' is no whole number of grams"),
+        (["--change", "F3", "1.5"], "'1.5' isn't a whole number of grams"),
         (["--period", "day3"], "there is no report of day3: there are "),
     ],
 )
@@ -155,7 +155,7 @@ def test_uncertified(program: Path, monkeypatch: pytest.MonkeyPatch) -> None:
 
     flows_of = certificate.flows_of
 
-    def wrong(plant: Plant, prices: list[int]) -> list[int]:
+    def wrong(plant: NumberedPlant, prices: list[int]) -> list[int]:
         flows = flows_of(plant, prices)
         return [flows[0] + 1, *flows[1:]]
 

@@ -79,7 +79,7 @@ def test_the_grade_of_a_stock_by_hand(say: Desk, plant: Path) -> None:
     for word, said in (
         ("CAKE=1t,1%", "there is no tank CAKE: there are HEAP, STOCK"),
         ("STOCK:au=1%,1%", "no grade of au is known: there are cu"),
-        ("STOCK=1000t", "is no error with its unit: say --held STOCK=12000t,1%"),
+        ("STOCK=1000t", "isn't an error with its unit: say --held STOCK=12000t,1%"),
         ("STOCK:cu=26,1%", "the grade 26 has no unit"),
         ("STOCK:cu=1200%,1%", "can't be what STOCK held"),
     ):

@@ -17,7 +17,7 @@ from plantbal.explain import explain_bytes
 from plantbal.faults import InputFault, read_beginning, read_bytes
 from plantbal.page.command import page
 from plantbal.report.parsing import csv_of, parse_rows
-from plantbal.report.rows import Numbers, Rows
+from plantbal.report.rows import Numbers, OutputRows
 from plantbal.session import Session
 
 PLANT = (
@@ -54,7 +54,7 @@ def test_what_is_no_file(
         if word == "convert" and path == tmp_path:
             continue
         found = say(*word.split(), path)
-        is_other = word == "convert" and "no xlsx or ods workbook" in found.err
+        is_other = word == "convert" and "an xlsx or ods workbook" in found.err
         assert (found.status, found.out) == (1 if is_other else 3, ""), (word, found)
         assert said in found.err or is_other, found.err
 
@@ -102,7 +102,7 @@ def test_refused_rows_of_an_output() -> None:
     lines[500:500] = ["over,m,F", "refused,501,1,other", "refused,x,1,kind", "over,n,F"]
     text = "\n".join(lines) + "\n"
     rows = parse_rows("x", text)
-    assert isinstance(rows, Rows) and len(rows) == len(lines)
+    assert isinstance(rows, OutputRows) and len(rows) == len(lines)
     assert csv_of(rows) == text
     assert rows[503] == {"row": "over", "period": "n", "stream": "F"}
     assert [rows[at] for at in range(-5, 0)] == list(rows)[-5:] == rows[-5:]

@@ -15,7 +15,7 @@ from mistakes import BASE, MISTAKES, Mistake
 
 import plantbal
 from plantbal.fleet.running import lint_plants
-from plantbal.fleet.rows import Plant, Row
+from plantbal.fleet.rows import FleetPlant, FleetRow
 from plantbal.fleet.sites import sites
 from plantbal.fleet.taking import Taker
 from plantbal.lint import brief, lint_session, summary
@@ -650,7 +650,7 @@ def test_fleet(tmp_path: Path) -> None:
     (tmp_path / "good.csv").write_text(GOOD, encoding="ascii")
     (tmp_path / "bad.csv").write_text(changed("report,d1\n", ""), encoding="ascii")
     chosen = sites(tmp_path).sites
-    plants = [Plant(site.name, [Row(site.name)]) for site in chosen]
+    plants = [FleetPlant(site.name, [FleetRow(site.name)]) for site in chosen]
     with Taker(count=1) as taker:
         lint_plants(taker, plants, chosen)
     found = {plant.site: plant.rows[0].warnings for plant in plants}

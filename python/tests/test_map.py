@@ -16,15 +16,17 @@ from plantbal import convert
 from plantbal.faults import Fault, InputFault
 from plantbal.workbook.conversion import Conversion
 from plantbal.workbook.mapping.form import parse_mapping, read_mapping
-from plantbal.workbook.mapping.known import Known
-from plantbal.workbook.mapping.proposing import Proposal, propose
+from plantbal.workbook.mapping.known import KnownPlant
+from plantbal.workbook.mapping.proposing import MappingProposal, propose
 from plantbal.workbook.mapping.command import text_of
 from plantbal.workbook.sheets import read_workbook
 
 Sheets = dict[str, Rows]
 
 
-def proposed(room: Path, sheets: Sheets, plant: str = "", known: Known = Known()) -> Proposal:
+def proposed(
+    room: Path, sheets: Sheets, plant: str = "", known: KnownPlant = KnownPlant()
+) -> MappingProposal:
     path = written(sheets, room / "plant.xlsx")
     return propose(read_workbook(path), known, plant)
 
@@ -55,17 +57,20 @@ def sums(found: Conversion) -> dict[str, Decimal]:
 
 @pytest.mark.parametrize("form", ["xlsx", "ods"])
 def test_a_refinery_as_an_office_keeps_it(say: Desk, tmp_path: Path, form: str) -> None:
-    """One mapping with one correction, and each figure is that of arithmetic."""
+    """One mapping with two corrections, and each figure is that of arithmetic."""
     source = written(refinery(), tmp_path / "haldenbek.xlsx")
     (tmp_path / "saved").mkdir()
     workbook = office(source, form, tmp_path / "saved")
     out = tmp_path / "haldenbek.toml"
     said = say("map", workbook, "--out", out)
     text = out.read_text(encoding="utf-8")
-    assert said.status == 1 and said.err.count(": ? ") == 1, said.err
+    assert said.status == 1 and said.err.count(": ? ") == 2, said.err
+    assert "Dichten: given error: no error is told" in said.err
     assert "Tankstände: locale: '7,000' is a decimal number in one country" in said.err
     assert "a question is" not in say("convert", workbook, "--mapping", out).out
-    out.write_text(text.replace('locale = "?"', 'locale = "de"'), encoding="utf-8")
+    for old, new in (('locale = "?"', 'locale = "de"'), ('"error" = "?"', '"error" = "0.5"')):
+        text = text.replace(old, new)
+    out.write_text(text, encoding="utf-8")
     found = convert(workbook, mapping=read_mapping(out))
     assert found.said() == []
     assert sums(found) == grams_of_streams()
@@ -195,7 +200,7 @@ ASKED: dict[str, tuple[Sheets, str]] = {
     ),
     "a column of figures that nobody names": (
         {"daily": [["Date", "F1", "F2", "F9"], *([day, 1, 2, 3] for day in DAYS)]},
-        "daily: columns F9: figures stand in it",
+        "daily: columns F9: it has figures",
     ),
     "days of a month without a year": (
         {
@@ -206,7 +211,7 @@ ASKED: dict[str, tuple[Sheets, str]] = {
     ),
     "figures that nobody knows": (
         {"Lab 7": [["A", "B"], [1, 2.5], [2, 3.5]]},
-        "Lab 7: columns A: figures stand in it",
+        "Lab 7: columns A: it has figures",
     ),
 }
 
@@ -216,7 +221,7 @@ def test_what_can_be_read_in_two_ways_is_asked(tmp_path: Path, case: str) -> Non
     changes, said = ASKED[case]
     found = proposed(tmp_path, plain(**changes))
     assert any(said in each for each in found.open()), found.open()
-    with pytest.raises(InputFault, match=r'open: a "\?" stands in the line'):
+    with pytest.raises(InputFault, match=r'open: a "\?" is in the line'):
         parse_mapping("plant.toml", text_of(found, "plant.xlsx"))
 
 
@@ -281,7 +286,7 @@ def test_a_workbook_of_several_plants(say: Desk, tmp_path: Path) -> None:
 # ---- the file
 
 WRONG: dict[str, tuple[str, str]] = {
-    "no TOML": ("form = ", "this is no TOML"),
+    "no TOML": ("form = ", "this isn't TOML"),
     "an unknown key": ("form = 1\nlocal = 'de'\n", "has no key 'local': did you mean locale?"),
     "another form": ("form = 2\n", "this is a mapping of the form"),
     "no such locale": ("form = 1\nlocale = 'xx'\n", "there is no locale 'xx'"),
@@ -294,11 +299,11 @@ WRONG: dict[str, tuple[str, str]] = {
     "one name for two": ("[names]\nA = 'X'\nB = 'X'\n", "'A' and 'B' would both be X"),
     "a month that is none": (
         "[[sheet]]\nname = 'A'\nkind = 'dips'\nmonth = '2024-13'\n",
-        "'2024-13' is no month",
+        "'2024-13' isn't a month",
     ),
-    "a question": ('locale = "?"\n', '1 question is open: a "?" stands in the lines 1'),
+    "a question": ('locale = "?"\n', '1 question is open: a "?" is in the lines 1'),
     "no name": ("[[sheet]]\nkind = 'dips'\n", "a sheet has no name"),
-    "deep": ("a = " + "[" * 5000, "this is no TOML"),
+    "deep": ("a = " + "[" * 5000, "this isn't TOML"),
 }
 
 
@@ -317,7 +322,7 @@ MISFITS: dict[str, tuple[Sheets, str]] = {
     ),
     "another unit in the row of units": (
         {"levels": [["Date", "T1"], [None, "cm"], *([day, 500] for day in DAYS)]},
-        "cm stands here, and the mapping has mm",
+        "cm is here, but the mapping has mm",
     ),
     "another unit in a head": (
         {"straps": [["tank", "height [cm]", "volume [m3]"], ["T1", 0, 0], ["T1", 1600, 16000]]},

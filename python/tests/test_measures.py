@@ -11,6 +11,8 @@ from books import Sheets, folder, rows_of
 from conftest import Desk, text_of
 
 from plantbal import convert
+from plantbal.audit.bundle import MEASURED, unpacked
+from plantbal.audit.reckoned import reckoned
 from plantbal.volumes.trail import read_trails
 
 PLANT: Sheets = {
@@ -117,7 +119,29 @@ def test_a_book_keeps_how(say: Desk, tmp_path: Path) -> None:
         str(len(rows) + 2),
     )
     said = say("book", "amend", "T1", "2024-01-03", "910 mm", "--why", "x", *book)
-    assert said.status == 1 and "reckoned from more than its level" in said.err, said
+    assert said.status == 1 and "calculated from more than its level" in said.err, said
+
+
+def test_a_bundle_has_how(say: Desk, tmp_path: Path, program: Path) -> None:
+    """An auditor reckons each mass again, and a changed figure is named with its row."""
+    book = "--book", tmp_path / "mill"
+    assert say("book", "new", "2024", folder(tmp_path / "plant", PLANT), *book).status == 0
+    assert say("book", "add", folder(tmp_path / "jan", FACTS), *book).status == 0
+    session, bundle = tmp_path / "2024.csv", tmp_path / "a.zip"
+    session.write_text(text_of(tmp_path / "mill" / "2024.csv") + "report,jan\n", encoding="utf-8")
+    words = ("archive", session, "--out", bundle, *book, "--program", program)
+    assert say(*words).status in (0, 1)
+    files = unpacked(bundle).files
+    assert text_of(tmp_path / "mill" / "measured.csv") == files[MEASURED].decode()
+    said = say("audit", bundle, *book)
+    assert "6 masses are reckoned again from what was measured" in said.out, said
+    assert "good: " in said.out and "wrong: " not in said.out, said
+    old, new = b",851.5,0.5,", b",851.6,0.5,"
+    assert old in files[MEASURED]
+    changed = files[MEASURED].replace(b"2024,", b"2024,", 1).replace(b"0.99", b"0.98", 1)
+    changed = changed if changed != files[MEASURED] else files[MEASURED].replace(old, new)
+    said = [each for _, each in reckoned("a.zip", {**files, MEASURED: changed})]
+    assert said and "its figures give" in said[0], said
 
 
 FAULTS = [
@@ -125,13 +149,13 @@ FAULTS = [
     ("dips", 2, 2, "1200", "1200 mm is in the critical zone of the roof"),
     ("dips", 1, 4, "6000", "m3 in all"),
     ("dips", 1, 3, "36", "the factors of OIL go from 5 to 35"),
-    ("dips", 1, 3, "800", "800 is no temperature of a tank"),
+    ("dips", 1, 3, "800", "800 isn't a temperature of a tank"),
     ("gauges", 1, 2, "", "the temperature of T1 has no error"),
     ("gauges", 1, 1, "", "the dip has no density"),
     ("gauges", 1, 5, "", "the roof has no error"),
     ("densities", 1, 4, "", "the density has no error"),
     ("factors", 2, 1, "5", "come after 5"),
-    ("factors", 2, 2, "98", "98 is no factor"),
+    ("factors", 2, 2, "98", "98 isn't a factor"),
     ("products", 1, 0, "OEL", "there is no product 'OIL'"),
 ]
 

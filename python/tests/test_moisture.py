@@ -121,9 +121,9 @@ def test_tickets_of_one_moisture_share_its_error(tmp_path: Path) -> None:
     [
         (mill(None), "1000 wmt of W-1 (ORE) have no moisture on 2024-07-01; add it to a sheet"),
         (mill(daily("8 %")), "1000 wmt of W-1 (ORE) have no moisture on 2024-07-02"),
-        (mill(daily("1200 %")), "1200 % is no moisture"),
-        (mill(daily("100 %")), "100 % is no moisture"),
-        (mill(daily("-2 %")), "-2 % is no moisture"),
+        (mill(daily("1200 %")), "1200 % isn't a moisture"),
+        (mill(daily("100 %")), "100 % isn't a moisture"),
+        (mill(daily("-2 %")), "-2 % isn't a moisture"),
         (mill(daily("0.08")), "the grade 0.08 has no unit"),
         (mill(daily("8 %", "8 %", "8 %"), unit="t"), "no figure of ORE is in wmt"),
         (mill([*daily("8 %"), *daily("9 %")]), "has a moisture of these days already"),

@@ -48,18 +48,18 @@ def noted(ends: dict[int, str]) -> list[str]:
         (noted({1: '"12" line"'}), "tickets.csv: line 3: a double quote in this row"),
         (
             [line.replace("unit", "Einheit") for line in TICKETS],
-            "tickets.csv: line 2, column 6 (Einheit): the column 'Einheit' isn't read, and units",
+            "tickets.csv: line 2, column 6 (Einheit): the column 'Einheit' isn't read, but it has units",
         ),
         (
             [f"{line},{'Druck' if not at else at}" for at, line in enumerate(TICKETS)],
-            "column 8 (Druck): the column 'Druck' isn't read, and figures stand in it",
+            "column 8 (Druck): the column 'Druck' isn't read, but it has figures",
         ),
         (
             [f"{line}{',,7.5' if at else ''}" for at, line in enumerate(TICKETS)],
-            "column 9: this column without a head isn't read, and figures stand in it",
+            "column 9: this column without a head isn't read, but it has figures",
         ),
-        ([TICKETS[1], TICKETS[0], *TICKETS[2:]], "line 1, column 3: this row isn't read, and"),
-        ([TICKETS[1]], "line 1, column 3: this row isn't read, and figures or units stand in it"),
+        ([TICKETS[1], TICKETS[0], *TICKETS[2:]], "line 1, column 3: this row isn't read, but"),
+        ([TICKETS[1]], "line 1, column 3: this row isn't read, but it has figures or units"),
     ],
 )
 def test_a_lost_figure_is_a_fault(say: Desk, tmp_path: Path, lines: list[str], said: str) -> None:

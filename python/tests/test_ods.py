@@ -91,7 +91,7 @@ HOSTILE: dict[str, tuple[str, str, str, str]] = {
         "<manifest><encryption-data/></manifest>",
         "protected by a password",
     ),
-    "a number that is none": (row(cell("NaN")), "", "<manifest/>", "'NaN' stands for a number"),
+    "a number that is none": (row(cell("NaN")), "", "<manifest/>", "'NaN' is stored as a number"),
 }
 
 

@@ -51,7 +51,7 @@ def test_rows_of_some_kinds(path: Path) -> None:
     assert parse_rows("x", text.replace("\n", "\r\n"), kinds) == wanted
     with pytest.raises(InputFault, match="a node row has 3 columns, this one has 2"):
         parse_rows("x", f"{text}node,env\n", kinds)
-    with pytest.raises(InputFault, match=r"line 1: 1.5E\+12 stands here"):
+    with pytest.raises(InputFault, match=r"line 1: 1.5E\+12 is how a spreadsheet"):
         parse_rows("x", f"solved,1,converged,2,0,1,3,1.5E+12\n{text}", kinds)
 
 
@@ -161,12 +161,12 @@ FAULTY = [
     ("report,p,0,1,0,10,5000\nnode,env\n", "line 2: a node row has 3 columns, this one has 2"),
     (
         "report,p,0,2,1,10,5000\nnode,env,0\nnode,U,1.5E+12\n",
-        "line 3: 1.5E+12 stands here, as a spreadsheet writes long numbers: take the file as",
+        "line 3: 1.5E+12 is how a spreadsheet writes long numbers: take the file as",
     ),
     ('{"row":"end"}\n', "line 1: the keys of the row end are period, round, row"),
     ('{"row":"end"\n', "line 1, column 13: no JSON object"),
     ('{"row":"unit"}\n', "its \"row\" is 'unit'"),
-    ('{"period":"p","round":1,"row":"end"}\n', "a value is no text"),
+    ('{"period":"p","round":1,"row":"end"}\n', "a value isn't text"),
 ]
 
 

@@ -162,6 +162,7 @@ PACKAGES = {
     "networkx": "python3-networkx",
     "numpy": "python3-pandas",
     "openpyxl": "python3-openpyxl",
+    "oracledb": "python3-oracledb",
     "pandas": "python3-pandas",
     "scipy": "python3-scipy",
     "sqlalchemy": "python3-sqlalchemy",

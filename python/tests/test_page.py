@@ -19,7 +19,7 @@ from plantbal.page.account import account_of
 from plantbal.page.command import page
 from plantbal.page.head import program_text
 from plantbal.page.render import certificate, soft, worded
-from plantbal.page.statement import Line, Worth
+from plantbal.page.statement import StreamLine, Worth
 from plantbal.page.verdict import plus_minus
 from plantbal.report.blocks import Values
 from plantbal.report.parsing import parse_rows
@@ -149,7 +149,7 @@ def test_bounds_behind_a_switch() -> None:
 
 def test_a_long_certificate_is_cut() -> None:
     """A page of a plant whose certificates have thousands of members isn't beyond all bounds."""
-    line = Line(
+    line = StreamLine(
         "A", "env", "U", "redundant", shape="cut", side="U", parts=" ".join(["+AAAA"] * 2000)
     )
     made = str(certificate(line))

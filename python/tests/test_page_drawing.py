@@ -15,7 +15,7 @@ from plantbal.model.topology import Arc
 from plantbal.page.command import page
 from plantbal.page.drawing import MOST, Draftsman, width_of
 from plantbal.page.layout import near
-from plantbal.page.statement import Line
+from plantbal.page.statement import StreamLine
 from plantbal.report import picture
 from plantbal.report.parsing import parse_rows
 
@@ -25,7 +25,7 @@ def test_width_by_tonnes() -> None:
     widths = dict(re.findall(r'data-arrow="([^"]*)" style="--w:([0-9.]*)px"', made))
     assert widths["CHARGE"] == "9.0" and widths["SLOP"] == "1.2"
     assert float(widths["STEAM"]) < float(widths["DIESEL"]) < float(widths["TANKER"])
-    line = Line("A", "env", "U", "redundant", flow=-50)
+    line = StreamLine("A", "env", "U", "redundant", flow=-50)
     assert width_of(line, 100) == pytest.approx(5.1)
 
 
@@ -61,11 +61,11 @@ def test_no_time_for_a_layout(monkeypatch: pytest.MonkeyPatch) -> None:
     assert "Without a drawing: there is no `dot`: install graphviz." in page(rows)
 
 
-def ring(count: int) -> list[Line]:
+def ring(count: int) -> list[StreamLine]:
     """The streams of a ring of units."""
     names = [f"u{number}" for number in range(count)]
     ends = zip(names, names[1:] + names[:1])
-    return [Line(f"s{n}", a, b, "redundant", 5, 4, 5) for n, (a, b) in enumerate(ends)]
+    return [StreamLine(f"s{n}", a, b, "redundant", 5, 4, 5) for n, (a, b) in enumerate(ends)]
 
 
 def test_large_plants_are_drawn_near_a_stream() -> None:

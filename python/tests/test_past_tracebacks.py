@@ -32,11 +32,11 @@ CHANGES = [
     (TESTED, r"^measure,\w+", "measure," + "9" * 5000, "stream of a measure row is '9999"),
     (DAY, r"\+(\w+)$", r"+NONE", "there is no stream NONE"),
     (DAY, r"^(stream,.*,cut,)", r"\1NONE ", "there is no node NONE"),
-    (DAY, r"^report,[^\n]*\n", "", "stands in no report"),
+    (DAY, r"^report,[^\n]*\n", "", "is in no report"),
     (DAY, r"^(stream,\w+,)\w+", r"\1NONE", "there is no node NONE"),
     (DAY, r"\d+,\d+(,\w+,cut)", r",\1", "or the other way round"),
     (WINDOW, r"^place,n1.1", "place,n9.9", "n1.1 is the code of no place of the window"),
-    (WINDOW, r"^window,[^\n]*\n", "", "this place row stands in no window"),
+    (WINDOW, r"^window,[^\n]*\n", "", "this place row is in no window"),
     (MAY, r"^refused,\d+", "refused,x", "at of a refused row is 'x'"),
     (MAY, r"^end,\w+", "end,NONE", "this ends the report of NONE, which hasn't begun"),
 ]
@@ -69,7 +69,7 @@ def test_a_cell_that_is_no_text(say: Desk, tmp_path: Path) -> None:
     for data, said in (
         (b"\xff\xfea", "this is UTF-16 that is cut off or damaged"),
         (b"\xff\xfe\x00\xd8a\x00", "this is UTF-16 that is cut off or damaged"),
-        (b"stream,from,to\n\xff\0,a,b\n", "this is no text"),
+        (b"stream,from,to\n\xff\0,a,b\n", "this isn't text"),
         (
             b"stream,from,to\n" + b"9" * 40_000 + b",env,U\n",
             "more than 32,767 characters in a cell",
@@ -87,7 +87,7 @@ def test_a_figure_of_many_digits(say: Desk, tmp_path: Path) -> None:
     readings.write_text(f"day,F-1,P-1\n2024-05-01,{'9' * 5000},5\n")
     found = say("from-spreadsheet", tags, readings)
     assert found.status == 1 and "line 2, column 2 (F-1)" in found.err, found.err
-    assert "is no figure" in found.err
+    assert "isn't a number" in found.err
     readings.write_text('day,F-1,P-1\n2024-05-01,"5,5\n2024-05-02,6,6\n')
     found = say("from-spreadsheet", tags, readings)
     assert found.status == 1 and "line 2: a double quote in this row isn't closed" in found.err

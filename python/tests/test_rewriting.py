@@ -6,6 +6,7 @@ by what stands beside its name, and by nothing else of these: ASSURANCE has the 
 
 from __future__ import annotations
 
+import hashlib
 import os
 import shutil
 from collections.abc import Callable, Sequence
@@ -20,12 +21,20 @@ from conftest import Desk, text_of
 from plantbal import Book
 from plantbal.audit.archive import bundle_files
 from plantbal.audit.bundle import MANIFEST, OUTPUT, SESSION, Manifest, packed, unpacked
-from plantbal.audit.said import Kind
-from plantbal.book.journal import HEAD_TEXT, Line, chained, read_journal
+from plantbal.audit.said import SentenceKind
+from plantbal.book.journal import (
+    HEAD_TEXT,
+    Kept,
+    JournalLine,
+    chained,
+    csv_text,
+    read_journal,
+    read_line,
+)
 from plantbal.faults import Fault
 from plantbal.gates import Gate
 from plantbal.program import call
-from plantbal.signing.signatures import BUNDLE, sign
+from plantbal.signing.signatures import BOOK, BUNDLE, sign
 
 __all__ = ["fixture_book"]
 
@@ -134,6 +143,9 @@ BUNDLES: dict[str, tuple[Forge, bool]] = {
 }
 
 
+OTHER_ROWS = ("a reading", "a ticket", "a dip", "an error", "the plant", "a row less")
+
+
 def test_bundles_made_anew(room: Room, say: Desk) -> None:
     """A signature tells each; the book each that changes figures; nothing beside it none."""
     bundle = room.path / "2024-04.zip"
@@ -147,7 +159,13 @@ def test_bundles_made_anew(room: Room, say: Desk) -> None:
         files = forge(dict(unpacked(bundle).files))
         bundle.write_bytes(packed(files))
         alone = say("audit", bundle)
-        assert alone.status == 0 and "anybody could have written all of it" in alone.out, name
+        assert "anybody could have written all of it" in alone.out, name
+        # The approvals in it are of other rows. Whoever makes a bundle anew can leave them out.
+        assert (alone.status == 1) == (name in OTHER_ROWS), (name, alone.out)
+        stated = replace(Manifest.read(files[MANIFEST]), approvals={})
+        bundle.write_bytes(packed(bundle_files(files[SESSION], files[OUTPUT], stated)))
+        assert say("audit", bundle).status == 0, name
+        bundle.write_bytes(packed(files))
         said = say("audit", bundle, *signers)
         assert said.status == 1 and "it doesn't fit what is signed" in said.out, (name, said.out)
         assert say("audit", bundle, "--after", room.path / "2024-05.zip").status == 1, name
@@ -159,7 +177,7 @@ def test_bundles_made_anew(room: Room, say: Desk) -> None:
         ("of another use", sign(genuine, room.key("anna"), "plantbal-book"), "doesn't fit"),
         ("another's", sign(genuine, room.key("paul"), BUNDLE), "anna has to have signed it"),
         ("none", "", "nobody has signed it"),
-        ("garbage", "x", "it is no signature"),
+        ("garbage", "x", "it isn't a signature"),
     ):
         path = Path(f"{bundle}.sig")
         path.unlink(missing_ok=True)
@@ -171,36 +189,170 @@ def test_bundles_made_anew(room: Room, say: Desk) -> None:
     assert say("audit", bundle, *signers, "--signed-by", "anna").status == 0
 
 
+# ---- approvals in a bundle
+
+Carried = dict[str, dict[str, str]]
+Change = Callable[[Carried, Room], None]
+
+
+def _anew(carried: Carried, number: str, **values: object) -> None:
+    """Make a line of the journal anew, with the files that are there now."""
+    line = replace(read_line("x", carried["journal"][number]), **values)  # type: ignore[arg-type]
+    names = {name for name in line.files if name in carried["files"]}
+    kept = {name: Kept.of(carried["files"][name].encode()) for name in names}
+    line = replace(line, files={**line.files, **kept})
+    text = csv_text([line.cells]).rstrip("\n")
+    line = replace(line, digest=hashlib.sha256(text.encode()).hexdigest())
+    carried["journal"][number] = line.text
+
+
+def _left_out(carried: Carried, room: Room) -> None:
+    carried.clear()
+
+
+def _signed_by_stranger(carried: Carried, room: Room) -> None:
+    text = carried["files"]["approvals/5.txt"].encode()
+    carried["files"]["approvals/5.sig"] = sign(text, room.key("stranger"), BOOK)
+    _anew(carried, "5")
+
+
+def _another_signer(carried: Carried, room: Room) -> None:
+    carried["files"]["allowed_signers"] += keyring.line("stranger", room.key("stranger"))
+    _signed_by_stranger(carried, room)
+
+
+def _own_approval(carried: Carried, room: Room) -> None:
+    text = carried["files"]["approvals/5.txt"].encode()
+    carried["files"]["approvals/5.sig"] = sign(text, room.key("anna"), BOOK)
+    _anew(carried, "5")
+
+
+def _without_signature(carried: Carried, room: Room) -> None:
+    del carried["files"]["approvals/5.sig"]
+    line = read_line("x", carried["journal"]["5"])
+    _anew(carried, "5", files={n: k for n, k in line.files.items() if not n.endswith(".sig")})
+
+
+def _without_submission(carried: Carried, room: Room) -> None:
+    del carried["journal"]["4"]
+    for kind in ("txt", "sig"):
+        del carried["files"][f"approvals/4.{kind}"]
+
+
+def _other_rules(carried: Carried, room: Room) -> None:
+    carried["files"]["rules.toml"] = carried["files"]["rules.toml"].replace("true", "false")
+
+
+def _another_record(carried: Carried, room: Room) -> None:
+    name = "approvals/5.txt"
+    carried["files"][name] = carried["files"][name].replace("user 1002", "user 1009")
+    _anew(carried, "5", user="1009")
+
+
+def _another_line(carried: Carried, room: Room) -> None:
+    carried["journal"]["5"] = carried["journal"]["5"].replace("as it is", "as it wos")
+
+
+# What is done to the approvals in a bundle, and what an audit with --signers and without the book says.
+APPROVED: dict[str, tuple[Change, str]] = {
+    "left out": (_left_out, "note: {}: it has no line of the journal that closed 2024-04"),
+    "signed by a stranger": (_signed_by_stranger, "its key is nobody's among those who may sign"),
+    "a stranger among the signers": (
+        _another_signer,
+        "allowed_signers isn't as it was when the close was submitted",
+    ),
+    "approved by who submitted": (_own_approval, "anna has submitted it and approved it"),
+    "without the signature": (_without_signature, "nobody has signed it"),
+    "without the submission": (_without_submission, "nobody has approved it"),
+    "other rules": (_other_rules, "rules.toml isn't as it was when the close was submitted"),
+    "another user": (_another_record, "it doesn't fit what is signed"),
+    "another reason": (_another_line, "its approvals aren't of their form: journal: line 1:"),
+}
+
+
+def test_approvals_in_a_bundle(room: Room, say: Desk) -> None:
+    """Who submitted and approved, with which key and which rows, without the book; each forgery is told."""
+    bundle, signers = room.path / "2024-04.zip", ("--signers", room.path / "signers")
+    genuine = bundle.read_bytes()
+    said = say("audit", bundle, *signers)
+    assert said.status == 0, said.out
+    for what in (
+        "(submit 2024-04 close; ",
+        "signed by anna with the key SHA256:",
+        "signed by paul with the key SHA256:",
+        "allowed without a first day",
+        "submitted by anna as action 4, approved by paul",
+        "rows of 2024.csv that were approved",
+        "good: {}: its output is the report that was approved, to the byte",
+    ):
+        assert what.format(bundle) in said.out, (what, said.out)
+    alone = say("audit", bundle)
+    assert alone.status == 0 and "who may sign is what the bundle says itself" in alone.out
+    assert not [
+        line for line in alone.out.split("\n") if line.startswith("good:") and "anna" in line
+    ]
+    Path(f"{bundle}.sig").unlink()
+    for name, (change, what) in APPROVED.items():
+        files = dict(unpacked(bundle).files)
+        stated = Manifest.read(files[MANIFEST])
+        change(stated.approvals, room)
+        bundle.write_bytes(packed(bundle_files(files[SESSION], files[OUTPUT], stated)))
+        Path(f"{bundle}.sig").write_text(
+            sign(bundle.read_bytes(), room.key("anna"), BUNDLE), "ascii"
+        )
+        said = say("audit", bundle, *signers)
+        assert what.format(bundle) in said.out, (name, said.out)
+        assert (said.status == 1) == ("note:" not in what), (name, said.out)
+        bundle.write_bytes(genuine)
+
+
+def test_approvals_of_other_figures(room: Room, say: Desk) -> None:
+    """Another session beside approvals that are right: the rows that were approved aren't there."""
+    bundle = room.path / "2024-04.zip"
+    for old, new, what in (
+        (
+            b"FEED,2024-04-02,1200",
+            b"FEED,2024-04-02,1300",
+            "doesn't begin with the rows of 2024.csv",
+        ),
+        (b"close,2024-04\n", b"", "of its session isn't the close of 2024-04"),
+    ):
+        files = of_session(old, new)(dict(unpacked(bundle).files))
+        (room.path / "forged.zip").write_bytes(packed(files))
+        said = say("audit", room.path / "forged.zip")
+        assert said.status == 1 and what in said.out, said.out
+
+
 # ---- books
 
-Anew = Callable[[list[Line], Path], Sequence[Line]]
+Anew = Callable[[list[JournalLine], Path], Sequence[JournalLine]]
 
 
-def _cut(lines: list[Line], copy: Path) -> Sequence[Line]:
+def _cut(lines: list[JournalLine], copy: Path) -> Sequence[JournalLine]:
     return lines[:2]
 
 
-def _other_reason(lines: list[Line], copy: Path) -> Sequence[Line]:
+def _other_reason(lines: list[JournalLine], copy: Path) -> Sequence[JournalLine]:
     return [replace(each, why="fine") if each.act == "close" else each for each in lines]
 
 
-def _other_approver(lines: list[Line], copy: Path) -> Sequence[Line]:
+def _other_approver(lines: list[JournalLine], copy: Path) -> Sequence[JournalLine]:
     return [replace(each, user="otto (1003)") if each.act == "close" else each for each in lines]
 
 
-def _no_rules(lines: list[Line], copy: Path) -> Sequence[Line]:
+def _no_rules(lines: list[JournalLine], copy: Path) -> Sequence[JournalLine]:
     return [each for each in lines if each.act != "rules"]
 
 
-def _no_submission(lines: list[Line], copy: Path) -> Sequence[Line]:
+def _no_submission(lines: list[JournalLine], copy: Path) -> Sequence[JournalLine]:
     return [each for each in lines if each.act != "submit"]
 
 
-def _earlier(lines: list[Line], copy: Path) -> Sequence[Line]:
+def _earlier(lines: list[JournalLine], copy: Path) -> Sequence[JournalLine]:
     return [replace(each, when="2024-05-01T00:00:00Z") for each in lines]
 
 
-def _moved(lines: list[Line], copy: Path) -> Sequence[Line]:
+def _moved(lines: list[JournalLine], copy: Path) -> Sequence[JournalLine]:
     return [*lines[:3], replace(lines[1], rows=""), *lines[3:]]
 
 
@@ -219,7 +371,7 @@ BOOKS: dict[str, tuple[Anew, bool]] = {
 def test_books_made_anew(room: Room) -> None:
     """A head that was kept tells each; the signatures those that touch what was signed."""
     copy, head = room.path / "copy", (room.path / "head").read_text("ascii")
-    assert not [each for each in Book(room.mill).signed() if each.kind is Kind.WRONG]
+    assert not [each for each in Book(room.mill).signed() if each.kind is SentenceKind.WRONG]
     for name, (change, is_told) in BOOKS.items():
         shutil.rmtree(copy, ignore_errors=True)
         shutil.copytree(room.mill, copy)
@@ -229,7 +381,7 @@ def test_books_made_anew(room: Room) -> None:
         (copy / ".checks").unlink()
         assert not Book(copy).verify(heads=[head]).ok, name
         try:
-            told = any(each.kind is Kind.WRONG for each in Book(copy).signed())
+            told = any(each.kind is SentenceKind.WRONG for each in Book(copy).signed())
         except Fault:
             told = True
         assert told == is_told, name

@@ -253,12 +253,12 @@ FAULTS: dict[str, tuple[Book, str, str]] = {
     "a letter in a figure": (
         {"straps": [["mm", "T1", "T2"], [0, 0, 12], [10000, "5OO0", 4000]]},
         "straps!B3",
-        "'5OO0' is no figure",
+        "'5OO0' isn't a number",
     ),
     "a tank that isn't there": (
         {"straps": [["mm", "T1", "T2", "T3"], [0, 0, 12, 0], [10000, 5000.5, 4000, 9]]},
         "straps!D2",
-        "the column 'T3' isn't read, and figures stand in it",
+        "the column 'T3' isn't read, but it has figures",
     ),
     "two units": (
         {"straps": [["Level [cm]", "T1", "T2"], ["mm", "m3", "m3"], [0, 0, 12], [9, 5, 4]]},

@@ -106,12 +106,13 @@ def test_time_stamps(tmp_path: Path) -> None:
     certificate, other = keyring.authority(room), keyring.authority(tmp_path / "other")
     with keyring.stamp_server(room) as server:
         token = stamp(DATA, server)
+        now = datetime.datetime.now(datetime.timezone.utc)
     found = stamped(DATA, token, certificate)
-    assert found.when is not None and abs(found.when - NOW) < datetime.timedelta(minutes=5)
+    assert found.when is not None and abs(found.when - now) < datetime.timedelta(minutes=5)
     assert stamped(DATA + b"x", token, certificate).when is None
     assert stamped(DATA, token, other).when is None
     assert stamped(DATA, "AAAA", certificate).when is None
     with pytest.raises(Fault, match="doesn't answer"):
         stamp(DATA, server)
-    with pytest.raises(Fault, match="is no time stamp server"):
+    with pytest.raises(Fault, match="isn't a time stamp server"):
         stamp(DATA, "file:///etc/passwd")

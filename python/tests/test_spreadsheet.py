@@ -47,7 +47,7 @@ def test_reports(program: Path, words: list[str], wanted: str) -> None:
 
 
 READINGS = [
-    (3, "11697,5", "1169O,5", "line 3, column 2 (WIC-101): '1169O,5' is no figure"),
+    (3, "11697,5", "1169O,5", "line 3, column 2 (WIC-101): '1169O,5' isn't a number"),
     (
         3,
         "11697,5",
@@ -60,11 +60,11 @@ READINGS = [
         "12.047,5",
         "line 4, column 2 (WIC-101): '12.047,5' has marks between thousands",
     ),
-    (3, "346,97", "Bad", "line 3, column 4 (WIC-301): 'Bad' is no figure"),
+    (3, "346,97", "Bad", "line 3, column 4 (WIC-301): 'Bad' isn't a number"),
     (3, "346,97", "346,9700001", "line 3, column 4 (WIC-301): '346,9700001' is finer than a gram"),
     (3, "11482", "11482000", "line 3, column 3 (FI-201): '11482000' is above 10,000,000 t"),
-    (3, "02.04", "31.04", "line 3, column 1 (Day): '31.04.2024' is no day"),
-    (3, "02.04", "01.04", "line 3, column 1 (Day): 2024-04-01 stands above too"),
+    (3, "02.04", "31.04", "line 3, column 1 (Day): '31.04.2024' isn't a day"),
+    (3, "02.04", "01.04", "line 3, column 1 (Day): 2024-04-01 is already given above"),
     (1, "FI-201", "FI-202", "line 1, column 3 (FI-202): the table of tags has no tag 'FI-202'"),
     (1, "FI-302", "FI-201", "line 1, column 5 (FI-201): column 3 has this tag too"),
     (1, "FI-302", "Remark", "line 1: there is no column for the tag FI-302"),
@@ -83,11 +83,11 @@ def test_wrong_readings(
 
 
 TAGS = [
-    (3, "1,5 % or 10 t", "1,5", "line 3, column 5 (error): '1,5' is no error"),
-    (3, "1,5 % or 10 t", "1.5 %", "line 3, column 5 (error): '1.5 %' is no error"),
+    (3, "1,5 % or 10 t", "1,5", "line 3, column 5 (error): '1,5' isn't an error"),
+    (3, "1,5 % or 10 t", "1.5 %", "line 3, column 5 (error): '1.5 %' isn't an error"),
     (3, "1,5 % or 10 t", "", "line 3, column 5 (error): a stream with a tag has an error"),
-    (4, "CONCENTRATE", "WET CAKE", "line 4, column 2 (stream): 'WET CAKE' is no name"),
-    (4, "CONCENTRATE", "PULP", "line 4, column 2 (stream): PULP stands in line 3 too"),
+    (4, "CONCENTRATE", "WET CAKE", "line 4, column 2 (stream): 'WET CAKE' isn't a name"),
+    (4, "CONCENTRATE", "PULP", "line 4, column 2 (stream): PULP is in line 3 too"),
     (1, "error", "percent", "line 1: there is no column 'error'"),
 ]
 
@@ -116,7 +116,7 @@ def test_missing(say: Desk, tmp_path: Path) -> None:
     assert found.out == re.sub(r"(?m)^reading,WIC-301_2024-04-02,.*\n", "", session)
 
 
-@pytest.mark.parametrize("data, said", [("ä;b\n".encode("cp1252"), "no UTF-8"), (b"", "no row")])
+@pytest.mark.parametrize("data, said", [("ä;b\n".encode("cp1252"), "isn't UTF-8"), (b"", "no row")])
 def test_other_texts(say: Desk, tmp_path: Path, data: bytes, said: str) -> None:
     path = tmp_path / "tags.csv"
     path.write_bytes(data)

@@ -78,10 +78,10 @@ def test_critical(say: Desk) -> None:
 
 
 CRITICAL = [
-    (["5", "1"], "'5' is no level"),
+    (["5", "1"], "'5' isn't a level"),
     (["0.05", "2001"], "degrees of freedom are 1 to 2,000"),
     (["0.05"], "say degrees of freedom, --nodal or --measure"),
-    (["0.05", "--nodal", "x"], "'x' is no number of tests"),
+    (["0.05", "--nodal", "x"], "'x' isn't a number of tests"),
 ]
 
 

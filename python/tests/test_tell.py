@@ -17,8 +17,8 @@ from aiosmtpd.controller import Controller
 from conftest import Desk
 
 from plantbal.faults import Fault, Hindered
-from plantbal.fleet.letter import Letter, Told, letter_of
-from plantbal.fleet.mail import Refused, address_of, message_of, send
+from plantbal.fleet.letter import Letter, NightFile, letter_of
+from plantbal.fleet.mail import LetterRefused, address_of, message_of, send
 
 NOW = datetime(2026, 11, 30, 6, tzinfo=timezone.utc)
 TO = "accounts@example.org"
@@ -38,10 +38,10 @@ def night_of(**given: object) -> dict[str, object]:
 GOOD = {"status": 0, "wanting": 0, "sites": []}
 
 
-def told_of(tmp_path: Path, **given: object) -> Told:
+def told_of(tmp_path: Path, **given: object) -> NightFile:
     path = tmp_path / "night.json"
     path.write_text(json.dumps(night_of(**given)))
-    return Told.read(path)
+    return NightFile.read(path)
 
 
 # What is given of the night, the status that is known beside it, the age, the subject, the text.
@@ -51,7 +51,7 @@ LETTERS: list[tuple[dict[str, object], int | None, float | None, str, list[str]]
     (GOOD, None, None, "", []),
     (GOOD, 0, None, "", []),
     (GOOD, 3, None, "plantbal: the night failed with status 3", ["journalctl", "2026-11-30"]),
-    (GOOD, 137, None, "plantbal: the night failed with status 137", ["none of its own"]),
+    (GOOD, 137, None, "plantbal: the night failed with status 137", ["which it never ends with"]),
     (GOOD, None, 2 * 3600, "plantbal: no night since 2026-11-30 03:10", ["for 3 hours"]),
     (GOOD, None, 4 * 3600, "", []),
     ({**GOOD, "status": 3}, None, None, "plantbal 2026-11-30: the night ended with status 3", []),
@@ -89,7 +89,7 @@ def test_a_night_of_many_plants(tmp_path: Path) -> None:
 def test_what_is_no_night(tmp_path: Path, text: str) -> None:
     (tmp_path / "night.json").write_text(text, encoding="latin-1")
     with pytest.raises(Fault, match="night.json"):
-        Told.read(tmp_path / "night.json")
+        NightFile.read(tmp_path / "night.json")
 
 
 # ---- sending
@@ -212,7 +212,7 @@ def test_pauses_double() -> None:
 
         def send(self, message: EmailMessage) -> None:
             """Refuse it."""
-            raise Refused("busy", may_help=True)
+            raise LetterRefused("busy", may_help=True)
 
     message = message_of(Letter("s", "t"), address_of("a@b.org"), [address_of(TO)])
     with pytest.raises(Hindered, match="isn't sent after 4 tries: busy"):
@@ -268,10 +268,10 @@ def test_words(say: Desk, nights: Path, tmp_path: Path) -> None:
     secret.write_text("x\n")
     secret.chmod(0o600)
     for words, said in (
-        (("--to", "nobody"), "'nobody' is no address"),
-        (("--to", "a b@c.org"), "is no address"),
-        (("--to", "a@b.org\nBcc: c@d.org"), "is no address"),
-        (("--to", TO, "--from", "x"), "'x' is no address"),
+        (("--to", "nobody"), "'nobody' isn't an address"),
+        (("--to", "a b@c.org"), "isn't an address"),
+        (("--to", "a@b.org\nBcc: c@d.org"), "isn't an address"),
+        (("--to", TO, "--from", "x"), "'x' isn't an address"),
         (("--to", TO, "--smtp", "h:0"), "has no port"),
         (("--to", TO, "--smtp", "h", "--sendmail", "s"), "two ways"),
         (("--to", TO, "--user", "u"), "--user is for a server"),

@@ -18,7 +18,6 @@ from conftest import TOP, Desk, example, least_spent, text_of
 from hypothesis import HealthCheck, given, settings
 from hypothesis import strategies as st
 
-import plantbal
 from plantbal import InputFault, Output, Session, read_report
 from plantbal.program import call
 from plantbal.report.blocks import Block

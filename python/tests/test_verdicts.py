@@ -11,7 +11,7 @@ from hypothesis import strategies as st
 
 from plantbal.audit.verdicts import _PASSED_OVER, explain_check
 from plantbal.checker import PASSED_OVER
-from plantbal.explain import Told
+from plantbal.explain import ExplainedRow
 from plantbal.program import call
 from plantbal.schema import schema
 
@@ -84,7 +84,7 @@ NOS = [
         11,
         13,
         "node",
-        "the row of U is asked here, in the order of the nodes, and V is",
+        "the row of U belongs here, in the order of the nodes, and V is",
     ),
     ("nodal,U,2000000,2000000000002,3841,accept\n", "", 11, 12, "", "1 nodal row is asked"),
     ("global,3841,accept", "global,3841,reject", 12, 12, "verdict", "has the verdict accept"),
@@ -106,7 +106,11 @@ OTHERS = [
         "101000002,,",
         "other streams of the block have least bounds",
     ),
-    ("cut,env,-A +C", "cycle,,-A +C", "a cut shows that a stream is redundant, and a cycle stands"),
+    (
+        "cut,env,-A +C",
+        "cycle,,-A +C",
+        "a cut shows that a stream is redundant, and this is a cycle",
+    ),
     ("cut,env,-A +C", "cut,U,+A -B -D +E", "the cut has D and E too, which have no value"),
     ("cut,env,-A +C", "cut,V,+B -C +D -E", "A has no end or both ends in the side"),
     ("+B -D", "+E +D", "the cycle doesn't go through B"),
@@ -182,7 +186,7 @@ UNREADABLE = [
 ]
 
 
-def explained(program: Path, old: str, new: str) -> tuple[Told, str]:
+def explained(program: Path, old: str, new: str) -> tuple[ExplainedRow, str]:
     """What is said of a report that is changed, and what the check says."""
     data = GOOD.replace(old, new).encode()
     assert data != GOOD.encode()

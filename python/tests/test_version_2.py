@@ -12,12 +12,13 @@ from pathlib import Path
 import pandas
 import pytest
 from books import ANYWAY, PLANT, Sheets, Type, fixture_book, folder, month, rows_of
-from conftest import Desk, example, text_of
+from conftest import Desk, Said, example, text_of
 from hypothesis import given
 from hypothesis import strategies as st
 from test_program import QUICK, judged, refusals
 
 from plantbal import Session, convert
+from plantbal.book import beginning
 from plantbal.audit.held import Pair, answers_of, refused_differ
 from plantbal.faults import Refusal
 from plantbal.lint import lint_session
@@ -97,9 +98,9 @@ def test_readings_at_once() -> None:
     days = ["2024-03-15", "2024-03-17"]
     columns = ["a", "b"], ["A", "A"], days, ["5", "5"], ["0", "0"]
     frame = pandas.DataFrame(dict(zip(("id", "stream", "day", "grams", "variance"), columns)))
-    from plantbal.session.frames import Table
+    from plantbal.session.frames import FrameTable
 
-    session.take_readings(columns, Table("readings", frame).place)
+    session.take_readings(columns, FrameTable("readings", frame).place)
     assert [(each.row[1], each.code) for each in session.refused] == [("b", 12)]
 
 
@@ -343,7 +344,7 @@ def test_from_spreadsheet(say: Desk, tmp_path: Path) -> None:
 
 
 BAD_CELLS = [
-    ("streams", 2, 6, "2.4.24 x", "streams.csv: line 3, column 7 (since): '2.4.24 x' is no day"),
+    ("streams", 2, 6, "2.4.24 x", "streams.csv: line 3, column 7 (since): '2.4.24 x' isn't a day"),
     ("streams", 2, 7, "2024-04-01", "streams.csv: line 3, column 7: stream PRODUCT: its first day"),
     ("streams", 1, 2, "QUAY", "there is no unit, tank or boundary QUAY"),
     ("boundaries", 1, 0, "JE TTY", "boundaries.csv: line 2, column 1: boundary JE TTY: NAME is"),
@@ -417,7 +418,17 @@ def test_book_refuses_a_tank_without_a_date(program: Path, dated: Type, tmp_path
     assert "write a day after the closed periods into its column since" in said.err
 
 
-def test_book_of_version_1_takes_no_dates(program: Path, book: Type, tmp_path: Path) -> None:
+def test_book_of_version_1_takes_no_dates(
+    say: Desk, tmp_path: Path, monkeypatch: pytest.MonkeyPatch
+) -> None:
+    """A book as an older version of plantbal made it works as it did."""
+    monkeypatch.setattr(beginning, "VERSION", ())
+
+    def book(*words: object) -> Said:
+        return say("book", *words, "--book", tmp_path / "mill")
+
+    assert book("new", "2024", folder(tmp_path / "plant", PLANT)).status == 0
+    assert book("add", folder(tmp_path / "april", month())).err == ""
     assert rows_of(tmp_path)[0] != "version,2"
     said = book("add", folder(tmp_path / "new", NEW | month(1, 3)))
     assert said.status == 1

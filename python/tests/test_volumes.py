@@ -10,9 +10,9 @@ import pytest
 from plantbal.faults import Fault
 from plantbal.volumes.batch import batch
 from plantbal.volumes.factor import FactorTable, Rounding, five_figures, petroleum
-from plantbal.volumes.groups import RANGES, Group
-from plantbal.volumes.liquid import Liquid, Measured, Product, Sample
-from plantbal.volumes.standard import Instrument, at_standard
+from plantbal.volumes.groups import DENSITIES, RANGES, Group
+from plantbal.volumes.liquid import Liquid, MeasuredFigure, Product, Sample
+from plantbal.volumes.standard import DensityInstrument, at_standard
 from plantbal.volumes.tank import Depth, Gauging, Roof
 
 D = Decimal
@@ -35,7 +35,7 @@ CELSIUS = {
         ("346.4228", "0.4388", "0"),
         ("2680.3206", "0", "-0.00336312"),
         ("594.5418", "0", "0"),
-        ("186.9696", "0.48618", "0"),
+        ("186.9696", "0.4862", "0"),
     ],
     Group.LUBRICANTS: [("0", "0.6278", "0")],
 }
@@ -97,6 +97,99 @@ def test_factors(group: Group, density: str, temperature: str, place: int) -> No
         assert rounded.value == five, f"{rounded.value} is not {five} by the rounded coefficient"
 
 
+def half_up(number: mpmath.mpf, places: int) -> mpmath.mpf:
+    """A positive number rounded to some decimals, halves away from 0: what was meant is exact."""
+    scaled = number * mpmath.mpf(10) ** places
+    return mpmath.floor(scaled + mpmath.mpf("0.5")) / mpmath.mpf(10) ** places
+
+
+def table_54(group: Group, density: str, temperature: str) -> str:
+    """A factor by the steps of the procedure of 1980, written a second time, in mpmath."""
+    rho = half_up(mpmath.mpf(density) * 2, 0) / 2
+    steps = half_up(abs(mpmath.mpf(temperature)) * 20, 0)
+    by = steps / 20 * mpmath.sign(mpmath.mpf(temperature)) - 15
+    place = 0
+    if group is Group.PRODUCTS:
+        place = (rho > 770) + (rho >= mpmath.mpf("787.5")) + (rho >= mpmath.mpf("838.5"))
+    alpha = half_up(alpha_of(group, int(place), rho), 7)
+    factor = mpmath.exp(-alpha * by * (1 + mpmath.mpf("0.8") * alpha * by))
+    places = 4 if factor >= 1 else 5
+    digits = int(half_up(factor, places) * 10**places + mpmath.mpf("0.5"))
+    return f"{digits // 10**places}.{digits % 10**places:0{places}}"
+
+
+# What that gives, so that a reader may look it up in a copy of the tables.
+WORKED = [
+    (Group.CRUDE, "865.0", "25.00", "0.99177"),
+    (Group.CRUDE, "790.0", "40.00", "0.97523"),
+    (Group.CRUDE, "865.0", "5.00", "1.0082"),
+    (Group.PRODUCTS, "740.0", "25.00", "0.98770"),
+    (Group.PRODUCTS, "780.0", "25.00", "0.98954"),
+    (Group.PRODUCTS, "810.0", "25.00", "0.99091"),
+    (Group.PRODUCTS, "850.0", "25.00", "0.99167"),
+    (Group.PRODUCTS, "960.0", "85.00", "0.94969"),
+    (Group.LUBRICANTS, "890.0", "60.00", "0.96797"),
+]
+
+
+def test_worked_values() -> None:
+    with mpmath.workdps(50):
+        for group, density, temperature, wanted in WORKED:
+            found = petroleum(group, D(density), D(temperature)).value
+            again = table_54(group, density, temperature)
+            assert (str(found), again) == (wanted, wanted), (group, density, temperature)
+
+
+@pytest.mark.parametrize("group", [Group.CRUDE, Group.PRODUCTS, Group.LUBRICANTS])
+def test_a_grid_of_the_tables(group: Group) -> None:
+    """To the last digit, also between the steps of density and temperature, and at the borders."""
+    low, high = DENSITIES[group]
+    with mpmath.workdps(40):
+        for at in range(0, 101):
+            density = D(low + (high - low) * at / 100).quantize(D("0.01"))
+            for temperature in ("-18", "-0.03", "14.974", "15.025", "37.8", "61.125", "94.99"):
+                found = petroleum(group, density, D(temperature)).value
+                again = table_54(group, str(density), temperature)
+                assert str(found) == again, (group, density, temperature)
+
+
+def table_53(group: Group, observed: str, temperature: str, glass: bool) -> str:
+    """A density at 15 degrees by the steps of the procedure, found by halving an interval."""
+    rho = half_up(mpmath.mpf(observed) * 2, 0) / 2
+    by = half_up(mpmath.mpf(temperature) * 20, 0) / 20 - 15
+    read = rho
+    if glass:
+        read *= 1 - mpmath.mpf("0.000023") * by - mpmath.mpf("0.00000002") * by**2
+    low, high = rho * mpmath.mpf("0.8"), rho * mpmath.mpf("1.25")
+    for _ in range(90):
+        half = (low + high) / 2
+        alpha = alpha_of(group, 0 if group is not Group.PRODUCTS else _range_of(half), half)
+        factor = mpmath.exp(-alpha * by * (1 + mpmath.mpf("0.8") * alpha * by))
+        low, high = (half, high) if half * factor < read else (low, half)
+    tenths = int(half_up(low, 1) * 10 + mpmath.mpf("0.5"))
+    return f"{tenths // 10}.{tenths % 10}"
+
+
+def _range_of(rho: mpmath.mpf) -> int:
+    return int((rho > 770) + (rho >= mpmath.mpf("787.5")) + (rho >= mpmath.mpf("838.5")))
+
+
+def test_densities_at_15_by_halving() -> None:
+    """Tables 53A, 53B and 53D, by a hydrometer and without one, to their last digit."""
+    cases = [(Group.CRUDE, 700, 1000), (Group.PRODUCTS, 680, 740), (Group.PRODUCTS, 850, 1000)]
+    cases.append((Group.LUBRICANTS, 850, 950))
+    with mpmath.workdps(30):
+        for group, low, high in cases:
+            for at in range(13):
+                observed = str(D(low) + D(high - low) * at / 12)[:6]
+                for temperature in ("4.5", "21.37", "38.05"):
+                    for by in DensityInstrument:
+                        glass = by is DensityInstrument.HYDROMETER
+                        found = at_standard(group, D(observed), D(temperature), by).density
+                        again = table_53(group, observed, temperature, glass)
+                        assert str(found) == again, (group, observed, temperature, by)
+
+
 @pytest.mark.parametrize(("group", "density", "temperature", "place"), FACTORS)
 def test_derivatives(group: Group, density: str, temperature: str, place: int) -> None:
     with mpmath.workdps(50):
@@ -146,7 +239,7 @@ def test_table_c() -> None:
         petroleum(Group.COEFFICIENT, D(700), D(25))
 
 
-@pytest.mark.parametrize("by", list(Instrument))
+@pytest.mark.parametrize("by", list(DensityInstrument))
 @pytest.mark.parametrize(
     ("group", "observed", "temperature"),
     [
@@ -156,11 +249,13 @@ def test_table_c() -> None:
         (Group.LUBRICANTS, "880", "-5"),
     ],
 )
-def test_densities_at_15(group: Group, observed: str, temperature: str, by: Instrument) -> None:
+def test_densities_at_15(
+    group: Group, observed: str, temperature: str, by: DensityInstrument
+) -> None:
     with mpmath.workdps(50):
         by_t = mpmath.mpf(temperature) - 15
         glass = 1 - mpmath.mpf("0.000023") * by_t - mpmath.mpf("0.00000002") * by_t**2
-        read = mpmath.mpf(observed) * (glass if by is Instrument.HYDROMETER else 1)
+        read = mpmath.mpf(observed) * (glass if by is DensityInstrument.HYDROMETER else 1)
         found = at_standard(group, D(observed), D(temperature), by, Rounding.NONE)
         rho = mpmath.mpf(str(found.density))
         ranges = RANGES[group]
@@ -189,11 +284,11 @@ def test_a_table_of_its_own() -> None:
 def test_a_tank_by_hand() -> None:
     """A tank of 100 m3 a metre with water, at a temperature, and a roof that floats."""
     table = FactorTable("OIL", [(D(0), D("1.015")), (D(30), D("0.985"))])
-    sample = Sample(Measured(D(800), D("0.5")))
-    liquid = Liquid(sample, Product("OIL", table=table), Measured(D(25), D("0.4")))
-    depth = Depth(Measured(D(5000), D(3)), D(500), D("0.1"))
-    water = Depth(Measured(D(200), D(2)), D(20), D("0.1"))
-    roof = Roof(Measured(D(4000), D(50)), D(1000), D(1500))
+    sample = Sample(MeasuredFigure(D(800), D("0.5")))
+    liquid = Liquid(sample, Product("OIL", table=table), MeasuredFigure(D(25), D("0.4")))
+    depth = Depth(MeasuredFigure(D(5000), D(3)), D(500), D("0.1"))
+    water = Depth(MeasuredFigure(D(200), D(2)), D(20), D("0.1"))
+    roof = Roof(MeasuredFigure(D(4000), D(50)), D(1000), D(1500))
     found = Gauging(depth, liquid, water, roof).content()
     # 480 m3 of product at a factor of 0.99: 792 kg/m3, 380,160 kg, less 4,000 kg
     assert found.grams == D(376_160_000), "what it holds"
@@ -209,28 +304,30 @@ def test_a_tank_by_hand() -> None:
 )
 def test_a_roof(level: str, zone: str | None, grams: str) -> None:
     """Below, within and above the critical zone, in kg: half of it displaces half."""
-    roof = Roof(Measured(D(4000)), D(1000), D(1500), D(zone) if zone else None)
-    depth = Depth(Measured(D(level)), D(level) / 10, D("0.1"))
-    content = Gauging(depth, Liquid(Sample(Measured(D(800)))), roof=roof).content()
+    roof = Roof(MeasuredFigure(D(4000)), D(1000), D(1500), D(zone) if zone else None)
+    depth = Depth(MeasuredFigure(D(level)), D(level) / 10, D("0.1"))
+    content = Gauging(depth, Liquid(Sample(MeasuredFigure(D(800)))), roof=roof).content()
     assert content.grams == D(grams) * 1000, "its mass is subtracted as it floats"
     assert content.variance == (D(zone or 0) * 1000) ** 2, "the zone has its error"
 
 
 def test_what_is_refused() -> None:
-    plain = Liquid(Sample(Measured(D(800))))
-    deep = Depth(Measured(D(1250)), D(125), D("0.1"))
+    plain = Liquid(Sample(MeasuredFigure(D(800))))
+    deep = Depth(MeasuredFigure(D(1250)), D(125), D("0.1"))
     cases = {
         "critical zone": lambda: Gauging(
-            deep, plain, roof=Roof(Measured(D(4000)), D(1000), D(1500))
+            deep, plain, roof=Roof(MeasuredFigure(D(4000)), D(1000), D(1500))
         ).content(),
         "m3 in all": lambda: Gauging(
-            deep, plain, water=Depth(Measured(D(1300)), D(130), D("0.1"))
+            deep, plain, water=Depth(MeasuredFigure(D(1300)), D(130), D("0.1"))
         ).content(),
-        "no product is named": lambda: batch(D(1), Liquid(plain.sample, None, Measured(D(20)))),
-        "how SLOP expands": lambda: batch(
-            D(1), Liquid(plain.sample, Product("SLOP"), Measured(D(20)))
+        "no product is named": lambda: batch(
+            D(1), Liquid(plain.sample, None, MeasuredFigure(D(20)))
         ),
-        "by what": lambda: Sample(Measured(D(800)), D(20)).at_15(Product("X", Group.CRUDE)),
+        "how SLOP expands": lambda: batch(
+            D(1), Liquid(plain.sample, Product("SLOP"), MeasuredFigure(D(20)))
+        ),
+        "by what": lambda: Sample(MeasuredFigure(D(800)), D(20)).at_15(Product("X", Group.CRUDE)),
     }
     for said, call in cases.items():
         with pytest.raises(Fault, match=said):
@@ -240,7 +337,7 @@ def test_what_is_refused() -> None:
 def test_a_batch_by_hand() -> None:
     table = FactorTable("OIL", [(D(0), D("1.015")), (D(30), D("0.985"))])
     liquid = Liquid(
-        Sample(Measured(D(800), D(1))), Product("O", table=table), Measured(D(25), D(1))
+        Sample(MeasuredFigure(D(800), D(1))), Product("O", table=table), MeasuredFigure(D(25), D(1))
     )
     found = batch(D(1000), liquid)
     assert found.grams == D(792_000_000), "1,000 m3 at 25 degrees are 990 m3 of 800 kg/m3"

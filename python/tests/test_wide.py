@@ -2,9 +2,13 @@
 
 from __future__ import annotations
 
+import datetime
+import re
+from collections.abc import Callable
 from decimal import Decimal
 from typing import Any
 
+import numpy
 import pandas
 import pytest
 
@@ -104,12 +108,12 @@ NAIVE = pandas.DataFrame(FLOATS, index=DAYS)
         (NAIVE, {"error": ERROR}, "row 2024-05-01, column A: 102.5 is a float, .* round='gram'"),
         (NAIVE, {"round": "gram"}, "nothing says how good the readings are: say error="),
         (NAIVE, {"round": "kg", "error": ERROR}, "round is 'kg': say 'gram', or no word"),
-        (NAIVE, {"round": "gram", "error": "1"}, "'1' is no error with its unit"),
+        (NAIVE, {"round": "gram", "error": "1"}, "'1' isn't an error with its unit"),
         (NAIVE, {"round": "gram", "error": {"A": "1 %"}}, "there is no error of B"),
         (NAIVE.reset_index(drop=True), GRAM, "no column stream, and no days are in the index"),
         (NAIVE[[]], GRAM, "there is no column of readings"),
         (NAIVE[["A", "A"]], GRAM, "there are two columns A"),
-        (NAIVE * float("inf"), GRAM, "column A: tonnes is Infinity, which is no number"),
+        (NAIVE * float("inf"), GRAM, "column A: tonnes is Infinity, which isn't a number"),
         (NAIVE * 1e300, GRAM, "tonnes is 1.025e.302: at most 10,000,000 t"),
         (NAIVE.shift(6, freq="h"), GRAM, "with a time of the day"),
     ],
@@ -133,7 +137,11 @@ def test_error_twice() -> None:
 @pytest.mark.parametrize(
     "columns, said",
     [
-        ({"deviation_tonnes": "0"}, "streams: row 0, column deviation_tonnes: stream A: BASEVAR"),
+        (
+            {"deviation_tonnes": "0"},
+            "streams: row 0, column deviation_tonnes: stream A: deviation_tonnes is '0', which makes"
+            " base 0 .refused 4, number.: a number of tonnes above 0, and up to 3,162.27766",
+        ),
         ({"from": "X"}, "streams: row 0, column from: stream A: there is no unit or tank X"),
     ],
 )
@@ -143,10 +151,38 @@ def test_own_columns(columns: dict[str, str], said: str) -> None:
     with pytest.raises(Refusal, match=said):
         Session.from_frames(streams=streams, units=units)
     kept = Session.from_frames(streams=streams, units=units, strict=False)
-    assert said in str(kept.refused[0])
+    assert re.search(said, str(kept.refused[0]))
 
 
 def test_own_columns_of_readings() -> None:
     frame = pandas.DataFrame({"stream": "A", "date": ["2024-05-32"], "tonnes": 1, "variance": 1})
     with pytest.raises(Refusal, match="readings: row 0, column date: reading A_2024-05-32"):
         made(frame)
+
+
+@pytest.mark.parametrize("kind", [numpy.int64, numpy.uint8, int, Decimal, str])
+def test_numbers_of_any_type(kind: Callable[[int], Any]) -> None:
+    """A whole number is one, whoever made it; a truth value is none."""
+    session = Session.from_frames(streams=STREAMS, units=["U"])
+    session.reading("a", "A", "2024-05-01", tonnes=kind(3), deviation_tonnes=kind(1))
+    assert list(session)[-1][-2:] == ("3000000", "1000000000000")
+    for wrong in (True, numpy.True_, numpy.float64(3)):
+        with pytest.raises(Fault, match="floats are not exact"):
+            session.reading("b", "A", "2024-05-02", tonnes=wrong, deviation_tonnes=1)
+
+
+DAYS_OF_A_ZONE = [
+    pandas.Timestamp("2024-05-01", tz="Europe/Berlin"),
+    pandas.Timestamp("2024-04-30 22:00", tz="UTC").tz_convert("Europe/Berlin"),
+    datetime.datetime(2024, 5, 1, tzinfo=datetime.timezone(datetime.timedelta(hours=1))),
+]
+
+
+@pytest.mark.parametrize("day", DAYS_OF_A_ZONE)
+def test_midnight_of_a_zone(day: datetime.datetime) -> None:
+    """Midnight of a zone begins a day there, in an index, a column and by itself."""
+    session = Session.from_frames(streams=STREAMS, units=["U"])
+    session.reading("a", "A", day, tonnes=1, deviation_tonnes=1)
+    frame = pandas.DataFrame({"stream": "A", "day": [day], "tonnes": 1, "variance": 1})
+    for found in (session, made(frame)):
+        assert [row[3] for row in found if row[0] == "reading"] == ["2024-05-01"]

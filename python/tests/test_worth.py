@@ -13,7 +13,7 @@ from conftest import Desk, example
 from plantbal import convert
 from plantbal.balance import Flow, Known, Measured, Problem, solve
 from plantbal.balance.choose import Aim, best_for, cheapest, redundant, within
-from plantbal.balance.worth import Instrument, State, changed, deviation_of
+from plantbal.balance.worth import Instrument, PeriodState, changed, deviation_of
 
 OFFERS = [
     Instrument("RGH_CONC", "", 38.0, 30),
@@ -28,11 +28,11 @@ OFFERS = [
 
 
 @pytest.fixture(name="state", scope="module")
-def fixture_state() -> State:
-    return State(Known(solve(plants.concentrator(None))))
+def fixture_state() -> PeriodState:
+    return PeriodState(Known(solve(plants.concentrator(None))))
 
 
-def test_a_meter_more_is_as_if_it_had_been_read(state: State) -> None:
+def test_a_meter_more_is_as_if_it_had_been_read(state: PeriodState) -> None:
     problem = plants.concentrator(None)
     flows = [
         Flow(f.name, f.start, f.end, Measured(1900, 38.0**2), f.either_way)
@@ -56,7 +56,7 @@ def test_without_assays_it_is_that_of_mass() -> None:
         Flow("B", "env", "U", Measured(20, 16)),
         Flow("C", "U", "env"),
     ]
-    state = State(Known(solve(Problem(flows))))
+    state = PeriodState(Known(solve(Problem(flows))))
     assert deviation_of(state.with_(state.here), "C") == pytest.approx(5)
     more = changed(state, [Instrument("C", "", 12)], [])
     assert deviation_of(more, "A") == pytest.approx(3 * (1 - 9 / 169) ** 0.5)
@@ -75,7 +75,7 @@ def by_all_choices(offers: list[Instrument], aim: Aim) -> int:
     )
 
 
-def test_the_cheapest_is_the_cheapest_of_all(state: State) -> None:
+def test_the_cheapest_is_the_cheapest_of_all(state: PeriodState) -> None:
     flows = [flow.name for flow in state.problem.flows]
     for offers, aim in (
         (OFFERS[:6], within(state, {"RGH_CONC": 30.0})),
@@ -88,7 +88,7 @@ def test_the_cheapest_is_the_cheapest_of_all(state: State) -> None:
         assert found.cost == by_all_choices(offers, aim)
 
 
-def test_a_budget_buys_the_least(state: State) -> None:
+def test_a_budget_buys_the_least(state: PeriodState) -> None:
     streams, rng = ["RGH_CONC", "CAKE"], random.Random(1)
     choice, ratio = best_for(state, OFFERS, streams, 34)
     assert choice.cost <= 34

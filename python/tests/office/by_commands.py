@@ -7,13 +7,12 @@ import io
 
 from plantbal import desk
 
-BOOK = next(command for command in desk.COMMANDS if command.word == "book")
 
-
-def call(*words: object, allowed: tuple[int, ...] = (0,)) -> str:
+def call(*words: object, allowed: tuple[int, ...] = (0,), command: str = "book") -> str:
     """What a command writes; it fails if its status is none that is allowed."""
     out, err = io.StringIO(), io.StringIO()
-    parser = desk.parser_of(BOOK, "plantbal-desk book")
+    own = next(each for each in desk.COMMANDS if each.word == command)
+    parser = desk.parser_of(own, f"plantbal-desk {command}")
     with contextlib.redirect_stdout(out), contextlib.redirect_stderr(err):
         try:
             status = desk.call(parser, [str(word) for word in words])

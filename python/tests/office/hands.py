@@ -16,6 +16,7 @@ from office.by_commands import call
 from selenium import webdriver
 from selenium.common.exceptions import WebDriverException
 from selenium.webdriver.common.by import By
+from selenium.webdriver.common.keys import Keys
 from selenium.webdriver.remote.webelement import WebElement
 from selenium.webdriver.support.ui import Select, WebDriverWait
 
@@ -38,6 +39,26 @@ class Commands:
 
     def begin(self, year: str, workbook: Path, locale: str = "") -> None:
         self._call("new", year, workbook, "--locale", locale)
+
+    def begin_mapped(self, year: str, workbook: Path) -> None:
+        """Begin with a workbook as the plant has it, and add what else is in it."""
+        mapping = self.book.parent / "mapping.toml"
+        self.book.parent.mkdir(parents=True, exist_ok=True)
+        call(workbook, "--out", mapping, command="map")
+        self._call("new", year, workbook, "--mapping", mapping)
+        self._call("add", workbook)
+
+    def type(self, period: str, cells: Mapping[tuple[str, str], str], why: str) -> None:
+        """Add a workbook with all readings of a month, of which some are others or none."""
+        folder = self.book.parent / f"typed_{period}_readings"
+        folder.mkdir()
+        table = readings_of(self.book, period) | dict(cells)
+        names = sorted({name for name, _ in table})
+        days = sorted({day for _, day in table})
+        rows = [[day, *(table.get((name, day), "") for name in names)] for day in days]
+        with open(folder / "readings.csv", "w", encoding="utf-8", newline="") as out:
+            csv.writer(out).writerows([["day", *names], *rows])
+        self._call("add", folder, "--locale", "en_US", "--strike", "--why", why)
 
     def add(self, workbook: Path, locale: str = "", why: str = "", strike: bool = False) -> None:
         words = ["--why", why] if why else []
@@ -172,6 +193,29 @@ class Browser:
         self.plant = self.book.name
         assert self.driver.current_url.endswith(f"/p/{self.plant}/"), self.text()
 
+    def begin_mapped(self, year: str, workbook: Path) -> None:
+        self.open("/begin")
+        self.fill("name", self.book.name)
+        self.fill("folder", str(self.book))
+        self.fill("year", year)
+        self.drop(workbook)
+        self.press("Begin")
+        assert "how it is read" in self.text(), self.text()
+        self.press("Begin the book so")
+        self.plant = self.book.name
+        assert "what it would do" in self.text(), self.text()
+        self.press("Book it")
+
+    def type(self, period: str, cells: Mapping[tuple[str, str], str], why: str) -> None:
+        self.open(f"enter/grid/{period}/readings")
+        for (name, day), text in cells.items():
+            cell = self.one(f"td[data-name='{name}'][data-day='{day}']")
+            cell.click()
+            cell.send_keys(text or Keys.DELETE, *([Keys.ENTER] if text else []))
+        self.press("Look what it would do")
+        self.fill("why", why)
+        self.press("Book it")
+
     def look_at(self, workbook: Path, locale: str = "") -> None:
         """Drop a workbook, and look at what it would do."""
         self.open("enter/")
@@ -263,6 +307,20 @@ Hand = Commands | Browser
 
 
 # ---- two books held against one another
+
+
+def readings_of(book: Path, period: str) -> dict[tuple[str, str], str]:
+    """The readings of a month by tag and day, as a workbook may have them."""
+    from plantbal import Book
+
+    flows = {flow.name: flow for flow in next(iter(Book(book).contents().flows.values()))}
+    found = {}
+    for each in Book(book).facts(period).facts:
+        if each.fact.kind == "reading" and not each.struck:
+            meter = flows[each.fact.place].meter
+            label = (meter.tag if meter is not None else "") or each.fact.place
+            found[label, str(each.fact.first)] = each.fact.said().replace(",", "")
+    return found
 
 
 def bytes_of(book: Path) -> dict[str, bytes]:

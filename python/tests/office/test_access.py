@@ -19,10 +19,18 @@ WORDS = {
     "drop": "00000000-0000-4000-8000-000000000000",
     "note": "00000000-0000-4000-8000-000000000000",
     "key": "none",
+    "task": "1",
 }
 KINDS = {"enter:grid": "readings"}
 # These find nothing of this name, whoever asks.
-NOTHING = {"enter:seen", "look:earlier", "notes:file", "deeds:outcome"}
+NOTHING = {
+    "enter:seen",
+    "enter:mapping",
+    "plants:done",
+    "look:earlier",
+    "notes:file",
+    "deeds:outcome",
+}
 
 
 def addresses() -> Iterator[tuple[str, str]]:

@@ -273,13 +273,21 @@ def test_another_person(site: Site, made: Any, tmp_path: Any) -> None:
 
 
 def test_many_at_once(site: Site, made: Any, tmp_path: Any) -> None:
-    """People at work in two books at once: each change is booked, or its person told; none is lost."""
+    """People at work in several books at once: each change is booked, or its person told; none is lost.
+
+    `make office-times` has twenty people in five books.
+    """
+    import os
     import re
     import threading
 
     from django.db import connection
 
-    other = Site(tmp_path, site.plant.slug + "y", ("engineer",), made)
+    people, books = (
+        int(os.environ.get(f"PLANTBAL_{n}", m)) for n, m in (("PEOPLE", 3), ("BOOKS", 2))
+    )
+    names = [f"{site.plant.slug}y{n}" for n in range(1, books)]
+    sites = [site, *(Site(tmp_path, name, ("engineer",), made) for name in names)]
     done: list[tuple[str, str]] = []
 
     def work(here: Site, day: int) -> None:
@@ -288,7 +296,7 @@ def test_many_at_once(site: Site, made: Any, tmp_path: Any) -> None:
         client = Client()
         client.force_login(here.person)
         path = f"/p/{here.plant.slug}/correct/fact/2023-24/FI-302_2024-04-{day:02}/amend"
-        for _ in range(30):
+        for _ in range(60):
             page = client.get(f"{path}?amount={11_000 + day}+t&why=x").content.decode()
             form = {
                 n: re.findall(rf'name="{n}" value="([^"]*)"', page) for n in ("deed", "version")
@@ -305,13 +313,141 @@ def test_many_at_once(site: Site, made: Any, tmp_path: Any) -> None:
 
     threads = [
         threading.Thread(target=work, args=(here, day))
-        for here in (site, other)
-        for day in (1, 2, 3)
+        for here in sites
+        for day in range(1, people + 1)
     ]
     for thread in threads:
         thread.start()
     for thread in threads:
         thread.join()
-    assert len(done) == 6, done
-    for here in (site, other):
-        assert here.head() == 6, "three amendments each"
+    assert len(done) == people * books, done
+    for here in sites:
+        assert here.head() == 3 + people, "an amendment of each person"
+
+
+def test_undo_of_a_strike(site: Site) -> None:
+    """A struck fact is booked again by a button, with a reason; the journal has both."""
+    fact = "fact/2023-24/FI-302_2024-04-18"
+    strike = f"correct/{fact}/strike"
+    site.post(strike, site.fields(f"{strike}?why=x") | {"why": "of another day"})
+    page = sentence(site.get(f"look/{fact}"))
+    assert "Book it again" in page
+    undo = f"correct/{fact}/undo"
+    assert site.post(undo, site.fields(f"look/{fact}") | {"why": ""}).status_code == 400
+    answer = site.post(undo, site.fields(f"look/{fact}") | {"why": "of this day after all"})
+    assert answer["Location"].endswith("/FI-302_2024-04-18.2"), answer
+    assert "1,218 t" in sentence(site.client.get(answer["Location"]))
+    assert site.head() == 5
+    again = site.post(undo, site.fields(f"look/{fact}") | {"why": "twice"})
+    assert again.status_code == 400 and site.head() == 5, "the day has a figure again"
+
+
+def test_cleared(site: Site) -> None:
+    """A cleared cell strikes its figure, with a reason, and after its effect was shown."""
+    grid = "enter/grid/2024-04/readings"
+    cells = '[{"name": "FI-302", "day": "2024-04-18", "amount": ""}]'
+    answer = site.post(grid, site.fields(grid) | {"cells": cells})
+    path = answer["Location"].partition(f"/p/{site.plant.slug}/")[2]
+    page = sentence(site.get(path))
+    assert "FI-302_2024-04-18: 1,218 t" in page and "What the balance would say" in page
+    assert site.post(f"{path}/book", site.fields(path)).status_code == 302 and site.head() == 3
+    form = site.fields(path) | {"why": "it is of May"}
+    assert site.post(f"{path}/book", form).status_code == 302 and site.head() == 4
+    from plantbal import Book
+
+    assert Book(site.book).fact("2023-24", "FI-302_2024-04-18").shown.struck
+
+
+def test_tasks(site: Site) -> None:
+    """A task is given once, shown with what its month waits for, and done; no book knows of it."""
+    form = site.fields("") | {"month": "2024-04", "what": "<i>dip</i> of T4", "due": "2024-05-02"}
+    assert [site.post("task", form).status_code for _ in range(2)] == [302, 302]
+    page = sentence(site.get(""))
+    assert page.count("&lt;i&gt;dip") == 2 and "overdue" in page, "said once, and for its button"
+    assert "&lt;i&gt;dip" in sentence(site.client.get("/")), "on the page of the plants too"
+    for wrong in ({"month": "none"}, {"what": "x" * 10_000}, {"what": ""}, {"due": "soon"}):
+        again = site.fields("") | {"month": "2024-04", "what": "y"} | wrong
+        assert site.post("task", again).status_code == 400, wrong
+    from plantbal_office.plants.models import Task
+
+    task = Task.objects.get(plant=site.plant)
+    for _ in range(2):
+        assert site.post(f"done/{task.pk}", {}).status_code == 302
+    assert "&lt;i&gt;dip" not in sentence(site.get("")) and site.head() == 3
+
+
+def test_languages_of_sentences(site: Site) -> None:
+    """What has a code is said in the person's language; English is the library's own sentence."""
+    from django.utils import translation
+    from plantbal.gates import Gate, Stop, said_of
+    from plantbal_office.sentences import stop_said
+
+    stop = Stop(Gate.MISSING, "2024-04", ("FI-302",), (738996, 738997, 738998), {"is_tank": 0})
+    with translation.override("en"):
+        assert stop_said(stop) == said_of(stop)
+    said = {}
+    for code in ("de", "es"):
+        with translation.override(code):
+            said[code] = stop_said(stop)
+    assert said["de"] == "keine Ablesung von FI-302 am 20.04.2024 bis 22.04.2024", said
+    assert "falta la lectura" in said["es"], said
+
+
+def test_fifty_megabytes(site: Site) -> None:
+    """A file of 50 MB that is no workbook is read once, and said to be none."""
+    out = io.BytesIO()
+    with zipfile.ZipFile(out, "w") as zipped:
+        zipped.writestr("xl/workbook.xml", b"x" * 50_000_000)
+    said = sentence(drop(site, workbook("large.xlsx", out.getvalue())))
+    assert "verdict bad" in said and site.head() == 3
+
+
+def test_program_killed(site: Site, tmp_path: Any, monkeypatch: pytest.MonkeyPatch) -> None:
+    """If the program is killed there is a sentence, and no report; then the same form goes."""
+    from django.conf import settings
+
+    script = tmp_path / "killed"
+    script.write_text("#!/bin/sh\nkill -9 $$\n")
+    script.chmod(0o755)
+    form = site.fields("")
+    with monkeypatch.context() as patch:
+        patch.setattr(settings, "PLANTBAL_PROGRAM", str(script))
+        said = sentence(site.post("correct/2024-04/report", form))
+    assert "verdict bad" in said and site.head() == 3
+    assert site.post("correct/2024-04/report", form).status_code == 302
+
+
+def test_no_room_for_a_workbook(site: Site, monkeypatch: pytest.MonkeyPatch) -> None:
+    """A workbook for which there is no room is a sentence, and nothing of it is kept."""
+    from pathlib import Path
+
+    from django.conf import settings
+    from plantbal_office.enter import drops
+    from plantbal_office.enter.models import Drop
+
+    def no_room(*_: object) -> None:
+        raise OSError(errno.ENOSPC, "No space left on device")
+
+    kept = Path(settings.MEDIA_ROOT) / "drops"
+    before = sorted(kept.glob("*")) if kept.exists() else []
+    with monkeypatch.context() as patch:
+        patch.setattr(drops, "_copy", no_room)
+        said = sentence(drop(site, readings("2024-04-18,12188"), called="april"))
+    assert "the disk is full" in said
+    assert not Drop.objects.filter(plant=site.plant).exists()
+    assert (sorted(kept.glob("*")) if kept.exists() else []) == before
+
+
+@pytest.mark.parametrize("sheet", ["Werte", "x" * 10_000])
+def test_mapping_of_nonsense(site: Site, sheet: str) -> None:
+    """A workbook with a sheet of its own is asked about; answers that are none are a sentence."""
+    text = b"Datum;FI-302;Etwas\n18.04.2024;12188;5\n19.04.2024;12190;7\n"
+    files = workbook("Werte April 2024.csv", text), workbook("readings.csv", b"day,FI-302\n")
+    page = drop(site, *files, called="april")
+    assert "how it is read" in sentence(page) and "question" in sentence(page)
+    path = page.redirect_chain[-1][0].partition(f"/p/{site.plant.slug}/")[2]
+    form = site.fields(path) | {"take": "yes", "was-0": "readings", "kind-0": "readings"}
+    for wrong in ({}, {"locale": "xx"}, {"sheet-0": sheet, "col-0-2": "none"}, {"col-0-1": "="}):
+        answer = site.post(path, form | wrong)
+        assert answer.status_code in (200, 400), (wrong, answer)
+    assert site.head() == 3

@@ -42,6 +42,16 @@ def mill(hand: Hand) -> None:
     hand.report("2024-07")
 
 
+def own(hand: Hand) -> None:
+    """A workbook as the plant has it, by the mapping that is proposed; then the grid, two days
+    otherwise and one cleared."""
+    hand.begin_mapped("2024", EXAMPLES / "own_workbook")
+    hand.report("2024-06")
+    cells = {("FI-201", "2024-06-05"): "1201.5 t", ("WIC-101", "2024-06-06"): ""}
+    hand.type("2024-06", cells | {("FI-201", "2024-06-07"): "1199 t"}, "the shift's log")
+    hand.report("2024-06")
+
+
 def refinery(hand: Hand) -> None:
     """Tanks at the year's end: a part that begins on the following day."""
     workbook = EXAMPLES / "refinery_workbook"
@@ -79,7 +89,7 @@ def farm(hand: Hand) -> None:
     hand.post("may1")
 
 
-STORIES: tuple[Callable[[Hand], None], ...] = (mill, refinery, terminal, farm)
+STORIES: tuple[Callable[[Hand], None], ...] = (mill, own, refinery, terminal, farm)
 
 
 @pytest.mark.parametrize("story", STORIES, ids=lambda story: story.__name__)

@@ -13,7 +13,7 @@ from pathlib import Path
 import pytest
 from looks import SCRIPT, Look, differences, faults
 from office.hands import Browser
-from office.test_month_end import MILL, TOP
+from office.test_month_end import EXAMPLES, MILL, TOP
 from selenium.webdriver.support.ui import WebDriverWait
 
 KEPT = Path(__file__).with_name("pictures")
@@ -38,6 +38,7 @@ PAGES = {
 }
 # The pages that the guide shows, and those whose look is kept at a width.
 PICTURED = {"months": 1280, "seen": 1280, "faults": 1280, "statement": 1280, "amend": 1280}
+PICTURED |= {"mapping": 1280}
 REFERENCES = {"months": (1280, 390), "stream": (1280,), "amend": (1280, 800), "close": (390,)}
 LEAST_CONTRAST = 4.5
 # What no page may have: a field, a button or a link without a name that a screen reader says.
@@ -179,6 +180,20 @@ def test_what_a_workbook_would_do(shown: Browser, tmp_path: Path) -> None:
     assert not said, "\n".join(said)
 
 
+def test_how_a_workbook_is_read(shown: Browser) -> None:
+    """What a workbook with sheets of its own is taken for is readable at each width."""
+    shown.driver.set_window_size(1280, 900)
+    shown.look_at(EXAMPLES / "own_workbook")
+    assert "how it is read" in shown.text(), shown.text()
+    assert shown.driver.execute_script(NAMELESS) == [], "each field, button and picture has a name"
+    said = [each for width in WIDTHS for each in complaints_of(shown, "mapping", width)]
+    if WRITES:
+        pictured(shown, "mapping")
+    shown.driver.set_window_size(1280, 900)
+    assert not said, "\n".join(said)
+    assert shown.complaints() == [], "nothing is blocked"
+
+
 @pytest.mark.parametrize(
     ("code", "word", "figure", "day"),
     [
@@ -196,6 +211,6 @@ def test_languages(code: str, word: str, figure: str, day: str, shown: Browser) 
         shown.open("look/2024-04/stream/TAILS")
         assert figure in shown.text() and day in shown.text()
         shown.open("correct/fact/2023-24/FI-302_2024-04-18/amend?amount=12.188,5+t&why=x")
-        assert "12,188.5 t" in shown.text(), shown.text()
+        assert "→ 12.188,5 t" in shown.text(), shown.text()
     finally:
         shown.click("button[value=en]")

@@ -49,3 +49,17 @@ def test_speed(page: str, refinery: site_of.Site) -> None:
     assert least_spent(lambda: answers.append(refinery.get(page)), SEEN) < SEEN, "after that"
     assert {each.status_code for each in answers} == {200}
     assert len(answers[-1].content) < 3_000_000
+
+
+def test_proof_of_a_large_plant(refinery: site_of.Site, monkeypatch: pytest.MonkeyPatch) -> None:
+    """What is too long for a page comes after it, and is the same."""
+    from plantbal_office.look import statement
+    from plantbal_office.shelf import KEPT
+
+    whole = refinery.get("look/2024-01/").content.decode()
+    monkeypatch.setattr(statement, "MOST_PROOF", 0)
+    monkeypatch.setattr(KEPT, "_made", {})
+    page = refinery.get("look/2024-01/").content.decode()
+    proof = refinery.get("look/2024-01/proof").content.decode()
+    assert proof.startswith('<details class="proof">') and proof in whole
+    assert proof not in page and 'data-load="' in page

@@ -14,15 +14,17 @@ import subprocess
 import sys
 import tempfile
 import time
-from collections.abc import Sequence
+from collections.abc import Mapping, Sequence
+from contextlib import suppress
 from pathlib import Path
 
 import requests
 
 TOP = Path(__file__).resolve().parents[3]
 BIN = Path("/usr/lib/postgresql/15/bin")
+ELSEWHERE = "127.0.0.66"  # another address of this machine
 _TOKEN = re.compile(r'name="csrfmiddlewaretoken" value="([^"]+)"')
-_PASSWORD = re.compile(r"the password of \S+: (\S+)")
+_PASSWORDS = re.compile(r"the password of (\S+): (\S+)")
 
 
 def free_port() -> int:
@@ -33,10 +35,50 @@ def free_port() -> int:
         return port
 
 
+def new_room() -> Path:
+    """A new folder whose name is short, since the name of a socket may not be long."""
+    return Path(tempfile.mkdtemp(prefix="pb."))
+
+
+def removed(room: Path) -> None:
+    """Remove a folder."""
+    shutil.rmtree(room, ignore_errors=True)
+
+
+def reached(port: int) -> None:
+    """Wait until a port of this machine answers."""
+    until = time.monotonic() + 60
+    while time.monotonic() < until:
+        with socket.socket() as tried:
+            if tried.connect_ex(("127.0.0.1", port)) == 0:
+                return
+        time.sleep(0.05)
+    raise AssertionError(f"nothing answers on port {port}")
+
+
+def children(parent: int) -> list[int]:
+    """The numbers of the processes that a process has started."""
+    text = Path(f"/proc/{parent}/task/{parent}/children").read_text("ascii")
+    return [int(each) for each in text.split()]
+
+
+def ended(process: int) -> None:
+    """Wait until a process is no more, or is one that nobody asks for any more."""
+    until = time.monotonic() + 30
+    while time.monotonic() < until:
+        try:
+            if Path(f"/proc/{process}/stat").read_text().rpartition(") ")[2].startswith("Z"):
+                return
+        except (FileNotFoundError, ProcessLookupError):
+            return
+        time.sleep(0.02)
+    raise AssertionError(f"process {process} doesn't end")
+
+
 def run(words: Sequence[object], **more: object) -> subprocess.CompletedProcess[str]:
-    """Run a command to its end, within two minutes."""
+    """Run a command to its end, within five minutes."""
     texts = list(map(str, words))
-    done = subprocess.run(texts, capture_output=True, text=True, timeout=120, **more)  # type: ignore[call-overload]
+    done = subprocess.run(texts, capture_output=True, text=True, timeout=300, **more)  # type: ignore[call-overload]
     found: subprocess.CompletedProcess[str] = done
     return found
 
@@ -67,6 +109,18 @@ class Database:
         assert done.returncode == 0, done.stderr
         self.start()
 
+    @classmethod
+    def found(cls, data: Path, room: Path) -> Database:
+        """Start a database that a machine left when its power was cut."""
+        database = cls.__new__(cls)
+        database.data, database.room = data, room
+        database._as = ["runuser", "-u", "postgres", "--"] if os.geteuid() == 0 else []
+        if database._as:
+            shutil.chown(room, "postgres")
+        (data / "postmaster.pid").unlink(missing_ok=True)  # the number is a process of this machine
+        database.start()
+        return database
+
     def start(self) -> None:
         """Start it."""
         options = f"-c listen_addresses='' -c unix_socket_directories='{self.room}'"
@@ -85,12 +139,23 @@ class Database:
         assert done.returncode == 0, done.stderr
         return done.stdout
 
+    @property
+    def processes(self) -> list[int]:
+        """The numbers of its processes, the first of all first."""
+        first = int((self.data / "postmaster.pid").read_text().split("\n")[0])
+        return [first, *children(first)]
+
     def kill(self) -> None:
         """Kill all of it at once, as a power cut does to its processes."""
-        pid = int((self.data / "postmaster.pid").read_text().split("\n")[0])
-        os.kill(pid, signal.SIGKILL)
-        time.sleep(1)
+        some = self.processes
+        for each in some:
+            with suppress(ProcessLookupError):
+                os.kill(each, signal.SIGKILL)
+        for each in some:
+            ended(each)
+        # A process that its parent doesn't ask for keeps its number, and would look alive.
         (self.data / "postmaster.pid").unlink(missing_ok=True)
+        (self.room / ".s.PGSQL.5432.lock").unlink(missing_ok=True)
 
     def end(self) -> None:
         """End it."""
@@ -98,23 +163,44 @@ class Database:
 
 
 class Service:
-    """The service."""
+    """The service.
 
-    def __init__(self, more: str = "", database: Database | None = None) -> None:
-        self.room = Path(tempfile.mkdtemp(prefix="pb."))
+    Parameters
+    ----------
+    more : str
+        More lines of its configuration.
+    database : Database, optional
+        The database server; one of its own without it.
+    disk : Path, optional
+        Where its books and its state are; in its folder without it.
+    """
+
+    def __init__(
+        self, more: str = "", database: Database | None = None, disk: Path | None = None
+    ) -> None:
+        self.room = new_room()
         self.owns = database is None
         self.database = database or Database(self.room)
         self.name = f"office_{self.room.name[3:].lower()}"
         self.port, self.more = free_port(), more
         self.config = self.room / "etc" / "office.toml"
         self.config.parent.mkdir()
-        self.books, self.state = self.room / "books", self.room / "state"
+        self.books, self.state = (disk or self.room) / "books", (disk or self.room) / "state"
         self.socket = self.room / "socket"
         self.processes: list[subprocess.Popen[bytes]] = []
+        self.passwords: dict[str, str] = {}
         self.configure(more)
+        try:
+            self._set_up()
+        except BaseException:
+            self.end()
+            raise
+
+    def _set_up(self) -> None:
+        """Have its database and its first administrator made."""
         self.database.call("createdb", self.name)
         said = self.office("init", "--host", "localhost", "--admin", "root", "--user", _own_user())
-        self.passwords = {"root": _PASSWORD.findall(said)[0]}
+        self.passwords = dict(_PASSWORDS.findall(said))
 
     def configure(self, more: str) -> None:
         """Write the configuration."""
@@ -148,10 +234,17 @@ class Service:
 
     def person(self, name: str, *roles: str, plant: str = "mill") -> str:
         """Make an account with roles, and return its password."""
-        self.passwords[name] = _PASSWORD.findall(self.office("user", name))[0]
-        for role in roles:
-            self.office("role", name, plant, role)
+        self.people({name: roles}, plant)
         return self.passwords[name]
+
+    def people(self, roles: Mapping[str, Sequence[str]], *plants: str) -> None:
+        """Make accounts with roles in plants, by the commands for it, all of them in one process."""
+        words: list[tuple[str, ...]] = [("user", name) for name in roles]
+        for plant in plants or ("mill",):
+            words += [("role", name, plant, role) for name in roles for role in roles[name]]
+        code = "from plantbal_office.service.command import main\n"
+        said = self.inside(f"{code}for words in {words!r}: assert main(words) == 0, words")
+        self.passwords |= dict(_PASSWORDS.findall(said))
 
     def plant(self, slug: str, folder: Path) -> None:
         """Have a plant whose book is in a folder."""
@@ -206,8 +299,13 @@ class Service:
         words = ["/usr/sbin/nginx", "-c", str(conf), "-p", str(self.room)]
         self.processes.append(subprocess.Popen(words))
 
+    @property
+    def workers(self) -> list[int]:
+        """The numbers of gunicorn's workers."""
+        return children(int((self.room / f"gunicorn.{self.port}.pid").read_text()))
+
     def _wait(self) -> None:
-        until = time.monotonic() + 60
+        until = time.monotonic() + 180
         while time.monotonic() < until:
             try:
                 if self.visitor().get("/alive").status_code == 200:
@@ -233,7 +331,7 @@ class Service:
         for process in self.processes:
             process.terminate()
         for process in self.processes:
-            process.wait(timeout=60)
+            process.wait(timeout=180)
         if self.owns:
             self.database.end()
         shutil.rmtree(self.room, ignore_errors=True)
@@ -256,7 +354,7 @@ class Visitor:
 
     def get(self, path: str, **more: object) -> requests.Response:
         """A page, without going where it sends one."""
-        return self.session.get(self.root + path, allow_redirects=False, timeout=60, **more)  # type: ignore[arg-type]
+        return self.session.get(self.root + path, allow_redirects=False, timeout=180, **more)  # type: ignore[arg-type]
 
     def token(self, path: str) -> str:
         """The token of the forms of a page."""
@@ -269,7 +367,7 @@ class Visitor:
         words = data | {"csrfmiddlewaretoken": self.token(at or path)}
         heads = {"Referer": self.root + path}
         return self.session.post(
-            self.root + path, data=words, headers=heads, allow_redirects=False, timeout=60, **more  # type: ignore[arg-type]
+            self.root + path, data=words, headers=heads, allow_redirects=False, timeout=180, **more  # type: ignore[arg-type]
         )
 
     def sign_in(self, name: str, password: str, then: str = "/") -> requests.Response:
