@@ -175,9 +175,9 @@ site:
 core:
 	packaging/core_pdf $(DEBS)/CORE.pdf
 
-# A pull and a push of a database, killed a hundred times each
+# A pull and a push of a database, killed 120 times each
 kills:
-	PLANTBAL_KILLS=100 /usr/bin/python3 -m pytest -q -s python/tests/test_database.py -k killed
+	PLANTBAL_KILLS=120 /usr/bin/python3 -m pytest -q -s python/tests/test_database.py -k killed
 
 fuzz:
 	.ci/fuzz --seconds $(SECONDS) --seed $(SEED) --keep $(KEEP)

@@ -21,7 +21,7 @@ from plantbal.workbook.dated import Dated, DatedFigures
 from plantbal.workbook.plant import PlantReader
 from plantbal.workbook.sheets import Cell
 from plantbal.workbook.tables import SheetRow, Tables
-from plantbal.workbook.units import GRAMS, VOLUMES
+from plantbal.workbook.units import DENSITIES, GRAMS, VOLUMES
 from plantbal.workbook.wide import month_text
 
 T = TypeVar("T")
@@ -270,7 +270,7 @@ class MeasureReader:
             what = SheetCause.DENSITY_MISSING()
             remedy = "write one, such as 862 (kg/m3)"
             raise self.reader.fault(row["density"], what, remedy, "density")
-        sd = self._error(row, "error")
+        sd = self._density_error(row)
         if sd is None:
             remedy = "write its standard deviation in kg/m3, such as 0.5"
             what = SheetCause.DENSITY_WITHOUT_ERROR()
@@ -360,6 +360,16 @@ class MeasureReader:
         """Return a standard deviation; None if the cell is empty."""
         found = self._number(row, head)
         return self._divided(found) if found is not None else None
+
+    def _density_error(self, row: SheetRow) -> Decimal | None:
+        """Return the standard deviation of a density in kg/m3; None if the cell is empty."""
+        if self.reader.is_missing(row["error"]):
+            return None
+        number, unit = self.reader.split(row["error"], DENSITIES, "error")
+        if number < 0:
+            what = SheetCause.BELOW_0(text=row.text("error"))
+            raise self.reader.fault(row["error"], what, "look at it", "error")
+        return self._divided(decimal_of(Fraction(number) * DENSITIES[unit or "kg/m3"] / 1000))
 
     def _divided(self, sd: Decimal) -> Decimal:
         """Return a standard deviation, if errors are limits of twice that."""

@@ -24,6 +24,8 @@ _LONG = {
     "value": ("value", "amount", "reading", "quantity"),
     "unit": ("unit", "units", "uom", "einheit"),
 }
+# How a day that was typed wrong begins, perhaps with its weekday; other texts are remarks.
+_LIKE_DAY = re.compile(r"(?:[^\W\d_]+[.,]?\s*)?[0-9]+\s?[./-]\s?[0-9]")
 
 
 class Readings:
@@ -184,8 +186,9 @@ class Readings:
             below = [cells[column] for cells in lines if column < len(cells)]
             figures = [each for each in below if not self.reader.is_missing(each)]
             known = cell.text in self.plant.tags or cell.text in self.plant.streams
-            if not known and not found and all(map(self.tables.maybe_day, figures)):
-                continue  # the days, or nothing
+            likely = [each for each in figures if re.match("[+-]?[0-9]", each.text)]
+            if not known and not found and all(map(self.tables.maybe_day, likely)):
+                continue  # the days, perhaps with remarks between them, or nothing
             if not known and not any(re.match("[+-]?[0-9]", each.text) for each in figures):
                 continue
             tried.add(column)
@@ -256,7 +259,7 @@ class Readings:
             if self.tables.is_total(cells) or (first.value is None and not figures):
                 continue
             if not figures and isinstance(first.value, str) and not self.tables.maybe_day(first):
-                if not re.search(r"[0-9][./-][0-9]", first.text):
+                if not _LIKE_DAY.match(first.text):
                     self.tables.pass_row(cells, first)
                     continue
             self.tables.fates.put(Fate.READ, cells)

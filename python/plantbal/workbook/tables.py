@@ -221,7 +221,7 @@ class Tables:
                 row.setdefault(head, Cell(sheet, cells[0].line, 0, None))
             if all(self.reader.is_missing(row[head]) for head in heads):
                 continue
-            if facts and self.is_total(cells):
+            if facts and (self.is_total(cells) or self.is_remark(cells)):
                 continue
             self.fates.put(Fate.READ, cells)
             yield SheetRow(row)
@@ -293,6 +293,16 @@ class Tables:
         if words[0] not in TOTALS:
             return False
         self.pass_row(cells, first)
+        return True
+
+    def is_remark(self, cells: list[Cell]) -> bool:
+        """Say whether a row has nothing but a text of several words, which no name or figure is."""
+        there = [cell for cell in cells if not self.reader.is_missing(cell)]
+        if len(there) != 1 or not isinstance(there[0].value, str):
+            return False
+        if len(there[0].text.split()) < 2 or re.match("[-+]?[0-9]", there[0].text):
+            return False
+        self.pass_row(cells, there[0])
         return True
 
     def pass_row(self, cells: list[Cell], first: Cell) -> None:

@@ -9,7 +9,7 @@ from __future__ import annotations
 
 import datetime
 import re
-from collections.abc import Collection, Sequence
+from collections.abc import Collection, Mapping, Sequence
 
 from plantbal.workbook.cells import Reader
 from plantbal.workbook.mapping.months import month_of
@@ -67,7 +67,7 @@ def dip_columns(
     kept = [of for of in OF_TANKS if any(of in own for own in tanks.values())]
     table = SheetTable([heads_like(heads[day], "day", "tank", *kept, *beside)])
     for cells in body:
-        rest = [cell_at(cells, column) for column in beside.values()]
+        rest = _rest(cells, beside, units, reader)
         for own in tanks.values():
             if any(has_figure(cells, column, reader) for column in own.values()):
                 name = Cell(heads[day].sheet, cells[0].line, min(own.values()) + 1, None)
@@ -79,6 +79,16 @@ def dip_columns(
     firsts = [min(own.values()) for own in tanks.values()]
     shape.notes.append(wide_note(heads, firsts, "levels", day, units, "mm"))
     return shape
+
+
+def _rest(
+    cells: list[Cell], beside: Mapping[str, int], units: Mapping[int, str], reader: Reader
+) -> list[Cell]:
+    """Return what holds for all figures of a row, each with the unit of its column."""
+    return [
+        with_unit(cell_at(cells, column), units.get(column, ""), reader)
+        for column in beside.values()
+    ]
 
 
 def _figure(
@@ -153,7 +163,7 @@ def _months_across(
     head = heads[next(iter(months))]
     table = SheetTable([heads_like(head, "month", "density", *beside)])
     for cells in body:
-        rest = [cell_at(cells, column) for column in beside.values()]
+        rest = _rest(cells, beside, units, reader)
         for column, month in months.items():
             if has_figure(cells, column, reader):
                 figure = cell_at(cells, column)
@@ -178,7 +188,7 @@ def _names_across(
     own_unit = _own_unit(heads, lines[:at])
     table = SheetTable([heads_like(heads[next(iter(names))], "name", "density", *beside)])
     for cells in body:
-        rest = [cell_at(cells, column) for column in beside.values()]
+        rest = _rest(cells, beside, units, reader)
         for column in names:
             if has_figure(cells, column, reader):
                 figure = with_unit(cell_at(cells, column), units.get(column, own_unit), reader)

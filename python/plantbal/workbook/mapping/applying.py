@@ -18,17 +18,27 @@ from plantbal.faults import InputFault
 from plantbal.workbook.cells import symbols
 from plantbal.workbook.mapping.form import (
     DAY_OF_MONTH,
+    HEAD,
     HOUR,
+    NAME,
     SITE,
     TIME,
     SheetMapping,
     WorkbookMapping,
 )
-from plantbal.workbook.mapping.months import month_of, month_word, year_of
+from plantbal.workbook.mapping.months import (
+    month_of,
+    month_of_sheet,
+    month_word,
+    short_year_of,
+    year_of,
+)
+from plantbal.workbook.mapping.times import time_of, with_time
 from plantbal.workbook.mapping.vocabulary import is_total, plain_word
 from plantbal.workbook.sheetkinds import PASSED, SHEETS
 from plantbal.workbook.sheets import Sheet, Value, letters
 from plantbal.workbook.units import UNITS, is_rate, unit_of
+from plantbal.workbook.wide import OF_TANKS
 
 HEADS_WITHIN = 40
 _NAMED = frozenset("stream from to tank name tag".split())
@@ -148,7 +158,7 @@ class Applying:
             at = self._head_row()
             columns = self._columns(self.lines[at][1])
             self._take_heads(at, columns)
-            above, heads = self._above(at), self._heads(at, columns)
+            above, heads = self._above(at, columns), self._heads(at, columns)
             self.lines = [*above, *heads, *self._body(self.lines[at + 1 :], columns)]
         else:
             self.notes.append("the sheet is empty")
@@ -227,7 +237,7 @@ class Applying:
                 self._compare(below, values)
                 self.unit_lines.add(below)
                 self.taken[below] = True
-        for above, values in self.lines[:at]:
+        for above, values in self.lines[: at - 1 if self._has_pairs(columns) else at]:
             if _is_unit_row(values) or sum(isinstance(value, str) for value in values) > 1:
                 self.taken[above] = True
 
@@ -253,8 +263,17 @@ class Applying:
                 raise self.fault(line, column, what, "correct one of both")
             self.units[column] = unit
 
-    def _above(self, at: int) -> list[Line]:
-        return [(line, values) for line, values in self.lines[:at] if line not in self.taken]
+    def _has_pairs(self, columns: dict[int, str]) -> bool:
+        """Say whether the row above the heads has tanks, each over a pair of level and volume."""
+        found = {*columns.values()}
+        return self.kind.word == "straps" and "volume" in found and "tank" not in found
+
+    def _above(self, at: int, columns: dict[int, str]) -> list[Line]:
+        lines = [(line, values) for line, values in self.lines[:at] if line not in self.taken]
+        if lines and self._has_pairs(columns):
+            line, values = lines[-1]
+            lines[-1] = line, [self._named(value) for value in values]
+        return lines
 
     def _heads(self, at: int, columns: dict[int, str]) -> list[Line]:
         """Return the row of heads, and one of their units if there are any."""
@@ -264,9 +283,9 @@ class Applying:
             head = heads[column] if column < len(heads) else None
             to = columns.get(column)
             if to is None:
-                row.append(self._month(head) or self._named(head))
+                row.append(self._month(line, column, head) or self._named(head))
             else:
-                row.append(None if to in ("", TIME, HOUR, SITE) else _head_of(to))
+                row.append(None if to in ("", TIME, HOUR, SITE) else self._head_of(to))
         self.taken[line] = True
         units = {c: u for c, u in self.units.items() if c < len(row) and row[c] is not None}
         if not self.kind.columns and "value" in columns.values():
@@ -279,12 +298,27 @@ class Applying:
             row += [None] * (self.width - len(row)) + list(self.beside)
         return [(line, row), *([(line, places)] if units else [])]
 
-    def _month(self, head: Value) -> str:
+    def _head_of(self, to: str) -> str:
+        """Return the head that a column gets: that of its kind, or a name as it is in the book."""
+        name, _, of = to.rpartition(" ")
+        if of in OF_TANKS and plain_text(name) in self.names:
+            return f"{self.names[plain_text(name)]} {of}"
+        return "day" if to == DAY_OF_MONTH else self.names.get(plain_text(to), to)
+
+    def _month(self, line: int, column: int, head: Value) -> str:
         """Return the month that a head is, if the mapping says of which year such heads are."""
         if not self.own.year or not isinstance(head, str) or not month_word(head):
             return ""
-        year = year_of(self.given.name) if self.own.year == "name" else self.own.year
-        found = month_of(f"{head} {year}") if year else None
+        if month_of(head):
+            return ""  # it has its own year
+        short = short_year_of(head)
+        said = {NAME: year_of(self.given.name), HEAD: short}
+        year = said.get(self.own.year, self.own.year)
+        if short and short != year:
+            what = f"{head!r} may be of {short}, and the mapping has the year {year}"
+            remedy = f'write year = "{HEAD}" if the two digits are the year'
+            raise self.fault(line, column, what, remedy)
+        found = month_of(f"{month_word(head)} {year}") if year else None
         return f"{found[0]}-{found[1]:02}" if found else ""
 
     def _named(self, value: Value) -> Value:
@@ -395,7 +429,8 @@ class Applying:
             value = Decimal(value.rstrip("."))
         if not isinstance(value, Decimal):
             return value
-        month = month_of(self.given.name if self.own.month == "name" else self.own.month)
+        own = self.own.month
+        month = month_of_sheet(self.given.name) if own == NAME else month_of(own)
         if month is None:
             what = "no month is told of which this is a day"
             remedy = 'write month = "2024-01" into the mapping, or name the sheet by its month'
@@ -416,20 +451,16 @@ class Applying:
             value, row[column] = row[column], None
             if value is None or day is None or day >= len(row) or row[day] is None:
                 continue
-            time = _time_of(value)
+            time = time_of(value)
             if time is None:
                 what = f"{value} isn't a time of the day"
                 raise self.fault(line, column, what, "write it as 13:00")
-            row[day] = _with_time(row[day], time)
+            row[day] = with_time(row[day], time)
 
 
 def plain_text(text: str) -> str:
     """Return a text with single spaces."""
     return " ".join(text.split())
-
-
-def _head_of(to: str) -> str:
-    return "day" if to == DAY_OF_MONTH else to
 
 
 def _letter_of(head: str) -> str:
@@ -448,31 +479,3 @@ def _is_unit_row(values: list[Value]) -> bool:
     texts = [value for value in there if isinstance(value, str)]
     units = [value for value in texts if _is_unit(value)]
     return len(texts) == len(there) and bool(units) and len(units) >= len(there) - 2
-
-
-def _time_of(value: Value) -> str | None:
-    """Return a time of the day as a text; the last hour may be 24."""
-    if isinstance(value, datetime.time):
-        return f"{value:%H:%M:%S}"
-    if isinstance(value, datetime.datetime):
-        return f"{value:%H:%M:%S}"
-    if isinstance(value, Decimal):
-        if value == int(value) and 0 <= value <= 24:
-            return f"{int(value):02}:00"
-        if 0 < value < 1:  # a part of a day, as a spreadsheet has it
-            seconds = round(value * 86_400)
-            return f"{seconds // 3600:02}:{seconds // 60 % 60:02}:{seconds % 60:02}"
-        return None
-    match = re.fullmatch(
-        r"([0-9]{1,2})(?::([0-9]{2}))?(?::([0-9]{2}))?(?:\s*(?:h|Uhr))?", str(value)
-    )
-    if match is None or int(match[1]) > 24:
-        return None
-    return f"{int(match[1]):02}:{match[2] or '00'}:{match[3] or '00'}"
-
-
-def _with_time(day: Value, time: str) -> Value:
-    if isinstance(day, datetime.datetime):
-        hours, minutes, *rest = map(int, time.split(":"))
-        return day + datetime.timedelta(hours=hours, minutes=minutes, seconds=sum(rest))
-    return f"{day} {time}"

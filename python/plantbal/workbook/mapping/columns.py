@@ -7,10 +7,18 @@ from collections.abc import Collection
 from dataclasses import dataclass, field, replace
 from decimal import Decimal
 
+from plantbal.workbook.mapping.dating import month_said, year_said
 from plantbal.workbook.mapping.form import DAY_OF_MONTH, HOUR, OPEN, SITE, TIME, SheetMapping
-from plantbal.workbook.mapping.known import KnownPlant, tag_in
-from plantbal.workbook.mapping.months import month_of, month_of_head, month_word, year_of
-from plantbal.workbook.mapping.profile import ColumnProfile, SheetProfile, rises, split_unit
+from plantbal.workbook.mapping.known import KnownPlant, tag_in, without_name
+from plantbal.workbook.mapping.months import month_of, month_of_head
+from plantbal.workbook.mapping.profile import (
+    ColumnProfile,
+    SheetProfile,
+    is_running,
+    pairs_of,
+    rises,
+    split_unit,
+)
 from plantbal.workbook.mapping.vocabulary import (
     Meaning,
     column_meanings,
@@ -92,6 +100,11 @@ class Columns:
         return tuple(column.head for column in self.kind.columns) or _LONG
 
     @property
+    def pairs(self) -> int:
+        """How many tanks are over pairs of levels and volumes."""
+        return pairs_of(self.profile, self.known.tanks)
+
+    @property
     def is_long(self) -> bool:
         """Whether each figure has a row."""
         found = {m.of for column in self.profile.columns for m in column_meanings(column.name)}
@@ -105,7 +118,7 @@ class Columns:
 
     def _tank(self, column: ColumnProfile) -> str:
         """Return the tank in a head, or in the cell over it; of densities any name."""
-        if not self.kind.is_across:
+        if not self.kind.is_across or (self.kind.word == "straps" and self.pairs):
             return ""
         if self.kind.word == "densities":
             return tag_in(column.head, self.known.names)
@@ -113,8 +126,7 @@ class Columns:
 
     def _of_tank(self, column: ColumnProfile, tank: str) -> tuple[str, str]:
         """Return what a column of a tank has, `level` and the like, and why; `?` if it isn't told."""
-        rest = " ".join(word for word in column.name.split() if tag_in(word, (tank,)) != tank)
-        rest = rest if tag_in(column.head, (tank,)) else column.name
+        rest = without_name(column.name, tank) if tag_in(column.head, (tank,)) else column.name
         if column.unit in TEMPERATURES:
             return "temperature", f"its figures are in {column.unit}"
         found = {meaning.of for meaning in column_meanings(rest)} & {*OF_TANKS} if rest else set()
@@ -145,8 +157,41 @@ class Columns:
                         self.evidence["columns", column.key] = meaning.said()
                         self.languages[meaning.language] += 1
                         break
+        self._repeat(found)
+        self._guess_names(found, taken)
         self._guess_days(found, taken)
         return found
+
+    def _guess_names(self, found: dict[str, str], taken: dict[str, str]) -> None:
+        """Take the only column with names of the plant for these, if no head says what has them."""
+        for of, names in (
+            ("stream", {*self.known.streams, *self.known.tags}),
+            ("tank", {*self.known.tanks}),
+        ):
+            if of in taken or of not in self.kind.needed or self.kind.word == f"{of}s":
+                continue
+            free = [c for c in self.profile.columns if c.key not in found and not self._tank(c)]
+            fit = [c for c in free if 2 * len(names.intersection(c.names())) > len(c.names())]
+            if len(fit) == 1:
+                found[fit[0].key], taken[of] = of, fit[0].key
+                there = f"{len(names.intersection(fit[0].names()))} of its texts"
+                self.evidence["columns", fit[0].key] = f"{there} are {of}s of the plant"
+
+    def _repeat(self, found: dict[str, str]) -> None:
+        """Take heads that are there again, all as often, for those of tables side by side."""
+        if not self.kind.is_shaped or not self.kind.columns:
+            return
+        first = {c.head: c.key for c in self.profile.columns if c.key in found}
+        again = [c for c in self.profile.columns if c.head in first and c.key not in found]
+        counts = Counter(first[column.head] for column in again)
+        needed = {key for key, of in found.items() if of in self.kind.needed}
+        if not again or len({counts[key] for key in needed}) != 1:
+            return
+        for column in again:
+            found[column.key] = found[first[column.head]]
+            self.evidence[
+                "columns", column.key
+            ] = f"as {first[column.head]}, whose head it has: tables are side by side"
 
     def _meanings(self, column: ColumnProfile, exact: bool, wide: bool) -> list[Meaning]:
         """Return what a head may mean here, of what can stand below it."""
@@ -203,13 +248,14 @@ class Columns:
 
     def _guess_days(self, found: dict[str, str], taken: dict[str, str]) -> None:
         """Take the only column of days for the days, if no head says so."""
-        if "day" in taken or "day" not in (*self.heads, *(() if self.kind.columns else ("day",))):
+        wanted = "first" if "first" in self.kind.needed else "day"
+        if wanted in taken or wanted not in (*self.heads, *(() if self.kind.columns else ("day",))):
             return
         if self.kind.word == "moistures":
             return
         days = [c for c in self.profile.columns if c.has_days and c.key not in found]
         if len(days) == 1:
-            found[days[0].key] = "day"
+            found[days[0].key] = wanted
             self.evidence["columns", days[0].key] = "it is the only column of days"
 
     # ---- the whole sheet
@@ -222,14 +268,19 @@ class Columns:
         for column in self.profile.columns:
             to = columns.get(column.key)
             if to == "day" and not column.has_days and column.there:
-                columns[column.key], month = DAY_OF_MONTH, self._month()
+                columns[column.key] = DAY_OF_MONTH
+                month, self.evidence["month",] = month_said(self.profile)
             elif to == TIME and column.has_figures and not column.times:
                 columns[column.key] = HOUR
             elif to is None:
                 self._take_other(column, columns)
             self._take_unit(column, columns.get(column.key), units, set(columns.values()))
         unit = self._unit(columns, units)
-        year, given = self._year(), self._given(columns)
+        self._ask_density_error(columns, units, unit)
+        year, why = year_said(self.profile) if self.kind.word == "densities" else ("", "")
+        if year:
+            self.evidence["year",] = why
+        given = self._given(columns)
         counters = {} if self.kind.columns else self._counters(columns)
         totals = tuple(self.profile.totals)
         if totals:
@@ -249,38 +300,6 @@ class Columns:
             given=given,
             counters=counters,
         )
-
-    def _month(self) -> str:
-        """Return the month of days that are numbers."""
-        name, titles = self.profile.sheet.name, self.profile.titles
-        if month_of(name):
-            self.evidence["month",] = f"{name!r} names the month"
-            return "name"
-        for title in titles:
-            found = month_of(title)
-            if found:
-                self.evidence["month",] = f"{title[:60]!r} is above the heads"
-                return f"{found[0]}-{found[1]:02}"
-        word = month_word(name)
-        self.evidence[
-            "month",
-        ] = f"days are numbers, and no year is told{f' of {word}' if word else ''}"
-        return OPEN
-
-    def _year(self) -> str:
-        """Return the year of heads that are months without one."""
-        bare = [c for c in self.profile.columns if month_of_head(c.head) and not month_of(c.head)]
-        if self.kind.word != "densities" or not bare:
-            return ""
-        if year_of(self.profile.sheet.name):
-            self.evidence["year",] = f"{self.profile.sheet.name!r} names the year"
-            return "name"
-        for title in self.profile.titles:
-            if year_of(title):
-                self.evidence["year",] = f"{title[:60]!r} is above the heads"
-                return year_of(title)
-        self.evidence["year",] = f"no year is told of {bare[0].head}"
-        return OPEN
 
     def _given(self, columns: dict[str, str]) -> dict[str, str]:
         """Return what holds for all rows of columns that the sheet doesn't have: errors are asked."""
@@ -337,11 +356,13 @@ class Columns:
         if not column.there:
             return
         path = "columns", column.key
-        if is_total(column.head):
+        if is_total(column.title):
             columns[column.key], self.evidence[path] = "", "a column of sums"
-        elif is_remark(column.head) or (column.has_texts and column.head):
+        elif is_remark(column.title) or (column.has_texts and column.title):
             columns[column.key], self.evidence[path] = "", "remarks: it isn't read"
-        elif column.head and (column.has_figures or column.has_days):
+        elif column.title and not wide and is_running(column):
+            columns[column.key], self.evidence[path] = "", "running numbers: it isn't read"
+        elif column.title and (column.has_figures or column.has_days):
             open_ = bool(self.known.names) or bool(self.kind.columns)
             if open_:
                 columns[column.key] = OPEN
@@ -368,6 +389,10 @@ class Columns:
         if to in ("", OPEN) or to is None and not is_wide:
             return
         allowed = _UNITS_OF.get(to or "")
+        if to == "error" and self.kind.word in ("densities", "temperatures"):
+            allowed = DENSITIES if self.kind.word == "densities" else ()
+            if column.unit not in allowed:
+                return  # in kg/m3 and in degrees
         if is_wide:
             allowed = AMOUNTS if not self.kind.columns else {*VOLUMES, *LENGTHS}
             allowed = _UNITS_OF.get(of, DENSITIES if self.kind.word == "densities" else allowed)
@@ -385,6 +410,15 @@ class Columns:
         guess, said = self._guess_unit(column, to or "")
         if guess is not None and to != "temperature":
             units[column.key], self.evidence[path] = guess, said
+
+    def _ask_density_error(self, columns: dict[str, str], units: dict[str, str], unit: str) -> None:
+        """Ask for the unit of errors beside densities that aren't in kg/m3."""
+        own = {unit, *(units.get(key, "") for key, to in columns.items() if to == "density")} - {""}
+        for key, to in columns.items() if self.kind.word == "densities" else ():
+            if to == "error" and key not in units and own - {"kg/m3"}:
+                units[key] = OPEN
+                why = f"the densities are in {', '.join(sorted(own))}: kg/m3, or the same"
+                self.evidence["units", key] = f"no unit is told, and {why}"
 
     def _is_wide(self, column: ColumnProfile) -> bool:
         """Say whether a column has the figures of a tag, a tank, a name or a month."""

@@ -24,6 +24,8 @@ OPEN = "?"
 FORM = 1
 # What a column may be beside the heads of its kind.
 DAY_OF_MONTH, TIME, HOUR, SITE = "day of month", "time", "hour", "plant"
+# Where the year of months stands: in two digits of their own heads, or in the name of the sheet.
+HEAD, NAME = "head", "name"
 _LONG = ("day", "tag", "value", "unit")
 _SHEET_TABLES = ("columns", "units", "given", "counters")
 
@@ -57,7 +59,8 @@ class SheetMapping:
     totals : tuple of str
         What rows begin with that are passed over.
     year : str
-        The year of months that are heads without one: ``2024``, or ``name`` for the sheet's name.
+        The year of months that are heads without one: ``2024``, ``name`` for the sheet's name, or
+        ``head`` if each has two digits of it.
     given : dict of str to str
         What holds in each row of a column of its kind that the sheet doesn't have.
     counters : dict of str to str
@@ -181,8 +184,8 @@ class _MappingReading:
         if found.month and not re.fullmatch(r"name|\?|[0-9]{4}-(0[1-9]|1[0-2])", found.month):
             remedy = "write it as 2024-01, or name if the sheet's name says it"
             raise self.fault("month", f"{found.month!r} isn't a month", remedy)
-        if found.year and not re.fullmatch(r"name|\?|20[0-9]{2}", found.year):
-            remedy = "write it as 2024, or name if the sheet's name says it"
+        if found.year and not re.fullmatch(r"name|head|\?|20[0-9]{2}", found.year):
+            remedy = "write it as 2024, name if the sheet's name says it, or head if the heads do"
             raise self.fault("year", f"{found.year!r} isn't a year", remedy)
         for head, figure in found.counters.items():
             if figure not in ("", OPEN) and not re.fullmatch("[1-9][0-9]{0,17}", figure):

@@ -6,6 +6,9 @@ import re
 from collections.abc import Sequence
 from dataclasses import dataclass
 
+# What parts the words of a head.
+_PARTS = re.compile(r"[\s,;:()\[\]/|]+")
+
 
 @dataclass(frozen=True)
 class KnownPlant:
@@ -32,11 +35,30 @@ class KnownPlant:
 
 
 def tag_in(head: str, names: Sequence[str]) -> str:
-    """Return the one name that is a head, or a word in it; empty if there is none, or several."""
+    """Return the one name that is a head, or whole words in it; empty if there is none, or several.
+
+    Of names that are parts of each other it is the longest. Capital and small letters are told
+    apart only if that decides between names.
+    """
     if not head:
         return ""
     if head in names:
         return head
-    words = re.split(r"[\s,;:()\[\]/|]+", head)
-    found = [name for name in names if name and name in words]
-    return found[0] if len(set(found)) == 1 else ""
+    found = [name for name in names if name and _spaced(name) in _spaced(head)]
+    if not found:
+        small = _spaced(head.casefold())
+        found = [name for name in names if name and _spaced(name.casefold()) in small]
+    longest = max(found, key=len, default="")
+    others = {_spaced(name.casefold()) for name in found if name != longest}
+    within = _spaced(longest.casefold())
+    return longest if all(each in within and each != within for each in others) else ""
+
+
+def without_name(head: str, name: str) -> str:
+    """Return what a head says beside a name in it."""
+    return _spaced(head.casefold()).replace(_spaced(name.casefold()), " ", 1).strip()
+
+
+def _spaced(text: str) -> str:
+    """Return the words of a text, each between spaces."""
+    return f" {' '.join(_PARTS.split(text.strip()))} "

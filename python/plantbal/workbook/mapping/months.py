@@ -1,4 +1,7 @@
-"""The month that a text names, such as the name of a sheet: `Januar 2024`, `2024-01`, `01/2024`."""
+"""The month that a text names, such as the name of a sheet: `Januar 2024`, `2024-01`, `01/2024`.
+
+Two digits after the name of a month, `Jan 24`, are a year or a day: who asks says which.
+"""
 
 from __future__ import annotations
 
@@ -12,6 +15,7 @@ _NUMBERS = re.compile(
     r"(?<![0-9])(?:(20[0-9]{2})[-_./ ]?(0[1-9]|1[0-2])|(0[1-9]|1[0-2])[-_./ ](20[0-9]{2}))(?![0-9])"
 )
 _YEAR = re.compile(r"(?<![0-9])(20[0-9]{2})(?![0-9])")
+_SHORT = re.compile(r"([^\W\d_]+)\.?[\s._'\u2019-]*([0-9]{2})(?![0-9])")
 
 
 @lru_cache
@@ -48,6 +52,17 @@ def year_of(text: str) -> str:
     return str(years.pop()) if len(years) == 1 else ""
 
 
+def short_year_of(text: str) -> str:
+    """Return the year that two digits after the name of a month would be; empty without such."""
+    found = [digits for word, digits in _SHORT.findall(text) if month_word(word)]
+    return f"20{found[0]}" if len(found) == 1 and not _YEAR.search(text) else ""
+
+
+def month_of_sheet(name: str) -> tuple[int, int] | None:
+    """Return the month that a sheet's name is of, which has the days of a month and no single day."""
+    return month_of(name) or month_of(f"{month_word(name)} {short_year_of(name)}")
+
+
 def month_of_head(text: str) -> bool:
     """Say whether a head is a month, with its year or without one."""
     return bool(month_of(text)) or bool(month_word(text)) and len(text.split()) < 3
@@ -57,7 +72,9 @@ def pattern_of(name: str) -> str:
     """Return a sheet's name with `*` for what is different each month."""
     pattern = _NUMBERS.sub("*", name)
     word = month_word(pattern)
-    if word:
+    if short_year_of(pattern):
+        pattern = _SHORT.sub(lambda found: "*" if found[1] == word else found[0], pattern)
+    elif word:
         pattern = pattern.replace(word, "*", 1)
     pattern = _YEAR.sub("*", pattern)
     return re.sub(r"\*(?:[\s._-]*\*)+", "*", pattern)

@@ -3,6 +3,7 @@
 from __future__ import annotations
 
 import datetime
+import enum
 import re
 from collections import Counter
 from collections.abc import Sequence
@@ -10,9 +11,10 @@ from dataclasses import dataclass, field
 from decimal import Decimal
 
 from plantbal.workbook.cells import MISSING
+from plantbal.workbook.mapping.known import tag_in
 from plantbal.workbook.mapping.vocabulary import column_meanings, is_total, plain_word
-from plantbal.workbook.sheets import NoValue, Percent, Sheet, Value, letters
-from plantbal.workbook.units import UNITS, is_rate, unit_of
+from plantbal.workbook.sheets import NoValue, Sheet, Value, letters
+from plantbal.workbook.units import LENGTHS, UNITS, VOLUMES, is_rate, unit_of
 
 HEADS_WITHIN = 40
 _MANY = 20  # steps by which figures rise that aren't called a counter's
@@ -66,6 +68,11 @@ class ColumnProfile:
     is_again: bool = False
 
     @property
+    def title(self) -> str:
+        """What is said of it: its head, or what stands over it if that is empty."""
+        return self.head or self.name
+
+    @property
     def key(self) -> str:
         """How a mapping calls it."""
         return self.head if self.head and not self.is_again else f"column {letters(self.at + 1)}"
@@ -89,6 +96,12 @@ class ColumnProfile:
     def has_texts(self) -> bool:
         """Whether most are texts."""
         return 2 * self.texts > self.there
+
+    @property
+    def written(self) -> list[str]:
+        """Its figures and days that are texts."""
+        texts = [value for value in self.values if isinstance(value, str)]
+        return [text for text in texts if sort_of(text) in _WRITTEN]
 
     @property
     def decimals(self) -> list[Decimal]:
@@ -169,9 +182,15 @@ def profile_of(sheet: Sheet, known: Sequence[str] = ()) -> SheetProfile:
                 units, found.units_row = values, line
                 break
     rows = [values for _, values in body[:_SAMPLE] if not _is_sum(values, found.totals)]
+    over = sheet.lines[found.at - 1][1] if found.at else []
+    if sum(isinstance(value, str) for value in over) < 2:
+        over = []  # a title
     width = max(map(len, [heads, *rows]), default=0)
     for at in range(width):
         column = _column(at, heads, units, found.units_row)
+        if not column.head and at < len(over) and isinstance(over[at], str):
+            column.name, column.unit = split_unit(str(over[at]))
+            column.unit_said = "the cell over it says so" if column.unit else ""
         for values in rows:
             _count(column, values[at] if at < len(values) else None)
         if column.head or column.there:
@@ -219,7 +238,20 @@ def _head_row(sheet: Sheet, known: set[str]) -> int | None:
             and (figures or 2 * words >= len(texts) or words >= least or plain & known)
         ):
             best, place = score, at
+    while place is not None and 0 < _names_in(sheet, place, known):
+        if _names_in(sheet, place + 1, known) < _names_in(sheet, place, known):
+            break
+        place += 1  # names in two rows, such as streams and their tags: the lower row tells
     return place
+
+
+def _names_in(sheet: Sheet, at: int, known: set[str]) -> int:
+    """Return how many known names are in a row that has nothing but texts."""
+    row = sheet.lines[at][1] if at < len(sheet.lines) else []
+    values = [value for value in row if value is not None]
+    if not all(isinstance(value, str) for value in values):
+        return 0
+    return len({plain_word(split_unit(str(value))[0]) for value in values} & known)
 
 
 def _as_heads(values: list[Value]) -> list[Value]:
@@ -303,28 +335,71 @@ def _column(
 
 def _count(column: ColumnProfile, value: Value) -> None:
     """Count what stands in a cell."""
+    sort = sort_of(value)
+    if sort is not CellSort.BLANK:
+        column.values.append(value)
+    setattr(column, sort.value, getattr(column, sort.value) + 1)
+
+
+class CellSort(enum.Enum):
+    """What a cell with something in it is, by the name of its count in a column."""
+
+    DAY = "days"
+    TIME = "times"
+    NUMBER = "numbers"
+    MIXED = "mixed"
+    TEXT = "texts"
+    BLANK = "blanks"
+
+
+# The sorts of which a text says how figures and days are written.
+_WRITTEN = (CellSort.DAY, CellSort.NUMBER, CellSort.MIXED)
+
+
+def sort_of(value: Value) -> CellSort:
+    """Return what a cell is."""
     if value is None or isinstance(value, NoValue):
-        column.blanks += 1
-        return
-    column.values.append(value)
+        return CellSort.BLANK
     if isinstance(value, datetime.datetime):
-        column.days += 1
-    elif isinstance(value, datetime.time):
-        column.times += 1
-    elif isinstance(value, (Decimal, Percent)):
-        column.numbers += 1
-    elif isinstance(value, bool):
-        column.texts += 1
-    elif value.casefold() in MISSING:
-        column.blanks += 1
-        column.values.pop()
-    elif _DATE.fullmatch(value):
-        column.days += 1
-    elif re.fullmatch(r"[0-9]{1,2}:[0-9]{2}(:[0-9]{2})?", value):
-        column.times += 1
-    elif _NUMBER.fullmatch(value):
-        column.numbers += 1
-    elif (match := _WITH_UNIT.fullmatch(value)) and _unit(match[2]):
-        column.mixed += 1
-    else:
-        column.texts += 1
+        return CellSort.DAY
+    if isinstance(value, datetime.time):
+        return CellSort.TIME
+    if isinstance(value, bool):
+        return CellSort.TEXT
+    if not isinstance(value, str):
+        return CellSort.NUMBER
+    return _sort_of_text(value)
+
+
+def _sort_of_text(text: str) -> CellSort:
+    if text.casefold() in MISSING:
+        return CellSort.BLANK
+    if _DATE.fullmatch(text):
+        return CellSort.DAY
+    if re.fullmatch(r"[0-9]{1,2}:[0-9]{2}(:[0-9]{2})?", text):
+        return CellSort.TIME
+    if _NUMBER.fullmatch(text):
+        return CellSort.NUMBER
+    match = _WITH_UNIT.fullmatch(text)
+    return CellSort.MIXED if match and _unit(match[2]) else CellSort.TEXT
+
+
+def pairs_of(profile: SheetProfile, tanks: Sequence[str]) -> int:
+    """Return how many tanks stand over pairs of columns, one of levels and one of volumes."""
+    found: dict[str, Counter[str]] = {}
+    for column in profile.columns:
+        tank = "" if tag_in(column.head, tanks) else tag_in(column.above, tanks)
+        if tank:
+            meant = {meaning.of for meaning in column_meanings(column.name)}
+            is_level = "level" in meant or column.unit in LENGTHS
+            is_volume = "volume" in meant or column.unit in VOLUMES
+            of = "level" if is_level > is_volume else "volume" if is_volume > is_level else "other"
+            found.setdefault(tank, Counter())[of] += 1
+    are_pairs = all(each == Counter(level=1, volume=1) for each in found.values())
+    return len(found) if are_pairs else 0
+
+
+def is_running(column: ColumnProfile) -> bool:
+    """Say whether a column numbers its rows, 1, 2, 3, and so on."""
+    numbers = column.decimals
+    return len(numbers) == column.there > 2 and numbers == list(range(1, len(numbers) + 1))

@@ -1,9 +1,9 @@
 """Proposes the mapping of a workbook: from words in four languages, and from the shape of its data.
 
 First each sheet is profiled: its row of heads, and what is below them. The sheet of streams, which
-has two columns of ends, gives tags and names; those of tanks give tanks. Then the others are known
-by their heads, by tags and tanks over their columns, or by their names. Each guess is kept with its
-evidence. Where two readings are possible the value is a `?`, and the evidence says which.
+has two columns of ends, gives tags and names; those of tanks give tanks. Then the kinds of the
+others are told. Each guess is kept with its evidence. If two readings are possible, the value is a
+`?`, and the evidence says which.
 """
 
 from __future__ import annotations
@@ -16,37 +16,17 @@ from decimal import Decimal
 
 from plantbal.workbook.mapping.columns import Columns
 from plantbal.workbook.mapping.form import OPEN, SITE, Path_, SheetMapping, WorkbookMapping
-from plantbal.workbook.mapping.known import KnownPlant, tag_in
-from plantbal.workbook.mapping.months import month_of_head, pattern_of
+from plantbal.workbook.mapping.kinds import BY_HEADS, KindsOfSheets, meant_by
+from plantbal.workbook.mapping.known import KnownPlant
+from plantbal.workbook.mapping.months import pattern_of
 from plantbal.workbook.mapping.names import is_name, name_of
-from plantbal.workbook.mapping.profile import ColumnProfile, SheetProfile, profile_of
-from plantbal.workbook.mapping.vocabulary import (
-    LANGUAGES,
-    column_meanings,
-    plain_word,
-    sheet_meanings,
-    value_meaning,
-)
+from plantbal.workbook.mapping.profile import SheetProfile, profile_of
+from plantbal.workbook.mapping.vocabulary import plain_word, sheet_meanings, value_meaning
+from plantbal.workbook.mapping.words import LANGUAGES
 from plantbal.workbook.mapping.written import Written
-from plantbal.workbook.sheetkinds import PASSED, SHEETS
+from plantbal.workbook.sheetkinds import SHEETS
 from plantbal.workbook.sheets import Sheet
-from plantbal.workbook.units import LENGTHS
 
-# The kinds that are known by their heads, those that say most first.
-_BY_HEADS = (
-    "streams",
-    "straps",
-    "moistures",
-    "tickets",
-    "estimates",
-    "dips",
-    "assays",
-    "critical",
-    "tanks",
-    "accounts",
-    "settings",
-    "periods",
-)
 _NONE = ("", OPEN)
 
 
@@ -143,7 +123,7 @@ class _Proposing:
         self._learn()
         self.profiles = [profile_of(sheet, self.known.names) for sheet in self.sheets]
         for at in range(len(self.sheets)):
-            self.kinds[at] = self._kind(at)
+            self.kinds[at] = KindsOfSheets(self.known, self.said).of(self.profiles[at])
         made = [self._sheet(at) for at in range(len(self.sheets))]
         locale = self._locale(made)
         made = self._sites(made)
@@ -164,9 +144,11 @@ class _Proposing:
         tags: list[str] = []
         streams: list[str] = []
         tanks: list[str] = []
+        kinds = KindsOfSheets(self.known, self.said)
         for profile in self.profiles:
+            by_heads = kinds.by_heads(profile, BY_HEADS)
             for word, into in (("streams", (tags, streams)), ("tanks", (tanks,))):
-                if self._by_heads(profile, (word,)) != word:
+                if by_heads != word:
                     continue
                 found = Columns(profile, SHEETS[word], KnownPlant()).assigned()
                 heads = ("tag", "stream") if word == "streams" else ("tank",)
@@ -174,8 +156,8 @@ class _Proposing:
                     column = next((profile.column(k) for k, v in found.items() if v == head), None)
                     names += _texts(column.values) if column else []
         for profile in self.profiles:
-            if not tanks and self._by_heads(profile, ("straps", "dips")):
-                column = next((c for c in profile.columns if "tank" in _meant(c.name)), None)
+            if not tanks and kinds.by_heads(profile, ("straps", "dips")):
+                column = next((c for c in profile.columns if "tank" in meant_by(c.name)), None)
                 tanks += _texts(column.values) if column else []
         own = self.known
         self.known = KnownPlant(
@@ -183,126 +165,6 @@ class _Proposing:
             tuple(dict.fromkeys([*own.streams, *streams])),
             tuple(dict.fromkeys([*own.tanks, *tanks])),
         )
-
-    # ---- kinds
-
-    def _kind(self, at: int) -> tuple[str, str]:
-        """Return the kind of a sheet, and what speaks for it."""
-        profile, name = self.profiles[at], self.sheets[at].name
-        if name in self.said:
-            return self.said[name], "as it was said"
-        plain = re.split(r"[^a-z]", name.strip().casefold(), maxsplit=1)[0]
-        if plain in PASSED:
-            return "", "sheets of this name are passed over"
-        meaning = next(iter(sheet_meanings(name)), None)
-        by_name = plain if plain in SHEETS else meaning.of if meaning else ""
-        by_name = by_name if by_name in SHEETS else ""
-        said = f"its name is {plain}" if plain in SHEETS else meaning.said() if meaning else ""
-        by_shape, shape_said = self._by_shape(profile, by_name)
-        if by_shape:
-            return by_shape, shape_said
-        by_heads = self._by_heads(profile, _BY_HEADS)
-        if by_name == "densities" and self._is_dated(profile):
-            return by_name, said
-        if by_name and by_name != by_heads and self._fits(profile, by_name):
-            return by_name, said
-        if by_heads:
-            needed = ", ".join(SHEETS[by_heads].needed)
-            return by_heads, f"its heads say {needed}" + (
-                f"; {said}" if by_name == by_heads else ""
-            )
-        if by_name and profile.at is not None:
-            return by_name, f"{said}; its heads don't tell more"
-        if by_name == "readings" or plain in SHEETS:
-            return by_name, said
-        if profile.at is None or not any(c.has_figures or c.has_days for c in profile.columns):
-            return "", "there is no table of figures in it"
-        return (
-            OPEN,
-            f"there are figures in it, and neither name nor heads say what: {_kinds_said()}",
-        )
-
-    def _is_dated(self, profile: SheetProfile) -> bool:
-        """Say whether a sheet has densities of names or tickets, with or without their days."""
-        heads = set(Columns(profile, SHEETS["densities"], self.known).assigned().values())
-        return "density" in heads and bool(heads & {"name", "id"})
-
-    def _fits(self, profile: SheetProfile, word: str) -> bool:
-        """Say whether a sheet has the columns that a kind needs."""
-        kind = SHEETS[word]
-        found = Columns(profile, kind, self.known).assigned()
-        return bool(kind.needed) and set(kind.needed) <= set(found.values())
-
-    def _by_heads(self, profile: SheetProfile, words: Sequence[str]) -> str:
-        """Return the first of some kinds whose columns a sheet has; empty if it has none's."""
-        if profile.at is None:
-            return ""
-        for word in words:
-            kind = SHEETS[word]
-            if len(kind.needed) > 1 and self._fits(profile, word):
-                return word
-            if word == "tanks" and len(kind.needed) == 1:
-                heads = set(Columns(profile, kind, self.known).assigned().values())
-                if "tank" in heads and heads & {"error", "density", "base", "since", "until"}:
-                    return word
-        return ""
-
-    def _by_shape(self, profile: SheetProfile, by_name: str) -> tuple[str, str]:
-        """Return the kind of a sheet that has tags or tanks over its columns, and why."""
-        if profile.at is None:
-            return "", ""
-        days = [column for column in profile.columns if column.has_days]
-        tags = [c for c in profile.columns if self.known.meter(c.head)]
-        tanks = [
-            c
-            for c in profile.columns
-            if c.has_figures
-            and (tag_in(c.head, self.known.tanks) or tag_in(c.above, self.known.tanks))
-        ]
-        heads = self._by_heads(profile, ("streams", "tickets", "assays", "moistures", "estimates"))
-        if by_name == "densities" and (tags or tanks) and not heads:
-            return "densities", "its name says so, and names of the plant are its heads"
-        if (len(tags) > 1 or tags and days) and len(tags) >= len(tanks) and not heads:
-            count = "1 of its heads is a tag or stream" if len(tags) == 1 else ""
-            count = count or f"{len(tags)} of its heads are tags or streams"
-            return "readings", f"{count} of the plant"
-        if tanks and not heads and 2 * len(tanks) >= len(profile.columns) - 2:
-            return self._of_tanks(profile, tanks, days)
-        known = {*self.known.tanks}
-        if known and profile.at > 0:
-            above = self.sheets[self.profiles.index(profile)].lines[profile.at - 1][1]
-            over = [value for value in above if isinstance(value, str) and value in known]
-            if (
-                over
-                and not days
-                and "level" in {m for c in profile.columns for m in _meant(c.name)}
-            ):
-                return "straps", f"{len(over)} tanks are over pairs of levels and volumes"
-        months = [c for c in profile.columns if month_of_head(c.head)]
-        if (len(months) > 1 or by_name == "densities") and not heads and not days:
-            said = _densities_said(profile, months, by_name)
-            if said:
-                return "densities", said
-        found = {m for c in profile.columns for m in _meant(c.name)}
-        if days and {"tag", "value"} <= found and "level" not in found and not heads:
-            return "readings", "it has a row for each figure: a day, a tag and a value"
-        return "", ""
-
-    def _of_tanks(
-        self, profile: SheetProfile, tanks: list[ColumnProfile], days: list[ColumnProfile]
-    ) -> tuple[str, str]:
-        """Return whether columns of tanks have levels of days, or volumes of levels."""
-        count = f"{len(tanks)} of its heads are tanks"
-        if days:
-            return "dips", f"{count}, and {days[0].key!r} has days"
-        if any(column.unit in LENGTHS for column in tanks):
-            return "dips", f"{count}, with levels in {tanks[0].unit}"
-        kind = Columns(profile, SHEETS["dips"], self.known)
-        if "day" in kind.assigned().values():
-            return "dips", f"{count}, and it has the days of a month by their numbers"
-        if any("level" in _meant(column.name) for column in profile.columns):
-            return "straps", f"{count}, beside a column of levels"
-        return "", ""
 
     # ---- sheets
 
@@ -430,12 +292,11 @@ class _Proposing:
         """Return how the figures and days of a sheet are written."""
         written = Written()
         for column in self.profiles[at].columns:
-            texts = [value for value in column.values if isinstance(value, str)]
             if column.has_days or column.has_figures:
-                for text in texts:
+                for text in column.written:
                     written.take(text)
             if column.has_days:
-                written.take_run(texts)
+                written.take_run(column.written)
         return written
 
     def _missing(self) -> list[str]:
@@ -499,33 +360,10 @@ class _Proposing:
         self.plant = matched[0] if matched else OPEN
 
 
-def _densities_said(profile: SheetProfile, months: list[ColumnProfile], by_name: str) -> str:
-    """Return why columns of months have densities: name or title say it, or the figures are so."""
-    if not months or not all(column.has_figures for column in months if column.there):
-        return ""
-    titles = [*profile.titles, *(column.name for column in profile.columns)]
-    said = [text for text in titles if "density" in _meant(text) or "densities" in _sheets_of(text)]
-    if by_name == "densities" or said:
-        why = "its name says so" if by_name == "densities" else f"{said[0][:60]!r} is in it"
-        return f"{why}, and {len(months)} heads are months"
-    numbers = [number for column in months for number in column.decimals]
-    if numbers and (
-        all(500 <= each <= 1200 for each in numbers)
-        or all(Decimal("0.5") <= each <= Decimal("1.2") for each in numbers)
-    ):
-        ends = f"{min(numbers)} to {max(numbers)}"
-        return f"{len(months)} heads are months, and the figures, {ends}, are as densities are"
-    return ""
-
-
 def _is_word(of: str, column: str) -> bool:
     """Say whether a meaning is one of a column of kinds, or of groups of products."""
     groups = ("crude", "products", "coefficient", "lubricants")
     return (of in groups) == (column == "group") and of != "env"
-
-
-def _sheets_of(text: str) -> set[str]:
-    return {meaning.of for meaning in sheet_meanings(text)}
 
 
 def _of_plant(sheet: SheetMapping, plant: str, wanted: str) -> SheetMapping:
@@ -537,11 +375,3 @@ def _of_plant(sheet: SheetMapping, plant: str, wanted: str) -> SheetMapping:
 
 def _texts(values: Iterable[object]) -> list[str]:
     return [f"{each}" for each in values if isinstance(each, (str, Decimal))]
-
-
-def _meant(name: str) -> set[str]:
-    return {meaning.of for meaning in column_meanings(name)}
-
-
-def _kinds_said() -> str:
-    return ", ".join(SHEETS)

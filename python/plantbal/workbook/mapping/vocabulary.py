@@ -1,385 +1,28 @@
-"""What sheets and columns are called in English, German, Spanish and French.
+"""What words may mean: in the names of sheets, the heads of columns, and cells.
 
 A word may mean several things: the German `Tag` is a day, and the English one an instrument's. What
-stands below it decides, so each word gives all that it may mean. A sheet or column that isn't here
-is known by its own word alone.
+stands below it decides, so each word gives all that it may mean.
 """
 
 from __future__ import annotations
 
 import re
 import unicodedata
-from collections.abc import Iterator, Mapping
+from collections.abc import Iterator
 from dataclasses import dataclass
 
-LANGUAGES = {"en": "English", "de": "German", "es": "Spanish", "fr": "French"}
-
-_Words = Mapping[str, Mapping[str, str]]
-
-# Each meaning with its words in each language, parted by semicolons.
-SHEET_WORDS: _Words = {
-    "streams": {
-        "en": "stream; streams; flows; meters; pipes; lines; flow list; instrument list; tags",
-        "de": "ströme; strom; stoffströme; messstellen; zähler; leitungen; messstellenliste",
-        "es": "corrientes; flujos; medidores; líneas; caudalímetros",
-        "fr": "flux; courants; compteurs; débitmètres; lignes",
-    },
-    "boundaries": {
-        "en": "boundaries; battery limits",
-        "de": "grenzen; anlagengrenzen",
-        "es": "límites; fronteras",
-        "fr": "limites; frontières",
-    },
-    "units": {
-        "en": "units; process units; plants; nodes",
-        "de": "anlagen; einheiten; knoten",
-        "es": "unidades; plantas; nodos",
-        "fr": "unités; installations; nœuds",
-    },
-    "tanks": {
-        "en": "tank; tanks; tankage; tank list; stockpiles; vessels",
-        "de": "tankliste; behälter; lagerbehälter; halden; tanklager",
-        "es": "tanques; depósitos; lista de tanques",
-        "fr": "réservoirs; bacs; cuves; liste des bacs",
-    },
-    "straps": {
-        "en": "strap; straps; strapping; strapping tables; calibration; calibration tables; gauge "
-        "tables",
-        "de": "peiltabelle; peiltabellen; eichtabelle; eichtabellen; litertabelle; litertabellen",
-        "es": "tablas de calibración; calibración; aforo; tablas de aforo; cubicación",
-        "fr": "barème; barèmes; barémage; jaugeage; barèmes de jaugeage",
-    },
-    "readings": {
-        "en": "reading; readings; daily; hourly; meter readings; daily readings; daily flows; data; "
-        "counters; totalizers",
-        "de": "ablesungen; messwerte; tageswerte; tagesmengen; stundenwerte; mengen; zählerstände",
-        "es": "lecturas; mediciones; diario; datos diarios; horario; valores diarios; contadores",
-        "fr": "relevés; mesures; journalier; relevés journaliers; horaire; valeurs journalières",
-    },
-    "dips": {
-        "en": "dip; dips; dippings; levels; tank levels; gaugings; gauges; inventory; stocks",
-        "de": "peilungen; peilung; füllstände; stände; bestände; tankstände; inventur; tankpeilungen",
-        "es": "niveles; sondeos; mediciones de tanques; existencias; inventario",
-        "fr": "niveaux; jauges; jaugeages; mesures des bacs; stocks; inventaire",
-    },
-    "tickets": {
-        "en": "ticket; tickets; batches; shipments; deliveries; cargoes; bills of lading; movements",
-        "de": "lieferscheine; wiegescheine; ladungen; lieferungen; verladungen; chargen; belege",
-        "es": "albaranes; cargamentos; entregas; despachos; lotes; guías",
-        "fr": "bons; livraisons; cargaisons; expéditions; lots; bons de livraison",
-    },
-    "estimates": {
-        "en": "estimate; estimates; substitutes",
-        "de": "schätzungen; schätzwerte; ersatzwerte",
-        "es": "estimaciones; estimados",
-        "fr": "estimations",
-    },
-    "moistures": {
-        "en": "moisture; moistures",
-        "de": "feuchten; feuchte; wassergehalte; feuchtigkeit",
-        "es": "humedades; humedad",
-        "fr": "humidités; humidité; teneur en eau",
-    },
-    "assays": {
-        "en": "assay; assays; grades; laboratory; lab",
-        "de": "analysen; gehalte; labor; laborwerte",
-        "es": "leyes; análisis; ensayos; laboratorio",
-        "fr": "analyses; teneurs; laboratoire; essais",
-    },
-    "critical": {
-        "en": "critical; critical values",
-        "de": "kritische werte; grenzwerte",
-        "es": "valores críticos",
-        "fr": "valeurs critiques",
-    },
-    "periods": {
-        "en": "periods; months",
-        "de": "perioden; zeiträume; monate",
-        "es": "períodos; periodos; meses",
-        "fr": "périodes; mois",
-    },
-    "windows": {"en": "windows", "de": "fenster", "es": "ventanas", "fr": "fenêtres"},
-    "accounts": {
-        "en": "accounts; account; products",
-        "de": "konten; kontierung; produkte",
-        "es": "cuentas; productos",
-        "fr": "comptes; produits",
-    },
-    "settings": {
-        "en": "settings; options; parameters",
-        "de": "einstellungen; parameter; vorgaben",
-        "es": "ajustes; opciones; parámetros",
-        "fr": "réglages; paramètres",
-    },
-    "densities": {
-        "en": "density; densities",
-        "de": "dichte; dichten",
-        "es": "densidad; densidades",
-        "fr": "densité; densités; masses volumiques",
-    },
-    "temperatures": {
-        "en": "temperature; temperatures",
-        "de": "temperatur; temperaturen",
-        "es": "temperatura; temperaturas",
-        "fr": "température; températures",
-    },
-}
-COLUMN_WORDS: _Words = {
-    "tag": {
-        "en": "tag; tag no; tag number; tagname; tag name; instrument; point; meter; meter tag",
-        "de": "messstelle; mst; kks; pls; zähler; messgerät; plt-stelle; plt stelle; tag-nr; tag nr",
-        "es": "etiqueta; instrumento; medidor; punto; tag",
-        "fr": "repère; instrument; compteur; point; capteur; tag",
-    },
-    "stream": {
-        "en": "stream; stream name; flow; line; pipe; movement; name; description",
-        "de": "strom; stoffstrom; leitung; stromname; bezeichnung; rohrleitung; name; beschreibung",
-        "es": "corriente; flujo; línea; nombre de corriente; nombre; descripción",
-        "fr": "flux; courant; ligne; désignation; nom; description",
-    },
-    "from": {
-        "en": "from; source; origin",
-        "de": "von; quelle; herkunft; aus",
-        "es": "de; desde; origen",
-        "fr": "de; depuis; origine; source; provenance",
-    },
-    "to": {
-        "en": "to; destination; dest; sink",
-        "de": "nach; ziel; zu; senke",
-        "es": "a; hacia; hasta; destino",
-        "fr": "à; vers; destination",
-    },
-    "kind": {
-        "en": "kind; type; category",
-        "de": "art; typ; messart",
-        "es": "tipo; clase",
-        "fr": "type; genre; nature",
-    },
-    "unit": {
-        "en": "unit; units; uom; unit of measure; eng unit",
-        "de": "einheit; einh; me; mengeneinheit; maßeinheit",
-        "es": "unidad; unidades; ud; um",
-        "fr": "unité; unités",
-    },
-    "density": {
-        "en": "density; dens; specific gravity",
-        "de": "dichte; rho",
-        "es": "densidad",
-        "fr": "densité; masse volumique",
-    },
-    "error": {
-        "en": "error; uncertainty; accuracy; std; sd; sigma; standard deviation; tolerance",
-        "de": "fehler; messfehler; unsicherheit; messunsicherheit; genauigkeit; abweichung; toleranz; "
-        "standardabweichung",
-        "es": "error; incertidumbre; precisión; exactitud; desviación",
-        "fr": "erreur; incertitude; précision; exactitude; écart-type; écart type",
-    },
-    "base": {
-        "en": "base; systematic error; bias",
-        "de": "grundfehler; systematischer fehler",
-        "es": "error sistemático",
-        "fr": "erreur systématique",
-    },
-    "since": {
-        "en": "since; in service since; in service from; valid from; from",
-        "de": "seit; ab; in betrieb ab; gültig ab; in betrieb seit; von",
-        "es": "desde; en servicio desde; válido desde",
-        "fr": "depuis; en service depuis; valable du; à partir de",
-    },
-    "until": {
-        "en": "until; in service until; valid until; valid to; to",
-        "de": "bis; in betrieb bis; gültig bis",
-        "es": "hasta; en servicio hasta; válido hasta",
-        "fr": "jusqu'au; jusqu'à; en service jusqu'au; valable jusqu'au",
-    },
-    "tank": {
-        "en": "tank; tank no; vessel; stockpile; tk; name",
-        "de": "tank; behälter; tank-nr; tank nr; behälter-nr; lagertank; halde; name; bezeichnung",
-        "es": "tanque; depósito; tk; nombre",
-        "fr": "bac; réservoir; cuve; nom",
-    },
-    "level": {
-        "en": "level; dip; innage; gauge; height; liquid level; reading",
-        "de": "stand; füllstand; füllhöhe; höhe; peilung; pegel; peilhöhe; tankstand",
-        "es": "nivel; altura; sonda; medida",
-        "fr": "niveau; hauteur; jauge; creux",
-    },
-    "volume": {
-        "en": "volume; contents; vol; capacity",
-        "de": "volumen; inhalt; menge",
-        "es": "volumen; contenido; capacidad",
-        "fr": "volume; contenu; capacité",
-    },
-    "day": {
-        "en": "day; date; timestamp; time stamp; datetime; date time; date/time",
-        "de": "tag; datum; zeitstempel; datum/uhrzeit; datum uhrzeit; stichtag; zeitpunkt",
-        "es": "día; fecha; fecha y hora; fecha/hora",
-        "fr": "jour; date; horodatage; date et heure; date/heure",
-    },
-    "time": {"en": "time; hour", "de": "uhrzeit; zeit; stunde", "es": "hora", "fr": "heure"},
-    "value": {
-        "en": "value; reading; amount; quantity; qty; result",
-        "de": "wert; messwert; menge; ablesung; ergebnis",
-        "es": "valor; cantidad; lectura; resultado",
-        "fr": "valeur; quantité; mesure; relevé; résultat",
-    },
-    "id": {
-        "en": "id; ticket; ticket no; ticket number; b/l; bl no; bill of lading; document; no; number",
-        "de": "lieferschein; lieferschein-nr; lieferscheinnummer; beleg; belegnr; beleg-nr; "
-        "belegnummer; nr; nummer; wiegeschein; schein-nr; ticket; ticket-nr",
-        "es": "albarán; número; núm; nº; guía; documento; ticket",
-        "fr": "bon; numéro; n°; no; bon n°; document; ticket",
-    },
-    "first": {
-        "en": "first; first day; begin; start; start date; loaded; date; day; from; period start",
-        "de": "erster; erster tag; beginn; anfang; von; ab; datum; tag; lieferdatum; verladung",
-        "es": "primero; inicio; comienzo; fecha; desde; fecha de carga",
-        "fr": "premier; début; date; du; date de chargement",
-    },
-    "last": {
-        "en": "last; last day; end; end date; finish; to; until; period end",
-        "de": "letzter; letzter tag; ende; bis",
-        "es": "último; fin; final; hasta",
-        "fr": "dernier; fin; au",
-    },
-    "amount": {
-        "en": "amount; quantity; qty; weight; mass; net; net weight; wet tonnes; volume; value",
-        "de": "menge; gewicht; masse; netto; nettogewicht; volumen; liefermenge; wert",
-        "es": "cantidad; peso; masa; neto; peso neto; volumen; valor",
-        "fr": "quantité; poids; masse; net; poids net; volume; valeur",
-    },
-    "month": {"en": "month", "de": "monat", "es": "mes", "fr": "mois"},
-    "water": {
-        "en": "water; free water; water dip; water level; fw; water cut level",
-        "de": "wasser; freies wasser; wasserstand; freiwasser",
-        "es": "agua; agua libre; nivel de agua",
-        "fr": "eau; eau libre; niveau d'eau",
-    },
-    "component": {
-        "en": "component; element; analyte; metal",
-        "de": "komponente; element; stoff; metall",
-        "es": "componente; elemento; metal",
-        "fr": "composant; élément; métal",
-    },
-    "period": {
-        "en": "period; month",
-        "de": "periode; zeitraum; monat",
-        "es": "período; periodo; mes",
-        "fr": "période; mois",
-    },
-    "grade": {
-        "en": "grade; assay; content; concentration",
-        "de": "gehalt; konzentration; analyse",
-        "es": "ley; contenido; concentración",
-        "fr": "teneur; concentration",
-    },
-    "moisture": {
-        "en": "moisture; water; humidity",
-        "de": "feuchte; feuchtigkeit; wassergehalt; wasser",
-        "es": "humedad; agua",
-        "fr": "humidité; teneur en eau; eau",
-    },
-    "test": {"en": "test", "de": "test; prüfung", "es": "prueba", "fr": "test"},
-    "dof": {
-        "en": "dof; degrees of freedom",
-        "de": "freiheitsgrade; freiheitsgrad",
-        "es": "grados de libertad",
-        "fr": "degrés de liberté",
-    },
-    "name": {"en": "name", "de": "name; bezeichnung", "es": "nombre", "fr": "nom; désignation"},
-    "product": {"en": "product", "de": "produkt", "es": "producto", "fr": "produit"},
-    "group": {
-        "en": "group; astm; astm table; petroleum table; table",
-        "de": "gruppe; produktgruppe; astm-tabelle; tabelle",
-        "es": "grupo; tabla astm; tabla",
-        "fr": "groupe; table astm; table",
-    },
-    "owner": {
-        "en": "owner",
-        "de": "eigentümer; besitzer",
-        "es": "propietario; dueño",
-        "fr": "propriétaire",
-    },
-    "setting": {"en": "setting", "de": "einstellung", "es": "ajuste", "fr": "réglage"},
-    "for": {"en": "for", "de": "für", "es": "para", "fr": "pour"},
-    "temperature": {
-        "en": "temperature; temp; temp.; tank temperature; product temperature",
-        "de": "temperatur; temp; temp.; tanktemperatur; produkttemperatur",
-        "es": "temperatura; temp",
-        "fr": "température; temp",
-    },
-    "plant": {
-        "en": "site; plant; facility",
-        "de": "werk; standort; betrieb",
-        "es": "planta; sitio; complejo",
-        "fr": "site; usine",
-    },
-}
-# What stands in a column of kinds, of tests, or as an end of a stream.
-VALUE_WORDS: _Words = {
-    "metered": {
-        "en": "metered; measured; meter; daily",
-        "de": "gemessen; zähler; messung; messstelle",
-        "es": "medido; medida; medidor",
-        "fr": "mesuré; mesurée; compteur; compté",
-    },
-    "batch": {
-        "en": "batch; ticket; tickets; cargo; batches",
-        "de": "charge; chargen; lieferschein; beleg; ladung; wiegeschein",
-        "es": "lote; albarán; cargamento; por lotes",
-        "fr": "lot; bon; cargaison; par lots",
-    },
-    "plain": {
-        "en": "plain; unmeasured; not measured; unmetered; none; calculated",
-        "de": "ungemessen; nicht gemessen; unvermessen; keine; ohne; errechnet; berechnet",
-        "es": "no medido; sin medir; sin medida; ninguno; calculado",
-        "fr": "non mesuré; non mesurée; sans; aucun; calculé",
-    },
-    "crude": {
-        "en": "54a; table 54a; crude oil; crude oils",
-        "de": "rohöl",
-        "es": "crudo; crudos",
-        "fr": "brut; pétrole brut",
-    },
-    "products": {
-        "en": "54b; table 54b; refined products; refined; product",
-        "de": "produkte; mineralölprodukte",
-        "es": "productos; refinados",
-        "fr": "produits; produits raffinés",
-    },
-    "coefficient": {"en": "54c; table 54c", "de": "koeffizient", "es": "coeficiente", "fr": "54c"},
-    "lubricants": {
-        "en": "54d; table 54d; lubes; lube oils",
-        "de": "schmieröle; schmierstoffe",
-        "es": "lubricantes",
-        "fr": "lubrifiants",
-    },
-    "env": {
-        "en": "env; outside; external; environment; world; off-site; offsite; atmosphere",
-        "de": "umwelt; außen; aussen; extern; außerhalb; umgebung; atmosphäre",
-        "es": "exterior; externo; entorno; fuera; ambiente",
-        "fr": "extérieur; externe; environnement; dehors",
-    },
-}
-TOTAL_WORDS = frozenset(
-    "total totals sum summe summen gesamt gesamtsumme monatssumme zwischensumme tagessumme somme "
-    "sous-total totale suma subtotal acumulado cumul kumuliert promedio moyenne mittelwert mittel "
-    "average mean media min max minimum maximum mínimo máximo anzahl count mtd ytd σ ∑ ø".split()
-)
-_REMARK_WORDS = frozenset(
-    "remark remarks comment comments note notes bemerkung bemerkungen kommentar anmerkung hinweis "
-    "anmerkungen remarque remarques commentaire commentaires observaciones observación nota notas "
-    "description beschreibung descripción bearbeiter operator operador opérateur initials kürzel "
-    "schicht shift turno poste kw wochentag weekday".split()
-)
-
-_COUNTER_WORDS = frozenset(
-    "counter counters totalizer totalizers totaliser totalisers register registers index zähler "
-    "zählerstand zählerstände contador contadores totalizador compteur compteurs".split()
-)
-# Heads that name whatever a row is of: for a column only if no other head says what it is.
-_WEAK = frozenset(
-    "name bezeichnung nombre nom désignation description beschreibung descripción reading".split()
+from plantbal.workbook.mapping.words import (
+    COLUMN_WORDS,
+    COUNTER_WORDS,
+    COVER_WORDS,
+    LANGUAGES,
+    REMARK_WORDS,
+    SHEET_WORDS,
+    SUMS,
+    TOTAL_WORDS,
+    VALUE_WORDS,
+    WEAK,
+    Words,
 )
 
 
@@ -412,7 +55,7 @@ def plain_word(text: str) -> str:
     return re.sub(r"[\s_]+", " ", lower).strip(" .:;,*#'\"")
 
 
-def _turned(words: _Words) -> dict[str, list[Meaning]]:
+def _turned(words: Words) -> dict[str, list[Meaning]]:
     found: dict[str, list[Meaning]] = {}
     for of, languages in words.items():
         for language, texts in languages.items():
@@ -421,7 +64,9 @@ def _turned(words: _Words) -> dict[str, list[Meaning]]:
     return found
 
 
-_SHEETS, _COLUMNS, _VALUES = map(_turned, (SHEET_WORDS, COLUMN_WORDS, VALUE_WORDS))
+_SHEETS, _COLUMNS, _VALUES, _COVERS = map(
+    _turned, (SHEET_WORDS, COLUMN_WORDS, VALUE_WORDS, COVER_WORDS)
+)
 
 
 def sheet_meanings(name: str) -> Iterator[Meaning]:
@@ -433,6 +78,12 @@ def sheet_meanings(name: str) -> Iterator[Meaning]:
     parts += words[1:]
     for part in dict.fromkeys(parts):
         yield from _SHEETS.get(plain_word(part), ())
+
+
+def cover_meaning(name: str) -> Meaning | None:
+    """Return what the name of a sheet says that has nothing to book; None of another sheet."""
+    found = _COVERS.get(plain_word(name))
+    return found[0] if found else None
 
 
 def column_meanings(head: str) -> list[Meaning]:
@@ -449,13 +100,13 @@ def column_meanings(head: str) -> list[Meaning]:
 
 def is_weak(head: str) -> bool:
     """Say whether a head names whatever its row is of."""
-    return plain_word(head) in _WEAK
+    return plain_word(head) in WEAK
 
 
 def is_counter(text: str) -> bool:
     """Say whether a head or a name speaks of a counter."""
     words = re.split(r"[\W\d_]+", plain_word(text))
-    return any(word in _COUNTER_WORDS for word in words)
+    return any(word in COUNTER_WORDS for word in words)
 
 
 def value_meaning(text: str) -> Meaning | None:
@@ -467,10 +118,10 @@ def value_meaning(text: str) -> Meaning | None:
 def is_remark(head: str) -> bool:
     """Say whether a head is that of remarks, or the like."""
     words = re.split(r"[\s/()-]+", plain_word(head))
-    return any(word in _REMARK_WORDS for word in words)
+    return any(word in REMARK_WORDS for word in words)
 
 
 def is_total(text: str) -> bool:
     """Say whether a text begins with a word for a sum, a mean or the like."""
-    words = re.split(r"[\s:.]+", text.casefold().strip())
-    return bool(words) and words[0].strip("[]()") in TOTAL_WORDS
+    first = re.split(r"[\s:.]+", text.casefold().strip())[0].strip("[]()")
+    return first in TOTAL_WORDS or first.endswith(SUMS)
