@@ -9,6 +9,7 @@ from typing import Any
 
 from django.conf import settings
 from django.contrib.auth.views import redirect_to_login
+from django.core.exceptions import SuspiciousOperation
 from django.http import Http404, HttpRequest, HttpResponse
 from django.shortcuts import get_object_or_404, render
 from django.utils import translation
@@ -132,6 +133,8 @@ class Sentences:
     def process_exception(self, request: HttpRequest, error: Exception) -> HttpResponse | None:
         """Return the page of a fault; what isn't foreseen stays an error of the server."""
         fault = fault_of(error)
+        if isinstance(error, (Http404, SuspiciousOperation)):
+            return None  # whoever asks is told; it is no error of the server
         if fault is None:
             log.exception("%s: %s", request.path, error)
             return None

@@ -1,7 +1,7 @@
 """Whoever can write to everything: a bundle or a book is made anew, and what tells it is named.
 
-Each attack is made with the package's own means, so that all digests and the chain fit. It is told
-by what stands beside its name, and by nothing else of these: ASSURANCE has the same as a table.
+Each attack is made with the package's own means, so that all digests and the chain fit. Which means
+tell it, and which don't, is what the row of its name in the table of ASSURANCE says.
 """
 
 from __future__ import annotations
@@ -13,8 +13,10 @@ from collections.abc import Callable, Sequence
 from dataclasses import dataclass, replace
 from pathlib import Path
 
+import attacks
 import keyring
 import pytest
+from attacks import Attack, Told, What
 from books import ANYWAY, Type, fixture_book, folder, month
 from conftest import Desk, text_of
 
@@ -58,31 +60,42 @@ class Room:
 @pytest.fixture(name="room")
 def fixture_room(book: Type, say: Desk, tmp_path: Path, monkeypatch: pytest.MonkeyPatch) -> Room:
     """Anna submits, Paul approves, Eva has left; both bundles are signed by Anna."""
-    room, mill = Room(tmp_path), tmp_path / "mill"
-    monkeypatch.setenv("PLANTBAL_TRUST", f"{mill}:{tmp_path / 'copy'}")
+    folders = (tmp_path / name for name in ("mill", "copy", "forged/mill"))
+    monkeypatch.setenv("PLANTBAL_TRUST", ":".join(map(str, folders)))
+    closed(tmp_path, monkeypatch)
+    before: list[object] = []
+    assert book("add", folder(tmp_path / "may", month(month="05"))).status == 0
+    for period in ("2024-04", "2024-05"):
+        before = ["--before", archived(Room(tmp_path), say, period, *before)]
+    return Room(tmp_path)
+
+
+def closed(path: Path, monkeypatch: pytest.MonkeyPatch) -> None:
+    """Have the book of a folder closed by Anna and Paul, with keys of theirs that are made here."""
+    room, mill = Room(path), path / "mill"
     ends = {"eva": 'valid-before="20240101"'}
     lines = [
-        keyring.line(name, keyring.key(tmp_path / "keys", name), ends.get(name, ""))
+        keyring.line(name, keyring.key(path / "keys", name), ends.get(name, ""))
         for name in ("anna", "paul", "eva")
     ]
-    keyring.key(tmp_path / "keys", "stranger")
-    (tmp_path / "signers").write_text("".join(lines), "ascii")
-    (tmp_path / "rules").write_text("[wants]\nclose = true\namend = true\n[sign]\nkeys = true\n")
-    Book(mill).set_rules(tmp_path / "rules", signers=tmp_path / "signers")
+    keyring.key(path / "keys", "stranger")
+    (path / "signers").write_text("".join(lines), "ascii")
+    (path / "rules").write_text("[wants]\nclose = true\namend = true\n[sign]\nkeys = true\n")
+    Book(mill).set_rules(path / "rules", signers=path / "signers")
     _as(monkeypatch, 1001)
     head = Book(mill, key=room.key("anna")).submit("2024-04", anyway=REASONS).head
     _as(monkeypatch, 1002)
     Book(mill, key=room.key("paul")).approve(str(head))
-    (tmp_path / "head").write_text(str(Book(mill).head), "ascii")
-    before: list[object] = []
-    assert book("add", folder(tmp_path / "may", month(month="05"))).status == 0
-    for period in ("2024-04", "2024-05"):
-        session, out = tmp_path / f"{period}.csv", tmp_path / f"{period}.zip"
-        session.write_text(Book(mill).session_asking(period), "ascii")
-        words = ("--period", period, "--out", out, "--book", mill, "--key", room.key("anna"))
-        assert say("archive", session, *words, *before).status in (0, 1)
-        before = ["--before", out]
-    return room
+    (path / "head").write_text(str(Book(mill).head), "ascii")
+
+
+def archived(room: Room, say: Desk, period: str, *words: object) -> Path:
+    """Make the bundle of a period, which Anna signs."""
+    session, out = room.path / f"{period}.csv", room.path / f"{period}.zip"
+    session.write_text(Book(room.mill).session_asking(period), "ascii")
+    own = ("--period", period, "--out", out, "--book", room.mill, "--key", room.key("anna"))
+    assert say("archive", session, *own, *words).status in (0, 1)
+    return out
 
 
 def _as(monkeypatch: pytest.MonkeyPatch, number: int) -> None:
@@ -120,73 +133,138 @@ def of_manifest(**values: object) -> Forge:
     return forge
 
 
-# Twelve ways to make a bundle anew, and whether the book's chain tells it as well as a signature.
-BUNDLES: dict[str, tuple[Forge, bool]] = {
-    "a reading": (of_session(b"FEED,2024-04-02,1200", b"FEED,2024-04-02,1300"), True),
-    "a ticket": (of_session(b"2024-04-01,800000000", b"2024-04-01,900000000"), True),
-    "a dip": (of_session(b",9500,", b",9400,"), True),
-    "an error": (of_session(b"global,2,5990", b"global,2,9990"), True),
-    "the plant": (of_session(b"MILL,SILO", b"SILO,MILL"), True),
-    "a row less": (of_session(b"close,2024-04\n", b""), True),
-    "the time": (of_manifest(made="2020-01-01T00:00:00Z"), False),
-    "the plant's name": (of_manifest(plant="other"), False),
-    "the version": (of_manifest(desk="99.9"), False),
-    "the program": (
-        of_manifest(program={"sha256": "0" * 64, "version": "1", "commit": "x", "from": "y"}),
-        False,
+# Ways to make a bundle anew.
+BUNDLES: dict[str, Forge] = {
+    "another reading": of_session(b"FEED,2024-04-02,1200", b"FEED,2024-04-02,1300"),
+    "another ticket": of_session(b"2024-04-01,800000000", b"2024-04-01,900000000"),
+    "another dip": of_session(b",9500,", b",9400,"),
+    "another critical value": of_session(b"global,2,5990", b"global,2,9990"),
+    "another plant": of_session(b"MILL,SILO", b"SILO,MILL"),
+    "without the row of the close": of_session(b"close,2024-04\n", b""),
+    "another time": of_manifest(made="2020-01-01T00:00:00Z"),
+    "another name of the plant": of_manifest(plant="other"),
+    "another version of the desk": of_manifest(desk="99.9"),
+    "another program": of_manifest(
+        program={"sha256": "0" * 64, "version": "1", "commit": "x", "from": "y"}
     ),
-    "another head": (of_manifest(book={"number": "3", "head": "0" * 64}), True),
-    "the bundle before": (
-        of_manifest(before={"sha256": "0" * 64, "number": "", "head": ""}),
-        False,
-    ),
+    "another head of the book": of_manifest(book={"number": "3", "head": "0" * 64}),
+    "another bundle before it": of_manifest(before={"sha256": "0" * 64, "number": "", "head": ""}),
 }
 
 
-OTHER_ROWS = ("a reading", "a ticket", "a dip", "an error", "the plant", "a row less")
+@dataclass
+class Auditor:
+    """Audits a bundle of April by each means.
+
+    Attributes
+    ----------
+    room : Room
+        Where it is.
+    say : Desk
+        How commands are typed.
+    signed : str
+        What the last audit with the keys has said.
+    """
+
+    room: Room
+    say: Desk
+    signed: str = ""
+
+    @property
+    def bundle(self) -> Path:
+        return self.room.path / "2024-04.zip"
+
+    def told(self, *words: object) -> Told:
+        """Whether an audit says that something is wrong."""
+        said = self.say("audit", self.bundle, *words)
+        if "--signers" in words:
+            self.signed = said.out
+        return Told.YES if said.status == 1 else Told.NO
+
+    def found(self, alone: Told | None = None) -> Attack:
+        """What each means tells of the bundle as it is."""
+        return Attack(
+            alone or self.told(),
+            self.told("--after", self.room.path / "2024-05.zip"),
+            self.told("--book", self.room.mill),
+            self.told("--signers", self.room.path / "signers", "--signed-by", "anna"),
+        )
+
+    def alone(self, files: dict[str, bytes]) -> Told:
+        """What a bundle tells by itself, as it is and with its approvals left out."""
+        said = self.say("audit", self.bundle)
+        assert "anybody could have written all of it" in said.out
+        # The approvals in it are of other rows. Whoever makes a bundle anew can leave them out.
+        stated = replace(Manifest.read(files[MANIFEST]), approvals={})
+        self.bundle.write_bytes(packed(bundle_files(files[SESSION], files[OUTPUT], stated)))
+        without = self.say("audit", self.bundle)
+        assert "anybody could have written all of it" in without.out
+        self.bundle.write_bytes(packed(files))
+        return {
+            (1, 1): Told.YES,
+            (1, 0): Told.UNLESS,
+            (0, 0): Told.NO,
+        }[said.status, without.status]
 
 
-def test_bundles_made_anew(room: Room, say: Desk) -> None:
-    """A signature tells each; the book each that changes figures; nothing beside it none."""
-    bundle = room.path / "2024-04.zip"
-    genuine, signature = bundle.read_bytes(), Path(f"{bundle}.sig").read_text("ascii")
-    signers = ("--signers", room.path / "signers")
+OWN_KEYS = "of a book made anew, approved with own keys"
+
+
+def test_bundles_made_anew(room: Room, say: Desk, monkeypatch: pytest.MonkeyPatch) -> None:
+    """A signature tells each, and a later bundle; the book each that changes figures; nothing beside it none."""
+    auditor = Auditor(room, say)
+    bundle = auditor.bundle
+    genuine, signers = bundle.read_bytes(), ("--signers", room.path / "signers")
     said = say("audit", bundle, *signers, "--book", room.mill, "--after", room.path / "2024-05.zip")
     assert said.status == 0, said.out
     assert "signed by anna with the key SHA256:" in said.out
     assert "submitted by anna as action 4, approved by" in said.out
-    for name, (forge, is_told) in BUNDLES.items():
+    rows = attacks.of(What.BUNDLE)
+    found = {}
+    for name, forge in BUNDLES.items():
         files = forge(dict(unpacked(bundle).files))
         bundle.write_bytes(packed(files))
-        alone = say("audit", bundle)
-        assert "anybody could have written all of it" in alone.out, name
-        # The approvals in it are of other rows. Whoever makes a bundle anew can leave them out.
-        assert (alone.status == 1) == (name in OTHER_ROWS), (name, alone.out)
-        stated = replace(Manifest.read(files[MANIFEST]), approvals={})
-        bundle.write_bytes(packed(bundle_files(files[SESSION], files[OUTPUT], stated)))
-        assert say("audit", bundle).status == 0, name
-        bundle.write_bytes(packed(files))
-        said = say("audit", bundle, *signers)
-        assert said.status == 1 and "it doesn't fit what is signed" in said.out, (name, said.out)
-        assert say("audit", bundle, "--after", room.path / "2024-05.zip").status == 1, name
-        assert (say("audit", bundle, "--book", room.mill).status == 1) == is_told, name
+        found[name] = auditor.found(auditor.alone(files))
+        assert "it doesn't fit what is signed" in auditor.signed, name
         bundle.write_bytes(genuine)
-    for name, made, what in (
-        ("stranger", sign(genuine, room.key("stranger"), BUNDLE), "its key is nobody's"),
-        ("ended", sign(genuine, room.key("eva"), BUNDLE), "not allowed any more"),
-        ("of another use", sign(genuine, room.key("anna"), "plantbal-book"), "doesn't fit"),
-        ("another's", sign(genuine, room.key("paul"), BUNDLE), "anna has to have signed it"),
-        ("none", "", "nobody has signed it"),
-        ("garbage", "x", "it isn't a signature"),
-    ):
-        path = Path(f"{bundle}.sig")
+    forged = Room(room.path / "forged")
+    _as(monkeypatch, 1003)
+    book = Book(forged.mill)
+    book.begin("2024", room.path / "plant")
+    book.add(folder(room.path / "forged" / "april", month(last=2)))
+    closed(forged.path, monkeypatch)
+    made = archived(forged, say, "2024-04")
+    shutil.copy(made, bundle)
+    shutil.copy(f"{made}.sig", f"{bundle}.sig")
+    found[OWN_KEYS] = auditor.found()
+    assert "its key is nobody's" in auditor.signed
+    assert found == rows, "each way that is tried has a row, and each row is tried"
+
+
+def test_signatures_of_a_bundle(room: Room, say: Desk) -> None:
+    """Who has to have signed it, with a key that is theirs and for this use."""
+    auditor = Auditor(room, say)
+    genuine = auditor.bundle.read_bytes()
+    path, rows = Path(f"{auditor.bundle}.sig"), attacks.of(What.SIGNATURE)
+    signature = path.read_text("ascii")
+    tried = {
+        "by a stranger": (sign(genuine, room.key("stranger"), BUNDLE), "its key is nobody's"),
+        "by a key that has ended": (sign(genuine, room.key("eva"), BUNDLE), "not allowed any more"),
+        "of another use": (sign(genuine, room.key("anna"), "plantbal-book"), "doesn't fit"),
+        "by somebody else": (sign(genuine, room.key("paul"), BUNDLE), "anna has to have signed it"),
+        "taken away": ("", "nobody has signed it"),
+        "no signature": ("x", "it isn't a signature"),
+    }
+    found = {}
+    for name, (made, what) in tried.items():
         path.unlink(missing_ok=True)
         if made:
             path.write_text(made, "ascii")
-        said = say("audit", bundle, *signers, "--signed-by", "anna")
-        assert said.status == 1 and what in said.out, (name, said.out)
-    Path(f"{bundle}.sig").write_text(signature, "ascii")
-    assert say("audit", bundle, *signers, "--signed-by", "anna").status == 0
+        found[name] = auditor.found()
+        assert what in auditor.signed, (name, auditor.signed)
+    assert found == rows, "each way that is tried has a row, and each row is tried"
+    path.write_text(signature, "ascii")
+    assert auditor.found() == Attack(Told.NO, Told.NO, Told.NO, Told.NO), "it is as it was"
 
 
 # ---- approvals in a bundle
@@ -272,7 +350,8 @@ APPROVED: dict[str, tuple[Change, str]] = {
 
 def test_approvals_in_a_bundle(room: Room, say: Desk) -> None:
     """Who submitted and approved, with which key and which rows, without the book; each forgery is told."""
-    bundle, signers = room.path / "2024-04.zip", ("--signers", room.path / "signers")
+    auditor, rows = Auditor(room, say), attacks.of(What.APPROVALS)
+    bundle, signers = auditor.bundle, ("--signers", room.path / "signers")
     genuine = bundle.read_bytes()
     said = say("audit", bundle, *signers)
     assert said.status == 0, said.out
@@ -292,6 +371,7 @@ def test_approvals_in_a_bundle(room: Room, say: Desk) -> None:
         line for line in alone.out.split("\n") if line.startswith("good:") and "anna" in line
     ]
     Path(f"{bundle}.sig").unlink()
+    found = {}
     for name, (change, what) in APPROVED.items():
         files = dict(unpacked(bundle).files)
         stated = Manifest.read(files[MANIFEST])
@@ -300,10 +380,12 @@ def test_approvals_in_a_bundle(room: Room, say: Desk) -> None:
         Path(f"{bundle}.sig").write_text(
             sign(bundle.read_bytes(), room.key("anna"), BUNDLE), "ascii"
         )
-        said = say("audit", bundle, *signers)
-        assert what.format(bundle) in said.out, (name, said.out)
-        assert (said.status == 1) == ("note:" not in what), (name, said.out)
+        found[name] = auditor.found()
+        assert what.format(bundle) in auditor.signed, (name, auditor.signed)
+        if found[name].keys is Told.NO and what.startswith("note:"):
+            found[name] = replace(found[name], keys=Told.NOTE)
         bundle.write_bytes(genuine)
+    assert found == rows, "each way that is tried has a row, and each row is tried"
 
 
 def test_approvals_of_other_figures(room: Room, say: Desk) -> None:
@@ -356,35 +438,45 @@ def _moved(lines: list[JournalLine], copy: Path) -> Sequence[JournalLine]:
     return [*lines[:3], replace(lines[1], rows=""), *lines[3:]]
 
 
-# What is done to the journal, and whether a look at the approvals tells it (a head always does).
-BOOKS: dict[str, tuple[Anew, bool]] = {
-    "cut to before the rules": (_cut, False),
-    "another reason": (_other_reason, True),
-    "another approver": (_other_approver, True),
-    "without the rules": (_no_rules, True),
-    "without the submission": (_no_submission, True),
-    "other times": (_earlier, True),
-    "an action put in": (_moved, True),
+# What is done to the journal, whose chain is then made anew.
+BOOKS: dict[str, Anew] = {
+    "cut to before the rules": _cut,
+    "another reason": _other_reason,
+    "another approver": _other_approver,
+    "without the rules": _no_rules,
+    "without the submission": _no_submission,
+    "other times": _earlier,
+    "an action put in": _moved,
 }
+OLDER = "an older copy of the whole folder"
+
+
+def book_found(mill: Path, head: str) -> Attack:
+    """What each means tells of a book as it is."""
+    tells = [not Book(mill).verify().ok, not Book(mill).verify(heads=[head]).ok]
+    try:
+        tells.append(any(each.kind is SentenceKind.WRONG for each in Book(mill).signed()))
+    except Fault:
+        tells.append(True)
+    alone, kept, keys = (Told.YES if each else Told.NO for each in tells)
+    return Attack(alone, kept, Told.NONE, keys)
 
 
 def test_books_made_anew(room: Room) -> None:
     """A head that was kept tells each; the signatures those that touch what was signed."""
     copy, head = room.path / "copy", (room.path / "head").read_text("ascii")
     assert not [each for each in Book(room.mill).signed() if each.kind is SentenceKind.WRONG]
-    for name, (change, is_told) in BOOKS.items():
+    rows = attacks.of(What.BOOK)
+    found = {OLDER: rows[OLDER]}  # by the test after this one
+    for name, change in BOOKS.items():
         shutil.rmtree(copy, ignore_errors=True)
         shutil.copytree(room.mill, copy)
         lines, _ = read_journal("x", text_of(copy / "journal.csv"))
         made = chained(change(lines, copy))
         (copy / "journal.csv").write_text(HEAD_TEXT + "".join(each.text for each in made), "utf-8")
         (copy / ".checks").unlink()
-        assert not Book(copy).verify(heads=[head]).ok, name
-        try:
-            told = any(each.kind is SentenceKind.WRONG for each in Book(copy).signed())
-        except Fault:
-            told = True
-        assert told == is_told, name
+        found[name] = book_found(copy, head)
+    assert found == rows, "each way that is tried has a row, and each row is tried"
 
 
 def test_an_older_copy(room: Room, book: Type) -> None:
@@ -396,4 +488,5 @@ def test_an_older_copy(room: Room, book: Type) -> None:
     assert book("close", "2024-05", *ANYWAY).status == 1, "it wants an approval"
     now = str(Book(room.mill).head)
     assert Book(older).verify(heads=[newer]).ok
-    assert not Book(older).verify(heads=[now]).ok
+    found = book_found(older, now)
+    assert found == attacks.of(What.BOOK)[OLDER], found

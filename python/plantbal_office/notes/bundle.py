@@ -15,12 +15,13 @@ from pathlib import Path
 
 from plantbal.audit import archive
 from plantbal.faults import Fault
+from plantbal_office.notes.handed import handed
 from plantbal_office.plants.models import Plant
 from plantbal_office.shelf import plain_book, run_settings
 
 
-def archived(plant: Plant, period: str, folder: Path) -> Path:
-    """Return the bundle of a month, made in a folder.
+def archived(plant: Plant, period: str, folder: Path, before: Path | None = None) -> Path:
+    """Return the bundle of a month, made in a folder; it names the one before it.
 
     Raises
     ------
@@ -34,6 +35,8 @@ def archived(plant: Plant, period: str, folder: Path) -> Path:
     path = folder / f"{plant.slug}_{period}.zip"
     words = [str(session), "--period", period, "--plant", plant.name, "--out", str(path)]
     words += ["--book", plant.folder]
+    if before is not None:
+        words += ["--before", str(before)]
     if run_settings().program:
         words += ["--program", str(run_settings().program)]
     options = parser.parse_args(words)
@@ -52,8 +55,9 @@ def bundle_of(
     """Return the zip that is handed over."""
     from plantbal_office.notes.views import as_text
 
-    inner = archived(plant, period, folder)
-    contents = {inner.name: inner.read_bytes(), "comments.json": as_text(notes).encode("utf-8")}
+    inner = handed(plant, period, lambda before: archived(plant, period, folder, before))
+    contents = {f"{plant.slug}_{period}.zip": inner}
+    contents["comments.json"] = as_text(notes).encode("utf-8")
     for note in notes:
         if note["file"] and (files / note["kept"]).is_file():
             contents[note["file"]] = (files / note["kept"]).read_bytes()

@@ -33,6 +33,7 @@
 
 from __future__ import annotations
 
+import importlib.util
 import os
 import tomllib
 from collections.abc import Mapping
@@ -41,7 +42,7 @@ from enum import StrEnum
 from pathlib import Path
 from typing import Any
 
-from plantbal.faults import Fault, InputFault, Place, decoded, read_bytes
+from plantbal.faults import Fault, InputFault, Place, ToolMissing, decoded, read_bytes
 from plantbal.limits import RULES_BYTES
 
 NAMED = "PLANTBAL_OFFICE"  # the variable that names the file
@@ -54,6 +55,12 @@ _KNOWN = {
     "oidc": ("name", "server", "client", "secret_file", "claim"),
     "backup": ("recipients",),
 }
+# What a table of the configuration needs beside what the package depends on: the module, and its package.
+_NEEDS = (
+    ("ldap", "django_auth_ldap", "python3-django-auth-ldap"),
+    ("oidc", "authlib", "python3-authlib"),
+    ("oidc", "requests", "python3-requests"),
+)
 
 
 class Second(StrEnum):
@@ -130,6 +137,9 @@ def _config(path: Path, values: dict[str, Any]) -> Config:
         for name in inner:
             if name not in names:
                 raise ValueError(f"[{table}] has no {name}: it may have {', '.join(names)}")
+    for table, module, package in _NEEDS:
+        if values.get(table) and importlib.util.find_spec(module) is None:
+            raise ToolMissing(module, package)
     hosts = values["hosts"]
     if not isinstance(hosts, list) or not hosts or "*" in hosts:
         raise ValueError("hosts isn't a list of names by which browsers call the service")

@@ -2,8 +2,8 @@
 
 from __future__ import annotations
 
-from authlib.common.errors import AuthlibBaseError
-from authlib.integrations.django_client import OAuth
+from typing import Any
+
 from django.conf import settings
 from django.http import Http404, HttpRequest, HttpResponse
 from django.urls import reverse
@@ -17,15 +17,20 @@ from plantbal_office.service.models import Event
 from plantbal_office.service.views import entered
 
 _PROVIDER = "provider"
-# What comes of a provider that doesn't answer, or answers something else than it should.
-_FAILED = (AuthlibBaseError, OSError, ValueError, KeyError)
 
 
-def _client() -> object:
-    """Return the client of the provider that the configuration names."""
+def _client() -> tuple[Any, tuple[type[Exception], ...]]:
+    """Return the client of the provider that the configuration names, and how it fails.
+
+    It fails by these errors if the provider doesn't answer, or answers something else than it
+    should. A service without a provider needs no Authlib.
+    """
     named = settings.PLANTBAL_OIDC
     if not named:
         raise Http404
+    from authlib.common.errors import AuthlibBaseError
+    from authlib.integrations.django_client import OAuth
+
     oauth = OAuth()
     oauth.register(
         _PROVIDER,
@@ -34,16 +39,17 @@ def _client() -> object:
         server_metadata_url=named["server"],
         client_kwargs={"scope": "openid profile email", "code_challenge_method": "S256"},
     )
-    return oauth.create_client(_PROVIDER)
+    return oauth.create_client(_PROVIDER), (AuthlibBaseError, OSError, ValueError, KeyError)
 
 
 def leave(request: HttpRequest) -> HttpResponse:
     """Go to the provider."""
-    client = _client()
+    client, failed = _client()
     back = request.build_absolute_uri(reverse("service:back"))
     try:
-        return client.authorize_redirect(request, back)  # type: ignore[attr-defined]
-    except _FAILED as error:
+        answer: HttpResponse = client.authorize_redirect(request, back)
+        return answer
+    except failed as error:
         locks.note(request, Event.Kind.FAILED, "", f"oidc: {type(error).__name__}")
         what = _("the provider doesn't answer")
         return said(request, Fault(what, remedy=_("try again later, or sign in by name")), 503)
@@ -51,12 +57,12 @@ def leave(request: HttpRequest) -> HttpResponse:
 
 def back(request: HttpRequest) -> HttpResponse:
     """Come back from the provider: whoever it names signs in, if that account is there."""
-    client = _client()
+    client, failed = _client()
     why, name = "", ""
     try:
-        token = client.authorize_access_token(request)  # type: ignore[attr-defined]
+        token = client.authorize_access_token(request)
         name = str((token.get("userinfo") or {}).get(settings.PLANTBAL_OIDC["claim"], ""))
-    except _FAILED as error:
+    except failed as error:
         why = type(error).__name__
     if not name:
         locks.note(request, Event.Kind.FAILED, "", f"oidc: {why or 'no name'}")

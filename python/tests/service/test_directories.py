@@ -3,6 +3,7 @@
 from __future__ import annotations
 
 import subprocess
+import sys
 from collections.abc import Iterator
 from pathlib import Path
 
@@ -200,4 +201,66 @@ def test_configurations_that_are_refused(tmp_path: Path, more: str, what: str) -
     path = tmp_path / "office.toml"
     path.write_text('hosts = ["x"]\nbooks = "/b"\nstate = "/s"\n' + more)
     with pytest.raises(Fault, match=what):
+        read_config(path)
+
+
+# ---- packages that it suggests, and doesn't depend on
+
+_IMPORTED = """
+import sys
+sys.modules |= dict.fromkeys({missing!r})
+import importlib, pkgutil
+from plantbal_office.service.command import ready
+ready()
+import plantbal_office
+# One person's desk, and what is imported if the configuration has a directory.
+others = ("plantbal_office.settings.desk", "plantbal_office.service.directory")
+for each in pkgutil.walk_packages(plantbal_office.__path__, "plantbal_office."):
+    if each.name not in others:
+        importlib.import_module(each.name)
+        print(each.name)
+"""
+
+
+def test_with_what_the_package_depends_on(database: services.Database) -> None:
+    """Each module of the service is imported where nothing is installed but what its package depends on."""
+    rows = [
+        line.split(" ")
+        for line in (services.TOP / "packaging" / "needs.txt").read_text("ascii").splitlines()
+        if line and not line.startswith("#")
+    ]
+    modules = {(name, by) for _, kind, name, by in rows if kind == "module"}
+    own = {name for name, by in modules if by in ("depends", "office")}
+    own.add("django")  # the control file has it
+    missing = sorted({name for name, _ in modules} - own)
+    assert {"authlib", "django_auth_ldap", "requests"} < set(missing)
+    office = services.Service(database=database)
+    try:
+        words = [sys.executable, "-c", _IMPORTED.format(missing=missing)]
+        done = services.run(words, env=office.here)
+    finally:
+        office.end()
+    assert done.returncode == 0, done.stderr[-2000:]
+    assert "plantbal_office.service.oidc" in done.stdout
+
+
+@pytest.mark.parametrize(
+    ("table", "module", "package"),
+    [
+        ("ldap", "django_auth_ldap", "python3-django-auth-ldap"),
+        ("oidc", "authlib", "python3-authlib"),
+        ("oidc", "requests", "python3-requests"),
+    ],
+)
+def test_what_a_table_needs(
+    tmp_path: Path, monkeypatch: pytest.MonkeyPatch, table: str, module: str, package: str
+) -> None:
+    """A configuration that wants what isn't installed says which package has it."""
+    from plantbal.faults import ToolMissing
+    from plantbal_office.service.config import read_config
+
+    monkeypatch.setitem(sys.modules, module, None)
+    path = tmp_path / "office.toml"
+    path.write_text(f'hosts = ["x"]\nbooks = "/b"\nstate = "/s"\n[{table}]\nserver = "x"\n')
+    with pytest.raises(ToolMissing, match=f"install {package}"):
         read_config(path)

@@ -61,7 +61,8 @@ def test_many_people(office: services.Service, tmp_path: Path) -> None:
         rows = {(row["Type"], row["Name"]): row for row in csv.DictReader(file)}
     whole = rows["", "Aggregated"]
     print(
-        f"\n{PEOPLE} people, {SECONDS} s: {whole['Request Count']} requests, 95 % within {whole['95%']} ms"
+        f"\n{PEOPLE} people, {SECONDS} s: {whole['Request Count']} requests, half of them within "
+        f"{whole['50%']} ms, 95 % within {whole['95%']} ms, {whole['Failure Count']} failed"
     )
     assert int(whole["Failure Count"]) == 0 and int(whole["Request Count"]) > 0, whole
     asks = "SELECT address, kind, count(*) FROM service_event GROUP BY 1, 2 ORDER BY 1, 2"
@@ -69,6 +70,9 @@ def test_many_people(office: services.Service, tmp_path: Path) -> None:
         line.split("|") for line in office.database.call("psql", "-Atc", asks, office.name).split()
     ]
     kinds = {(address, kind): int(count) for address, kind, count in seen}
+    wrong = sum(kinds.get((services.ELSEWHERE, kind), 0) for kind in ("failed", "locked"))
+    print(f"{wrong} wrong passwords from elsewhere")
+    assert wrong or SECONDS < 10, "who guesses has guessed"
     assert ("127.0.0.1", "locked") not in kinds, "who guesses locks out nobody else"
     assert (services.ELSEWHERE, "signed-in") not in kinds
     kept = int(office.database.call("psql", "-Atc", "SELECT count(*) FROM notes_note", office.name))
