@@ -9,11 +9,13 @@ from __future__ import annotations
 import os
 import re
 from pathlib import Path
+from typing import Protocol
 
 import pytest
 from looks import SCRIPT, Look, differences, faults
 from office.hands import Browser
 from office.test_month_end import EXAMPLES, MILL, TOP
+from selenium import webdriver
 from selenium.webdriver.support.ui import WebDriverWait
 
 KEPT = Path(__file__).with_name("pictures")
@@ -69,7 +71,13 @@ def fixture_shown(
     return desk
 
 
-def look_of(desk: Browser, width: int) -> Look:
+class Driven(Protocol):
+    """Somebody at a browser."""
+
+    driver: webdriver.Chrome
+
+
+def look_of(desk: Driven, width: int) -> Look:
     """How the page looks at a width."""
     desk.driver.set_window_size(width, 900)
     inner = lambda driver: driver.execute_script("return innerWidth") == width  # noqa: E731
@@ -113,11 +121,11 @@ def luminance(colour: str) -> float:
     return sum(w * p for w, p in zip((0.2126, 0.7152, 0.0722), linear))
 
 
-def complaints_of(desk: Browser, name: str, width: int) -> list[str]:
+def complaints_of(desk: Driven, name: str, width: int) -> list[str]:
     """What no page may be, at a width."""
     look = look_of(desk, width)
     said = faults(look, width)
-    if name in ("grid", "faults"):  # their tables scroll in boxes of their own
+    if name in ("grid", "faults", "log"):  # their tables scroll in boxes of their own
         said = [each for each in said if not each.startswith("beyond")]
     for text in look.texts:
         if text.text and contrast(text.ink, text.ground) < LEAST_CONTRAST:

@@ -78,7 +78,9 @@ _PLANTS: dict[tuple[str, str], Ask] = {
     ("look:journal", "GET"): Ask(200, ["look/journal"]),
     ("look:drawing", "GET"): Ask(200, [f"look/{CLOSED}/drawing"]),
     ("look:proof", "GET"): Ask(200, [f"look/{CLOSED}/proof"]),
-    ("look:export", "GET"): Ask(200, [f"look/{CLOSED}/file/{kind}" for kind in ("report", "session")]),
+    ("look:export", "GET"): Ask(
+        200, [f"look/{CLOSED}/file/{kind}" for kind in ("report", "session")]
+    ),
     ("correct:amend", "GET"): Ask(
         200, [f"{_CHANGED}/{FACT}/amend", f"{_CHANGED}/{FACT}/amend?amount=12001 t&why=tried"]
     ),
@@ -99,7 +101,11 @@ _PLANTS: dict[tuple[str, str], Ask] = {
         200, ["correct/to-sign?head={head}&deed=approve"], plant="two", elsewhere=400
     ),
     ("correct:approve", "POST"): Ask(
-        302, ["correct/approve"], {"head": "{head}", "answer": "approve"}, plant="two", elsewhere=400
+        302,
+        ["correct/approve"],
+        {"head": "{head}", "answer": "approve"},
+        plant="two",
+        elsewhere=400,
     ),
     ("correct:quiet", "GET"): Ask(200, ["correct/quiet"]),
     ("correct:quiet", "POST"): Ask(

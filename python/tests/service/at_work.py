@@ -9,8 +9,7 @@ import os
 import re
 
 from locust import HttpUser, between, events, task
-from requests.adapters import HTTPAdapter
-from services import ELSEWHERE
+from services import ELSEWHERE, From
 
 _TOKEN = re.compile(r'name="csrfmiddlewaretoken" value="([^"]+)"')
 _HIDDEN = re.compile(r'name="(deed|version)" value="([^"]*)"')
@@ -32,13 +31,6 @@ def _only_here(environment: object, **_: object) -> None:
     host = str(getattr(environment, "host", ""))
     if not host.startswith(_HERE):
         raise SystemExit(f"{host} is not this machine")
-
-
-class Elsewhere(HTTPAdapter):
-    """Connections from another address of this machine."""
-
-    def init_poolmanager(self, *words: object, **more: object) -> None:
-        super().init_poolmanager(*words, **more, source_address=(ELSEWHERE, 0))
 
 
 class Somebody(HttpUser):  # type: ignore[misc]
@@ -113,7 +105,7 @@ class Guesser(Somebody):
 
     def on_start(self) -> None:
         super().on_start()
-        self.client.mount("https://", Elsewhere())
+        self.client.mount("https://", From(ELSEWHERE))
 
     @task
     def guess(self) -> None:

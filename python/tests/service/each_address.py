@@ -107,7 +107,9 @@ def names_of(patterns: Any, names: str = "") -> Iterator[str]:
     """The names of all addresses that are served."""
     for each in patterns:
         if hasattr(each, "url_patterns"):
-            yield from names_of(each.url_patterns, f"{names}{each.namespace}:" if each.namespace else names)
+            yield from names_of(
+                each.url_patterns, f"{names}{each.namespace}:" if each.namespace else names
+            )
         else:
             yield names + each.name
 

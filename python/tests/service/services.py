@@ -19,6 +19,7 @@ from contextlib import suppress
 from pathlib import Path
 
 import requests
+from requests.adapters import HTTPAdapter
 
 TOP = Path(__file__).resolve().parents[3]
 BIN = Path("/usr/lib/postgresql/15/bin")
@@ -315,9 +316,9 @@ class Service:
             time.sleep(0.2)
         raise AssertionError((self.room / "gunicorn.log").read_text()[-2000:])
 
-    def visitor(self) -> Visitor:
-        """Somebody who hasn't signed in."""
-        return Visitor(f"https://localhost:{self.port}", self.room / "cert.pem")
+    def visitor(self, address: str = "") -> Visitor:
+        """Somebody who hasn't signed in, from an address of this machine."""
+        return Visitor(f"https://localhost:{self.port}", self.room / "cert.pem", address)
 
     def signed_in(self, name: str) -> Visitor:
         """Somebody who has signed in."""
@@ -343,12 +344,25 @@ def _own_user() -> str:
     return pwd.getpwuid(os.geteuid()).pw_name
 
 
+class From(HTTPAdapter):
+    """Connections from an address of this machine."""
+
+    def __init__(self, address: str) -> None:
+        self.address = address
+        super().__init__()
+
+    def init_poolmanager(self, *words: object, **more: object) -> None:
+        super().init_poolmanager(*words, **more, source_address=(self.address, 0))
+
+
 class Visitor:
     """A browser without scripts: it keeps cookies and fills forms in."""
 
-    def __init__(self, root: str, certificate: Path) -> None:
+    def __init__(self, root: str, certificate: Path, address: str = "") -> None:
         self.root = root
         self.session = requests.Session()
+        if address:
+            self.session.mount("https://", From(address))
         self.session.trust_env = False
         self.session.verify = str(certificate)
 

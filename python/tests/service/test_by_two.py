@@ -12,6 +12,8 @@ from pathlib import Path
 import keyring
 import pytest
 import services
+from looks import Look, differences
+from office.test_pages import KEPT, NAMELESS, SHOWN, WIDTHS, WRITES, complaints_of, look_of
 from selenium import webdriver
 from selenium.webdriver.chrome.options import Options
 from selenium.webdriver.chrome.service import Service as Driver
@@ -19,10 +21,8 @@ from selenium.webdriver.common.by import By
 from selenium.webdriver.support.ui import WebDriverWait
 
 WORDS = ("--headless=new", "--no-sandbox", "--disable-dev-shm-usage", "--hide-scrollbars")
-WIDTHS = (1440, 1280, 800, 390)
-PICTURES = os.environ.get(
-    "OFFICE_PICTURES", ""
-)  # a folder for pictures of the pages, to be looked at
+# The pages whose look is kept at a width.
+REFERENCES = {"sign-in": (800,), "password": (800,), "close-signed": (800,), "waiting": (1280, 800)}
 _CODE = """
 from pathlib import Path; from plantbal import Book
 from plantbal.workbook.options import ReadingOptions
@@ -150,15 +150,20 @@ class Person:
         self.press("Sign in")
 
     def fits(self, name: str) -> None:
-        """The page is no wider than the window, at four widths; its pictures are kept where told."""
-        for width in WIDTHS:
-            size = {"width": width, "height": 900, "deviceScaleFactor": 1, "mobile": False}
-            self.driver.execute_cdp_cmd("Emulation.setDeviceMetricsOverride", size)
-            wide = self.driver.execute_script("return document.documentElement.scrollWidth")
-            if PICTURES:
-                self.driver.save_screenshot(f"{PICTURES}/{name}_{width}.png")
-            assert wide <= width, f"{name} is {wide} pixels wide in a window of {width}"
-        self.driver.execute_cdp_cmd("Emulation.clearDeviceMetricsOverride", {})
+        """The page is readable at each width, as those of the desk are, and looks as it is kept."""
+        self.driver.set_window_size(1280, 900)
+        assert self.driver.execute_script(NAMELESS) == [], "each field and button has a name"
+        said = [each for width in WIDTHS for each in complaints_of(self, name, width)]
+        assert not said, "\n".join(said)
+        for width in REFERENCES.get(name, ()):
+            path, look = KEPT / f"{name}_{width}.txt", look_of(self, width)
+            if WRITES:
+                path.write_text(look.text(), encoding="utf-8")
+            assert differences(look, Look.read(path.read_text(encoding="utf-8"))) == [], path.name
+        if WRITES and name == "waiting":
+            self.driver.set_window_size(1280, 560)
+            self.driver.save_screenshot(str(SHOWN / f"office_{name}.png"))
+        self.driver.set_window_size(1280, 900)
 
     def complaints(self) -> list[str]:
         """What the browser complains of."""

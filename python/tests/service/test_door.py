@@ -2,12 +2,10 @@
 
 from __future__ import annotations
 
-import io
 import socket
 import subprocess
 import sys
 import time
-import zipfile
 from collections.abc import Iterator
 from pathlib import Path
 
@@ -15,6 +13,7 @@ import pyotp
 import pytest
 import requests
 import services
+from bombs import bombs
 
 TOP = services.TOP
 ROLES = ("viewer", "clerk", "engineer", "approver", "auditor")
@@ -86,6 +85,32 @@ def test_signing_in(office: services.Service) -> None:
     assert office.visitor().sign_in("eva", office.passwords["eva"]).status_code == 403
 
 
+_WRONG_TRIES = """
+from plantbal_office.service.models import Event
+Event.objects.bulk_create(
+    Event(kind="failed", name=name, address=address) for name, address in {tries!r}
+)
+"""
+
+
+@pytest.mark.parametrize("most", ["of a name", "from an address"])
+def test_locks_of_names_and_addresses(office: services.Service, most: str) -> None:
+    """Twenty wrong tries for a name, wherever they come from, and fifty from an address, whoever they are for."""
+    name = {"of a name": "lou", "from an address": "max"}[most]
+    office.person(name)
+    tries = {
+        "of a name": [(name, f"10.0.0.{number}") for number in range(20)],
+        "from an address": [(f"n{number}", services.ELSEWHERE) for number in range(50)],
+    }[most]
+    office.inside(_WRONG_TRIES.format(tries=tries[1:]))
+    visitor = office.visitor(services.ELSEWHERE)
+    assert visitor.sign_in(name, office.passwords[name]).status_code == 302, "one less doesn't lock"
+    office.inside(_WRONG_TRIES.format(tries=tries[:1]))
+    visitor = office.visitor(services.ELSEWHERE)
+    assert visitor.sign_in(name, office.passwords[name]).status_code == 429
+    office.inside("from plantbal_office.service.models import Event; Event.objects.all().delete()")
+
+
 def test_sessions(office: services.Service) -> None:
     """A sign-in has a new key; it ends by itself, by another password, and by signing out."""
     office.person("otto")
@@ -111,6 +136,17 @@ def test_sessions(office: services.Service) -> None:
         "    store = SessionStore(each.pk); store['since'] = 0; store.save()\n"
     )
     assert other.get("/").status_code == 302, "after so many hours, however often one clicks"
+    again = office.visitor()
+    again.sign_in("otto", "a long and other passphrase")
+    said = office.inside(
+        "import datetime\nfrom django.utils import timezone\n"
+        "from django.contrib.sessions.models import Session\n"
+        "some = Session.objects.order_by('-expire_date')\n"
+        "print((some[0].expire_date - timezone.now()).total_seconds() > 1700)\n"
+        "Session.objects.update(expire_date=timezone.now() - datetime.timedelta(seconds=1))"
+    )
+    assert said.strip() == "True", "half an hour from the last click"
+    assert again.get("/").status_code == 302, "after half an hour without a click"
     again = office.visitor()
     again.sign_in("otto", "a long and other passphrase")
     kept = dict(again.session.cookies)
@@ -416,45 +452,6 @@ def test_paths(office: services.Service, path: str) -> None:
     answer = viewer.session.send(asked_, allow_redirects=False, timeout=180)
     assert answer.status_code in (400, 403, 404), answer.status_code
     assert "root:" not in answer.text and "SECRET_KEY" not in answer.text
-
-
-def bombs(port: int) -> dict[str, bytes]:
-    """Workbooks that take much more than they are, or ask for what is elsewhere."""
-    inner = b"".join(b'<!ENTITY %c "%s">' % (98 + i, b"&%c;" % (97 + i) * 10) for i in range(9))
-    web = f"http://127.0.0.1:{port}/"
-    sheets = {
-        "zip bomb": b"<x>" + b" " * (1 << 29) + b"</x>",
-        "XML bomb": b'<?xml version="1.0"?><!DOCTYPE l [<!ENTITY a "aaaaaaaaaa">'
-        + inner
-        + b"]><l>&j;</l>",
-        "request by an entity": f'<!DOCTYPE l [<!ENTITY a SYSTEM "{web}">]><l>&a;</l>'.encode(),
-        "request by a definition": f'<!DOCTYPE l SYSTEM "{web}"><l/>'.encode(),
-        "file by an entity": b'<!DOCTYPE l [<!ENTITY a SYSTEM "file:///etc/passwd">]><l>&a;</l>',
-    }
-    found = {}
-    for name, sheet in sheets.items():
-        out = io.BytesIO()
-        with zipfile.ZipFile(out, "w", zipfile.ZIP_DEFLATED) as packed:
-            packed.writestr("[Content_Types].xml", "<Types/>")
-            packed.writestr("xl/workbook.xml", sheet)
-        found[f"{name}.xlsx"] = out.getvalue()
-    return found | {"request by a link.xlsx": linked(web)}
-
-
-def linked(web: str) -> bytes:
-    """A workbook that is one, with a picture, a link and a formula that ask for what is elsewhere."""
-    import openpyxl
-
-    book = openpyxl.Workbook()
-    sheet = book.active
-    sheet.title = "readings"
-    sheet["A1"], sheet["B1"], sheet["C1"] = "meter", "day", "amount"
-    sheet["A2"], sheet["B2"] = "FI-302", "2024-04-18"
-    sheet["C2"] = f'=WEBSERVICE("{web}")'
-    sheet["A2"].hyperlink = web
-    out = io.BytesIO()
-    book.save(out)
-    return out.getvalue()
 
 
 def test_bombs_and_requests(office: services.Service) -> None:

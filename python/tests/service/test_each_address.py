@@ -73,7 +73,11 @@ def test_each_address_with_each_role(said: list[list[str]]) -> None:
     wrong = []
     for name, method, who, where, status, to, _ in said:
         want = wanted(name, method, who, where)
-        is_sent = want == 302 and not who and (RULES | SERVICE_RULES)[name, method].scope is not Scope.ANYBODY
+        is_sent = (
+            want == 302
+            and not who
+            and (RULES | SERVICE_RULES)[name, method].scope is not Scope.ANYBODY
+        )
         if int(status) != want or (is_sent and not to.startswith("/people/sign-in?next=")):
             wrong.append((name, method, who or "nobody", where, int(status), want, to))
     assert not wrong, (len(wrong), wrong[:12])
@@ -88,7 +92,11 @@ def test_whoever_may_not_changes_nothing(said: list[list[str]]) -> None:
     for name, method, who, where, status, _, changed in said:
         rule = (RULES | SERVICE_RULES).get((name, method))
         want = wanted(name, method, who, where)
-        if rule is None or want in (400, 403, 404, 405) or (not who and rule.scope is not Scope.ANYBODY):
+        if (
+            rule is None
+            or want in (400, 403, 404, 405)
+            or (not who and rule.scope is not Scope.ANYBODY)
+        ):
             assert not changed, (name, method, who, where, changed)
         elif where:
             assert not changed, (name, who, "another plant's object")
