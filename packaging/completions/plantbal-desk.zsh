@@ -154,10 +154,10 @@ _plantbal_desk() {
             '--key=[the key with which submissions and approvals are signed (default\: PLANTBAL_KEY)]:FILE:_files'
             '--json[write the same as JSON]'
             '--why=[the reason]:TEXT:'
-            '--strike[strike facts that aren'\''t in the workbook any more]'
-            '--anyway[also if the period is open]'
+            '--strike[strike facts that are no longer in the workbook]'
+            '--anyway[even if the period is open]'
             '--year=[the new part\: 2024b after 2024]:YEAR:'
-            '--dry-run[say what would be booked, and book nothing]'
+            '--dry-run[show what would be booked, and book nothing]'
             '--density=[another density\: 862]:TEXT:'
             '--error=[another error\: 0.2 t]:TEXT:'
             '--take[book what is proposed]'
@@ -173,7 +173,7 @@ _plantbal_desk() {
             '--signers=[who may sign\: a file of OpenSSH'\''s form allowed_signers]:FILE:_files'
             '--revoked=[keys that are revoked]:FILE:_files'
             '--stamps=[the certificate of the time stamps'\'' authority, as PEM\: each stamp is judged]:FILE:_files'
-            '--off[let it speak again]'
+            '--off[report its findings again]'
             '--csv[as CSV, with all digits]'
             '--xlsx=[a workbook with a formula for each total]:FILE:_files'
             '--postings=[write the postings too]:FILE:_files'
@@ -197,7 +197,7 @@ _plantbal_desk() {
             '--who=[who does it, in addition to the user'\''s own name]:NAME:'
             '--from=[the first day (default\: that of the book'\''s last year)]:DAY:'
             '--to=[the last day (default\: yesterday)]:DAY:'
-            '--dry-run[say what would be booked, and book nothing]'
+            '--dry-run[show what would be booked, and book nothing]'
             '1:word:(pull)'
             '*:QUERIES:'
         ) ;;
@@ -379,11 +379,11 @@ _plantbal_desk() {
             '--scheduler=[the scheduler of a dask cluster]:ADDRESS:'
             '--send[send bytes to the cluster, not paths]'
             '--program=[the program (default\: that of PLANTBAL, of the path, or of this checkout)]:PATH:_files'
-            '--lint[say what lint warns of, too]'
-            '--stale=[tell plants whose session is the same, or whose last fact is older, than 26h or 3d]:AGE:'
+            '--lint[show what lint warns of, too]'
+            '--stale=[report plants whose session hasn'\''t changed, or whose last fact is older, for 26h or 3d]:AGE:'
             '--level=[test reports without a critical value at this level, such as 0.01]:P:'
-            '--forget=[tell no longer that this plant has no session]:SITE:'
-            '--keep=[take away the files of nights before the newest N; the database keeps their tables]:N:'
+            '--forget=[stop reporting that this plant has no session]:SITE:'
+            '--keep=[remove the files of nights before the newest N; the database keeps their tables]:N:'
             '--pack[keep the outputs of all plants in one file of the night, nights/NIGHT/outputs.sqlar]'
             '1:word:(fleet)'
             '*:FOLDER:_files -/'
@@ -409,9 +409,9 @@ _plantbal_desk() {
             '--sendmail=[the program in place of /usr/sbin/sendmail]:PATH:_files'
             '--tries=[try N times in all (default\: 5)]:N:'
             '--pause=[before the second try; twice as many before the third (default\: 30)]:SECONDS:'
-            '--age=[tell if no night ended for 26h, or 3d]:AGE:'
+            '--age=[send a mail if no night ended for 26h, or 3d]:AGE:'
             '--status=[the status that the night ended with]:N:'
-            '--always[tell of a good night too]'
+            '--always[send a mail after a good night too]'
             '1:word:(tell)'
             '*:NIGHTS:'
         ) ;;
@@ -446,7 +446,7 @@ _plantbal_desk() {
             '-h[show this help message and exit]'
             '--help[show this help message and exit]'
             '--version[write the version and end]'
-            "1:word:((run\:'run a session, and say what has to be looked at' lint\:'say what in a session is accepted but looks wrong' explain\:'say for each refused row what is wrong with it' check\:'check a report, in CSV or as JSON lines' archive\:'put a month into a bundle with digests' audit\:'say whether a bundle, or a report and its session, holds' report\:'turn a report into CSV, SQLite or a workbook' solve\:'reconcile with scipy if sweeps don'\''t come near' map\:'propose how a plant'\''s own workbook is read' convert\:'a session from a plant'\''s workbook' book\:'keep a plant'\''s book, a session for each year' pull\:'read facts of a database into a book' push\:'write what is booked to a database, once' template\:'an empty workbook for convert' from-spreadsheet\:'a session from daily readings and tags' tables\:'tables of flows, classes, suspects, imbalances' uncertainty\:'how good each flow is, and which meters it rests on' advise\:'which streams to meter so that each is observable, at least cost' balance\:'reconcile flows and grades together, with both errors' recovery\:'where a component goes, its recovery, and a chart of it' draw\:'draw a report, a design, or which streams to meter' chart\:'chart the periods of one or more reports' page\:'the month'\''s statement\: a page, a workbook, a PDF' serve\:'the desk in the browser, for one person' fleet\:'run a folder of sessions' across\:'all nights and books of a group in one database' tell\:'send a mail about a night that needs a person' critical\:'critical values as rows of a session' from-scipy\:'another program'\''s figures in the form of a report' schema\:'the rows of sessions and outputs as data'))"
+            "1:word:((run\:'run a session, and show what needs a look' lint\:'find what is accepted in a session but looks wrong' explain\:'explain each refused row' check\:'check a report, in CSV or as JSON lines' archive\:'put a month into a bundle with digests' audit\:'verify a bundle, or a report and its session' report\:'turn a report into CSV, SQLite or a workbook' solve\:'reconcile with scipy if sweeps don'\''t converge' map\:'propose how a plant'\''s workbook is read' convert\:'a session from a plant'\''s workbook' book\:'keep a plant'\''s book, a session for each year' pull\:'read facts of a database into a book' push\:'write what is booked to a database, once' template\:'an empty workbook for convert' from-spreadsheet\:'a session from daily readings and tags' tables\:'tables of flows, classes, suspects, imbalances' uncertainty\:'how good each flow is, and which meters it rests on' advise\:'which streams to meter so that each is observable, at least cost' balance\:'reconcile flows and grades together, with both errors' recovery\:'where a component goes, its recovery, and a chart of it' draw\:'draw a report, a design, or which streams to meter' chart\:'chart the periods of one or more reports' page\:'the month'\''s statement\: a page, a workbook, a PDF' serve\:'the desk in the browser, for one person' fleet\:'run a folder of sessions' across\:'all nights and books of a group in one database' tell\:'send a mail about a night that needs a person' critical\:'critical values as rows of a session' from-scipy\:'another program'\''s figures in the form of a report' schema\:'the rows of sessions and outputs as data'))"
         ) ;;
     esac
     _arguments -s : $specifications

@@ -62,15 +62,15 @@ class Command:
 
 
 COMMANDS: tuple[Command, ...] = (
-    Command("run", "commands.running:RUN", "run a session, and say what has to be looked at"),
-    Command("lint", "lint.command", "say what in a session is accepted but looks wrong"),
-    Command("explain", "explain.command", "say for each refused row what is wrong with it"),
+    Command("run", "commands.running:RUN", "run a session, and show what needs a look"),
+    Command("lint", "lint.command", "find what is accepted in a session but looks wrong"),
+    Command("explain", "explain.command", "explain each refused row"),
     Command("check", "commands.running:CHECK", "check a report, in CSV or as JSON lines"),
     Command("archive", "audit.archive", "put a month into a bundle with digests"),
-    Command("audit", "audit.command", "say whether a bundle, or a report and its session, holds"),
+    Command("audit", "audit.command", "verify a bundle, or a report and its session"),
     Command("report", "commands.running:REPORT", "turn a report into CSV, SQLite or a workbook"),
-    Command("solve", "commands.running:SOLVE", "reconcile with scipy if sweeps don't come near"),
-    Command("map", "workbook.mapping.command", "propose how a plant's own workbook is read"),
+    Command("solve", "commands.running:SOLVE", "reconcile with scipy if sweeps don't converge"),
+    Command("map", "workbook.mapping.command", "propose how a plant's workbook is read"),
     Command("convert", "workbook.conversion", "a session from a plant's workbook"),
     Command("book", "commands.book.command", "keep a plant's book, a session for each year"),
     Command("pull", "commands.database:PULL", "read facts of a database into a book"),
@@ -225,7 +225,7 @@ def _called(options: argparse.Namespace) -> int:
     except OSError as error:  # a full disk, mostly: what reads and writes files has its own faults
         os.dup2(os.open(os.devnull, os.O_WRONLY), sys.stdout.fileno())
         what = f"{error.filename or 'standard output'}: {error.strerror or error}"
-        print(f"{options.prog}: {what}: make room, or write elsewhere", file=sys.stderr)
+        print(f"{options.prog}: {what}: free some space, or write elsewhere", file=sys.stderr)
         return ExitStatus.FAILED
     except MemoryError:
         print(f"{options.prog}: out of memory: give it more, or less to read", file=sys.stderr)

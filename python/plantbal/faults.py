@@ -319,7 +319,7 @@ def read_beginning(path: str | Path, count: int) -> tuple[str, bytes]:
                 raise IsADirectoryError(errno.EISDIR, os.strerror(errno.EISDIR))
             if not stat.S_ISREG(found.st_mode):
                 raise FileFault(
-                    "it is a pipe or a device, and no file",
+                    "it is a pipe or a device, not a file",
                     place=Place(file=str(path)),
                     remedy="name a file, or `-` for standard input",
                 )

@@ -20,7 +20,7 @@ _UNWRITTEN = {
     errno.EISDIR: "name a file in this folder",
     errno.EACCES: "ask for the right to write there, or write elsewhere",
     errno.EROFS: "write elsewhere",
-    errno.ENOSPC: "make room, or write elsewhere",
+    errno.ENOSPC: "free some space, or write elsewhere",
 }
 
 

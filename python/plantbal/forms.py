@@ -20,7 +20,7 @@ _BEGINS = (
     (b"PK\x03\x04", "this is a workbook or another archive", _CONVERT),
     (b"\xd0\xcf\x11\xe0", "this is a workbook", _CONVERT),
     (b"\x1f\x8b", "this is compressed", "unpack it: gzip -d"),
-    (b"%PDF", "this is a PDF", "have the sheet that it was printed from, and save it as CSV"),
+    (b"%PDF", "this is a PDF", "get the sheet that it was printed from, and save it as CSV"),
     (b"{", "these are JSON lines", "a session is CSV: is this an output? Then name its session"),
 )
 # What may stand between fields in place of commas, and what it is called.

@@ -108,7 +108,7 @@ def call(
         else:
             done = _watched(command, data, timeout, watch)
     except subprocess.TimeoutExpired as error:
-        said = f"{found.name} {' '.join(words)} isn't done after {timeout} s"
+        said = f"{found.name} {' '.join(words)} didn't finish within {timeout} s"
         raise ProgramFault(said, status=-1, name="Timeout") from error
     except OSError as error:
         raise ProgramFault(f"{found}: {error.strerror}", status=127, name="NotRun") from error

@@ -24,7 +24,7 @@ class ExitStatus(IntEnum):
 
     GOOD = 0, "done, and nobody has to look"
     LOOK = 1, "somebody has to look: something was found, or an input is at fault"
-    USAGE = 2, "the words aren't those of the command"
+    USAGE = 2, "unknown subcommand or option, or a wrong argument"
     FAILED = 3, "it couldn't be run, or what came of it couldn't be kept"
     STOPPED = 130, "it was stopped by Ctrl-C, or by SIGTERM"
 

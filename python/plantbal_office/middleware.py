@@ -146,7 +146,9 @@ def fault_of(error: BaseException) -> Fault | None:
     if isinstance(error, Fault):
         return error
     if isinstance(error, OSError) and error.errno in (errno.ENOSPC, errno.EDQUOT):
-        return InputFault(_("the disk is full, and nothing was booked"), remedy=_("make room"))
+        return InputFault(
+            _("the disk is full, and nothing was booked"), remedy=_("free some space")
+        )
     if isinstance(error, MemoryError):
         return InputFault(_("this takes more memory than there is"), remedy=_("send less of it"))
     if isinstance(error, ModuleNotFoundError):
@@ -177,7 +179,7 @@ def bad_request(request: HttpRequest, exception: Exception) -> HttpResponse:
 
 def broken(request: HttpRequest) -> HttpResponse:
     """Return the page of an error that nobody foresaw."""
-    what = _("the desk has met an error of its own, and nothing was booked by it")
+    what = _("the desk has had an internal error, and nothing was booked by it")
     return render(request, "broken.html", {"what": what}, status=500)
 
 

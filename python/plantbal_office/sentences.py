@@ -336,7 +336,7 @@ _ABOUT: dict[Gate, Callable[[], str]] = {
     Gate.UNASSAYED: lambda: _("an assay that the period before has is missing"),
     Gate.IMPOSSIBLE: lambda: _("a stream carries more of a component than there is of it"),
     Gate.NEGATIVE_FLOW: lambda: _("a flow is below 0 by more than two standard deviations"),
-    Gate.TANK_JUMP: lambda: _("a dip at an end of a period is where no booked flow leads"),
+    Gate.TANK_JUMP: lambda: _("a dip at an end of a period doesn't follow from the booked flows"),
     Gate.TANK_RANGE: lambda: _("a level is ten times outside the range of the tank's other dips"),
     Gate.ZERO: lambda: _("a meter reads 0 while the unit that it serves goes on"),
     Gate.FROZEN: lambda: _(

@@ -125,7 +125,7 @@ class Theory:
         return cls(rows, projected @ numpy.diag(variance) @ projected.T)
 
     def size(self, guilty: Guilty) -> float:
-        """The noncentrality of an error: by which the statistic is greater on the average."""
+        """The noncentrality of an error: by which the statistic is greater on average."""
         row = guilty.tonnes * self.rows[guilty.name]
         return float(row @ numpy.linalg.solve(self.covariance, row))
 
@@ -306,7 +306,7 @@ def _sum(month: Month, name: str) -> float:
 
 
 def changed(stream: str, number: int, factor: float, other: str = "") -> Mistake:
-    """A ticket by a factor: 0 is missing, 2 is there twice; or on another stream."""
+    """A ticket by a factor: 0 is missing, 2 appears twice; or on another stream."""
 
     def make(month: Month) -> list[Guilty]:
         places = [at for at, each in enumerate(month.tickets) if each.stream == stream]

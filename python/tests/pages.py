@@ -46,7 +46,7 @@ class Html(HTMLParser):
         name = given.get("id")
         if name is not None:
             if name in self.ids:
-                raise Wrong(f"the id {name} is there twice")
+                raise Wrong(f"the id {name} appears twice")
             self.ids.add(name)
         self.links += [given[key] or "" for key in ("src", "href") if key in given]
         if tag not in INLINE:

@@ -120,7 +120,7 @@ def test_locale(tmp_path: Path) -> None:
     path.write_text("stream;cost\nRES;9.000\n", encoding="utf-8")
     plant = plant_of("a", METERS.read_bytes())
     assert read_costs(path, plant, "de") == {"RES": 9000}
-    with pytest.raises(Fault, match="9.000.*say --locale en, --locale de"):
+    with pytest.raises(Fault, match="9.000.*use --locale en, --locale de"):
         read_costs(path, plant)
 
 

@@ -126,7 +126,7 @@ def test_a_bundle_is_not_written_over(say: Desk, tmp_path: Path) -> None:
     assert say(*words, *TIME).status == 0
     before = bundle.read_bytes()
     said = say(*words, "--time", "2024-05-03T06:00:00Z")
-    assert said.status == 1 and "isn't written over" in said.err
+    assert said.status == 1 and "isn't overwritten" in said.err
     assert bundle.read_bytes() == before
 
 
@@ -244,13 +244,18 @@ CHANGES = [
         "manifest.json: line 7, character 24: found 7, archived 6",
     ),
     (MANIFEST, b'"archive": 6', b'"archive": 8', "it says that it is of version 8"),
-    (MANIFEST, b'"archive": 6', b'"archive": 1', "its item 'program' isn't of its form"),
+    (MANIFEST, b'"archive": 6', b'"archive": 1', "its item 'program' has the wrong form"),
     (MANIFEST, b'"archive": 6', b'"archive": 2', "its items aren't those of its version"),
     (MANIFEST, b"--gap 10", b"--gap 11", "writes 'report,2024-04,0,"),
     (MANIFEST, b"run --gap", b"rum --gap", "aren't those of a run"),
     (MANIFEST, b'"period": "2024-06"', b'"period": "2024-07"', "the session has no period 2024-07"),
     (MANIFEST, b'"plant"', b'"plont"', "its items aren't those of a manifest"),
-    (MANIFEST, b'"commit":', b'"by": "me",\n    "commit":', "its item 'program' isn't of its form"),
+    (
+        MANIFEST,
+        b'"commit":',
+        b'"by": "me",\n    "commit":',
+        "its item 'program' has the wrong form",
+    ),
     (MANIFEST, b"{", b"[", "this isn't JSON"),
     (DIGESTS, b"0", b"1", "SHA256SUMS"),
     (DIGESTS, b"  session.csv", b"  sesshin.csv", "isn't a digest of a file of the bundle"),

@@ -280,7 +280,7 @@ def test_bad_input_is_said() -> None:
     grade = Measured(0.1, 1e-6)
     pair = {("A", "cu"): grade, ("B", "cu"): grade}
     for make, said in (
-        (lambda: Problem([one, one]), "the stream A is there twice"),
+        (lambda: Problem([one, one]), "the stream A appears twice"),
         (lambda: Problem([Flow("A", "U", "U")]), "begins and ends at U"),
         (lambda: Problem([Flow("A", "env", "U", Measured(1, 0))]), "A has no error"),
         (lambda: Problem([one, two], ["cu"], {("C", "cu"): grade}), "C, which isn't a stream"),

@@ -112,7 +112,7 @@ def test_a_reason_is_asked_for(
     monkeypatch.setattr("plantbal.commands.book.adding._may_ask", lambda: True)
     before = files_of(tmp_path / "mill")
     said = book("add", folder(tmp_path / "april", month()))
-    assert said.status == 2 and "no reason given: say --why TEXT" in said.err
+    assert said.status == 2 and "no reason given: use --why TEXT" in said.err
     assert files_of(tmp_path / "mill") == before
 
 
@@ -324,7 +324,7 @@ def test_parts_of_the_plant(book: Type, tmp_path: Path, names: str) -> None:
     parts = {name: PLANT[name] for name in names.split()}
     said = book("add", folder(tmp_path / "parts", parts | month(last=4)))
     assert said.err == "" and said.out.startswith("2024.csv: new: 2 readings\n9 facts are")
-    assert ("the sheet is passed over" in said.out) == ("streams" not in names)
+    assert ("the sheet is skipped" in said.out) == ("streams" not in names)
 
 
 def test_more_critical_values(book: Type, tmp_path: Path) -> None:
@@ -344,7 +344,7 @@ def test_more_critical_values(book: Type, tmp_path: Path) -> None:
 def test_a_sheet_of_another_name(say: Desk, tmp_path: Path) -> None:
     plant = folder(tmp_path / "plant", PLANT | {"piles": [["pile", "error"], ["ORE", "2 %"]]})
     said = say("book", "new", "2024", plant, "--book", tmp_path / "mill")
-    assert said.out.endswith(f"{plant / 'piles.csv'}: the sheet is passed over\n")
+    assert said.out.endswith(f"{plant / 'piles.csv'}: the sheet is skipped\n")
 
 
 def test_a_sheet_with_only_what_is_new(book: Type, tmp_path: Path) -> None:
@@ -573,7 +573,7 @@ def test_no_book(say: Desk, tmp_path: Path) -> None:
     assert said.status == 3 and "there is no book in" in said.err
     assert list(tmp_path.iterdir()) == []
     said = say("book", "new", "24", tmp_path, "--book", tmp_path)
-    assert "'24' isn't a year: say four digits" in said.err
+    assert "'24' isn't a year: write four digits" in said.err
 
 
 def test_a_book_that_was_changed_by_hand(book: Type, tmp_path: Path) -> None:

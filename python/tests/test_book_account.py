@@ -405,7 +405,7 @@ ROWS = [["SHIP_crude1", "receipt", "crude", "", "", "bbl", "860"]]
             "column 5 (owner): these shares add up to 90 %",
         ),
         (["FLARE", "", "gas", "", "A 1/3; B 1/3", "", ""], "these shares add up to 66.66666667 %"),
-        (["FLARE", "", "gas", "", "A 60 %; A 40 %", "", ""], "A is here twice"),
+        (["FLARE", "", "gas", "", "A 60 %; A 40 %", "", ""], "A appears twice"),
         (["FLARE", "", "gas", "", "60 % or so", "", ""], "isn't a list of shares"),
         (
             ["SHIP_crude1", "", "", "", "by receipts", "", ""],

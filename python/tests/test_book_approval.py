@@ -1,4 +1,4 @@
-"""Four eyes: what wants an approval, who may give it, when it is void, and each way around it."""
+"""Four eyes: what needs an approval, who may give it, when it is void, and each way around it."""
 
 from __future__ import annotations
 
@@ -85,7 +85,7 @@ def wrong(mill: Path) -> list[str]:
 
 def test_a_close_by_two(mill: Path, user: As, tmp_path: Path) -> None:
     """Neither closes alone, whatever the login; the third does."""
-    with pytest.raises(Fault, match="closing 2024-04 wants an approval .close, anyway"):
+    with pytest.raises(Fault, match="closing 2024-04 needs an approval .close, anyway"):
         Book(mill).close("2024-04", anyway={each: "x" for each in _gates()})
     user(ANNA)
     head = submit(mill)
@@ -98,7 +98,7 @@ def test_a_close_by_two(mill: Path, user: As, tmp_path: Path) -> None:
     with pytest.raises(Fault, match="otto may not approve: these may: anna, paul"):
         Book(mill).approve(head)
     user(4444)
-    with pytest.raises(Fault, match="the user 4444 is nobody's in rules.toml"):
+    with pytest.raises(Fault, match="the user 4444 belongs to nobody in rules.toml"):
         Book(mill).approve(head)
     user(PAUL)
     with pytest.raises(Fault, match="nothing with this head waits"):
@@ -299,7 +299,7 @@ def test_estimates(book: Type, user: As, tmp_path: Path) -> None:
             Book(mill).set_rules(rules)
         user(PAUL)
         Book(mill).approve(str(waits.value.head))
-        with pytest.raises(Fault, match="closing 2024-04 wants an approval .estimates"):
+        with pytest.raises(Fault, match="closing 2024-04 needs an approval .estimates"):
             Book(mill).close("2024-04", anyway={each: "x" for each in _gates()})
         head = submit(mill)
         user(OTTO)
@@ -349,7 +349,7 @@ def test_signed(keys: Path, user: As, tmp_path: Path) -> None:
     """By two keys of two people; a key that isn't believed approves nothing."""
     mill = tmp_path / "mill"
     user(ANNA)
-    with pytest.raises(Fault, match="this book wants it signed: name your key"):
+    with pytest.raises(Fault, match="this book requires a signature: name your key"):
         submit(mill)
     given = {gate: "as it is" for gate in _gates()}
     found = Book(mill, key=keys / "anna").submit("2024-04", anyway=given)  # type: ignore[arg-type]
@@ -357,7 +357,7 @@ def test_signed(keys: Path, user: As, tmp_path: Path) -> None:
     user(PAUL)
     for name, fault, what in (
         ("anna", SamePerson, "submitted action 4 yourself"),
-        ("eva", Fault, "its key was not allowed any more"),
+        ("eva", Fault, "its key was no longer allowed"),
         ("stranger", Fault, "its key is nobody's"),
     ):
         with pytest.raises(fault, match=what):
@@ -419,7 +419,7 @@ def test_keys_that_end(keys: Path, user: As, tmp_path: Path) -> None:
     text = (tmp_path / "signers").read_text("ascii")
     fewer = tmp_path / "fewer"
     fewer.write_text("".join(line for line in text.splitlines(True) if "anna" not in line), "ascii")
-    with pytest.raises(Fault, match="of anna isn't there any more"):
+    with pytest.raises(Fault, match="of anna no longer exists"):
         Book(mill, key=keys / "paul").set_rules(signers=fewer)
     revoked = tmp_path / "revoked"
     shutil.copy(keys / "anna.pub", revoked)
@@ -548,7 +548,7 @@ def test_by_commands(mill: Path, user: As, say: Desk, tmp_path: Path) -> None:
         return say("book", *words, "--book", mill)
 
     user(ANNA)
-    assert "wants an approval: amend, anyway, close, estimates" in typed("rules").out
+    assert "needs an approval: amend, anyway, close, estimates" in typed("rules").out
     said = typed("close", "2024-04", *ANYWAY)
     assert said.status == 1 and "plantbal-desk book submit 2024-04" in said.err
     said = typed("submit", "2024-04", *ANYWAY)

@@ -115,7 +115,11 @@ EDITS: dict[str, tuple[Edit, str, str]] = {
         "line 1:",
         "\\ufeffversion",
     ),
-    "the year is lost": (lose("2024.csv"), "2024.csv:", "it is gone; action 5 (report 2024-04;"),
+    "the year is lost": (
+        lose("2024.csv"),
+        "2024.csv:",
+        "it no longer exists; action 5 (report 2024-04;",
+    ),
     "the plant": (put("plant.csv", "unit,MILL", "unit,MILK"), "plant.csv: line 2:", "unit,MILK"),
     "a meter": (put("meters.csv", "1 % or 5 t", "9 % or 5 t"), "meters.csv: line 2:", "9 % or"),
     "a report": (
@@ -128,7 +132,11 @@ EDITS: dict[str, tuple[Edit, str, str]] = {
         "2024-04.1.csv: line 1:",
         "other",
     ),
-    "a report is lost": (lose("reports/2024-04.csv"), "2024-04.csv:", "it is gone; action 5"),
+    "a report is lost": (
+        lose("reports/2024-04.csv"),
+        "2024-04.csv:",
+        "it no longer exists; action 5",
+    ),
     "who did it": (put("journal.csv", ",anna,amend", ",otto,amend"), "line 4:", "was changed"),
     "when": (put("journal.csv", "Z,", "Y,"), "journal.csv: line 6:", "was changed"),
     "an action": (lines("journal.csv", lambda rows: rows.pop(3)), "line 4:", "doesn't follow"),
@@ -291,11 +299,13 @@ def test_rows_that_no_command_writes(mill: Path, book: Type, say: Desk, tmp_path
             assert said.status == 1 and f"2024.csv: line 11: {what}" in said.err, (new, said.err)
     for year in ("0000", "0001", "9999", "1899"):
         said = say("book", "new", year, tmp_path / "plant", "--book", tmp_path / "other")
-        assert said.status == 1 and "isn't a year: say four digits, 1900 to 2199" in said.err, year
+        assert (
+            said.status == 1 and "isn't a year: write four digits, 1900 to 2199" in said.err
+        ), year
 
 
 def test_an_older_copy(mill: Path, book: Type, tmp_path: Path) -> None:
-    """It is told by a head that was kept elsewhere, and by nothing else."""
+    """It is detected by a head that was kept elsewhere, and by nothing else."""
     head = book("head").out.strip()
     shutil.copytree(mill, tmp_path / "older")
     assert book("verify", "--head", head).out.endswith(f"5 actions left them\nhead {head}\n")
@@ -320,7 +330,7 @@ def test_files_that_the_journal_does_not_know(mill: Path, book: Type) -> None:
     assert said.status == 0
     assert "note: " in said.out and "no action of this book has written it" in said.out
     kept = Store(mill)
-    with kept.opened(), pytest.raises(InputFault, match="it isn't written over"):
+    with kept.opened(), pytest.raises(InputFault, match="it isn't overwritten"):
         kept.do(Action(Act.REPORT, "2024-05", written={"reports/2024-05.csv": "x\n"}))
     assert text_of(mill / "reports" / "2024-05.csv") == "mine\n"
 

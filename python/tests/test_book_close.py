@@ -70,7 +70,7 @@ def test_what_is_quieted_stops_nothing_and_is_listed(book: Type, say: Desk, tmp_
     for words, why in (
         (("estimated", "FEED"), "is of a single month"),
         (("refused", "FEED"), "isn't a rule that can be quieted"),
-        (("negative",), "negative is quieted for names alone"),
+        (("negative",), "negative can be quieted only for names"),
     ):
         said = book("quiet", *words, "--why", "x")
         assert (said.status, why in said.err) == (1, True), said

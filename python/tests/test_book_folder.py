@@ -168,7 +168,7 @@ def test_a_pipe_or_a_link_in_place_of_a_file(book: Type, tmp_path: Path) -> None
             make(path)
             for words in (("status",), AMEND):
                 said = book(*words).err
-                assert "it is a link, a folder or a device, and no file" in said, (name, said)
+                assert "it is a link, a folder or a device, not a file" in said, (name, said)
             path.rmdir() if path.is_dir() else path.unlink()
     assert book("status").status == 0
 
@@ -335,7 +335,7 @@ def test_new_writes_over_nothing(say: Desk, book: Type, tmp_path: Path) -> None:
         assert "book new" not in said.err, words
     for name in ("", ".checks", "2024.csv", "meters.csv", "plant.csv"):
         said = book(*new)
-        assert said.status == 1 and "it is there already, and isn't written over" in said.err, name
+        assert said.status == 1 and "it already exists, and isn't overwritten" in said.err, name
         assert files_of(mill) == before, name
         (mill / name).unlink() if name else None
         before = files_of(mill)
@@ -393,7 +393,7 @@ def test_no_book(say: Desk, tmp_path: Path) -> None:
 
 
 def test_a_plant_that_is_there(say: Desk, tmp_path: Path) -> None:
-    """A workbook that is called plant.csv isn't written over."""
+    """A workbook that is called plant.csv isn't overwritten."""
     (tmp_path / "plant.csv").write_text("mine\n", encoding="utf-8")
     words = ("new", "2024", folder(tmp_path / "plant", PLANT), "--book", tmp_path)
     assert "plant.csv: it is there already" in say("book", *words).err

@@ -31,7 +31,7 @@ def test_next(two: Type, tmp_path: Path) -> None:
     rows = rows_of(tmp_path, "2024-2")
     assert rows[:10] == rows_of(tmp_path)[:10]
     assert rows[10:] == [row for row in rows_of(tmp_path) if "SILO_2024-04-30" in row]
-    assert two("next", "2024-2").out == "2024-2.csv is there already\n"
+    assert two("next", "2024-2").out == "2024-2.csv already exists\n"
     assert two("next", "2023").status == 1 and two("next", "24").status == 1
 
 
@@ -45,7 +45,7 @@ def test_a_dip_of_the_eve_is_one_in_both_years(two: Type, tmp_path: Path) -> Non
     two("add", folder(tmp_path / "may", sheets), "--why", "once more")
     assert rows_of(tmp_path)[-1].startswith("amend,SILO_2024-04-30,9502,")
     assert "period,2024-05,2024-05-01,2024-05-31" in rows_of(tmp_path, "2024-2")
-    assert "amend one of both" not in two("status").out
+    assert "amend one of the two" not in two("status").out
 
 
 def test_late_facts_go_to_their_year(two: Type, tmp_path: Path) -> None:
@@ -62,7 +62,7 @@ def test_late_facts_go_to_their_year(two: Type, tmp_path: Path) -> None:
 def test_a_year_begins_after_the_last_period(book: Type) -> None:
     said = book("next", "2025")
     assert "ends on 2024-04-30, and 2025 begins on 2025-01-01: add what" in said.err
-    assert "say --first 2024-05-01" in said.err
+    assert "use --first 2024-05-01" in said.err
     assert book("next", "2025", "--first", "2024-05-01").status == 0
 
 
@@ -205,7 +205,7 @@ def test_months_from_the_26th_to_the_25th(say: Desk, tmp_path: Path) -> None:
     assert "new: 1 period, 72 readings" in typed("add", december("2024-12-31")).out
     assert "isn't within a year of this book" in typed("add", december("2024-12-31", january)).err
     assert "comes after 2024: correct the day, or begin" in typed("add", december("2025-01-02")).err
-    assert "or say --first 2024-12-26" in typed("next", "2025").err
+    assert "or use --first 2024-12-26" in typed("next", "2025").err
     assert typed("next", "2025", "--first", "2024-12-26").status == 0
     assert sum(row.startswith("reading") for row in rows_of(tmp_path, "2025")) == 12
     said = typed("add", december("2025-01-25", january))

@@ -377,7 +377,7 @@ def test_a_program_that_never_ends(say: Desk, tmp_path: Path) -> None:
     ):
         told = say(*words)
         assert told.status == status, words
-        assert "isn't done after 0.5 s" in getattr(told, where), (words, told)
+        assert "didn't finish within 0.5 s" in getattr(told, where), (words, told)
     assert not (tmp_path / "c.zip").exists()
 
 

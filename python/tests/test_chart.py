@@ -151,7 +151,7 @@ def test_files(say: Desk, tmp_path: Path) -> None:
 
 FAULTY = [
     ([], "", "it is empty: run a session that asks for a report"),
-    (["--out", "chart.doc", TESTED], "", "chart.doc ends with 'doc': say .svg, .png or .pdf"),
+    (["--out", "chart.doc", TESTED], "", "chart.doc ends with 'doc': use .svg, .png or .pdf"),
     (["--stream", "TAIL", TESTED], "", "there is no flow of TAIL to chart: correct --stream"),
 ]
 

@@ -238,7 +238,7 @@ def test_recovery_of_a_mill_in_a_mine(say: Desk, tmp_path: Path) -> None:
     said = say("recovery", path, "--feed", "FEED")
     assert said.err == "" and f"{shares['CONC'].share:.2%}" in said.out
     assert (
-        "there is no stream FED: say one of PILE, HAULED"
+        "there is no stream FED: use one of PILE, HAULED"
         in say("recovery", path, "--feed", "FED").err
     )
 
@@ -291,7 +291,7 @@ def test_recovery_command(say: Desk, tmp_path: Path) -> None:
     for words, status, said in (
         (("--component", "au"), 1, "there are balances of cu"),
         (("--product", "FEED"), 1, "FEED doesn't leave the plant"),
-        (("--chart", tmp_path / "x.gif"), 2, "say .svg, .png or .pdf"),
+        (("--chart", tmp_path / "x.gif"), 2, "use .svg, .png or .pdf"),
     ):
         found = say("recovery", OUT, *words)
         assert (found.status, said in found.err) == (status, True), found.err

@@ -263,7 +263,7 @@ REFUSED: dict[str, tuple[Make, dict[str, Any], str]] = {
     "a German figure without a locale": (
         english(wide(days("%Y-%m-%d"), ["12.408,5", *FEED[1:]], PRODUCT)),
         {},
-        "line 2, column 2 (F-1): '12.408,5' has a decimal comma: say --locale de",
+        "line 2, column 2 (F-1): '12.408,5' has a decimal comma: use --locale de",
     ),
     "a figure that can be two": (
         english(wide(days("%Y-%m-%d"), ["12.408", *FEED[1:]], PRODUCT)),
@@ -273,7 +273,7 @@ REFUSED: dict[str, tuple[Make, dict[str, Any], str]] = {
     "an English figure in German": (
         german(wide(GERMAN_DAYS, ["12408.5", "1", "1"], comma(PRODUCT))),
         GERMAN,
-        "'12408.5' has a decimal point, and --locale is de: say --locale en",
+        "'12408.5' has a decimal point, and --locale is de: use --locale en",
     ),
     "a rate in the row of units": (
         english([PLAIN[0], ["", "kg/h", "m3/h"], *PLAIN[1:]]),
@@ -289,7 +289,7 @@ REFUSED: dict[str, tuple[Make, dict[str, Any], str]] = {
     "the day first where the month is": (
         english(wide([*days("%m/%d/%Y")[:2], "13/04/2024"], FEED, PRODUCT)),
         {"locale": "en"},
-        "'13/04/2024' isn't a day: --locale en has the month first: say --locale en_GB",
+        "'13/04/2024' isn't a day: --locale en has the month first: use --locale en_GB",
     ),
     "the month first where the day is": (
         english(wide([*days("%d/%m/%Y")[:2], "04/13/2024"], FEED, PRODUCT)),
@@ -314,7 +314,7 @@ REFUSED: dict[str, tuple[Make, dict[str, Any], str]] = {
     "a letter in a figure": (
         excel(wide(DAYS, ["1169O.5", 1, 1], numbers(PRODUCT))),
         {},
-        "plant.xlsx!readings!B2: '1169O.5' isn't a number: correct it, or say --missing",
+        "plant.xlsx!readings!B2: '1169O.5' isn't a number: correct it, or use --missing",
     ),
     "a formula without a value": (
         excel(wide(DAYS, [1, "=B2+1", 1], numbers(PRODUCT))),
@@ -340,12 +340,12 @@ REFUSED: dict[str, tuple[Make, dict[str, Any], str]] = {
     "a day that can be two": (
         english(wide(days("%d/%m/%Y"), FEED, PRODUCT)),
         {},
-        "line 2, column 1 (day): '01/04/2024' can be read as two days: say --locale en_GB",
+        "line 2, column 1 (day): '01/04/2024' can be read as two days: use --locale en_GB",
     ),
     "days of the United States read as British": (
         english(wide(days("%m/%d/%Y"), FEED, PRODUCT)),
         {"locale": "en_GB"},
-        "read as en_US they do: say --locale en_US",
+        "read as en_US they do: use --locale en_US",
     ),
     "no day": (
         english(wide(["2024-04-31", *days("%Y-%m-%d")[1:]], FEED, PRODUCT)),

@@ -180,7 +180,7 @@ def test_a_row_that_vanished(
     assert told == (vanished in ("", "ask")) and "typed" not in said.out, said
     assert said.status == (1 if told else 0), said
     struck = rows_of(tmp_path)[len(before) :]
-    wanted = ["strike,truck-04,not at the source any more (historian.toml)"]
+    wanted = ["strike,truck-04,no longer at the source (historian.toml)"]
     assert struck == (wanted if vanished == "strike" else [])
     if vanished == "strike":
         assert "nothing new" in say("pull", mapping, "--book", mill, *DAYS).out
@@ -395,7 +395,7 @@ def test_a_push_is_written_once(
     assert (said.status, said.err) == (0, ""), said
     there = erp()
     said = say("push", mapping, "2024-04", "--book", mill)
-    assert said.status == 0 and "is there already, so nothing is written" in said.out
+    assert said.status == 0 and "already exists, so nothing is written" in said.out
     assert erp() == there and len(there) == 1
     closing = "SELECT what, grams FROM erp.plantbal_figures WHERE name = 'SILO' AND kind = 'stock'"
     stock = dict(line.split("|") for line in tables.sql(closing).split())

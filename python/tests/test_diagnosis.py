@@ -107,7 +107,7 @@ def biased(month: Month) -> Guilty:
 
 
 def ticket(number: int, twice: bool) -> Callable[[Month], Guilty]:
-    """A ticket of the ships is missing, or is there twice."""
+    """A ticket of the ships is missing, or appears twice."""
 
     def change(month: Month) -> Guilty:
         at = [at for at, each in enumerate(month.tickets) if each.stream == "DIES_SHIP"][number]

@@ -259,7 +259,7 @@ FAULTS: dict[str, tuple[bytes, str, str]] = {
     "memory": (BASE, "NoMemory", "it ran out of memory"),
     "usage": (BASE, "Usage", "this program has no such command"),
     "slow": (BASE, "timeout", "stopped by the time limit"),
-    "latest": (BASE, "nosession", "is one of the nights' own"),
+    "latest": (BASE, "nosession", "is reserved for the nights"),
 }
 
 
@@ -580,7 +580,7 @@ def test_stopped(
     assert 8 <= len(done) < 40
     if by != signal.SIGKILL:
         assert fleet.returncode == 130, said
-        assert f"the same words with --date {NIGHT} run the others" in said
+        assert f"the same command with --date {NIGHT} runs the others" in said
         assert "Traceback" not in said and not list(out.rglob("*.part"))
     assert not (out / "latest").exists()
     wait_for(lambda: subprocess.run(["flock", "-n", out / ".lock", "true"]).returncode == 0)
@@ -679,7 +679,7 @@ def test_alone(forty: tuple[Path, Path, list[object]], say: Desk) -> None:
 
 
 def test_which_files(tmp_path: Path) -> None:
-    """No file and no folder is passed over without a word, but hidden ones."""
+    """No file and no folder is skipped without a word, but hidden ones."""
     names = ["a.csv", "B.CSV", "c.Csv", ".d.csv", "e.txt", "f.csv.part", "april.xlsx"]
     folder = folder_of(tmp_path / "sessions", {name: b"" for name in names})
     folder_of(folder / "north", {"a.csv": b"", "g.csv": b""})
@@ -690,9 +690,9 @@ def test_which_files(tmp_path: Path) -> None:
     chosen = sites(folder, out=out)
     assert [site.name for site in chosen.sites] == ["B", "a", "c"]
     assert chosen.left == [
-        f"{folder}/nights of last year: this folder has a session or more, which aren't run: say "
+        f"{folder}/nights of last year: this folder has a session or more, which aren't run: use "
         "--recursive for them",
-        f"{folder}/north: this folder has a session or more, which aren't run: say --recursive for "
+        f"{folder}/north: this folder has a session or more, which aren't run: use --recursive for "
         "them",
         f"{folder}: 3 files aren't run, since a session's name ends with .csv: april.xlsx, e.txt, "
         "f.csv.part",
@@ -728,9 +728,9 @@ def test_odd_names(program: Path, tmp_path: Path, say: Desk) -> None:
 
 
 NAMES = {
-    "nights.csv": "the name nights is one of the nights' own: rename it",
-    "latest.csv": "the name latest is one of the nights' own: rename it",
-    "2026-11-29.csv": "the name 2026-11-29 is one of the nights' own: rename it",
+    "nights.csv": "the name nights is reserved for the nights: rename it",
+    "latest.csv": "the name latest is reserved for the nights: rename it",
+    "2026-11-29.csv": "the name 2026-11-29 is reserved for the nights: rename it",
     "two\nlines.csv": "its name has other characters than letters, digits, signs and spaces",
     os.fsdecode(b"\xff.csv"): "its name has other characters",
     "a.CSV": "it would be the same plant as a.csv, and none is run: rename one of them",
@@ -765,11 +765,11 @@ def test_the_night_cannot_be_kept(
     found = say("fleet", "--program", program, "--out", tmp_path / "out", folder)
     assert (found.status, row_of(found.out, "a")["state"]) == (3, "none")
     assert "1 plant, of which 1 needs a person\n" in found.err
-    assert "database or disk is full: make room, and run the fleet again" in found.err
+    assert "database or disk is full: free some space, and run the fleet again" in found.err
 
 
 def test_a_session_that_has_gone(tmp_path: Path, program: Path, say: Desk) -> None:
-    """A plant that was run before and has no session now is told each night, until it is forgotten."""
+    """A plant that was run before and has no session now is reported until it is forgotten."""
     data = SITE.format(100_000_000).encode()
     folder = folder_of(tmp_path / "sessions", {"a.csv": data, "b.csv": data})
     words = ["fleet", "--program", program, "--out", tmp_path / "out", folder]
@@ -801,7 +801,7 @@ def test_what_is_no_file(tmp_path: Path, program: Path, say: Desk) -> None:
     states = {row["site"]: row["state"] for row in rows_of(found.out)}
     wrong = dict.fromkeys(("folder", "gone", "pipe"), "nosession")
     assert states == wrong | dict.fromkeys(("a", "link"), "converged")
-    assert found.status == 1 and "pipe.csv: it is a pipe or a device, and no file" in found.err
+    assert found.status == 1 and "pipe.csv: it is a pipe or a device, not a file" in found.err
 
 
 def test_check(program: Path, tmp_path: Path, say: Desk) -> None:
@@ -840,7 +840,7 @@ WRONG = {
     "jobs": ({"--jobs": "0"}, 2, "'0' isn't a number from 1 on"),
     "date": ({"--date": "yesterday"}, 2, "'yesterday' isn't a night: write 2026-11-29"),
     "timeout": ({"--timeout": "soon"}, 2, "'soon' isn't a number of seconds: write 600"),
-    "words": ({"--engine": "parallel", "--send": None}, 2, "--send are words for dask"),
+    "words": ({"--engine": "parallel", "--send": None}, 2, "--send are options for dask"),
     "unknown": ({"--night": "1"}, 2, "unrecognized arguments: --night"),
 }
 

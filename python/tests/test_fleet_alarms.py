@@ -42,7 +42,7 @@ LEVELS = [
     (103, "", [], 1, "nothing tests it: there is no critical value for 1 degrees"),
     (103, "", ["--level", "0.01"], 0, ""),
     (110, "", ["--level", "0.01"], 1, "has the probability 5.74e-07, below the level 0.01"),
-    (103, "critical,global,7,14067\n", [], 1, "there are critical values, and none for 1 degrees"),
+    (103, "critical,global,7,14067\n", [], 1, "there are critical values, but none for 1 degrees"),
     (103, "critical,global,7,14067\n", ["--level", "0.2"], 1, "the probability 0.134, below"),
     (103, "critical,global,1,3841\n", [], 0, ""),
     (110, "critical,global,1,3841\n", ["--level", "1e-9"], 1, "the global test rejects"),

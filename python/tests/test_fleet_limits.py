@@ -163,7 +163,7 @@ def test_a_session_that_grows(tmp_path: Path, monkeypatch: pytest.MonkeyPatch) -
 
 
 def test_what_is_left_of_a_night(tmp_path: Path) -> None:
-    """A run that isn't of its form is none: the plant is run again."""
+    """A run that has the wrong form is none: the plant is run again."""
     night, site, what, given = kept(tmp_path, GOOD)
     asked, path = night.asked_of(site, given), night.folder_of(site) / "run.json"
     for name in ("output.csv", "stderr.txt"):

@@ -110,7 +110,7 @@ def line(units: int) -> Session:
 
 @pytest.mark.parametrize("units", [100, 999])
 def test_line(program: Path, units: int) -> None:
-    """A line on which the sweeps don't come near gets a yes, and bounds of some kilograms."""
+    """A line on which the sweeps don't converge gets a yes, and bounds of some kilograms."""
     session = line(units)
     if units == 100:
         swept = run(session, program=program, tests=False)

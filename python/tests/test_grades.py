@@ -79,7 +79,7 @@ def test_the_grade_of_a_stock_by_hand(say: Desk, plant: Path) -> None:
     for word, said in (
         ("CAKE=1t,1%", "there is no tank CAKE: there are HEAP, STOCK"),
         ("STOCK:au=1%,1%", "no grade of au is known: there are cu"),
-        ("STOCK=1000t", "isn't an error with its unit: say --held STOCK=12000t,1%"),
+        ("STOCK=1000t", "isn't an error with its unit: use --held STOCK=12000t,1%"),
         ("STOCK:cu=26,1%", "the grade 26 has no unit"),
         ("STOCK:cu=1200%,1%", "can't be what STOCK held"),
     ):
@@ -100,7 +100,7 @@ def test_tables_of_grades(say: Desk, plant: Path, tmp_path: Path) -> None:
             shown = float(row[head]) if row[head] else None
             assert shown == pytest.approx(line[key]), (row["stream"], head)
     for more, said in (
-        ((*words, "--component", "au"), "no grades of au: there are those of cu"),
+        ((*words, "--component", "au"), "no grades of au: there are grades of cu"),
         (words[:3], "grades need the assays: say --session"),
         ((*words, "--window"), "leave --window out"),
         ((*words, "--keep", "x"), "leave it out"),

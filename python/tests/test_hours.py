@@ -154,7 +154,7 @@ FAULTS: dict[str, tuple[Rows, list[list[Any]], str]] = {
     "clocks put back without a zone": (
         [*HEAD, *autumn()],
         [],
-        "2024-10-27 02:00:00 is there twice",
+        "2024-10-27 02:00:00 appears twice",
     ),
     "an hour that isn't there": (
         [*HEAD, *hours(MARCH_31, 24)],
@@ -164,12 +164,12 @@ FAULTS: dict[str, tuple[Rows, list[list[Any]], str]] = {
     "Z without a zone": (
         [*HEAD, ["2024-05-01T00:00:00Z", 7], ["2024-05-02T00:00:00Z", 8]],
         [],
-        "2024-05-01T00:00:00Z has a zone, and the plant's isn't told",
+        "2024-05-01T00:00:00Z has a zone, and the plant's isn't given",
     ),
     "no whole days": (
         [*HEAD, *hours(MAY_1, 30)],
         [],
-        "is a stamp the begin or the end of its hour?",
+        "is a stamp the beginning or the end of its hour?",
     ),
     "quarters": (
         [*HEAD, *[[MAY_1 + n * HOUR / 4, 1] for n in range(96)]],
@@ -189,7 +189,7 @@ FAULTS: dict[str, tuple[Rows, list[list[Any]], str]] = {
     "a counter's day": (
         [["day", "F-1"], [MAY_1, 500], [MAY_1 + DAY, 520]],
         [["counter", 1000, "F-1"]],
-        "was this counter read at the begin or the end of the day?",
+        "was this counter read at the beginning or the end of the day?",
     ),
     "a counter without a day's end": (
         [["day", "F-1"], [MAY_1, 500], [MAY_1 + DAY, None], [MAY_1 + 2 * DAY, 560]],

@@ -83,7 +83,7 @@ def test_a_browser_that_hangs(tmp_path: Path, monkeypatch: pytest.MonkeyPatch) -
     browser = tmp_path / "chromium"
     pids = tmp_path / "pids"
     for script, said in (
-        (f"sleep 600 & echo $! >{pids}; wait", "the browser isn't done after 0.5 s"),
+        (f"sleep 600 & echo $! >{pids}; wait", "the browser didn't finish within 0.5 s"),
         ("exit 9", "the browser ended with the status 9"),
     ):
         browser.write_text(f"#!/bin/sh\n{script}\n", encoding="utf-8")

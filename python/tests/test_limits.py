@@ -37,8 +37,8 @@ def fifo(room: Path) -> Path:
 @pytest.mark.parametrize(
     ("made", "said"),
     [
-        (lambda room: Path("/dev/zero"), "it is a pipe or a device, and no file"),
-        (fifo, "it is a pipe or a device, and no file: name a file, or `-` for standard input"),
+        (lambda room: Path("/dev/zero"), "it is a pipe or a device, not a file"),
+        (fifo, "it is a pipe or a device, not a file: name a file, or `-` for standard input"),
         (lambda room: room, "Is a directory"),
         (lambda room: room / "none", "No such file or directory"),
         (lambda room: Path("a\0b"), "there is no file of this name"),

@@ -502,7 +502,7 @@ def test_one_letter_apart(one: str, other: str, wanted: bool) -> None:
 @settings(deadline=None, max_examples=50)
 @given(st.lists(st.text("ABCab_1", min_size=1, max_size=8), unique=True, max_size=8))
 def test_near_pairs(names: list[str]) -> None:
-    """No pair is passed over by the look-up."""
+    """No pair is skipped by the look-up."""
     wanted = [
         (one, other)
         for place, one in enumerate(names)
@@ -682,4 +682,4 @@ def test_lint_ends(say: Desk, tmp_path: Path) -> None:
     begun = time.monotonic()
     found = say("lint", "--timeout", "0.2", path)
     assert time.monotonic() - begun < 20
-    assert found.status == 3 and "lint isn't done after 0.2 s: say --timeout" in found.err
+    assert found.status == 3 and "lint didn't finish within 0.2 s: use --timeout" in found.err

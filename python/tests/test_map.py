@@ -65,7 +65,7 @@ def test_a_refinery_as_an_office_keeps_it(say: Desk, tmp_path: Path, form: str) 
     said = say("map", workbook, "--out", out)
     text = out.read_text(encoding="utf-8")
     assert said.status == 1 and said.err.count(": ? ") == 2, said.err
-    assert "Dichten: given error: no error is told" in said.err
+    assert "Dichten: given error: no error is given" in said.err
     assert "Tankstände: locale: '7,000' is a decimal number in one country" in said.err
     assert "a question is" not in say("convert", workbook, "--mapping", out).out
     for old, new in (('locale = "?"', 'locale = "de"'), ('"error" = "?"', '"error" = "0.5"')):
@@ -180,11 +180,11 @@ def plain(**changes: Any) -> Sheets:
 ASKED: dict[str, tuple[Sheets, str]] = {
     "levels with decimals": (
         {"levels": [["Date", "T1"], *([day, 5.368] for day in DAYS)]},
-        "levels: unit: no unit is told of 5.368 to 5.368",
+        "levels: unit: no unit is given for 5.368 to 5.368",
     ),
     "levels that may be cm or mm": (
         {"levels": [["Date", "T1"], *([day, 1200] for day in DAYS)]},
-        "levels: unit: no unit is told of 1200 to 1200",
+        "levels: unit: no unit is given for 1200 to 1200",
     ),
     "thousands or decimals": (
         {"daily": [["Date", "F1", "F2"], *([day, "12.408", "11.408"] for day in DAYS)]},
@@ -207,7 +207,7 @@ ASKED: dict[str, tuple[Sheets, str]] = {
             "January": [["Date", "F1", "F2"], *([day, 1, 2] for day in range(1, 32))],
             "daily": [[None]],
         },
-        "*: month: days are numbers, and no year is told of January",
+        "*: month: days are numbers, and no year is given of January",
     ),
     "figures that nobody knows": (
         {"Lab 7": [["A", "B"], [1, 2.5], [2, 3.5]]},
@@ -280,7 +280,7 @@ def test_a_workbook_of_several_plants(say: Desk, tmp_path: Path) -> None:
     found = proposed(tmp_path, column, "North")
     done = convert(path, mapping=parse_mapping("m", text_of(found, "plant.xlsx")))
     assert done.said() == [] and sums(done)["IN"] == Decimal(3100) * 10**6
-    assert any("31 rows of other plants are passed over" in note for note in done.notes)
+    assert any("31 rows of other plants are skipped" in note for note in done.notes)
 
 
 # ---- the file

@@ -229,7 +229,7 @@ ASKED: dict[str, tuple[Sheets, str]] = {
     ),
     "errors of densities in another unit": (
         {"Densities": [["Name", "Month", "Density [t/m3]", "Error"], ["T 1", "2024-01", 0.85, 1]]},
-        "Densities: units Error: no unit is told, and the densities are in t/m3",
+        "Densities: units Error: no unit is given, and the densities are in t/m3",
     ),
     "two digits that may be years or days": (
         {"Densities": [["Stream", "Jan 24", "Feb 24", "error"], ["IN", 850, 851, 0.5]]},

@@ -243,15 +243,15 @@ ASKED: dict[str, tuple[Sheets, str]] = {
     ),
     "a density without an error": (
         small(Densities=[["Month", "Stream", "Density"], ["Jan 2024", "OUT", 849.5]]),
-        "Densities: given error: no error is told",
+        "Densities: given error: no error is given",
     ),
     "months without a year": (
         small(Densities=[["Stream", "Jan", "Feb"], ["OUT", 849.5, 850]]),
-        "Densities: year: no year is told of Jan",
+        "Densities: year: no year is given of Jan",
     ),
     "a density of figures that are none": (
         small(Densities=[["Stream", "Jan 2024", "Feb 2024"], ["OUT", 5.5, 6.5]]),
-        "Densities: unit: no unit is told of 5.5 to 6.5",
+        "Densities: unit: no unit is given for 5.5 to 6.5",
     ),
 }
 

@@ -134,7 +134,7 @@ def test_a_bundle_has_how(say: Desk, tmp_path: Path, program: Path) -> None:
     files = unpacked(bundle).files
     assert text_of(tmp_path / "mill" / "measured.csv") == files[MEASURED].decode()
     said = say("audit", bundle, *book)
-    assert "6 masses are reckoned again from what was measured" in said.out, said
+    assert "6 masses are calculated again from what was measured" in said.out, said
     assert "good: " in said.out and "wrong: " not in said.out, said
     old, new = b",851.5,0.5,", b",851.6,0.5,"
     assert old in files[MEASURED]

@@ -83,9 +83,9 @@ def test_what_else_is_not_read_is_noted(say: Desk, tmp_path: Path) -> None:
     for note in (
         "tickets.csv: line 3: a field within double quotes goes to line 4",
         "tickets.csv: line 2, column 8: the column 'note' isn't read",
-        "tickets.csv: line 9, column 1: the row 'Total' is passed over",
-        "tickets.csv: line 1: the rows 1, 10 are passed over",
-        "Summary.csv: the sheet is passed over",
+        "tickets.csv: line 9, column 1: the row 'Total' is skipped",
+        "tickets.csv: line 1: the rows 1, 10 are skipped",
+        "Summary.csv: the sheet is skipped",
         "May.xlsx: it isn't read: of a folder only CSV files are",
     ):
         assert note in found.err, found.err

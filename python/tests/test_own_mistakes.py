@@ -159,7 +159,7 @@ OF_TAGS = {
     "workbook": (WORKBOOK, NO_TAGS),
 }
 OF_READINGS = but(OF_TAGS, workbook="") | {
-    name: (OF_TAGS[name][0], "the table of tags has no tag '.*; say --skip '.*'")
+    name: (OF_TAGS[name][0], "the table of tags has no tag '.*; use --skip '.*'")
     for name in ("a session", "a report")
 }
 # Of a session the plant alone is wanted.
@@ -179,7 +179,10 @@ OF_COSTS = {
     "no name": (b"stream,cost\n,9000\n", "there is no name of a stream: correct the name"),
     "a tank": (b"stream,cost\nTK1,9000\n", "TK1 is a tank, not a stream: correct the name"),
     "a meter": (b"stream,cost\nSHIP,9000\n", "SHIP is a batch stream: it is measured already"),
-    "twice": (b"stream,cost\nRES,1\nRES,2\n", "RES is already given above: leave one of both out"),
+    "twice": (
+        b"stream,cost\nRES,1\nRES,2\n",
+        "RES is already given above: leave one of the two out",
+    ),
     "decimals": (b"stream,cost\nRES,9.50\n", "9.50 isn't a cost: write a whole number from 0 to"),
     "below 0": (b"stream,cost\nRES,-1\n", "-1 isn't a cost: write a whole number from 0 to"),
     "no cost": (b"stream,cost\nRES,\n", "'' isn't a number"),
@@ -321,7 +324,7 @@ def test_full_device(program: Path, words: tuple[object, ...]) -> None:
             check=False,
         )
     assert done.returncode == 3, done.stderr
-    assert "standard output: No space left on device: make room" in done.stderr
+    assert "standard output: No space left on device: free some space" in done.stderr
     assert "Traceback" not in done.stderr and "Exception" not in done.stderr
 
 
@@ -407,7 +410,7 @@ WORDS = [
     (["fleet", "sessions"], "the following arguments are required: --out"),
     (["fleet", "--engine", "spark", "--out", "o", "s"], "argument --engine: invalid choice"),
     (["critical", "5"], "'5' isn't a level: write a number between 0 and 1, such as 0.05"),
-    (["critical", "0.05"], "say degrees of freedom, --nodal or --measure"),
+    (["critical", "0.05"], "give degrees of freedom, --nodal or --measure"),
     (["critical", "0.05", "many"], "'many' isn't a number of degrees of freedom: write 4 or 1-20"),
     (["from-scipy", "--nope"], "unrecognized arguments: --nope"),
     (["schema", "x"], "unrecognized arguments: x"),
@@ -426,11 +429,11 @@ NAMES = [
     (["draw", OUTPUT, "--period", "may2"], "no report of this period and round: there are may1"),
     (["draw", OUTPUT, "--mark", "KEROSENES"], "there is no stream KEROSENES"),
     (["draw", OUTPUT, "--advice"], "there is no advice in what was read: write the rows design"),
-    (["draw", OUTPUT, "--period", "may1", "--advice"], "--advice is of a plant, not of a report"),
+    (["draw", OUTPUT, "--period", "may1", "--advice"], "--advice is for a plant, not for a report"),
     (["from-scipy", OUTPUT, "--period", "may2"], "there is no report of may2: there are may1"),
-    (["run", DAY, "--out", "a.pdf"], "a.pdf ends with '.pdf': say .csv, .sqlite or .xlsx"),
-    (["solve", DAY, "--out", "a.pdf"], "a.pdf ends with '.pdf': say .csv, .sqlite or .xlsx"),
-    (["report", OUTPUT, "--out", "a.json"], "a.json ends with '.json': say .csv, .sqlite or .xlsx"),
+    (["run", DAY, "--out", "a.pdf"], "a.pdf ends with '.pdf': use .csv, .sqlite or .xlsx"),
+    (["solve", DAY, "--out", "a.pdf"], "a.pdf ends with '.pdf': use .csv, .sqlite or .xlsx"),
+    (["report", OUTPUT, "--out", "a.json"], "a.json ends with '.json': use .csv, .sqlite or .xlsx"),
     (["template", "refinery", "a.ods"], "a.ods doesn't end with .xlsx: say a name such as"),
     (["convert", DAY.parent / "refinery_workbook", "--locale", "xx"], "xx"),
 ]

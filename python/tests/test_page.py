@@ -494,12 +494,12 @@ def test_run(say: Desk, program: Path, tmp_path: Path) -> None:
 WRONG = [
     (
         ["--eliminate", "2", example("refinery_day.out.csv")],
-        "--eliminate is of a run: say --run too",
+        "--eliminate works only with --run: use --run too",
     ),
     ([example("refinery_day.csv")], "run it first"),
     (
         ["--run", "--session", example("refinery_day.csv"), example("refinery_day.csv")],
-        "say it once",
+        "give it once",
     ),
     (
         ["--session", example("refinery_day.csv"), example("badly_typed.out.csv")],

@@ -135,5 +135,5 @@ def test_a_drawing_that_takes_too_long(tmp_path: Path, monkeypatch: pytest.Monke
     slow.chmod(0o755)
     monkeypatch.setenv("PATH", f"{tmp_path}:/usr/bin:/bin")
     monkeypatch.setattr("plantbal.limits.DRAWING_SECONDS", 0.1)
-    with pytest.raises(Fault, match="dot isn't done after 0.1 seconds"):
+    with pytest.raises(Fault, match="dot didn't finish within 0.1 seconds"):
         picture.svg("graph {}")

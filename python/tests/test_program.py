@@ -212,7 +212,7 @@ def test_usage(program: Path) -> None:
 
 def test_timeout(program: Path) -> None:
     data = call(["make", "--streams", "2000"], b"", program=program)[1]
-    with pytest.raises(ProgramFault, match="isn't done after 0.01 s"):
+    with pytest.raises(ProgramFault, match="didn't finish within 0.01 s"):
         run(data, program=program, timeout=0.01)
 
 
@@ -278,7 +278,7 @@ def test_desk_solve(program: Path, say: Desk) -> None:
 MISTAKES = [
     (["run", "none.csv"], "", 3, "none.csv: No such file"),
     (["report", "none.csv"], "", 3, "none.csv: No such file"),
-    (["report", "--out", "o.pdf"], "", 2, "o.pdf ends with '.pdf': say .csv, .sqlite or .xlsx"),
+    (["report", "--out", "o.pdf"], "", 2, "o.pdf ends with '.pdf': use .csv, .sqlite or .xlsx"),
     (["report"], "a;b\n", 1, "save it with commas"),
     (["check"], "", 1, "it is empty: run a session that asks for a report"),
     (["check"], "unit,U\n", 1, ""),

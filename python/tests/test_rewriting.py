@@ -334,7 +334,7 @@ def _another_line(carried: Carried, room: Room) -> None:
 # What is done to the approvals in a bundle, and what an audit with --signers and without the book says.
 APPROVED: dict[str, tuple[Change, str]] = {
     "left out": (_left_out, "note: {}: it has no line of the journal that closed 2024-04"),
-    "signed by a stranger": (_signed_by_stranger, "its key is nobody's among those who may sign"),
+    "signed by a stranger": (_signed_by_stranger, "its key belongs to nobody who may sign"),
     "a stranger among the signers": (
         _another_signer,
         "allowed_signers isn't as it was when the close was submitted",
@@ -344,7 +344,7 @@ APPROVED: dict[str, tuple[Change, str]] = {
     "without the submission": (_without_submission, "nobody has approved it"),
     "other rules": (_other_rules, "rules.toml isn't as it was when the close was submitted"),
     "another user": (_another_record, "it doesn't fit what is signed"),
-    "another reason": (_another_line, "its approvals aren't of their form: journal: line 1:"),
+    "another reason": (_another_line, "its approvals have the wrong form: journal: line 1:"),
 }
 
 
@@ -485,7 +485,7 @@ def test_an_older_copy(room: Room, book: Type) -> None:
     shutil.copytree(room.mill, older)
     newer = str(Book(room.mill).head)
     assert book("add", folder(room.path / "more", month(month="05", last=9))).status == 0
-    assert book("close", "2024-05", *ANYWAY).status == 1, "it wants an approval"
+    assert book("close", "2024-05", *ANYWAY).status == 1, "it needs an approval"
     now = str(Book(room.mill).head)
     assert Book(older).verify(heads=[newer]).ok
     found = book_found(older, now)

@@ -397,7 +397,7 @@ def test_rows_as_dicts() -> None:
         "report,d1",
     ]
     wrong: list[tuple[dict[str, object], str]] = [
-        ({"kind": "units", "name": "U"}, "row 1: there is no kind 'units': say one of version"),
+        ({"kind": "units", "name": "U"}, "row 1: there is no kind 'units': use one of version"),
         ({"name": "U"}, "there is no kind None"),
         ({"kind": "unit"}, "its keys aren't those of a row unit: beside kind it has name"),
         ({"kind": "unit", "name": 1.5}, "name is 1.5, of type float: say a text"),

@@ -52,7 +52,7 @@ READINGS = [
         3,
         "11697,5",
         "11697.5",
-        "line 3, column 2 (WIC-101): '11697.5' has a decimal point: say --decimal point",
+        "line 3, column 2 (WIC-101): '11697.5' has a decimal point: use --decimal point",
     ),
     (
         4,
@@ -140,7 +140,7 @@ OWN = {
     "decimal comma": (
         TWO,
         'day,FI1,FI2\n2024-04-01,"12,4",1\n',
-        "'12,4' has a decimal comma: say --decimal comma",
+        "'12,4' has a decimal comma: use --decimal comma",
     ),
     "an end mistyped": (
         TWO.replace("B,MILL", "B,MLIL"),

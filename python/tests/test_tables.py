@@ -80,7 +80,7 @@ def test_critical(say: Desk) -> None:
 CRITICAL = [
     (["5", "1"], "'5' isn't a level"),
     (["0.05", "2001"], "degrees of freedom are 1 to 2,000"),
-    (["0.05"], "say degrees of freedom, --nodal or --measure"),
+    (["0.05"], "give degrees of freedom, --nodal or --measure"),
     (["0.05", "--nodal", "x"], "'x' isn't a number of tests"),
 ]
 

@@ -77,7 +77,7 @@ class SheetReader:
         if name in self._cells:
             other = str(self._cells[name].place()).rstrip(":")
             what = SheetCause.ACCOUNT_TWICE(name=name, other=other)
-            raise self._fault(row["name"], what, "leave one of both: each is in one account")
+            raise self._fault(row["name"], what, "keep one of the two: each is in one account")
         self._cells[name] = row["name"]
         product = self._word(row["product"], "product")
         group = self._word(row["group"], "group") or product

@@ -68,7 +68,7 @@ class Ownership:
 
 
 def part_text(part: Fraction) -> str:
-    """Return a part as a cell has it: `60 %`, or `1/3` if it has no end as a decimal number."""
+    """Return a part as a cell has it: `60 %`, or `1/3` if no decimal number is exact."""
     percent = part * 100
     if (100_000 * percent).denominator != 1:
         return f"{part.numerator}/{part.denominator}"

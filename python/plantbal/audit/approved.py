@@ -157,7 +157,7 @@ def read_approvals(kept: CarriedTexts, keys: Keys | None) -> BundleApprovals | N
         closes = [each for each in acts.values() if each.line.act is Act.CLOSE]
     except Fault as fault:
         raise BrokenApprovals(
-            f"its approvals aren't of their form: {fault.place} {fault.what}"
+            f"its approvals have the wrong form: {fault.place} {fault.what}"
         ) from fault
     if (
         list(kept) != [JOURNAL, FILES]
@@ -184,7 +184,7 @@ def _act(line: JournalLine, files: Mapping[str, str], keys: Keys) -> BundledActi
         if (kept is None) != (name not in files) or (
             kept and kept != Kept.of(files[name].encode())
         ):
-            what = f"action {line.number} has left another one"
+            what = f"action {line.number} left a different one"
             raise InputFault(what, place=Place(file=name))
     if names["txt"] not in files:
         return BundledAction(line)
@@ -349,7 +349,7 @@ class JudgedApprovals:
             yield "nobody has approved it"
             return
         if rules is None:
-            yield "the rules by which it was approved aren't in the bundle"
+            yield "the rules under which it was approved aren't in the bundle"
             return
         if (of.record.act, of.record.of) != (Act.CLOSE.value, found.close.line.of):
             yield f"{of.record.act} {of.record.of} was submitted"

@@ -48,7 +48,7 @@ SESSION is a file; `-` is standard input. The program is run, and the bundle is 
   session.csv    the session, byte for byte
   output.csv     the program's output for it
   summary.txt    what you need to know, and the flows of the period in tonnes, with their ±
-  manifest.json  the period, its days, the time, the words, the program's digest, its version
+  manifest.json  the period, its days, the time, the command line, the program's digest, its version
                  and where that is from, the digest of each file, and of each fifty lines of
                  session and output, and, if they are named, the head of the book, who submitted,
                  approved and signed the close, and the digest of the bundle before
@@ -59,9 +59,9 @@ SESSION is a file; `-` is standard input. The program is run, and the bundle is 
 The zip ends with a comment that has the digest of all bytes before it.
 
 With --key the bundle is signed, by `ssh-keygen -Y sign` or minisign, and with --stamps a server
-stamps the time of that; both stand beside it.
+stamps the time of that; both are beside it.
 
-The same session, words, program and time give the same bytes. The time is that of --time, or else
+The same session, command line, program and time give the same bytes. The time is that of --time, or else
 that of the variable SOURCE_DATE_EPOCH, or else now. An existing bundle isn't overwritten.
 
 The status is 1 if somebody has to look (a row is refused, a report hasn't converged, a global test
@@ -191,8 +191,8 @@ def _write(path: str, data: bytes) -> bool:
         return True
     if read_bytes(target)[1] == data:
         return False
-    what = "it is there already, with other bytes, and an archive isn't written over"
-    raise Fault(what, place=Place(file=path), remedy="name another file by --out")
+    what = "it already exists with other bytes, and an archive isn't overwritten"
+    raise Fault(what, place=Place(file=path), remedy="name another file with --out")
 
 
 def plant_of(options: argparse.Namespace) -> str:
@@ -206,7 +206,7 @@ def plant_of(options: argparse.Namespace) -> str:
     stem = "plant" if options.session == "-" else Path(options.session).name.split(".")[0]
     plant: str = options.plant or stem
     if not plant.isprintable():
-        remedy = "say --plant NAME, in one line of letters, digits, signs and spaces"
+        remedy = "use --plant NAME, in one line of letters, digits, signs and spaces"
         raise WordsFault(f"the plant can't be called {plant!r}", text=plant, remedy=remedy)
     return plant
 

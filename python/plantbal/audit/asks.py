@@ -100,7 +100,7 @@ def asked(block: ReportBlock, verdict: Values) -> str:
 
 _ASKS = {
     4: "nodes that unmeasured streams join have one price, which is 0 if env is among them or no "
-    "measured stream leads away from them: {found} is asked, and {stated} is written",
+    "measured stream leads away from them: {found} is expected, and {stated} is written",
     5: "by its variance the prices at both ends may be {found} apart, and are {stated} apart",
     6: "{found} is the number of independent balances that test the measurements, and {stated} is "
     "written",
@@ -114,12 +114,12 @@ def _class(row: Values) -> str:
     name, kind = row["name"], row["class"]
     if bool(row["value"]) != (kind in _MEASURED):
         has, classes = ("a", _MEASURED) if row["value"] else ("no", ("observable", "unobservable"))
-        return f"{name} has {has} value, so that its class is {' or '.join(classes)}"
+        return f"{name} has {has} value, so its class is {' or '.join(classes)}"
     if kind == "unobservable":
-        return "an unobservable stream has no bounds, so that the columns of bounds are empty"
+        return "an unobservable stream has no bounds, so the columns of bounds are empty"
     if not row["lo"]:
-        return f"{name} isn't unobservable, so that it has bounds, and LO and HI are empty"
-    return "other streams of the block have least bounds, so that this one has them too"
+        return f"{name} isn't unobservable, so it has bounds, and LO and HI are empty"
+    return "other streams of the block have least bounds, so this one has them too"
 
 
 def _witness(block: ReportBlock, row: Values) -> str:
@@ -153,7 +153,7 @@ def _witness(block: ReportBlock, row: Values) -> str:
         )
     others = [each for each in members if each != name and not measured.get(each)]
     if name not in members:
-        return f"{name} has no end or both ends in the side, so that it isn't in this cut"
+        return f"{name} has no end or both ends in the side, so it isn't in this cut"
     return f"the cut has {some(others)} too, which {_has(others)} no value"
 
 
@@ -184,20 +184,22 @@ def _state(block: ReportBlock, verdict: Values) -> str:
     if met and solved.get("state") == "converged":
         return f"{done} sweeps are written as K, and at most {allowed} are allowed"
     if met:
-        return "G and H meet the gap that the report row asks for, so that the state is converged"
+        return "G and H meet the gap that the report row asks for, so the state is converged"
     if solved.get("state") == "converged":
         asked_for = "the gap that the report row asks for"
-        return f"G and H don't meet {asked_for}, so that the state is unconverged"
+        return f"G and H don't meet {asked_for}, so the state is unconverged"
     return f"an unconverged report has made all {allowed} sweeps, and {done} are written as K"
 
 
 def _nodal(block: ReportBlock, verdict: Values) -> str:
-    """Return which nodal row is asked, or what of it."""
+    """Return which nodal row is expected, or what of it."""
     stated, found, name = verdict["stated"], verdict["found"], verdict["name"]
     if not name:
         rows = "1 nodal row is" if found == "1" else f"{found} nodal rows are"
         there = "1 is" if stated == "1" else f"{stated} are"
-        return f"{rows} asked, one for each balance that is measured all round, and {there} there"
+        return (
+            f"{rows} expected, one for each balance that is measured all round, and {there} there"
+        )
     row, nodes = values_of(block.find("nodal", name, "node")), block.nodes
     if stated not in (row.get("net"), row.get("variance")) and found.isdecimal():
         wanted = nodes[int(found)] if int(found) < len(nodes) else "another node"
@@ -211,7 +213,7 @@ def _verdict(block: ReportBlock, name: str) -> str:
         if not name:
             solved, whole = values_of(block.find("solved")), values_of(block.find("global"))
             if solved["dof"] == "0":
-                return "there are no degrees of freedom, so that the verdict is notest"
+                return "there are no degrees of freedom, so the verdict is notest"
             return _by_numbers(solved["low"], solved["high"], whole["critical"])
         nodal = values_of(block.find("nodal", name, "node"))
         if nodal:

@@ -185,7 +185,7 @@ class Manifest:
             raise InputFault("its items aren't those of a manifest", place=place, remedy=said)
         for name, type_ in wanted.items():
             if not isinstance(found[name], type_) or not _has_texts(found[name], name in _NESTED):
-                raise InputFault(f"its item {name!r} isn't of its form", place=place)
+                raise InputFault(f"its item {name!r} has the wrong form", place=place)
         names = _PROGRAM.get(found["archive"])
         if names is None:
             what = f"it says that it is of version {found['archive']}"
@@ -193,7 +193,7 @@ class Manifest:
             raise InputFault(what, place=place, remedy=remedy)
         if set(found["program"]) != set(names):
             remedy = f"it has {', '.join(names)}"
-            raise InputFault("its item 'program' isn't of its form", place=place, remedy=remedy)
+            raise InputFault("its item 'program' has the wrong form", place=place, remedy=remedy)
         # In the order in which they are written, so that another order is a difference.
         found["program"] = {name: found["program"][name] for name in names}
         since = {"parts": _SEALED, "book": _CHAINED, "approvals": APPROVED}
@@ -203,7 +203,7 @@ class Manifest:
         for name, inner in _LINKS.items() if "book" in found else ():
             if found[name] and tuple(found[name]) != inner:
                 remedy = f"it has {', '.join(inner)}"
-                what = f"its item {name!r} isn't of its form"
+                what = f"its item {name!r} has the wrong form"
                 raise InputFault(what, place=place, remedy=remedy)
         return cls(**found)
 

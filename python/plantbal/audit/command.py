@@ -24,16 +24,16 @@ the same, or its beginning. In this order:
 
   the digests of the zip and of its files are compared; manifest and summary are made again and
   compared. If a digit of a file was changed, its place is known
-  the program is run again with the same words, and its output is compared byte for byte
+  the program is run again with the same command line, and its output is compared byte for byte
   the report is checked by `plantbal check`, and by the checker in plain Python
   the report is compared with the session: its plant, the value and the variance of each stream,
   critical values, refused rows, and which block is the last of its period
 
 With --signers the bundle has to be signed by one of them, in BUNDLE.sig; --signed-by says by whom. If
-nothing beside the bundle is compared, a note says that anybody could have written it.
+nothing but the bundle is compared, a note says that anybody could have written it.
 
 Each sentence begins with `good:`, `note:` (you may want to know it) or `wrong:` (it doesn't hold).
-Without a bundle the words are those of --words, or else those that the report shows.
+Without a bundle the command line is that of --words, or else the one that the report shows.
 
 With --no-program the program isn't run and need not be there; the checker in plain Python and the
 comparison with the session remain. A note says what isn't compared then. With --timeout the program
@@ -114,7 +114,7 @@ def _audit(options: argparse.Namespace) -> int:
         try:
             find_program(options.program)
         except ToolMissing as fault:
-            fault.remedy += "; or say --no-program"
+            fault.remedy += "; or use --no-program"
             raise
     given = given_of(audit, options)
     usual = words_of(tests=False, eliminate=0, gap=10, sweeps=5000)

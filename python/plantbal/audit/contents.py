@@ -85,7 +85,7 @@ def _say_packed(audit: Audit, path: str, found: Unpacked, lacks_seal: bool, hold
     its contents hold."""
     if found.other and holds and not found.wrong:
         first, more = found.other[0], len(found.other) - 1
-        rest = f" and {more} more of the kind" if more else ""
+        rest = f" and {more} more like it" if more else ""
         what = f"another packer has zipped it again ({first}{rest}): its files are those of archive"
         audit.add(SentenceKind.NOTE, f"{path}: {what}, and each reader of zips finds them")
         return

@@ -83,7 +83,7 @@ def _block(rows: list[dict[str, str]], declared: Declared) -> checker.CheckedBlo
     Raises
     ------
     Bad
-        If a cut or a cycle isn't of its form.
+        If a cut or a cycle has the wrong form.
     """
     nodes = {name: Row(name=name, price=0) for name in declared.nodes}
     named = {}

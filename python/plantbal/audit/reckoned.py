@@ -65,7 +65,7 @@ def reckoned(path: str, files: Mapping[str, bytes]) -> Iterator[tuple[SentenceKi
         yield SentenceKind.WRONG, f"{name}: {len(wrong) - _SAID:,} more differ"
     if not wrong:
         masses = "1 mass is" if len(trails) == 1 else f"{len(trails):,} masses are"
-        what = f"{masses} reckoned again from what was measured, and booked so in the session"
+        what = f"{masses} calculated again from what was measured, and booked so in the session"
         yield SentenceKind.GOOD, f"{name}: {what}"
 
 
@@ -80,7 +80,7 @@ def _trails(source: str, data: bytes) -> list[Trail]:
     try:
         return read_trails(decoded(source, data))
     except (KeyError, ValueError, TypeError) as error:
-        what = "this isn't a file of how masses were reckoned"
+        what = "this isn't a file of how masses were calculated"
         remedy = "take it as plantbal wrote it, or from a backup"
         raise InputFault(what, place=Place(file=source), remedy=remedy) from error
 
@@ -113,16 +113,16 @@ def _differs(trail: Trail, rows: Sequence[Sequence[str]]) -> str:
         grams, again = Decimal(trail.figures["grams"]), trail.again()
         booked, variance = int(trail.figures["booked"]), trail.figures["variance"]
     except (ArithmeticError, ValueError):
-        return f"{said}: one of its figures is no number"
+        return f"{said}: one of its figures isn't a number"
     if abs(again - grams) > _NEAR:
-        return f"{said}: its figures give {again:.3f} g, and {grams:.3f} g stand there"
+        return f"{said}: its figures give {again:.3f} g, and {grams:.3f} g were found"
     if not _fits(trail, rows):
-        return f"{said}: the session has no such fact there"
+        return f"{said}: the session doesn't have this fact there"
     figures = _booked(rows[trail.row - 1])[1]
     if figures[-1] != variance:
-        return f"{said}: the session has the variance {figures[-1]}, and {variance} stands there"
+        return f"{said}: the session has the variance {figures[-1]}, and {variance} was found"
     if len(figures) == 2 and (int(figures[0]) != booked or abs(booked - again) > 1):
         return f"{said}: the session has {figures[0]} g, and its figures give {again:.3f} g"
     if len(figures) == 3 and figures[0] != trail.figures["level"]:
-        return f"{said}: the session has {figures[0]} mm, and it {trail.figures['level']} mm"
+        return f"{said}: the session has {figures[0]} mm, and the file {trail.figures['level']} mm"
     return ""

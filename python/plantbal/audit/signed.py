@@ -58,18 +58,18 @@ def sign_bundle(path: str, key: str | None, server: str | None) -> list[str]:
     """
     if key is None:
         if server is not None:
-            raise WordsFault("--stamps stamps a signature", remedy="say --key too")
+            raise WordsFault("--stamps stamps a signature", remedy="use --key too")
         return []
     found = Path(f"{path}.sig")
     signature = sign(read_bytes(path)[1], key, BUNDLE)
     if not write_new(found, signature.encode("ascii")):
         remedy = "move it away, and sign by the same command again"
-        raise Fault(f"{found} is there already, and isn't written over", remedy=remedy)
+        raise Fault(f"{found} already exists, and isn't overwritten", remedy=remedy)
     if server is None:
         return [str(found)]
     token = Path(f"{path}.sig.tsr")
     if not write_new(token, stamp(signature.encode("ascii"), server).encode("ascii")):
-        raise Fault(f"{token} is there already, and isn't written over", remedy="move it away")
+        raise Fault(f"{token} already exists, and isn't overwritten", remedy="move it away")
     return [str(found), str(token)]
 
 
@@ -150,7 +150,7 @@ class Beside:
         if stamp_ is not None:
             yield SentenceKind.GOOD if stamp_.when else SentenceKind.WRONG, f"{self.path}: {stamp_.said()}"
         else:
-            what = "no time stamp was compared: that it was signed when it says is its own word"
+            what = "no time stamp was compared: the time of signing is only what the signature says"
             yield SentenceKind.NOTE, f"{self.path}: {what}"
 
     def _stamped(self, authority: str | None, signature: str) -> Stamped | None:

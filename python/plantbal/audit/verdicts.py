@@ -107,7 +107,7 @@ def _told(text: Text, verdict: Values, at: _At, head: str, said: str) -> Explain
     """Return what is said of a row of a report."""
     code = int(verdict["code"])
     if at.record is None:
-        sentence = f"{head}: {said}; its row isn't found in this file"
+        sentence = f"{head}: {said}; its row isn't in this file"
         return ExplainedRow(text.source, 0, 0, code, verdict["word"], sentence)
     record, places, fields = at.record, places_of(at.record), text.fields(at.record)
     label = at.first
@@ -163,7 +163,7 @@ def _column_fits(column: Column, said: str) -> bool:
 
 
 def _unfit(row: Row, record: Record, type_: str) -> str:
-    """Return the first column of a type whose field isn't of its form, or nothing."""
+    """Return the first column of a type whose field has the wrong form, or nothing."""
     places = places_of(record)
     for column in row.columns:
         at = places.get(column.name, 0)
@@ -269,7 +269,7 @@ def _count_said(record: Record, row: Row, seen: _Seen) -> str:
     count = len(row.columns) + 1
     if row.kind == "stream" and seen.columns:
         count = seen.columns
-    said = f"it has {len(record.fields)} fields, and {count} are asked"
+    said = f"it has {len(record.fields)} fields, and {count} are expected"
     if row.kind == "stream" and seen.columns:
         said += ", as many as the first stream row of the block has"
     elif row.kind == "stream":
@@ -280,7 +280,7 @@ def _count_said(record: Record, row: Row, seen: _Seen) -> str:
 
 
 def _form_said(record: Record, row: Row, code: int) -> tuple[_At, str]:
-    """Return where a field isn't of its form, and what it has to be."""
+    """Return where a field has the wrong form, and what it has to be."""
     first = _unfit(row, record, {3: "name", 4: "number", 7: "word"}[code])
     if not first and code == 4 and row.kind == "stream":
         values = dict(zip(places_of(record), record.fields[1:]))
@@ -321,7 +321,7 @@ def _unknown_said(text: Text, record: Record, row: Row, seen: _Seen) -> tuple[_A
 
 
 def _shape_said(record: Record, seen: _Seen) -> tuple[_At, str]:
-    """Return which of a certificate's fields isn't of its form."""
+    """Return which of a certificate's fields has the wrong form."""
     places = places_of(record)
     side, parts = record.fields[places["side"]], record.fields[places["parts"]]
     if record.fields[places["shape"]] == "cycle" and side:

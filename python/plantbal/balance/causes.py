@@ -23,4 +23,4 @@ class BalanceCause(Causes):
     NO_ERROR_OF_MEASURE = "{text!r} isn't an error of what was measured"
     NO_UNIT = "there is no unit {name}"
     SAME_ENDS = "{name} begins and ends at {node}"
-    WATER_BELOW_0 = "{text} of water is below nothing"
+    WATER_BELOW_0 = "{text} of water is below 0"

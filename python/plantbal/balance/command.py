@@ -52,7 +52,7 @@ needed. The measure is solids (the part of the pulp, such as 34 %), density (of 
 1.62 t/m3, with the solids density beside it), or water: a stream of water alone, in t or m3, with
 its ends. Without a value such a stream is found by the balances.
 
-The grade of what a tank gained stands below its gain. That of what it holds needs what it held
+The grade of what a tank gained comes below its gain. That of what it holds needs what it held
 before, which no row of a session says: --held says it, tonnes and grades, each with its error.
 
 --chart draws the grades, each as it was assayed and as it is reconciled, with two standard
@@ -125,7 +125,7 @@ def _asked(options: argparse.Namespace) -> AskedPeriod:
     names = [flow.name for flow in asked.problem.flows]
     for name in [*options.feed, *options.closed]:
         if name not in names:
-            remedy = f"say one of {', '.join(names)}"
+            remedy = f"use one of {', '.join(names)}"
             raise Fault(f"there is no stream {name}", text=name, remedy=remedy)
     return asked
 
@@ -163,7 +163,7 @@ def _chart(path: str, known: Known) -> None:
 
     form = Path(path).suffix[1:].lower()
     if form not in ENDINGS:
-        raise WordsFault(f"{path} ends with {form!r}", text=path, remedy="say .svg, .png or .pdf")
+        raise WordsFault(f"{path} ends with {form!r}", text=path, remedy="use .svg, .png or .pdf")
     with replacing(path) as made:
         write_chart(of_known(known), made, form)
 

@@ -53,13 +53,13 @@ def offers_of(path: str, state: PeriodState, locale: str = "") -> list[Instrumen
     for cells in _rows_of(path):
         stream, component = cells["stream"].text, cells["component"].text
         if stream not in state.problem.place:
-            remedy = f"say one of {', '.join(state.problem.place)}"
+            remedy = f"use one of {', '.join(state.problem.place)}"
             what = BalanceCause.NO_STREAM(name=stream)
             raise reader.fault(cells["stream"], what, remedy, "stream")
         if component and component not in state.problem.components:
             there = ", ".join(state.problem.components) or "none"
             what = BalanceCause.NO_GRADE(component=component)
-            raise reader.fault(cells["component"], what, f"there are those of {there}", "component")
+            raise reader.fault(cells["component"], what, f"the components are {there}", "component")
         cost = reader.number(cells["cost"], "cost")
         if cost != int(cost) or cost < 0:
             remedy = "write a whole number from 0, in any unit, such as cents"
@@ -70,7 +70,7 @@ def offers_of(path: str, state: PeriodState, locale: str = "") -> list[Instrumen
         )
         if any((each.stream, each.component) == (stream, component) for each in found):
             what = BalanceCause.OFFER_TWICE(offer=one.said)
-            raise reader.fault(cells["stream"], what, "leave one of both out", "stream")
+            raise reader.fault(cells["stream"], what, "leave one of the two out", "stream")
         found.append(Instrument(stream, component, one.deviation, int(cost)))
     return found
 
@@ -118,7 +118,7 @@ def named(text: str, state: PeriodState) -> Instrument:
     name, _, error = text.partition("=")
     stream, _, component = name.partition(":")
     if stream not in state.problem.place:
-        remedy = f"say one of {', '.join(state.problem.place)}"
+        remedy = f"use one of {', '.join(state.problem.place)}"
         raise Fault(f"there is no stream {stream}", text=text, remedy=remedy)
     if component and component not in state.problem.components:
         there = ", ".join(state.problem.components) or "none"
@@ -161,7 +161,7 @@ def run(options: argparse.Namespace, source: str, data: bytes) -> int:
     if options.want or options.redundant or options.budget is not None:
         if add or lose:
             raise WordsFault(
-                "--add and --lose are of a what-if", remedy="ask for one thing at a time"
+                "--add and --lose are for a what-if", remedy="ask for one thing at a time"
             )
         choice, said = _bought(options, state, offers)
         lines += list(_choice_lines(choice, said))
@@ -184,7 +184,7 @@ def _with_error(text: str, state: PeriodState) -> Instrument:
     """Return what is to be added."""
     found = named(text, state)
     if not found.deviation:
-        remedy = f"say it, such as {text}=2%"
+        remedy = f"give it, such as {text}=2%"
         raise Fault(f"{found.said} has no error", text=text, remedy=remedy)
     return found
 
@@ -199,7 +199,7 @@ def _bought(
     aims = [bool(options.want), bool(options.redundant), options.budget is not None]
     if sum(aims) > 1:
         raise WordsFault(
-            "there are several aims", remedy="say one of --want, --redundant and --budget"
+            "there are several aims", remedy="use one of --want, --redundant and --budget"
         )
     streams = [flow.name for flow in state.problem.flows]
     if options.redundant:
@@ -272,6 +272,6 @@ def _draw(path: str, changes: Sequence[SpreadChange]) -> None:
 
     form = Path(path).suffix[1:].lower()
     if form not in ENDINGS:
-        raise WordsFault(f"{path} ends with {form!r}", text=path, remedy="say .svg, .png or .pdf")
+        raise WordsFault(f"{path} ends with {form!r}", text=path, remedy="use .svg, .png or .pdf")
     with replacing(path) as made:
         write_worth(changes, made, form)

@@ -81,7 +81,7 @@ class Problem:
     Raises
     ------
     Fault
-        If a name is there twice or isn't known, or a figure can't be one.
+        If a name appears twice or isn't known, or a figure can't be one.
     """
 
     flows: Sequence[Flow]
@@ -95,7 +95,7 @@ class Problem:
         for flow in self.flows:
             if flow.name in names:
                 raise Fault(
-                    f"the stream {flow.name} is there twice", remedy="give each its own name"
+                    f"the stream {flow.name} appears twice", remedy="give each its own name"
                 )
             names.add(flow.name)
             if flow.start == flow.end:

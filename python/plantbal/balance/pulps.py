@@ -56,7 +56,7 @@ def with_water(problem: Problem, path: str, period: str, locale: str = "") -> Pr
     reader = Reader(check_locale(locale))
     if WATER in problem.components:
         both = f"{WATER} is both assayed and in {path}"
-        raise InputFault(both, place=Place(file=path), remedy="leave one of both out")
+        raise InputFault(both, place=Place(file=path), remedy="leave one of the two out")
     flows = {flow.name: flow for flow in problem.flows}
     grades = dict(problem.grades)
     for cells in _rows_of(path):
@@ -65,7 +65,7 @@ def with_water(problem: Problem, path: str, period: str, locale: str = "") -> Pr
         name, measure = cells["stream"].text, _measure(reader, cells["measure"])
         if (name, WATER) in grades or (name in flows and flows[name].only):
             what = BalanceCause.WATER_TWICE(name=name)
-            raise reader.fault(cells["stream"], what, "leave one of both out", "stream")
+            raise reader.fault(cells["stream"], what, "leave one of the two out", "stream")
         if measure is Measure.WATER:
             if name in flows:
                 remedy = "give water alone a name of its own, or write the solids of the pulp"
@@ -74,7 +74,7 @@ def with_water(problem: Problem, path: str, period: str, locale: str = "") -> Pr
             flows[name] = _alone(reader, problem, name, cells)
             continue
         if name not in flows:
-            remedy = f"say one of {', '.join(problem.place)}"
+            remedy = f"use one of {', '.join(problem.place)}"
             what = BalanceCause.NO_STREAM(name=name)
             raise reader.fault(cells["stream"], what, remedy, "stream")
         solids = _solids(reader, cells) if measure is Measure.SOLIDS else _by_density(reader, cells)
@@ -156,7 +156,7 @@ def _alone(reader: Reader, problem: Problem, name: str, cells: dict[str, Cell]) 
     for head in ("from", "to"):
         node = cells[head].text or ENV
         if node != ENV and node not in problem.nodes:
-            remedy = f"say one of {', '.join(problem.nodes)}, or leave it empty for outside"
+            remedy = f"use one of {', '.join(problem.nodes)}, or leave it empty for outside"
             raise reader.fault(cells[head], BalanceCause.NO_UNIT(name=node), remedy, head)
         ends.append(node)
     if ends[0] == ends[1]:

@@ -107,7 +107,7 @@ class NoMinimum(Fault):
     def __init__(self, bound: Bound) -> None:
         super().__init__(
             f"no flows and grades fit the measurements best: {bound.said}, and the greater it is, the"
-            " better they fit, without an end",
+            " better they fit, without limit",
             remedy="add a meter or an assay there, or look at the assays around it",
         )
         self.bound = bound
@@ -210,9 +210,7 @@ def solve(problem: Problem) -> Solution:
             active.append(max(passed, key=lambda one: one.excess(vector)))
         else:
             active.remove(min(loose.items(), key=lambda pair: float(pair[1]))[0])
-    raise NotFound(
-        "a flow or a grade that can't be below nothing", max(b.excess(vector) for b in bounds)
-    )
+    raise NotFound("a flow or a grade that can't be below 0", max(b.excess(vector) for b in bounds))
 
 
 def _beyond(system: System, vector: Any, active: list[Bound], bound: Bound) -> Any:

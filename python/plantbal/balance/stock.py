@@ -19,7 +19,7 @@ from plantbal.faults import Fault
 from plantbal.workbook.cells import Reader
 from plantbal.workbook.sheets import Cell, Sheet
 
-_SUCH = "say --held STOCK=12000t,1% for tonnes, and --held STOCK:cu=26.2%,1% for a grade"
+_SUCH = "use --held STOCK=12000t,1% for tonnes, and --held STOCK:cu=26.2%,1% for a grade"
 Held = dict[tuple[str, str], Measured]
 
 

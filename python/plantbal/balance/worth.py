@@ -191,7 +191,7 @@ def changed(state: PeriodState, add: Iterable[Instrument], lose: Iterable[Instru
     for each in lose:
         if (each.stream, each.component) not in there:
             names = ", ".join(sorted(other.said for other in state.here))
-            raise Fault(f"{each.said} isn't measured", text=each.said, remedy=f"say one of {names}")
+            raise Fault(f"{each.said} isn't measured", text=each.said, remedy=f"use one of {names}")
         del there[each.stream, each.component]
     left = [*there.values(), *add]
     if all(each.component for each in left):

@@ -143,11 +143,11 @@ def checked_rule(code: str, names: Sequence[str]) -> None:
         words = ", ".join(code for code, rule in RULES.items() if rule.severity != "error")
         raise Fault(f"{code!r} isn't a rule that can be quieted", text=code, remedy=f"say {words}")
     if code in list(Gate) and not Gate(code).is_of_names:
-        remedy = f"say it at each close: --anyway '{code}=REASON'"
+        remedy = f"give it at each close: --anyway '{code}=REASON'"
         raise Fault(f"{code}: {about(Gate(code))} is of a single month", text=code, remedy=remedy)
     if not names:
         remedy = "name the streams, tanks or units for which it is quieted"
-        raise Fault(f"{code} is quieted for names alone", text=code, remedy=remedy)
+        raise Fault(f"{code} can be quieted only for names", text=code, remedy=remedy)
 
 
 def without_quiet(

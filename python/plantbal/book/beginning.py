@@ -82,10 +82,10 @@ def check_nothing_is_there(book: Store, year: str) -> None:
         if is_year_file(name) and name != year_file(year) and kind not in PLANT_KINDS:
             continue
         raise InputFault(
-            "it is there already, and isn't written over",
+            "it already exists, and isn't overwritten",
             place=Place(file=str(book.path(name))),
             remedy="if it is of a book whose journal is lost, put back journal.csv from a backup; "
-            "otherwise move it away, or name another folder by --book",
+            "otherwise move it away, or name another folder with --book",
         )
 
 
@@ -98,7 +98,7 @@ def check_year(name: str) -> None:
         If it is none.
     """
     if not is_year(name) or (len(name) == 4 and calendar_year(name) is None):
-        remedy = f"say four digits, {FIRST_DAY.year} to {LAST_DAY.year}, or more: 2024, 2024-2"
+        remedy = f"write four digits, {FIRST_DAY.year} to {LAST_DAY.year}, or more: 2024, 2024-2"
         raise Fault(f"{name!r} isn't a year", text=name, remedy=remedy)
 
 

@@ -126,7 +126,8 @@ class Chain:
         for name, kept in state_of(self.lines).items():
             data = self._read(name)
             if data is None:
-                yield FileDifference(name, None, f"it is gone; {self._last(name).said()} left it")
+                last = self._last(name).said()
+                yield FileDifference(name, None, f"it no longer exists; {last} wrote it last")
             elif len(data) != kept.size or hashlib.sha256(data).hexdigest() != kept.digest:
                 yield self._difference(name, data)
             elif whole and is_year_file(name):

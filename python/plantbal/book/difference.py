@@ -119,7 +119,7 @@ def difference_of(book: Store, period: str, words: Sequence[str]) -> Difference:
         remedy = f"plantbal-desk book report {period}"
         raise Fault(f"{period} has no report yet", remedy=remedy)
     if len(words) == 1:
-        raise WordsFault("FROM is there, and TO is missing", remedy="say both, or none")
+        raise WordsFault("FROM is there, and TO is missing", remedy="give both, or neither")
     one, other = words or (_default(book, period), NOW)
     sides = [_side(book, versions, period, word) for word in (one, other)]
     before, after = sides
@@ -246,7 +246,7 @@ def post(book: Store, period: str, *, anyway: bool, why: str, who: str) -> Diffe
         if behind:
             raise Fault(f"{period} isn't posted: {behind}", remedy="make the report first")
         if not ledger.periods[period].closed and not anyway:
-            remedy = f"plantbal-desk book close {period}, or say --anyway"
+            remedy = f"plantbal-desk book close {period}, or use --anyway"
             raise Fault(f"{period} is open, and isn't posted", remedy=remedy)
         before = last_posted(book, period)
         found = difference_of(book, period, (POSTED, NOW))

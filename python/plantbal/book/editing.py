@@ -76,7 +76,7 @@ class Other:
                 raise Fault(
                     f"{self.amount} is wet, and what is booked is dry",
                     text=self.amount,
-                    remedy="say the dry amount in tonnes, such as '1104.2 t', or add the workbook "
+                    remedy="give the dry amount in tonnes, such as '1104.2 t', or add the workbook "
                     "with its moisture again",
                 )
             values = (reader.grams(cell_of(self.amount), unit, density),)
@@ -87,7 +87,7 @@ class Other:
         if error is None:
             raise Fault(
                 f"no error of {meter.name} is known",
-                remedy="say it: --error '0.2 t'; or write it into meters.csv",
+                remedy="give it: --error '0.2 t'; or write it into meters.csv",
             )
         variance = error.variance(0 if fact.kind == "dip" else values[0], slope)
         return replace(fact, values=values, variance=variance + born)

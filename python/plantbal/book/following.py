@@ -100,7 +100,7 @@ def _follow(
         old = Years(book).last
         if year <= old.name:
             what = f"{year} doesn't come after {old.name}, the last year"
-            raise Fault(what, text=year, remedy="say a later one")
+            raise Fault(what, text=year, remedy="name a later one")
         first = first_day(year, first, book.text(f"{old.name}.csv"), old)
         action = Action(Act.NEXT, year, who=who)
         action.program = program_digest(program)
@@ -134,7 +134,7 @@ def first_day(name: str, wanted: datetime.date | None, text: str, old: YearLedge
     if wanted != first:
         raise Fault(
             f"the last period of {old.name} ends on {eve}, and {name} begins on {wanted}",
-            remedy=f"add what lies between to {old.name} first, or say --first {first}",
+            remedy=f"add what lies between to {old.name} first, or use --first {first}",
         )
     return first
 
@@ -146,7 +146,7 @@ def begun(
     plant: NextPlant,
     first: datetime.date,
 ) -> tuple[YearLedger, list[str]]:
-    """Return the next year with its plant alone, and what is passed over of another plant.
+    """Return the next year with its plant alone, and what is skipped of another plant.
 
     An action has that other plant written.
 
@@ -203,11 +203,11 @@ def dated(
     """
     kept = [row for row in rows if row[0] != "version"]
     if not any(row[0] in ("tank", "stream") and row[1] == name for row in kept):
-        remedy = "say one as plantbal-desk book status or plant.csv has it"
+        remedy = "name one as plantbal-desk book status or plant.csv has it"
         raise Fault(f"there is no tank or stream {name!r}", text=name, remedy=remedy)
     if until < first:
         what = f"{until} is before {first}, on which the next part of the year begins"
-        remedy = "periods up to there are in the book; say its last day in the part that begins"
+        remedy = "periods up to there are in the book; give its last day in the part that begins"
         raise Fault(what, text=str(until), remedy=remedy)
     found: list[tuple[str, ...]] = [("version", "2")]
     notes: list[str] = []

@@ -102,7 +102,7 @@ class Kept:
 
     @property
     def is_gone(self) -> bool:
-        """Whether the file isn't there any more."""
+        """Whether the file no longer exists."""
         return self.lines is None
 
     def __str__(self) -> str:

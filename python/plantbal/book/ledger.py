@@ -315,7 +315,7 @@ class YearLedger:
 
     @property
     def sealed(self) -> bool:
-        """Whether a period is closed, so that the plant can't change any more."""
+        """Whether a period is closed, so that the plant can no longer change."""
         return any(period.closed for period in self.session.periods)
 
     def within(self, periods: Iterable[Period]) -> Iterator[BookFact]:

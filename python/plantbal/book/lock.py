@@ -51,7 +51,7 @@ def _open(path: Path, shared: bool) -> IO[bytes] | None:
     try:
         if path.is_symlink() or (path.exists() and not stat.S_ISREG(path.lstat().st_mode)):
             raise InputFault(
-                "it is a link, a folder or a device, and no file",
+                "it is a link, a folder or a device, not a file",
                 place=Place(file=str(path)),
                 remedy="no command has made it: move it away",
             )

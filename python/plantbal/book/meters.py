@@ -76,7 +76,7 @@ def decimal(number: Fraction) -> str:
     while number.denominator != 1 and places < _LONGEST:
         number, places = number * 10, places + 1
     if number.denominator != 1:
-        raise ValueError(f"{number} has no end as a decimal number")
+        raise ValueError(f"{number} can't be written exactly as a decimal number")
     digits = f"{abs(int(number)):0{places + 1}d}"
     text = digits[:-places] + "." + digits[-places:] if places else digits
     return ("-" if number < 0 else "") + text

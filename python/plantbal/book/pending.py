@@ -91,7 +91,7 @@ def read_pending(folder: Path) -> list[PendingFile]:
     except OSError as error:
         raise unread(path, error) from error
     if not stat.S_ISREG(found.st_mode):
-        raise _foreign(path, "it is a link, a folder or a device, and no file")
+        raise _foreign(path, "it is a link, a folder or a device, not a file")
     if not may_have_left(folder, found):
         raise _foreign(path, f"it belongs to {owner_said(found.st_uid)}")
     if found.st_size > limits.PENDING_BYTES:

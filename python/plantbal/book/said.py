@@ -75,7 +75,7 @@ def added(year: YearAdded) -> str:
     return f"{year.name}.csv: {'; '.join(parts) or 'nothing new'}"
 
 
-_ASKED = "is booked, and isn't in {} any more: plantbal-desk book strike takes it out"
+_ASKED = "is booked, and is no longer in {}: plantbal-desk book strike takes it out"
 
 
 def changed(changes: Changes, name: str, struck: bool) -> list[str]:
@@ -113,7 +113,7 @@ def changed(changes: Changes, name: str, struck: bool) -> list[str]:
         f"{fact.id}: {fact.said()} {_ASKED.format(name)}" for _, fact in changes.asked[:FIRST]
     ]
     if len(changes.asked) > FIRST:
-        lines.append(f"{len(changes.asked) - FIRST:,} more aren't in {name} any more")
+        lines.append(f"{len(changes.asked) - FIRST:,} more are no longer in {name}")
     return lines
 
 

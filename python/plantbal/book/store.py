@@ -163,7 +163,7 @@ class Store:
             raise InputFault(what, place=Place(file=str(self.folder)), remedy=_LOST)
         raise FileFault(
             f"there is no book in {self.folder.resolve()}",
-            remedy="go to its folder or name it by --book, "
+            remedy="go to its folder or name it with --book, "
             "or make one: plantbal-desk book new 2024 WORKBOOK",
         )
 
@@ -291,7 +291,7 @@ class Store:
         Raises
         ------
         Submitted
-            If it wants an approval by the rules of the book, and waits for it now.
+            If it needs an approval by the rules of the book, and waits for it now.
         Fault
             If it can't be done. The fault says whether it is going to be.
         """
@@ -377,7 +377,7 @@ class Store:
         for entry in entries:
             if entry.file != JOURNAL and entry.file not in known and self.has(entry.file):
                 raise InputFault(
-                    "no action of this book has written it, and it isn't written over",
+                    "no action of this book has written it, and it isn't overwritten",
                     place=Place(file=str(self.path(entry.file))),
                     remedy="move it away, and type this again",
                 )

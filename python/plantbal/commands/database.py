@@ -24,10 +24,10 @@ gives (docs/PYTHON.md, "Databases"). All figures of the days are read, and the b
 changed or late, as `book add` does; so what was pulled already is booked once. What is changed is
 amended, with the time at which the source changed it as the reason.
 
-What was pulled and isn't at the source any more is a question: it is said, and the status is 1. With
+What was pulled and is no longer at the source is a question: it is reported, and the status is 1. With
 vanished = "strike" under its query it is struck, and with "keep" it stays without a word.
 
-A password is never a word here: it comes from the environment or a file of mode 600, as QUERIES
+A password is never an argument: it comes from the environment or a file of mode 600, as QUERIES
 says, or from .pgpass. The transaction is read only.
 
 examples:
@@ -45,7 +45,7 @@ examples:
             "--to", metavar="DAY", dest="last", help="the last day (default: yesterday)"
         )
         parser.add_argument(
-            "--dry-run", action="store_true", help="say what would be booked, and book nothing"
+            "--dry-run", action="store_true", help="show what would be booked, and book nothing"
         )
 
     @staticmethod
@@ -74,8 +74,7 @@ handed over of a period has an id. All of it is written in one transaction, or n
 database has the id, nothing is written, and the status is 0 too. A report that is made again has
 another id, and its figures come beside those of the one before.
 
-  --tables prints the statements that make both tables, for who has the right to
-
+  --tables prints the statements that make both tables, for whoever has the right to run them 
 examples:
   plantbal-desk push erp.toml --tables
   plantbal-desk push erp.toml 2024-04 --book mill
@@ -104,7 +103,7 @@ examples:
             if found.is_new:
                 print(f"{period}: {count} figures are written, as {identity}")
             else:
-                print(f"{period}: {identity} is there already, so nothing is written")
+                print(f"{period}: {identity} already exists, so nothing is written")
         return ExitStatus.GOOD
 
 

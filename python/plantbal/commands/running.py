@@ -73,7 +73,7 @@ def writer_of(path: str) -> Callable[[Output], object]:
         return writers[".csv"]
     if ending not in writers:
         raise WordsFault(
-            f"{path} ends with {ending!r}", text=path, remedy="say .csv, .sqlite or .xlsx"
+            f"{path} ends with {ending!r}", text=path, remedy="use .csv, .sqlite or .xlsx"
         )
     if not Path(path).parent.is_dir():
         raise unwritten(path, OSError(errno.ENOENT, os.strerror(errno.ENOENT)))
@@ -305,7 +305,7 @@ examples:
 SOLVE = SimpleNamespace(
     __doc__="Reconciles a session with scipy, and returns only what plantbal's check accepts.",
     HELP=f"""
-It serves plants on which sweeps don't come near, such as long lines of units with equal meters.
+It serves plants on which sweeps don't converge, such as long lines of units with equal meters.
 SESSION is a file; without it standard input is read.{OUTPUT_HELP}
 examples:
   plantbal-desk solve line.csv --out line.csv

@@ -40,7 +40,7 @@ def run(options: argparse.Namespace) -> int:
     from plantbal.faults import Fault, ToolMissing
 
     if not 0 <= options.port <= 65_535:
-        raise Fault(f"{options.port} isn't a port", remedy="leave it out, or say one above 1023")
+        raise Fault(f"{options.port} isn't a port", remedy="leave it out, or use one above 1023")
     try:
         import django  # noqa: F401
     except ModuleNotFoundError as error:

@@ -120,7 +120,7 @@ def _engine(queries: Queries, password: Password, writing: bool) -> Any:
         package = _PACKAGES.get(dialect, f"a driver for {dialect}")
         raise ToolMissing(f"driver for {dialect}", package) from None
     except sqlalchemy.exc.NoSuchModuleError:
-        remedy = f"say one of sqlite, {', '.join(_PACKAGES)}"
+        remedy = f"use one of sqlite, {', '.join(_PACKAGES)}"
         raise InputFault(f"there is no database {dialect!r}", place=place, remedy=remedy) from None
 
 

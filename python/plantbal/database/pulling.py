@@ -122,7 +122,7 @@ class SourceTimes:
         When a row was deleted no source says.
         """
         if is_gone:
-            return f"not at the source any more ({self.source})"
+            return f"no longer at the source ({self.source})"
         times = [self._own.get((fact.place, fact.first), "")]
         times.append(self._own.get((fact.id, fact.id), ""))
         for names, first, last, at in self._beside:
@@ -223,11 +223,11 @@ def _days(
     if calendar is not None:
         days.append(datetime.date(calendar, 1, 1))
     if first is None and not days:
-        raise Fault(f"nothing says on which day {year} begins", remedy="say --from DAY")
+        raise Fault(f"nothing says on which day {year} begins", remedy="use --from DAY")
     begin = first or min(days)
     end = last or datetime.date.today() - _DAY
     if end < begin:
-        raise Fault(f"{end} is before {begin}", text=str(end), remedy="say other days")
+        raise Fault(f"{end} is before {begin}", text=str(end), remedy="choose other days")
     return begin, end
 
 

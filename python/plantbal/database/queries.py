@@ -18,7 +18,7 @@ They are in a TOML file that a person writes:
     good = ["Good", 192]
     bad = ["Bad", 0]
     changed = "changed"              # the column that says when the source changed the row
-    vanished = "ask"                 # what was pulled and isn't there any more; or "strike", "keep"
+    vanished = "ask"                 # what was pulled and no longer exists; or "strike", "keep"
 
     [limits]
     rows = 2000000
@@ -70,7 +70,7 @@ class Query:
     changed : str
         The column that says when the source changed the row last; empty if there is none.
     vanished : Vanished
-        What becomes of a fact that was pulled by it and isn't there any more.
+        What becomes of a fact that was pulled by it and no longer exists.
     """
 
     sheet: str
@@ -208,7 +208,7 @@ class _Reader:
             )
         if good & bad:
             both = ", ".join(sorted(good & bad))
-            raise self.fault(f"{where}: {both} is good and bad", "leave one of both out")
+            raise self.fault(f"{where}: {both} is good and bad", "leave one of the two out")
         changed, sql = self._text(found, "changed", where, ""), self._text(found, "sql", where)
         return Query(sheet, sql, quality, good, bad, changed, self._vanished(found, where))
 

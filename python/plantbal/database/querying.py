@@ -183,7 +183,7 @@ class _QueryReading:
             if head.casefold() in _FIGURES:
                 return head
         remedy = f"call it one of {', '.join(_FIGURES)}"
-        raise self.fault("no column has the figure whose quality is told", remedy)
+        raise self.fault("no column has the figure that this quality describes", remedy)
 
     def _is_good(self, code: Any, at: int) -> bool:
         text = str(code).casefold()

@@ -170,7 +170,7 @@ def _ticket_said(candidate: Candidate, name: str, size: str, unit: str) -> str:
         booked = f" (of nearly this amount: {alike})" if alike else ""
         return f"a ticket of {name} of {size} is missing{booked}"
     if candidate.kind is ErrorKind.TWICE:
-        return f"a ticket of {name} of {size} is there twice, or belongs elsewhere ({alike})"
+        return f"a ticket of {name} of {size} appears twice, or belongs elsewhere ({alike})"
     which = f"the ticket {candidate.fact.id} of {name} is" if candidate.fact else f"{name} is"
     return f"{which} {size} {way(candidate.error)}{unit}"
 

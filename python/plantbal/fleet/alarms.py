@@ -115,8 +115,8 @@ def _untested(row: FleetRow, has_critical: bool, level: float | None) -> Iterato
         return
     if has_critical:
         yield (
-            "the global test can't be made: there are critical values, and none for "
-            f"{row.dof} degrees of freedom; a meter is missing, or is one too many"
+            "the global test can't be made: there are critical values, but none for "
+            f"{row.dof} degrees of freedom; a meter is missing, or there is one too many"
         )
     else:
         yield (

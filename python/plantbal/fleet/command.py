@@ -45,8 +45,7 @@ SQLite. All commands find what is in it: as OUT/nights/NIGHT/outputs.sqlar/SITE/
 under the names above, such as OUT/SITE/latest/output.csv. `sqlite3 outputs.sqlar -Ax` unpacks it.
 
 An output is put in its place only when it is complete. A fleet that was stopped continues if you
-give the same words again: plants that have their output aren't run again, unless the session, the
-program or the words have changed.
+give the same command again: plants that have their output aren't run again, unless the session, the program or the options have changed.
 
 The table goes to standard output too, with a row for each period's last report:
 
@@ -64,11 +63,11 @@ as great as that if there is no gross error. `verdict` is that of the global tes
 row is refused, or if a stream was taken out. `look` says why somebody has to look: a row is
 refused, there is no report, it hasn't converged, the global test rejects or can't be made, a
 stream carries more of a component than there is of it, the session is stale, or it has gone. A
-plant whose session has gone is told each night until --forget SITE. Standard error says so too. The
-status is 1 if somebody has to look at any plant, 3 if no plant could be run or the night couldn't
+plant whose session has gone is reported each night until --forget SITE. Standard error says so too.
+The status is 1 if somebody has to look at any plant, 3 if no plant could be run or the night couldn't
 be kept, and 0 otherwise.
 
-Words after a single -- are given to plantbal; the default is `run`:
+Arguments after a single -- are given to plantbal; the default is `run`:
 
   plantbal-desk fleet --out nights sessions -- run --tests > table.csv
   plantbal-desk fleet --timeout 600 --retries 2 --out nights sessions -- run --tests > table.csv
@@ -101,14 +100,14 @@ def add_arguments(parser: argparse.ArgumentParser) -> None:
     add("--send", action="store_true", help="send bytes to the cluster, not paths")
     program = "the program (default: that of PLANTBAL, of the path, or of this checkout)"
     add("--program", metavar="PATH", help=program)
-    add("--lint", action="store_true", help="say what lint warns of, too")
-    stale = "tell plants whose session is the same, or whose last fact is older, than 26h or 3d"
+    add("--lint", action="store_true", help="show what lint warns of, too")
+    stale = "report plants whose session hasn't changed, or whose last fact is older, for 26h or 3d"
     add("--stale", metavar="AGE", type=age_of, help=stale)
     level = "test reports without a critical value at this level, such as 0.01"
     add("--level", metavar="P", type=level_of, help=level)
-    forget = "tell no longer that this plant has no session"
+    forget = "stop reporting that this plant has no session"
     add("--forget", metavar="SITE", action="append", default=[], help=forget)
-    nights = "take away the files of nights before the newest N; the database keeps their tables"
+    nights = "remove the files of nights before the newest N; the database keeps their tables"
     add("--keep", metavar="N", type=_count, help=nights)
     pack = "keep the outputs of all plants in one file of the night, nights/NIGHT/outputs.sqlar"
     add("--pack", action="store_true", help=pack)
@@ -183,7 +182,7 @@ def run(options: argparse.Namespace) -> int:
     say: Callable[[str], None] = lambda said: print(f"{options.prog}: {said}", file=sys.stderr)
     elsewhere = options.scheduler is not None
     if options.engine == "parallel" and (elsewhere or options.send):
-        say("--scheduler and --send are words for dask: leave --engine parallel out")
+        say("--scheduler and --send are options for dask: leave --engine parallel out")
         return ExitStatus.USAGE
     program = _program(options.program, elsewhere)
     out, folder = Path(options.out), Path(options.folder)
@@ -217,7 +216,7 @@ def run(options: argparse.Namespace) -> int:
             fleet.run(engine, asked, options.again)
         except KeyboardInterrupt:
             count = f"{len(fleet.plants)} of {len(chosen.sites) + len(chosen.wrong)} plants"
-            say(f"stopped after {count}: the same words with --date {name} run the others")
+            say(f"stopped after {count}: the same command with --date {name} runs the others")
             return ExitStatus.STOPPED
         from plantbal.fleet.index import index
         from plantbal.fleet.keep import Times, keep, table, thin_out
@@ -327,7 +326,7 @@ def _program(named: str | None, elsewhere: bool) -> Path:
         return find_program(named).absolute()
     if named is None:
         raise WordsFault(
-            "no program is named", remedy="say --program PATH, where each machine has it"
+            "no program is named", remedy="use --program PATH, where each machine has it"
         )
     return Path(named)
 

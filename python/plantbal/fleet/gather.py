@@ -37,7 +37,7 @@ from plantbal.schema import schema
 
 _VERDICTS = {
     "reject": "the global test rejects",
-    "undecided": "the global test is undecided; a smaller --gap among the words decides it",
+    "undecided": "the global test is undecided; a smaller --gap decides it",
 }
 # The bytes of a session in which its periods are looked for first.
 _HEAD = 1 << 16
@@ -131,7 +131,7 @@ def gather(night: Night, site: Site, kept: KeptPlant, given: Given) -> FleetPlan
         what = (
             f"it was run by another program than the others, with the SHA-256 {run.program_sha256}"
         )
-        plant.why.append(f"{what}: install the same one on each machine, and say --again")
+        plant.why.append(f"{what}: install the same one on each machine, and use --again")
     if night.wants_days:
         plant.last_day = last_day(told.session)
     if kept.size <= JUDGED_BYTES:
@@ -291,7 +291,7 @@ def _of_solution(told: GatheredOutput, block: Block, solved: Values) -> list[str
         if block.head[name] != wanted:
             said.append(f"its report has the {name} {block.head[name]}, and {wanted} was asked for")
     if solved["state"] != "converged":
-        said.append("its report isn't converged; --sweeps among the words allows more sweeps")
+        said.append("its report isn't converged; --sweeps allows more sweeps")
     if told.refused and solved["dof"] == "0":
         said.append("without the refused rows nothing checks its flows: don't book them")
     if block.taken:

@@ -72,7 +72,7 @@ class Given:
         try:
             # A pipe isn't opened: that would wait for whoever writes to it.
             if stat.S_IFMT(path.stat().st_mode) not in (stat.S_IFREG, stat.S_IFDIR):
-                raise OSError(errno.EINVAL, "it is a pipe or a device, and no file")
+                raise OSError(errno.EINVAL, "it is a pipe or a device, not a file")
             with path.open("rb") as file:
                 found = os.fstat(file.fileno())
                 digest = _digest(file, path, found.st_size)

@@ -36,8 +36,8 @@ _NUMBERS = {
 _LATER = {"p"}
 # What to do about a database that is good and can't be written.
 _REMEDIES = {
-    sqlite3.SQLITE_FULL: "make room",
-    sqlite3.SQLITE_IOERR: "make room",
+    sqlite3.SQLITE_FULL: "free some space",
+    sqlite3.SQLITE_IOERR: "free some space",
     sqlite3.SQLITE_BUSY: "close it in the other program that has it open",
     sqlite3.SQLITE_READONLY: "ask for the right to write there",
 }

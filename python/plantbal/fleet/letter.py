@@ -22,7 +22,7 @@ from plantbal.statuses import ExitStatus
 _ENDED = {
     ExitStatus.GOOD: "nobody has to look",
     ExitStatus.LOOK: "somebody has to look",
-    ExitStatus.USAGE: "its words are wrong: it wasn't run",
+    ExitStatus.USAGE: "its options are wrong: it wasn't run",
     ExitStatus.FAILED: "it couldn't be run, or what came of it couldn't be kept",
     ExitStatus.STOPPED: "it was stopped",
 }
@@ -75,7 +75,7 @@ class NightFile:
 
     @classmethod
     def _of(cls, found: Any) -> NightFile:
-        """Return the night of its JSON; what isn't of its form is a ValueError or a TypeError."""
+        """Return the night of its JSON; what has the wrong form is a ValueError or a TypeError."""
         ended = datetime.datetime.fromisoformat(found["ended"])
         status, plants, wanting = (found[name] for name in ("status", "plants", "wanting"))
         if ended.tzinfo is None or {type(each) for each in (status, plants, wanting)} != {int}:

@@ -212,10 +212,10 @@ class Sendmail:
                 check=False,
             )
         except FileNotFoundError as error:
-            tool = "a mail server's sendmail, such as that of exim4 or msmtp-mta; or say --smtp"
+            tool = "a mail server's sendmail, such as that of exim4 or msmtp-mta; or use --smtp"
             raise ToolMissing(self.path, tool) from error
         except subprocess.TimeoutExpired as error:
-            what = f"{self.path} isn't done after {_SECONDS:g} s"
+            what = f"{self.path} didn't finish within {_SECONDS:g} s"
             raise LetterRefused(what, may_help=True) from error
         except OSError as error:
             raise LetterRefused(f"{self.path}: {error.strerror}", may_help=False) from error

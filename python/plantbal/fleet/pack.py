@@ -118,7 +118,7 @@ class Packer:
         return FileFault(
             f"not all outputs are in it: {error}",
             place=Place(file=str(self._night.pack)),
-            remedy="make room, or move it away if it is damaged, and run the fleet again",
+            remedy="free some space, or move it away if it is damaged, and run the fleet again",
         )
 
 

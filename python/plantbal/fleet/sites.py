@@ -84,7 +84,7 @@ class _Walk:
     Attributes
     ----------
     out : Path or None
-        The folder of the nights, which is passed over.
+        The folder of the nights, which is skipped.
     recursive : bool
         Whether the folders inside are walked through, too.
     left : list of str
@@ -103,7 +103,7 @@ class _Walk:
     folders: int = 0
 
     def sessions(self, folder: Path, depth: int = 0) -> Iterator[Path]:
-        """Give the sessions in a folder, and note what else there is; hidden files are passed over.
+        """Give the sessions in a folder, and note what else there is; hidden files are skipped.
 
         Raises
         ------
@@ -154,7 +154,7 @@ class _Walk:
             except OSError as error:
                 self.unread[folder] = error.strerror or "it can't be read"
         elif _has_session(folder):
-            said = "this folder has a session or more, which aren't run: say --recursive for them"
+            said = "this folder has a session or more, which aren't run: use --recursive for them"
             self.left.append(f"{folder}: {said}")
 
 
@@ -224,7 +224,7 @@ def sites(folder: Path, *, recursive: bool = False, out: Path | None = None) -> 
     recursive : bool
         Whether those in the folders inside it are taken too.
     out : Path, optional
-        The folder of the nights, which is passed over if it is in there.
+        The folder of the nights, which is skipped if it is in there.
 
     Raises
     ------
@@ -286,7 +286,7 @@ def _name_fault(name: str, paths: list[Path]) -> InputFault | None:
     place = Place(file=str(paths[0]))
     for part in name.split("/"):
         if part in RESERVED or NIGHT.fullmatch(part) or _PAGE.fullmatch(part):
-            said = f"the name {part} is one of the nights' own"
+            said = f"the name {part} is reserved for the nights"
             return InputFault(said, place=place, remedy="rename it")
     if not name.isprintable():  # a line feed, or bytes that are no UTF-8
         said = "its name has other characters than letters, digits, signs and spaces"

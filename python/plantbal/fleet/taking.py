@@ -358,7 +358,7 @@ class Server:
         except (EOFError, ConnectionError):
             return self._failed(None)
         except OSError:
-            what = f"what is to be said of it has more than {most:,} bytes"
+            what = f"what was found in it has more than {most:,} bytes"
             return self._failed(TaskResult(End.FAULT, what))
         self._count += 1
         if task.is_large:

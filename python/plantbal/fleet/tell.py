@@ -37,8 +37,8 @@ or that takes no mail for the moment, is asked again: --tries times in all, afte
 doubles each time. If the mail can't be sent, standard error says why and has its text, and the
 status is 3. It is 0 if the mail was sent, or if there is nothing to tell.
 
-With --status the status of a night that has just ended is told too, since a night that fails early
-leaves the night.json of the night before. Under systemd it comes by itself, in the variable
+With --status the status of a night that has just ended is reported too, since a night that fails
+early leaves the night.json of the night before. Under systemd it comes by itself, in the variable
 MONITOR_EXIT_STATUS.
 
 examples:
@@ -65,10 +65,10 @@ def add_arguments(parser: argparse.ArgumentParser) -> None:
     add("--tries", metavar="N", type=whole_of(1, 100), default=5, help=tries)
     pause = "before the second try; twice as many before the third (default: 30)"
     add("--pause", metavar="SECONDS", type=seconds_of, default=30.0, help=pause)
-    add("--age", metavar="AGE", type=age_of, help="tell if no night ended for 26h, or 3d")
+    add("--age", metavar="AGE", type=age_of, help="send a mail if no night ended for 26h, or 3d")
     status = "the status that the night ended with"
     add("--status", metavar="N", type=whole_of(0, 255), help=status)
-    add("--always", action="store_true", help="tell of a good night too")
+    add("--always", action="store_true", help="send a mail after a good night too")
 
 
 def _status_of(options: argparse.Namespace) -> int | None:
@@ -91,15 +91,15 @@ def _sender_of(options: argparse.Namespace) -> Sender:
         for word in ("user", "password_file"):
             if getattr(options, word):
                 name = word.replace("_", "-")
-                raise WordsFault(f"--{name} is for a server", remedy="say --smtp HOST too")
+                raise WordsFault(f"--{name} is for a server", remedy="use --smtp HOST too")
         return Sendmail(options.sendmail or SENDMAIL)
     if options.sendmail is not None:
         raise WordsFault("--smtp and --sendmail are two ways", remedy="leave one out")
     if options.user and options.security == "none":
-        what = "the password would go over the network as it is"
-        raise WordsFault(what, remedy="say --security starttls or tls")
+        what = "the password would cross the network in plain text"
+        raise WordsFault(what, remedy="use --security starttls or tls")
     if bool(options.user) != bool(options.password_file):
-        raise WordsFault("--user and --password-file go together", remedy="say both, or none")
+        raise WordsFault("--user and --password-file go together", remedy="give both, or neither")
     return Smtp.of(options.smtp, options.security, options.user, password_of(options.password_file))
 
 

@@ -218,7 +218,7 @@ _ABOUT: dict[Gate, str] = {
     Gate.UNASSAYED: "an assay that the period before has is missing",
     Gate.IMPOSSIBLE: "a stream carries more of a component than there is of it",
     Gate.NEGATIVE_FLOW: "a flow is below 0 by more than two standard deviations",
-    Gate.TANK_JUMP: "a dip at an end of a period is where no booked flow leads",
+    Gate.TANK_JUMP: "a dip at an end of a period doesn't follow from the booked flows",
     Gate.TANK_RANGE: "a level is ten times outside the range of the tank's other dips",
     Gate.ZERO: "a meter reads 0 while the unit that it serves goes on",
     Gate.FROZEN: "a meter has the same figure for days, or all have those of the day before",

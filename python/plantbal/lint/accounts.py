@@ -57,4 +57,5 @@ def without_owner(ledger: Ledger, accounts: Accounts) -> Iterator[Finding]:
         ):
             remedy = "write its owner, shares, by receipts or by stock into the column owner"
             place = place_in(ledger, stream.line)
-            yield Finding("no-owner", f"{name} has no owner: it is nobody's", remedy, place, name)
+            what = f"{name} has no owner: it belongs to nobody"
+            yield Finding("no-owner", what, remedy, place, name)

@@ -76,8 +76,8 @@ def ends_after(seconds: float) -> Iterator[None]:
 
     def stop(*_: object) -> None:
         """Raise within the block."""
-        remedy = "say --timeout with more of them, or lint a part of the session"
-        raise Hindered(f"lint isn't done after {seconds:g} s", remedy=remedy)
+        remedy = "use --timeout with more of them, or lint a part of the session"
+        raise Hindered(f"lint didn't finish within {seconds:g} s", remedy=remedy)
 
     before = signal.signal(signal.SIGALRM, stop)
     signal.setitimer(signal.ITIMER_REAL, seconds)

@@ -55,7 +55,7 @@ RULES: dict[str, Rule] = {
         Rule("density", "warning", "a density is below 400,000 or above 3,000,000 g per m3"),
         Rule("exchanged", "warning", "each of two meters reads what the other one read before"),
         Rule("strap-slope", "warning", "a point of a strapping table breaks its slope"),
-        Rule("scatter", "warning", "errors are ten times what days scatter by, or a tenth"),
+        Rule("scatter", "warning", "errors are ten times the scatter between days, or a tenth"),
         Rule("worse-class", "warning", "a stream's class in a report is worse than by design"),
         Rule("no-critical", "warning", "there is no critical value for a report's global test"),
         Rule("no-balance", "warning", "there are assays for which no balance is asked for"),
@@ -79,7 +79,7 @@ RULES: dict[str, Rule] = {
             )
         ),
         Rule(Gate.ESTIMATED.value, "note", about(Gate.ESTIMATED)),
-        Rule("no-owner", "note", "with --accounts: what others have owners for has none"),
+        Rule("no-owner", "note", "with --accounts: it has no owner, though others have one"),
         Rule("untested", "note", "a report is asked for, and there is no critical value"),
         Rule("no-elimination", "note", "critical values that an elimination needs are missing"),
         Rule("no-transfer", "note", "a batch stream has no transfer in a period: it counts as 0"),

@@ -216,7 +216,7 @@ def no_transfers(ledger: Ledger) -> Iterator[Finding]:
                 yield Finding(
                     "no-transfer",
                     text,
-                    "book its tickets, if there are some",
+                    "book its tickets, if there are any",
                     place_in(ledger, reported.line),
                     stream,
                     name,

@@ -173,7 +173,7 @@ def _scatter_of(
     )
     text = (
         f"{who} {word} in {seen.period.name}: on a day the balance of {' '.join(balance.nodes)} "
-        f"scatters by {_tonnes(seen_scatter)}, and by the errors it would by {_tonnes(error)}"
+        f"scatters by {_tonnes(seen_scatter)}, and its errors explain {_tonnes(error)}"
     )
     remedy = (
         "compare the errors of these meters with their certificates: a digit, or percent of what?"

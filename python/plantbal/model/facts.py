@@ -248,7 +248,7 @@ class Facts:
         if (len(waiting.ids), len(waiting.slots)) == wanted:
             waiting.runs.append((run, slots))
             return True
-        # one is there twice within the run, and none of it was there before
+        # one appears twice within the run, and none of it was there before
         waiting.ids.difference_update(run.ids)
         waiting.slots.difference_update(slots)
         return False

@@ -43,7 +43,7 @@ _SAID = {
     Reason.STREAM_AND_COMPONENT_SWAPPED: "there is no stream or tank {text}, "
     "and {component} is one",
     Reason.PERIOD_AND_COMPONENT_SWAPPED: "there is no period {text}, and {component} is one",
-    Reason.PERIOD_TAKEN: "period {text} is there already",
+    Reason.PERIOD_TAKEN: "period {text} already exists",
     Reason.COST_TAKEN: "{text} has a cost already",
     Reason.DAY_TAKEN: "{of} has a {kind} of {text} already",
     Reason.ASSAY_TAKEN: "{text} has an assay of {component} in {period} already",
@@ -59,7 +59,7 @@ _SAID = {
     Reason.DAY_IN_NO_PERIOD: "{day} is in no period, between {before} and {after}",
     Reason.FACT_OF_OTHER_KIND: "{text} is a {there} stream",
     Reason.VALUES_OF_OTHER_KIND: "{text} is a {there}",
-    Reason.PLANT_SEALED: "period {period} is closed, and the plant can't change any more",
+    Reason.PLANT_SEALED: "period {period} is closed, and the plant can no longer change",
     Reason.DAYS_SEALED: "period {period} is closed, and it is in service on days of it",
     Reason.CLOSED_ALREADY: "period {text} is closed already",
     Reason.TOUCHES_CLOSED: "it touches period {period}, which is closed",

@@ -286,7 +286,8 @@ def _source(options: argparse.Namespace) -> tuple[Source, Output | None, Path | 
         if options.eliminate or options.program:
             word = "--eliminate" if options.eliminate else "--program"
             raise WordsFault(
-                f"{word} is of a run", remedy="say --run too, and the session as the file"
+                f"{word} works only with --run",
+                remedy="use --run too, and name the session as the file",
             )
         name = "standard input" if options.output == "-" else options.output
         rows = read_rows(options.output)
@@ -294,7 +295,7 @@ def _source(options: argparse.Namespace) -> tuple[Source, Output | None, Path | 
         return Source(rows, name, session), None, None
     if options.session is not None:
         place = Place(file=options.session)
-        raise InputFault("--run takes the session as its file", place=place, remedy="say it once")
+        raise InputFault("--run takes the session as its file", place=place, remedy="give it once")
     from plantbal.program import find_program
     from plantbal.runs import run as run_program
 

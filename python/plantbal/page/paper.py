@@ -82,9 +82,9 @@ def _written_by(command: list[str], seconds: float) -> bytes:
                 os.killpg(process.pid, signal.SIGKILL)
             if not isinstance(error, subprocess.TimeoutExpired):
                 raise
-            raise Hindered(f"the browser isn't done after {seconds:g} s") from error
+            raise Hindered(f"the browser didn't finish within {seconds:g} s") from error
     if process.returncode:
-        remedy = "" if not os.geteuid() else "its sandbox needs user namespaces: ask for them"
+        remedy = "" if not os.geteuid() else "its sandbox needs user namespaces: have them allowed"
         what = f"the browser ended with the status {process.returncode}"
         raise Hindered(what, remedy=remedy)
     return written

@@ -272,7 +272,7 @@ def _tests(block: Block) -> str:
     if block.whole is None:
         return (
             f"No tests were made (run with --tests). The statistic is {between} at {degrees} of "
-            f"freedom; with true variances it is {solved['dof']} on the average."
+            f"freedom; with true variances it is {solved['dof']} on average."
         )
     critical = thousandths(block.whole["critical"])
     return {

@@ -89,5 +89,5 @@ def _fault(carried: Values, flow: Values, error: int = 0) -> str:
     if least < 0:
         return ""  # nobody knows which way it flows
     if high < -error:
-        return "the other way than the stream"
+        return "against the direction of the stream"
     return "more than there is of it" if low > most + error else ""

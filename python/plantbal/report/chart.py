@@ -378,7 +378,7 @@ def run(options: argparse.Namespace) -> int:
     form = Path(options.out).suffix[1:].lower() if options.out else "svg"
     if form not in ENDINGS:
         raise WordsFault(
-            f"{options.out} ends with {form!r}", text=options.out, remedy="say .svg, .png or .pdf"
+            f"{options.out} ends with {form!r}", text=options.out, remedy="use .svg, .png or .pdf"
         )
     session = b"\n".join(read_session(path)[1] for path in options.session)
     output = read_all(options.outputs or ["-"], "report")

@@ -245,7 +245,7 @@ class _Judge:
 
     def _take_node(self, row: Values) -> None:
         if row["name"] in self.nodes and self.block is not None:
-            raise self.fault(f"the node {row['name']} is there already", row["name"])
+            raise self.fault(f"the node {row['name']} already exists", row["name"])
         self.nodes.add(row["name"])
         self._spot(row["name"])
 
@@ -265,7 +265,7 @@ class _Judge:
     def _declare(self, row: Values) -> None:
         """Take the name of a stream, and the names of those that show its class."""
         if row["name"] in self.streams:
-            raise self.fault(f"the stream {row['name']} is there already", row["name"])
+            raise self.fault(f"the stream {row['name']} already exists", row["name"])
         self.streams.add(row["name"])
         self.named.setdefault(row["parts"], self.place)
 
@@ -286,4 +286,4 @@ class _Judge:
     def _spot(self, name: str) -> None:
         """Say that a node or stream of a window is of no period."""
         if self.spots is not None and self.block is not None and name not in {"env", *self.spots}:
-            raise self.fault(f"{name} is the code of no place of the window", name)
+            raise self.fault(f"no place of the window has the code {name}", name)

@@ -48,7 +48,7 @@ class NotOk(Fault):
 
     def __init__(self, output: Output) -> None:
         super().__init__(
-            "; ".join(output.why), remedy="look at it, and say anyway=True if that is meant"
+            "; ".join(output.why), remedy="look at it, and use anyway=True if that is meant"
         )
         self.output = output
 
@@ -75,7 +75,7 @@ class Output:
     Notes
     -----
     Each table is made when it is first asked for, and who asks gets a copy: a table that is changed
-    in place changes no other one, no amount and no file. `block` is the number of the round in the
+    in place changes no other one, no amount not a file. `block` is the number of the round in the
     output, counted from 0; two reports of one period differ by it. `period` says what the round is
     of: a period, ``cu in may`` for the balance of a component, ``may to june`` for a window.
 

@@ -83,13 +83,13 @@ def _row_of_json(source: str, line: int, text: str) -> Values:
         column = getattr(error, "colno", 1)
         place = Place(file=source, line=line, column=column)
         raise InputFault(
-            f"no JSON object: {error}", place=place, text=text[:200], remedy=_AS_WRITTEN
+            f"not a JSON object: {error}", place=place, text=text[:200], remedy=_AS_WRITTEN
         ) from error
     kind = found.get("row") if isinstance(found, dict) else None
     row = schema().output.get(kind) if isinstance(kind, str) else None
     if row is None:
         raise InputFault(
-            f'no row of plantbal: its "row" is {kind!r}',
+            f'not a row of plantbal: its "row" is {kind!r}',
             place=place,
             text=text[:200],
             remedy="give what `plantbal run --format json` wrote",
@@ -109,14 +109,14 @@ def _row_of_json(source: str, line: int, text: str) -> Values:
 
 
 def _lines_of(text: str, passed: Mapping[str, int]) -> Iterator[tuple[int, list[str]]]:
-    """Give the number and the fields of each line, but not of whole rows that are passed over.
+    """Give the number and the fields of each line, but not of whole rows that are skipped.
 
     Parameters
     ----------
     text : str
         The lines. Only quotes and CR need the reader of CSV.
     passed : mapping of str to int
-        The kinds that are passed over, and how many columns such a row has after its kind.
+        The kinds that are skipped, and how many columns such a row has after its kind.
     """
     if '"' in text or "\r" in text:
         csv.field_size_limit(sys.maxsize)

@@ -337,8 +337,8 @@ def svg(dot: str) -> bytes:
     except FileNotFoundError as error:
         raise ToolMissing("`dot`", "graphviz") from error
     except subprocess.TimeoutExpired as error:
-        remedy = "draw a smaller part, or say --dot and have the text drawn by another program"
-        raise Hindered(f"dot isn't done after {seconds:g} seconds", remedy=remedy) from error
+        remedy = "draw a smaller part, or use --dot and have the text drawn by another program"
+        raise Hindered(f"dot didn't finish within {seconds:g} seconds", remedy=remedy) from error
     except subprocess.CalledProcessError as error:
         raise Hindered(f"dot ended with the status {error.returncode}") from error
 
@@ -369,11 +369,11 @@ def run(options: argparse.Namespace) -> int:
     """Write the picture."""
     rows = read_rows(options.output, "report", "design")
     if options.component and options.window:
-        raise WordsFault("a balance of a component is of one period", remedy="leave --window out")
+        raise WordsFault("a balance of a component covers one period", remedy="leave --window out")
     of_report = options.period is not None or options.round is not None
     if options.advice and (of_report or options.component or options.window):
-        what = "--advice is of a plant, not of a report"
-        raise WordsFault(what, remedy="leave the words that choose a report out")
+        what = "--advice is for a plant, not for a report"
+        raise WordsFault(what, remedy="leave out the options that choose a report")
     asked = options.period, options.round, options.component, options.window
     picture = advised(rows) if options.advice else chosen(rows, *asked)
     if options.session is not None:

@@ -43,7 +43,7 @@ or, of the first round of each period's last report, as CSV:
 
   balances   under a global test that rejects what doesn't close, the worst first: the nodes that
              unmeasured streams join, in less out, standard deviations, percent of each stream
-  holes      the errors that the tests tell: the measurements of which no readings can tell which
+  holes      the errors that the tests find: the measurements of which no readings can tell which
              is wrong, tonnes, and with --session the days and what fits them
   unseen     the measurements that nothing checks: by how much each may be too much and too little
              before a stream would flow backwards, and the streams that rest on it alone
@@ -260,7 +260,7 @@ def _write_diagnosed(options: argparse.Namespace, blocks: list[Block]) -> None:
     from plantbal.model.ledger import Ledger
 
     if options.keep and not options.session:
-        raise WordsFault("--keep is of a session", remedy="say --session FILE too")
+        raise WordsFault("--keep needs the session", remedy="use --session FILE too")
     ledger = Ledger(*read_session(options.session)) if options.session else None
     sys.stdout.write(csv_text(rows_of(options.what, blocks, ledger)))
     if options.keep and ledger is not None:
@@ -273,14 +273,16 @@ def _write_grades(options: argparse.Namespace, blocks: list[Block]) -> None:
     from plantbal.model.ledger import Ledger
 
     if not options.session:
-        raise WordsFault("grades need the assays", remedy="say --session FILE")
+        raise WordsFault("grades need the assays", remedy="use --session FILE")
     if options.window:
-        raise WordsFault("grades are those of reports", remedy="leave --window out")
+        raise WordsFault("grades are only those of reports", remedy="leave --window out")
     found = by_period(blocks, Ledger(*read_session(options.session)))
     name = options.component
     if name and not any(name in each.by_component for each in found.values()):
         there = sorted({one for each in found.values() for one in each.by_component})
-        remedy = f"there are those of {', '.join(there)}" if there else "a balance needs two assays"
+        remedy = "a balance needs two assays"
+        if there:
+            remedy = f"there are grades of {', '.join(there)}"
         raise Fault(f"there are no grades of {name}", text=name, remedy=remedy)
     for period, each in found.items():
         for said in each.said:
@@ -297,16 +299,18 @@ def run(options: argparse.Namespace) -> int:
     rows = read_rows(options.output, "report")
     choice = BlockChoice(options.component, options.window)
     if options.session and options.what not in ("holes", "grades"):
-        raise WordsFault("--session is of the tables holes and grades", remedy="leave it out")
+        raise WordsFault(
+            "--session works only with the tables holes and grades", remedy="leave it out"
+        )
     if options.keep and options.what != "holes":
-        raise WordsFault("--keep is of the table holes", remedy="leave it out")
+        raise WordsFault("--keep works only with the table holes", remedy="leave it out")
     if options.what in DIAGNOSED:
         _write_diagnosed(options, choice.of(rows))
     elif options.what == "grades":
         _write_grades(options, BlockChoice().latest(rows))
     elif options.what == "contents":
         if options.component:
-            raise WordsFault("contents are those of a window", remedy="leave --component out")
+            raise WordsFault("contents are only those of a window", remedy="leave --component out")
         sys.stdout.write(inert_frame(contents(rows)).to_csv())
     elif options.what in ("suspects", "imbalance"):
         blocks = choice.of(rows)

@@ -30,7 +30,7 @@ def fields_of(row: Mapping[str, object], number: int) -> tuple[str, ...]:
     forms = list(dict.fromkeys(each.names for each in schema().session if each.kind == kind))
     if not forms:
         kinds = ", ".join(dict.fromkeys(each.kind for each in schema().session))
-        raise InputFault(f"there is no kind {kind!r}", place=place, remedy=f"say one of {kinds}")
+        raise InputFault(f"there is no kind {kind!r}", place=place, remedy=f"use one of {kinds}")
     keys = set(row) - {"kind"}
     for names in forms:
         if keys == set(names):
@@ -49,4 +49,4 @@ def _text(value: object, name: str, place: Place) -> str:
     if isinstance(value, datetime.date) and not isinstance(value, datetime.datetime):
         return value.isoformat()
     what = f"{name} is {value!r}, of type {type(value).__name__}"
-    raise InputFault(what, place=place, remedy="say a text, a whole number or a day")
+    raise InputFault(what, place=place, remedy="use a text, a whole number or a day")

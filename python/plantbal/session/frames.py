@@ -116,8 +116,8 @@ class FrameTable:
                 "floats aren't exact" if len(series) else f"column {head} is one of floats",
                 place=self.place(0, head) if len(series) else Place(file=self.name, head=head),
                 text=str(series.iloc[0]) if len(series) else "",
-                remedy="read it with dtype=str, or make whole grams or Decimals of it; of readings say "
-                "round='gram'",
+                remedy="read it with dtype=str, or make whole grams or Decimals of it; for readings "
+                "use round='gram'",
             )
         missing = series.isna().to_numpy()
         if missing.any():

@@ -51,7 +51,7 @@ def taken_readings(
     """
     if rounded not in ("", "gram"):
         raise InputFault(
-            f"round is {rounded!r}", text=str(rounded), remedy="say 'gram', or no word"
+            f"round is {rounded!r}", text=str(rounded), remedy="use 'gram', or leave it out"
         )
     if not hasattr(frame, "columns"):
         return frame, []
@@ -176,7 +176,7 @@ class _Rows:
             frame["variance"] = [str(self._variance(stream, grams)) for stream, grams in pairs]
         elif is_wide:
             what = "nothing says how good the readings are"
-            remedy = "say error='1 % or 0.2 t', or give a mapping of streams to such texts"
+            remedy = "use error='1 % or 0.2 t', or give a mapping of streams to such texts"
             raise InputFault(what, place=Place(file="readings"), remedy=remedy)
         return frame
 
@@ -188,7 +188,7 @@ class _Rows:
         try:
             if isinstance(value, float):
                 if not self._is_rounded:
-                    remedy = "say round='gram', or make Decimals of it"
+                    remedy = "use round='gram', or make Decimals of it"
                     what = f"{value!r} is a float, which isn't exact"
                     raise InputFault(what, text=repr(value), remedy=remedy)
                 value = repr(value)
@@ -205,7 +205,7 @@ class _Rows:
         if whole != grams:
             if not self._is_rounded:
                 what = f"{head} is {value}, which is finer than a gram"
-                remedy = "say round='gram', or give at most six decimals of a tonne"
+                remedy = "use round='gram', or give at most six decimals of a tonne"
                 raise InputFault(what, place=place, text=str(value), remedy=remedy)
             self._rounded.append(label)
             self._most = max(self._most, abs(whole - grams))

@@ -44,9 +44,9 @@ class Doubt(StrEnum):
 
 _SAID = {
     Doubt.NO_SIGNATURE: "it isn't a signature of OpenSSH or minisign",
-    Doubt.UNKNOWN: "its key is nobody's among those who may sign",
+    Doubt.UNKNOWN: "its key belongs to nobody who may sign",
     Doubt.NOT_YET: "its key was not allowed yet",
-    Doubt.ENDED: "its key was not allowed any more",
+    Doubt.ENDED: "its key was no longer allowed",
     Doubt.REVOKED: "its key is revoked",
     Doubt.WRONG_USE: "its key isn't allowed for this",
     Doubt.WRONG: "it doesn't fit what is signed",

@@ -120,7 +120,7 @@ def read_signers(file: str, text: str) -> list[Signer]:
     Raises
     ------
     InputFault
-        If a line isn't of its form, or two names have a key.
+        If a line has the wrong form, or two names have a key.
     """
     found = list(_read(file, text))
     owners: dict[str, str] = {}
@@ -182,7 +182,7 @@ def _options(word: str) -> dict[str, str]:
     Raises
     ------
     ValueError
-        If one isn't known, or isn't of its form.
+        If one isn't known, or has the wrong form.
     """
     found = dict(_OPTION.findall(word))
     if ",".join(f'{name}="{value}"' for name, value in found.items()) != word:

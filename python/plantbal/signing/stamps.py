@@ -66,14 +66,14 @@ def stamp(data: bytes, server: str) -> str:
     """
     if not server.startswith(("http://", "https://")):
         raise Fault(
-            f"{server} isn't a time stamp server", text=server, remedy="write its https://.."
+            f"{server} isn't a time stamp server", text=server, remedy="write its https:// address"
         )
     with tempfile.TemporaryDirectory() as name:
         path = Path(name) / "data"
         path.write_bytes(data)
         asked = called("openssl", ["openssl", "ts", "-query", "-data", path, "-sha256", "-cert"])
         if asked.returncode != 0:
-            raise Fault(f"openssl asks for no time stamp: {said_last(asked)}")
+            raise Fault(f"openssl couldn't make the request: {said_last(asked)}")
     head = {"Content-Type": "application/timestamp-query"}
     request = urllib.request.Request(server, data=asked.stdout, headers=head)
     try:
@@ -85,7 +85,7 @@ def stamp(data: bytes, server: str) -> str:
             what, text=server, remedy="try again later, or leave the time stamp out"
         ) from error
     if len(token) > STAMP_BYTES:
-        raise Fault(f"the time stamp server {server} answers more than a time stamp", text=server)
+        raise Fault(f"the time stamp server {server} sent more than a time stamp", text=server)
     text = base64.encodebytes(token).decode("ascii")
     if _time_in(token) is None:
         raise Fault(f"the time stamp server {server} gives none", text=server)

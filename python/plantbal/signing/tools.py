@@ -49,7 +49,7 @@ def called(
             command, input=data, capture_output=True, env=settings, timeout=_SECONDS, check=False
         )
     except subprocess.TimeoutExpired as error:
-        what = f"{words[0]} isn't done after {_SECONDS:g} s"
+        what = f"{words[0]} didn't finish within {_SECONDS:g} s"
         raise ProgramFault(what, status=-1, name="Timeout") from error
 
 

@@ -38,11 +38,11 @@ stream, cost and cycle; with --draw the plant is drawn, with the streams to mete
 
 With --period the flows and grades of a period of the session are looked at, with the errors of
 meters and assays, and all comes with ± of both; this part isn't proved. --add and --lose say what
-the ± of every flow and grade would be with a meter or an assay more or fewer, without a reading.
+the ± of every flow and grade would be with one more meter or assay, or one fewer; no reading is needed.
 COSTS has the columns stream, component (empty for a meter), cost and error then, and the cheapest
 of these offers are chosen: for a ± (--want), to keep every flow known if any one meter or assay
 fails (--redundant), or for the least ± that a budget buys (--budget). --draw draws ± before and
-after. The proved advice stands below, as that for meters alone and for observability alone.
+after. The proved advice comes after it, for meters alone and for observability alone.
 
 examples:
   plantbal-desk advise plant.csv costs.csv --draw meters.svg
@@ -148,7 +148,7 @@ def read_costs(path: str | Path, plant: Session, locale: str = "") -> dict[str, 
             raise reader.fault(stream, what, "take the row out", "stream")
         if name in found:
             what = OfferCause.TWICE(name=name)
-            raise reader.fault(stream, what, "leave one of both out", "stream")
+            raise reader.fault(stream, what, "leave one of the two out", "stream")
         number, column = reader.number(cost, "cost"), schema().row("advise").tail[1]
         low, high = column.low or 0, column.high or 0
         if number != int(number) or not low <= number <= high:

@@ -120,7 +120,7 @@ def add_arguments(parser: argparse.ArgumentParser) -> None:
 def run(options: argparse.Namespace) -> int:
     """Write the rows."""
     if not (options.dof or options.nodal or options.measure):
-        options.error("say degrees of freedom, --nodal or --measure")
+        options.error("give degrees of freedom, --nodal or --measure")
     for dof in sorted({dof for some in options.dof for dof in some}):
         print(f"critical,global,{dof},{thousandths(options.level, dof)}")
     for kind in ("nodal", "measure"):

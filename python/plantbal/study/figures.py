@@ -53,7 +53,7 @@ class Figures:
     def __post_init__(self) -> None:
         if self.unit not in _GRAMS:
             what = f"there is no unit {self.unit!r} of figures"
-            raise InputFault(what, text=str(self.unit), remedy="say 'tonnes' or 'grams'")
+            raise InputFault(what, text=str(self.unit), remedy="use 'tonnes' or 'grams'")
 
     def solution(self, block: Block) -> BlockSolution:
         """Return the figures as whole flows that balance, and prices.

@@ -43,7 +43,7 @@ together. A stream that nothing determines has no figure.
 With --feed the shares are of what that stream carries, such as the feed of a mill that has a
 stockpile before it. A stream that --product names is in the table too, wherever it flows.
 
-Beside stands the grade, what the stream carries in parts of its flow, and by how much that is off
+Beside it is the grade, what the stream carries in parts of its flow, and by how much that is off
 the assay, in standard deviations of the assay. All standard deviations are from the errors of
 assays and meters. If OUTPUT has no report of the period, they are of the assays alone, and standard
 error says so. It also says which streams carry more of a component than there is of them, and if
@@ -138,7 +138,7 @@ def _check_names(blocks: Sequence[Block], names: Sequence[str]) -> None:
     for name in names:
         if name not in there:
             raise Fault(
-                f"there is no stream {name}", text=name, remedy=f"say one of {', '.join(there)}"
+                f"there is no stream {name}", text=name, remedy=f"use one of {', '.join(there)}"
             )
 
 
@@ -150,7 +150,7 @@ def _not_known(balances: Sequence[ComponentBalance]) -> Iterator[str]:
             names = ", ".join(dict.fromkeys(name for balance in own for name in balance.unknown))
             periods = ", ".join(balance.block.period for balance in own)
             what = f"nothing determines the {component} of {names} in {periods}, so no share is"
-            yield f"{what} known there: assay it, or say --feed STREAM, such as a mill's feed"
+            yield f"{what} known there: assay it, or use --feed STREAM, such as a mill's feed"
 
 
 def _exact(balances: Sequence[ComponentBalance]) -> Iterator[str]:
@@ -167,12 +167,12 @@ def _chart(options: argparse.Namespace, output: Output, shares: Sequence[Share])
 
     form = Path(options.chart).suffix[1:].lower()
     if form not in ENDINGS:
-        what, remedy = f"{options.chart} ends with {form!r}", "say .svg, .png or .pdf"
+        what, remedy = f"{options.chart} ends with {form!r}", "use .svg, .png or .pdf"
         raise WordsFault(what, text=options.chart, remedy=remedy)
     components = list(dict.fromkeys(each.component for each in shares))
     if len(components) > 1:
         what = f"there are balances of {', '.join(components)}"
-        raise Fault(what, remedy="say which one is charted: --component NAME")
+        raise Fault(what, remedy="choose one with --component NAME")
     session = read_session(options.session)[1] if options.session else b""
     trend = trend_of(output, session, components[0])
     products = products_of(shares, options.product)

@@ -61,7 +61,7 @@ def solve(
 ) -> Output:
     """Reconcile a session by another engine, certified by the program.
 
-    It serves plants on which sweeps don't come near, such as long lines of units with equal meters.
+    It serves plants on which sweeps don't converge, such as long lines of units with equal meters.
     Tests of single measurements and elimination need the program's own solver, and aren't made.
 
     Parameters
@@ -92,7 +92,7 @@ def solve(
     """
     if not callable(engine) and engine != "scipy":
         what = f"there is no engine {engine!r}"
-        raise Fault(what, text=engine, remedy="say 'scipy', or give a callable")
+        raise Fault(what, text=engine, remedy="use 'scipy', or pass a callable")
     raw, data = _unswept(session, gap, program, timeout)
     found: dict[int, list[Values]] = {}
     blocks = raw.blocks_in_order

@@ -76,7 +76,7 @@ class Bookings:
         if day in days:
             other = str(days[day].place()).rstrip(":")
             what = SheetCause.FIGURE_TWICE(stream=stream.said, day=day, other=other)
-            raise self.reader.fault(cell, what, "empty one of both")
+            raise self.reader.fault(cell, what, "empty one of the two")
         days[day] = cell
         figure = Dry(grams, error.variance(grams))
         if is_wet:
@@ -121,7 +121,7 @@ class Bookings:
                     what = SheetCause.BASE_OF_TWO_PERIODS(
                         text=cell.text, first=ends[0], last=ends[1]
                     )
-                    remedy = f"write at most {error_said(MOST_VARIANCE)}, or ask for one of both"
+                    remedy = f"write at most {error_said(MOST_VARIANCE)}, or ask for one of the two"
                     self.tables.fault(cell, what, remedy, "base")
                     break
             else:

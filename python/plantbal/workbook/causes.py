@@ -87,18 +87,18 @@ class SheetCause(Causes):
     COLUMN_TWICE = "{stream} has a column already ({other})"
     UNIT_OF_STREAM_DIFFERS = "{text} is here, but the sheet streams has {unit}"
     DAY_TWICE = "{day} is already given above ({other})"
-    DAY_TWICE_ACROSS = "{day} is there twice"
+    DAY_TWICE_ACROSS = "{day} appears twice"
     FIGURE_TWICE = "{stream} has a figure of {day} already ({other})"
     GUESS_TOO_LONG = "this guess goes from {first} to {last}"
     # hours, stamps and counters
     CLOCKS_FORWARD = "{at} isn't there: clocks are put forward then in {zone}"
-    STAMP_TWICE = "{at} is there twice"
-    ZONE_UNTOLD = "{text} has a zone, and the plant's isn't told"
+    STAMP_TWICE = "{at} appears twice"
+    ZONE_UNTOLD = "{text} has a zone, and the plant's isn't given"
     DAY_BEGINS_UNTOLD = (
         "{text} has a time of the day, {time}, as all stamps have: does the plant's day begin then?"
     )
     HOURS_NOT_WHOLE_DAYS = (
-        "from {first} to {last} aren't whole days: is a stamp the begin or the end of its hour?"
+        "from {first} to {last} aren't whole days: is a stamp the beginning or the end of its hour?"
     )
     NO_FULL_HOUR = "this isn't a full hour of the day"
     HOURS_LACK = (
@@ -108,7 +108,7 @@ class SheetCause(Causes):
     COUNTER_GAP = "the counter {name} has no figure at {at}, so what went on {day} isn't known"
     COUNTER_ABOVE = "the counter {name} begins again at {modulus:f}, and this is {text}"
     COUNTER_BACK = "the counter {name} went back, or on by more than half of {modulus:f}"
-    COUNTER_OF_DAY = "was this counter read at the begin or the end of the day?"
+    COUNTER_OF_DAY = "was this counter read at the beginning or the end of the day?"
     UNITS_OF_TAG_DIFFER = "this tag has figures in {first} and in {other}"
     # dips and tickets
     NO_TANK = "there is no tank {name!r}"
@@ -120,9 +120,9 @@ class SheetCause(Causes):
     MOISTURE_OF_TICKET_TWICE = "the ticket {name} has a moisture already"
     MOISTURE_TWICE = "{stream} has a moisture of these days already ({other})"
     NOT_A_MOISTURE = "{text} isn't a moisture"
-    NO_TONNES_OF_SHIFT = "{text} t are no shift's"
+    NO_TONNES_OF_SHIFT = "{text} t belong to no shift"
     NO_MOISTURE = "{text} {unit} of {stream} have no moisture {of}"
-    DRIES_NOTHING = "no figure of {name} is in {unit}, so its moistures dry nothing"
+    DRIES_NOTHING = "no figure of {name} is in {unit}, so its moistures apply to nothing"
     NOT_A_GRADE = "{text} isn't a grade"
     GRADE_TOO_FINE = (
         "{text} with the error {error} would become {ppm:,} ppm with an error of {sd:,} ppm, since "
@@ -149,7 +149,7 @@ class SheetCause(Causes):
     NO_NAME_OF_ACCOUNT = "there is no name"
     NO_STREAM_OR_TANK = "there is no stream or tank {name!r}"
     ACCOUNT_TWICE = "{name} has two accounts ({other})"
-    KIND_OF_TANK = "{name} is a tank, and its stock is no {text}"
+    KIND_OF_TANK = "{name} is a tank, and its stock isn't a {text}"
     NO_KIND_OF_ACCOUNT = "{text!r} isn't a kind of account"
     TWO_KINDS_OF_ACCOUNT = "{name} is both {kinds}"
     NOT_OF_KIND = "{name} is no {kind}: {why}"
@@ -160,7 +160,7 @@ class SheetCause(Causes):
     GROUP_DIFFERS = "{product} is in the group {was!r} at {where}"
     SHARED_BY_ITSELF = "{name} comes in, and can't be shared by what comes in"
     NOT_SHARES = "{text!r} isn't a list of shares"
-    SHARE_TWICE = "{name} is here twice"
+    SHARE_TWICE = "{name} appears twice"
     SHARES_NOT_WHOLE = "these shares add up to {percent:.10g} %"
     SHARE_OF_0 = "a share of {text!r} is 0"
     UNIT_WITHOUT_DENSITY = "the unit {unit} has no density"

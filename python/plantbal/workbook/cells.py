@@ -205,20 +205,20 @@ class Reader:
         if not own_locale and _EITHER.fullmatch(plain):
             return (
                 SheetCause.POINT_OR_THOUSANDS(text=text),
-                "say --locale en, --locale de or another",
+                "use --locale en, --locale de or another",
             )
         for locale in ("en", "de"):
             if plain_number(plain, *symbols(locale)) is not None:
                 mark = "a decimal point" if locale == "en" else "a decimal comma"
                 own = f", and --locale is {own_locale}" if own_locale else ""
                 what = SheetCause.MARK_OF_OTHER_LOCALE(text=text, mark=mark, locale=own)
-                return what, f"say --locale {locale}, or write it in another way"
+                return what, f"use --locale {locale}, or write it in another way"
         what = SheetCause.NO_FIGURE(text=text)
         if of_rate(text.rpartition(" ")[2]):
             return what, of_rate(text.rpartition(" ")[2])
         if text.startswith("#"):
             return SheetCause.FORMULA_FAILS(text=text), "correct it, or clear the cell"
-        return what, f"correct it, or say --missing {text!r} if it means that there is none"
+        return what, f"correct it, or use --missing {text!r} if it means that there is none"
 
     # ---- days
 
@@ -258,7 +258,7 @@ class Reader:
         if order == "ymd" or len(months) != 1:
             return ""
         first = "month" if order == "mdy" else "day"
-        remedy = "say --locale en_GB" if order == "mdy" else "write it as 2024-06-30"
+        remedy = "use --locale en_GB" if order == "mdy" else "write it as 2024-06-30"
         return f"--locale {locale} has the {first} first: {remedy}"
 
     def _serial(self, cell: Cell, number: Decimal) -> datetime.date | None:
@@ -283,7 +283,7 @@ class Reader:
             return _date(int(first), int(second), int(third))
         if part != "." and len(first) == len(third) == 2 and not self.locale_of(cell):
             if _date(2000 + int(first), int(second), int(third)):
-                remedy = "write the year with four digits, or say --locale"
+                remedy = "write the year with four digits, or use --locale"
                 what = SheetCause.YEAR_FIRST_OR_LAST(text=text)
                 raise self.fault(cell, what, remedy, head)
         order = self._order(cell, text, part, int(first), int(second), head)
@@ -305,7 +305,7 @@ class Reader:
                 return order
         elif max(first, second) > 12:
             return "dmy" if first > 12 else "mdy"
-        remedy = "say --locale en_GB if the day comes first, --locale en_US if the month does"
+        remedy = "use --locale en_GB if the day comes first, --locale en_US if the month does"
         raise self.fault(cell, SheetCause.TWO_DAYS(text=text), remedy, head)
 
     # ---- amounts

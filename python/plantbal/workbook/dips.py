@@ -64,7 +64,7 @@ class Dips:
         if day in days:
             other = str(days[day].place()).rstrip(":")
             what = SheetCause.DIP_TWICE(name=name, day=day, other=other)
-            raise self.reader.fault(row["level"], what, "leave one of both out")
+            raise self.reader.fault(row["level"], what, "leave one of the two out")
         dipped = self.measuring.of_dip(tank, row, mm, error, day)
         if dipped is not None:
             density, variance = dipped.density, dipped.variance

@@ -65,7 +65,7 @@ class MoistureReader:
                     name = row.text("id")
                     if name in self.found.of_tickets:
                         what = SheetCause.MOISTURE_OF_TICKET_TWICE(name=name)
-                        raise self.reader.fault(row["id"], what, "leave one of both out", "id")
+                        raise self.reader.fault(row["id"], what, "leave one of the two out", "id")
                     self.found.of_tickets[name] = found
                     continue
                 cell = row["stream"] if self.reader.is_missing(row["tag"]) else row["tag"]

@@ -170,7 +170,7 @@ def unread_column(
     what = "units" if len(units) >= len(figures) else "figures"
     first = next(iter(units if what == "units" else figures), head)
     if 2 * (len(units) + len(figures)) > len(cells) and head.text.casefold() not in _REMARKS:
-        remedy = f"say --skip {head.text!r} to leave the column out" if head.text else ""
+        remedy = f"use --skip {head.text!r} to leave the column out" if head.text else ""
         other = "give it the head of a column that is read"
         remedy = f"{other}, or {remedy}" if remedy else f"{other}, or empty it"
         case = SheetCause.COLUMN_NOT_READ(column=name, content=what)

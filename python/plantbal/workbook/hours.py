@@ -189,7 +189,7 @@ class Clock:
                 remedy = "write the zone after the stamps, as in 2024-03-31T01:00:00Z"
                 raise reader.fault(figure.stamp, what, remedy)
             if seen[at] and instant == self._instant(at):
-                remedy = "leave one of both out"
+                remedy = "leave one of the two out"
                 if not self.settings.zone:
                     remedy += ", or write the plant's zone into a sheet settings"
                 raise reader.fault(figure.stamp, SheetCause.STAMP_TWICE(at=at), remedy)

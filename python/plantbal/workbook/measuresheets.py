@@ -261,7 +261,7 @@ class MeasureReader:
                 if same is not dated:
                     other = str(same.cell.place()).rstrip(":")
                     what = SheetCause.DATED_TWICE(name=name, other=other)
-                    raise self.reader.fault(cell, what, "leave one of both out")
+                    raise self.reader.fault(cell, what, "leave one of the two out")
 
     def _sample(self, row: SheetRow) -> Sample:
         """Return a density with its error, and at what temperature and by what it was taken."""
@@ -317,7 +317,7 @@ class MeasureReader:
             raise self.reader.fault(cell, what, "write it as 2024-01", "month")
         if any(not self.reader.is_missing(row[head]) for head in ("day", "first", "last")):
             raise self.reader.fault(
-                cell, SheetCause.MONTH_AND_DAYS(), "leave one of both out", "month"
+                cell, SheetCause.MONTH_AND_DAYS(), "leave one of the two out", "month"
             )
         first = datetime.date.fromisoformat(f"{month}-01")
         return first, first.replace(day=calendar.monthrange(first.year, first.month)[1])

@@ -195,7 +195,7 @@ class Readings:
             stream = self.plant.named(cell, "")
             if stream is None:
                 if not known and cell.text not in self.plant.bad:
-                    skip = f", or say --skip {cell.text!r} to leave the column out"
+                    skip = f", or use --skip {cell.text!r} to leave the column out"
                     self.tables.faults[-1].remedy += skip
             elif stream.name in first:
                 other = str(first[stream.name].place()).rstrip(":")
@@ -267,7 +267,7 @@ class Readings:
             if day is not None and day in seen:
                 other = str(seen[day].place()).rstrip(":")
                 what = SheetCause.DAY_TWICE(day=day, other=other)
-                self.tables.fault(first, what, "leave one of both out")
+                self.tables.fault(first, what, "leave one of the two out")
                 continue
             if day is not None:
                 seen[day] = first
@@ -293,7 +293,7 @@ class Readings:
                 day = self.tables.day(cell)
                 if day is not None and day in days.values():
                     what = SheetCause.DAY_TWICE_ACROSS(day=day)
-                    self.tables.fault(cell, what, "leave one of both out")
+                    self.tables.fault(cell, what, "leave one of the two out")
                 elif day is not None:
                     days[column] = day
         self._say_across(heads, lines, first)
@@ -326,7 +326,7 @@ class Readings:
                     read.add(column)
         for cell in heads[first:]:
             if cell.text.casefold() in TOTALS:
-                self.tables.notes.append(f"{cell.place()} the column {cell.text!r} is passed over")
+                self.tables.notes.append(f"{cell.place()} the column {cell.text!r} is skipped")
         self.tables.say_columns(heads, lines, read)
 
     def _check_order(self) -> None:
@@ -349,7 +349,7 @@ class Readings:
         if _run(turned) and not _run(own):
             own_locale = self.reader.locale
             what = SheetCause.DAYS_OUT_OF_ORDER(locale=own_locale, text=texts[0].text)
-            self.tables.fault(texts[0], what, f"read as {other} they do: say --locale {other}")
+            self.tables.fault(texts[0], what, f"read as {other} they do: use --locale {other}")
 
 
 def _long_columns(heads: list[Cell]) -> dict[str, int]:

@@ -135,7 +135,7 @@ def check_units(units: dict[int, str], row: dict[int, str], cells: list[Cell]) -
         if units.get(column, unit) != unit:
             what = SheetCause.UNIT_OF_HEAD_DIFFERS(unit=unit, other=units[column])
             place = cell_at(cells, column).place()
-            raise CausedFault(what, place=place, remedy="take one of both out")
+            raise CausedFault(what, place=place, remedy="take one of the two out")
 
 
 def column_of(

@@ -155,7 +155,7 @@ def _check_own(
         if head in own:
             cell = shape.heads[0][column]
             what = SheetCause.UNIT_IN_HEADS_TOO(head=head, unit=unit)
-            raise CausedFault(what, place=cell.place(), remedy="take one of both out")
+            raise CausedFault(what, place=cell.place(), remedy="take one of the two out")
 
 
 def _starts(heads: list[str], needed: Sequence[str]) -> list[int]:

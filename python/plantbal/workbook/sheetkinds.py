@@ -32,7 +32,7 @@ ALL = (REFINERY, CONCENTRATOR, UTILITY)
 _TANKS = (REFINERY, CONCENTRATOR)
 _MASSES = (*GRAMS, *WET)
 _AMOUNTS = (*_MASSES, *VOLUMES)
-_UNIT = SheetColumn("unit", "of the figures: t without it; volumes want a density", words=_AMOUNTS)
+_UNIT = SheetColumn("unit", "of the figures: t without it; volumes need a density", words=_AMOUNTS)
 _ERROR = SheetColumn(
     "error", "the standard deviation: 1.5 %, 0.2 t, or 1.5 % or 0.2 t; of a gauge 3 mm"
 )
@@ -383,7 +383,7 @@ SHEETS: dict[str, SheetKind] = {
 }
 # The sheets that have the plant itself.
 PLANT_SHEETS = tuple(word for word, kind in SHEETS.items() if kind.stage is Stage.PLANT)
-# Sheets that are passed over without a word; pulps are read by `balance --pulps`.
+# Sheets that are skipped without a word; pulps are read by `balance --pulps`.
 PASSED = ("about", "lists", "pulps")
 
 

@@ -127,7 +127,7 @@ class Tables:
                 self.fates.put(Fate.HEADS, cells)
 
     def _pass_over(self, sheet: Sheet, word: str) -> None:
-        """Say that a sheet is passed over; one with the heads of a table is a fault."""
+        """Say that a sheet is skipped; one with the heads of a table is a fault."""
         self.fates.put_sheet(Fate.PASSED, sheet)
         if word in PASSED or not sheet.lines:
             return
@@ -136,7 +136,7 @@ class Tables:
             what = SheetCause.SHEET_NOT_READ(kind=kind)
             self.faults.append(CausedFault(what, place=sheet.place(), remedy=f"call it {kind}"))
         else:
-            self.notes.append(f"{sheet.place()} the sheet is passed over")
+            self.notes.append(f"{sheet.place()} the sheet is skipped")
 
     @contextmanager
     def kept(self) -> Iterator[None]:
@@ -271,7 +271,7 @@ class Tables:
                 continue
             head = OTHER_HEADS.get(cell.text.casefold(), cell.text.casefold())
             if heads.get(head, column) != column:
-                self.fault(cell, SheetCause.TWO_COLUMNS(head=head), "take one of both out")
+                self.fault(cell, SheetCause.TWO_COLUMNS(head=head), "take one of the two out")
                 wrong.add(column)
             near = difflib.get_close_matches(cell.text.casefold(), others, n=1, cutoff=0.75)
             if near and near[0] not in heads:
@@ -285,7 +285,7 @@ class Tables:
         return next(iter(difflib.get_close_matches(head, texts, n=1)), "")
 
     def is_total(self, cells: list[Cell]) -> bool:
-        """Say whether a row is a sum or the like, and note that it is passed over."""
+        """Say whether a row is a sum or the like, and note that it is skipped."""
         first = next((cell for cell in cells if cell.value is not None), None)
         if first is None or not isinstance(first.value, str):
             return False
@@ -308,7 +308,7 @@ class Tables:
     def pass_row(self, cells: list[Cell], first: Cell) -> None:
         """Pass over a row, and say so by its first cell with a value."""
         self.fates.put(Fate.PASSED, cells)
-        note = f"{first.place()} the row {first.text!r} is passed over"
+        note = f"{first.place()} the row {first.text!r} is skipped"
         if note not in self.notes:  # a row may be of several tables
             self.notes.append(note)
 
@@ -317,7 +317,7 @@ class Tables:
     def pass_sheet(self, sheet: Sheet, why: str) -> None:
         """Pass over a sheet, and say why."""
         self.fates.put_sheet(Fate.PASSED, sheet)
-        self.notes.append(f"{sheet.place()} the sheet is passed over: {why}")
+        self.notes.append(f"{sheet.place()} the sheet is skipped: {why}")
 
     def say_columns(self, heads: list[Cell], lines: list[list[Cell]], read: set[int]) -> None:
         """Say which columns aren't read; one of figures or units is a fault.

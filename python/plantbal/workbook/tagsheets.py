@@ -105,13 +105,13 @@ def why_not(text: str, mark: str) -> str:
             f"{text!r} has marks between thousands"
             + (f", or a decimal {names[other]}" if is_other else "")
             + ": take these marks out, or let plantbal-desk convert read the sheet"
-            + (f"; if they are decimal, say --decimal {names[other]}" if is_other else "")
+            + (f"; if they are decimal, use --decimal {names[other]}" if is_other else "")
         )
     if is_other:
-        return f"{text!r} has a decimal {names[other]}: say --decimal {names[other]}"
+        return f"{text!r} has a decimal {names[other]}: use --decimal {names[other]}"
     return (
         f"{text!r} isn't a number: digits with at most one decimal {names[mark]}; "
-        f"say --missing {text!r} if it means that there is no reading"
+        f"use --missing {text!r} if it means that there is no reading"
     )
 
 
@@ -249,7 +249,7 @@ class ReadingSheet:
             if head in self.choices.skip:
                 continue
             if head not in self.tags:
-                remedy = f"say --skip {head!r} to leave the column out"
+                remedy = f"use --skip {head!r} to leave the column out"
                 what = f"the table of tags has no tag {head!r}; {remedy}"
                 raise self.sheet.fault(1, column, what)
             if head in self.columns:

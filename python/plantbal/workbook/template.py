@@ -57,7 +57,7 @@ def template(kind: str, path: str | Path) -> None:
     if kind not in KINDS:
         raise WordsFault(f"there is no template {kind!r}", remedy=f"say {', '.join(KINDS)}")
     if Path(path).suffix.lower() != ".xlsx":
-        raise WordsFault(f"{path} doesn't end with .xlsx", remedy="say a name such as plant.xlsx")
+        raise WordsFault(f"{path} doesn't end with .xlsx", remedy="use a name such as plant.xlsx")
     try:
         import openpyxl
     except ImportError as error:

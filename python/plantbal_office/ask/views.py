@@ -165,7 +165,7 @@ def plan_of(plant: Plant, month: BookMonth) -> PeriodState:
 
 
 def whatif(request: HttpRequest, period: str) -> HttpResponse:
-    """Show the ± of all flows with a meter or an assay more, or one fewer."""
+    """Show the ± of all flows with one more meter or assay, or one fewer."""
     month = month_of(request, period)
     form = WhatIf(request.GET or None)
     state = plan_of(request.plant, month)

@@ -117,7 +117,7 @@ def _signed(request: HttpRequest) -> tuple[str, str]:
     is_wanted = rules is not None and rules.keys
     if bool(record) != bool(signature) or (is_wanted and not signature):
         remedy = _("take the text to be signed, sign it by the command shown, and send both files")
-        raise Fault(_("this book wants it signed"), remedy=remedy)
+        raise Fault(_("this book requires a signature"), remedy=remedy)
     return record, signature
 
 

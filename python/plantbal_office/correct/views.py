@@ -160,7 +160,7 @@ def undo(request: HttpRequest, year: str, identity: str) -> HttpResponse:
 
     def deed() -> str:
         if not form.is_valid():
-            raise Fault(_("give a reason of at most 80 letters"))
+            raise Fault(_("give a reason of at most 80 characters"))
         why = form.cleaned_data["why"].strip()
         fact = found.shown.fact
         done = book_of(request, expected=True).undo(fact.id, fact.first, why=why)
@@ -189,7 +189,7 @@ def estimate(request: HttpRequest, period: str) -> HttpResponse:
 
         def deed() -> str:
             if not form.is_valid():
-                raise Fault(_("give a reason of at most 80 letters"))
+                raise Fault(_("give a reason of at most 80 characters"))
             why = form.cleaned_data["why"].strip()
             done = book_of(request, expected=True).estimate(period, stream, take=True, why=why)
             for each in done.proposals:
@@ -293,7 +293,7 @@ def _close(request: HttpRequest, period: str, given: dict[Gate, str]) -> str:
         messages.info(request, _("{name} was closed already.").format(name=period))
     else:
         what = _(
-            "{name} is closed. Keep this head where nobody writes who writes to the book: {head}"
+            "{name} is closed. Keep this head where nobody who writes to the book can write: {head}"
         )
         messages.success(request, what.format(name=period, head=done.head))
     return reverse("look:statement", args=[request.plant.slug, period])
@@ -312,7 +312,7 @@ def quiet(request: HttpRequest) -> HttpResponse:
 
         def deed() -> str:
             if not form.is_valid():
-                raise Fault(_("give a reason of at most 80 letters"))
+                raise Fault(_("give a reason of at most 80 characters"))
             book, why = book_of(request, expected=True), form.cleaned_data["why"].strip()
             (book.heed if off else book.quiet)(code, *names, why=why)
             what = (

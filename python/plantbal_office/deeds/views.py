@@ -1,4 +1,4 @@
-"""What came of a form that was sent before and is at work still, or was stopped."""
+"""What came of a form that was sent before and is still at work, or was stopped."""
 
 from __future__ import annotations
 

@@ -80,7 +80,7 @@ def checked_name(name: str) -> str:
     name = PurePosixPath(name.replace("\\", "/")).name
     place = Place(file=name[:40])
     if len(name) > LONGEST_NAME or not name.isprintable() or name.startswith("."):
-        what = _("this name of a file is too long, or has signs that none has")
+        what = _("this file name is too long, or has characters that a file name can't have")
         raise InputFault(what, place=place, remedy=_("rename the file"))
     if not name.lower().endswith(ENDINGS):
         what = _("this isn't a workbook that is read here")

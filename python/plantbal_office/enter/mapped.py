@@ -154,7 +154,7 @@ def accept(drop: Drop, mapping: WorkbookMapping) -> None:
     """
     questions = MappingProposal(mapping).open()
     if questions:
-        what = _("{count} questions are open still").format(count=len(questions))
+        what = _("{count} questions are still open").format(count=len(questions))
         raise Fault(what, remedy=_("answer them, or say that a column or a sheet isn't read"))
     text = mapping_text(mapping, {}, "")
     parse_mapping(path_of(drop).name, text)

@@ -47,10 +47,10 @@ class How(forms.Form):
 
     why = forms.CharField(label=gettext_lazy("Reason"), max_length=80, required=False)
     strike = forms.BooleanField(
-        label=gettext_lazy("Strike what is booked and not in the workbook any more"), required=False
+        label=gettext_lazy("Strike what is booked and no longer in the workbook"), required=False
     )
     anyway = forms.BooleanField(
-        label=gettext_lazy("also if that is most of what is booked"), required=False
+        label=gettext_lazy("even if that is most of what is booked"), required=False
     )
 
 
@@ -162,11 +162,11 @@ def book(request: HttpRequest, drop: str) -> HttpResponse:
     found = Drop.objects.filter(pk=drop, plant=request.plant).first()
     form = How(request.POST)
     if not form.is_valid():
-        raise Fault(_("a reason has at most 80 letters"), remedy=_("say it shorter"))
+        raise Fault(_("a reason has at most 80 characters"), remedy=_("make it shorter"))
 
     def act() -> str:
         if found is None:
-            what = _("this workbook doesn't wait any more: it was booked, or put aside")
+            what = _("this workbook is no longer waiting: it was booked, or put aside")
             raise Fault(what, remedy=_("look at the months"))
         how = form.cleaned_data
         added = act_of(found, how, how["why"].strip())(book_of(request, expected=True))
@@ -183,7 +183,7 @@ def book(request: HttpRequest, drop: str) -> HttpResponse:
     try:
         return once(request, act)
     except Unreasoned as fault:
-        messages.error(request, _("What changes wants a reason: say why."))
+        messages.error(request, _("A change needs a reason: say why."))
         log.info("unreasoned: %s", fault)
         return redirect("enter:seen", request.plant.slug, drop)
 

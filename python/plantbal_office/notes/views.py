@@ -132,7 +132,7 @@ def file(request: HttpRequest, note: str) -> HttpResponse:
     data = (folder() / str(found.pk)).read_bytes()
     if hashlib.sha256(data).hexdigest() != found.sha256:
         raise Fault(
-            _("this file was changed since it was kept"), remedy=_("ask who keeps the desk")
+            _("this file was changed since it was kept"), remedy=_("ask whoever runs the desk")
         )
     answer = HttpResponse(data, content_type=found.kind)
     answer["Content-Security-Policy"] = "default-src 'none'; sandbox"

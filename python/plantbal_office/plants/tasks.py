@@ -62,7 +62,7 @@ def give(request: HttpRequest) -> HttpResponse:
         if month is None:
             raise Fault(_("a task is of a month of the book"), remedy=_("choose a month"))
         if not form.is_valid():
-            raise Fault(_("a task says what there is to do, in at most 200 letters"))
+            raise Fault(_("a task says what there is to do, in at most 200 characters"))
         if Task.objects.filter(plant=request.plant, done=None).count() >= MOST:
             raise Fault(_("there are too many tasks"), remedy=_("say which are done"))
         doer = form.cleaned_data["doer"]

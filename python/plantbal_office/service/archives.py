@@ -119,7 +119,7 @@ def members(file: IO[bytes]) -> Iterator[tuple[str, bytes]]:
                 assert inner is not None, "it is a file"
                 yield member.name, inner.read()
     except (tarfile.TarError, EOFError, OSError) as error:
-        remedy = "is it cut, or encrypted for somebody else?"
+        remedy = "is it incomplete, or encrypted for somebody else?"
         raise InputFault(f"the backup can't be read: {error}", remedy=remedy) from error
 
 
@@ -153,9 +153,9 @@ def _words(recipients: Sequence[str]) -> list[str]:
         found = _tool("age")
         return [found, "--encrypt", *(word for each in recipients for word in ("-r", each))]
     if any(of_age):
-        raise Fault("recipients of age and keys of gpg together", remedy="say those of one alone")
+        raise Fault("recipients of age and keys of gpg together", remedy="use one of the two alone")
     if any(each.startswith("-") for each in recipients):
-        raise Fault("a recipient begins with -", remedy="say the address or number of a key")
+        raise Fault("a recipient begins with -", remedy="give the address or number of a key")
     words = [_tool("gpg", "gnupg"), "--batch", "--trust-model", "always", "--encrypt"]
     return [*words, *(word for each in recipients for word in ("-r", each))]
 
@@ -182,7 +182,7 @@ def opened(path: Path, identity: str | None) -> Iterator[IO[bytes]]:
         raise InputFault(f"{error.strerror}", place=Place(file=str(path))) from error
     if begin.startswith(_MAGIC_AGE):
         if identity is None:
-            raise Fault(f"{path} is encrypted by age", remedy="say --identity FILE, its key")
+            raise Fault(f"{path} is encrypted by age", remedy="use --identity FILE, its key")
         words = [_tool("age"), "--decrypt", "-i", identity, str(path)]
     elif begin[:1] and begin[0] in _MAGIC_PGP:
         words = [_tool("gpg", "gnupg"), "--batch", "--decrypt", str(path)]

@@ -62,7 +62,7 @@ def back_up(config: Config, path: Path, recipients: Sequence[str] | None) -> Bac
         If the file is there, or a part can't be read.
     """
     if path.exists():
-        raise Fault(f"{path} is there already", remedy="name another file")
+        raise Fault(f"{path} already exists", remedy="name another file")
     wanted = list(config.recipients if recipients is None else recipients)
     part = path.with_name(f".{path.name}.part")
     part.unlink(missing_ok=True)

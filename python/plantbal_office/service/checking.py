@@ -40,7 +40,7 @@ def checked(config: Config) -> Iterator[RestoreFinding]:
     for folder in (config.books, config.state):
         free = shutil.disk_usage(folder).free if folder.is_dir() else 0
         kind = SentenceKind.GOOD if free > _ROOM else SentenceKind.WRONG
-        yield RestoreFinding(kind, f"{folder} has {free >> 20:,} MiB of room")
+        yield RestoreFinding(kind, f"{folder} has {free >> 20:,} MiB of free space")
     for plant in Plant.objects.all():
         try:
             yield from verified(Path(plant.folder))

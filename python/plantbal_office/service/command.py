@@ -64,7 +64,7 @@ def _user(options: argparse.Namespace) -> int:
     if options.forget_second:
         Factor.objects.filter(person=person).delete()
     person.save()
-    state = "can sign in" if person.is_active else "can't sign in any more"
+    state = "can sign in" if person.is_active else "can no longer sign in"
     print(f"{options.name} {state}")
     return 0
 
@@ -160,7 +160,7 @@ def parser() -> argparse.ArgumentParser:
     user.add_argument("--password", action="store_true", help="give another password")
     user.add_argument("--elsewhere", action="store_true", help="signs in by LDAP or OIDC alone")
     user.add_argument("--forget-second", action="store_true", help="when a phone is lost")
-    user.add_argument("--off", action="store_true", help="can't sign in any more")
+    user.add_argument("--off", action="store_true", help="can no longer sign in")
     role = add("role", _role, "give a person a role in a plant, or take it")
     role.add_argument("name", metavar="NAME")
     role.add_argument("plant", metavar="PLANT")
@@ -173,7 +173,7 @@ def parser() -> argparse.ArgumentParser:
     back = add("restore", _restore, "put a backup into an empty service, and verify all of it")
     back.add_argument("file", metavar="FILE")
     back.add_argument("--identity", metavar="FILE", help="the key of age that opens it")
-    add("check", _check, "say whether all is in order: database, books, rights, room")
+    add("check", _check, "check that all is in order: database, books, rights, free space")
     return made
 
 

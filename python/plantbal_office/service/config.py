@@ -120,7 +120,7 @@ def read_config(path: Path | None = None) -> Config:
     Raises
     ------
     Fault
-        If it can't be read, or isn't of its form.
+        If it can't be read, or has the wrong form.
     """
     found = path or named_file()
     source, data = read_bytes(found, RULES_BYTES)
@@ -146,10 +146,10 @@ def _config(path: Path, values: dict[str, Any]) -> Config:
     sign_in = values.get("sign_in", {})
     ldap = values.get("ldap", {})
     if ldap and not _is_safe(ldap):
-        raise ValueError("ldap.server sends passwords as they are: say ldaps://, or start_tls")
+        raise ValueError("ldap.server sends passwords in plain text: use ldaps://, or start_tls")
     oidc = values.get("oidc", {})
     if oidc and not str(oidc["server"]).startswith(("https://", "http://127.0.0.1:")):
-        raise ValueError("oidc.server sends codes as they are: say https://")
+        raise ValueError("oidc.server sends codes in plain text: use https://")
     return Config(
         path,
         tuple(map(str, hosts)),

@@ -117,13 +117,13 @@ def _unpacked(path: Path, identity: str | None, room: Path) -> BackupManifest:
     with opened(path, identity) as file:
         for name, data in members(file):
             if name in digests:
-                raise Fault(f"{name} is twice in it")
+                raise Fault(f"{name} appears twice in it")
             digests[name] = hashlib.sha256(data).hexdigest()
             target = room / name
             target.parent.mkdir(parents=True, exist_ok=True)
             write_bytes(target, data)
     if digests.pop(MANIFEST, None) is None:
-        raise Fault(f"{path} has no {MANIFEST}: it is cut, or no backup")
+        raise Fault(f"{path} has no {MANIFEST}: it is incomplete, or not a backup")
     manifest = BackupManifest.read((room / MANIFEST).read_bytes())
     for name in sorted({*digests, *manifest.files}):
         if digests.get(name) != manifest.files.get(name):
@@ -136,7 +136,7 @@ def _place(config: Config, room: Path, book: BookKept) -> Path:
     config.books.mkdir(parents=True, exist_ok=True)
     target = config.books / book.plant
     if target.exists() or "/" in book.plant or book.plant.startswith("."):
-        raise Fault(f"{target} is there already, or isn't a place for a book")
+        raise Fault(f"{target} already exists, or isn't a place for a book")
     os.rename(room / "books" / str(book.number), target)
     return target
 

@@ -212,7 +212,7 @@ class Browser:
             cell = self.one(f"td[data-name='{name}'][data-day='{day}']")
             cell.click()
             cell.send_keys(text or Keys.DELETE, *([Keys.ENTER] if text else []))
-        self.press("Look what it would do")
+        self.press("See what it would do")
         self.fill("why", why)
         self.press("Book it")
 
@@ -244,7 +244,7 @@ class Browser:
         self.link("Amend")
         self.fill("amount", amount)
         self.fill("why", why)
-        self.press("Look what it would do")
+        self.press("See what it would do")
         assert self.has(".effect"), self.text()
         self.press("Book it")
 
@@ -255,7 +255,7 @@ class Browser:
         self.link("Amend")
         self.fill("amount", amount)
         self.fill("why", why)
-        self.press("Look what it would do")
+        self.press("See what it would do")
         self.press("Book it")
         assert f"/fact/{year}/" in self.driver.current_url, self.text()
 
@@ -290,7 +290,7 @@ class Browser:
         self.fill("code", code)
         self.fill("names", names)
         self.fill("why", why)
-        self.press("Have it speak again" if off else "Quiet it")
+        self.press("Report it again" if off else "Quiet it")
 
     def window(self, first: str, last: str) -> None:
         self.open("ask/")

@@ -51,7 +51,7 @@ def test_grid(april: Browser) -> None:
     april.driver.execute_script(PASTE, april.one(wrong), "12188\n12188.5\t330")
     settled()
     assert [each.text for each in april.all("td.changed")] == ["12188", "12188.5", "330"]
-    april.press("Look what it would do")
+    april.press("See what it would do")
     assert "1,218 t becomes 12,188 t" in april.text() and "accepted" in april.text()
     april.fill("why", "the shift's log")
     april.press("Book it")
@@ -73,6 +73,6 @@ def test_keyboard(april: Browser) -> None:
         "2024-04-02",
     )
     here.send_keys("5", Keys.ESCAPE)
-    assert not april.has("td.changed"), "Escape takes back"
+    assert not april.has("td.changed"), "Escape undoes"
     april.driver.switch_to.active_element.send_keys(Keys.END)
     assert april.driver.switch_to.active_element.get_attribute("data-name") == "WIC-401"

@@ -78,7 +78,7 @@ def test_newcomer(desk: Browser, tmp_path: Path) -> None:
     one.follows("Amend")
     one.fills("Amount with its unit", "11900 t")
     one.fills("Reason", "read off wrong")
-    one.follows("Look what it would do")
+    one.follows("See what it would do")
     one.follows("Book it")
     desk.driver.back()
     assert not desk.one(

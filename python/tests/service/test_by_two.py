@@ -211,7 +211,7 @@ def test_with_keys(office: services.Service, tmp_path: Path) -> None:
     assert "ssh-keygen -Y sign -n plantbal-book" in page
     words = hidden(page) | reasons(page)
     answer = lisa.post(at, words, at="/")
-    assert answer.status_code == 400 and "this book wants it signed" in answer.text
+    assert answer.status_code == 400 and "this book requires a signature" in answer.text
     text = lisa.post(at, words | {"answer": "text"}, at="/")
     assert text.headers["Content-Disposition"] == 'attachment; filename="submission.txt"'
     for key, said, what in (

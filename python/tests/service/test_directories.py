@@ -183,10 +183,10 @@ def _told_wrong(office: services.Service, provider: Provider) -> None:
 @pytest.mark.parametrize(
     ("more", "what"),
     [
-        ('[ldap]\nserver = "ldap://10.0.0.1"\nbase = "dc=mill"\n', "sends passwords as they are"),
+        ('[ldap]\nserver = "ldap://10.0.0.1"\nbase = "dc=mill"\n', "sends passwords in plain text"),
         (
             '[oidc]\nserver = "http://login.example/x"\nclient = "c"\nsecret_file = "/s"\n',
-            "sends codes as they are",
+            "sends codes in plain text",
         ),
         ('[sign_in]\nsecond = "some"\n', "'some' is not a valid Second"),
         ("[sign_in]\ncolour = 1\n", "has no colour"),

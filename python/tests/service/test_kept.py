@@ -81,7 +81,7 @@ def test_backup_and_restore(office: services.Service, tmp_path: Path) -> None:
     other = services.Service('[sign_in]\nsecond = "none"\n', office.database)
     try:
         said = other.office("restore", tmp_path / "secret.age", allowed=(1,))
-        assert "say --identity" in said
+        assert "use --identity" in said
         for name, data in damaged((tmp_path / "plain.tar").read_bytes()).items():
             (tmp_path / "damaged").write_bytes(data)
             said = other.office("restore", tmp_path / "damaged", allowed=(1,))

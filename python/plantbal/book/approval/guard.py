@@ -1,4 +1,4 @@
-"""Holds an action back that wants an approval by the rules of its book.
+"""Holds an action back that needs an approval by the rules of its book.
 
 `Store.do` asks here before it does anything, so that no command can forget it. What changes closed
 periods, quiets a rule, strikes most of a workbook's facts or takes a file as it is becomes a
@@ -31,7 +31,7 @@ def check(book: Store, action: Action) -> None:
     Raises
     ------
     Submitted
-        If it wants an approval, and was submitted.
+        If it needs an approval, and was submitted.
     Fault
         If it wants one and can't be submitted so.
     """
@@ -46,7 +46,7 @@ def check(book: Store, action: Action) -> None:
     if action.act is Act.CLOSE:
         said = ", ".join(wants)
         raise Fault(
-            f"by the rules of this book, closing {action.of} wants an approval ({said})",
+            f"by the rules of this book, closing {action.of} needs an approval ({said})",
             remedy=f"plantbal-desk book submit {action.of}",
         )
     if action.act is Act.POSTED:
@@ -57,7 +57,7 @@ def check(book: Store, action: Action) -> None:
 
 
 def wants_of(book: Store, action: Action, rules: Rules) -> Iterator[Want]:
-    """Give why an action wants an approval by the rules of its book."""
+    """Give why an action needs an approval by the rules of its book."""
     if action.act is Act.RULES:
         yield Want.RULES
     if action.act is Act.ACCEPT:

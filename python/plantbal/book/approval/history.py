@@ -1,6 +1,6 @@
 """Looks at each action of a book: who has signed and approved it, and what should have been.
 
-The commands hold back what wants an approval. Whoever writes into the folder by other means isn't
+The commands hold back what needs an approval. Whoever writes into the folder by other means isn't
 held back; so here all of it is judged once more, from the journal and the rows alone, by the rules
 that held at the time.
 """
@@ -151,7 +151,7 @@ class _Look:
         is_done = line.act not in (Act.SUBMIT, Act.APPROVE, Act.REJECT)
         if not (wants or record is not None) or not is_done:
             return
-        said = f"{line.said()}: it wants an approval ({', '.join(wants)})"
+        said = f"{line.said()}: it needs an approval ({', '.join(wants)})"
         if record is None or record.deed is not ApprovalDeed.APPROVE or record.submission is None:
             yield Looked(SentenceKind.WRONG, line.number, f"{said}, and nobody has approved it")
             return

@@ -22,7 +22,7 @@ class SubmittedMonth:
     act, of, what, why : str
         The action, as its line in the journal will have it.
     wants : tuple of str
-        Why it wants an approval.
+        Why it needs an approval.
     periods : tuple of str
         The periods that it is about.
     rows : mapping of str to str
@@ -60,7 +60,7 @@ class SubmittedMonth:
 
     @property
     def why_wanted(self) -> list[Want]:
-        """Why it wants an approval."""
+        """Why it needs an approval."""
         return [Want(each) for each in self.wants]
 
     @property

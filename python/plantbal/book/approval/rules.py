@@ -1,4 +1,4 @@
-"""The rules of a book: what wants an approval, whose, and whether it is signed.
+"""The rules of a book: what needs an approval, whose, and whether it is signed.
 
 They stand in `rules.toml`, a file of the book that only an approval by the rules before can change:
 
@@ -39,7 +39,7 @@ _MOST_APPROVERS = 9
 
 
 class Want(StrEnum):
-    """Why an action wants an approval."""
+    """Why an action needs an approval."""
 
     CLOSE = "close"
     AMEND = "amend"
@@ -50,7 +50,7 @@ class Want(StrEnum):
 
 
 class May(StrEnum):
-    """What a person may do with what wants an approval."""
+    """What a person may do with what needs an approval."""
 
     SUBMIT = "submit"
     APPROVE = "approve"
@@ -79,7 +79,7 @@ class Rules:
     Attributes
     ----------
     wants : frozenset of Want
-        What wants an approval.
+        What needs an approval.
     estimates : Fraction or None
         The part of a stream's flow above which estimates want one.
     approvers : int

@@ -34,7 +34,7 @@ def set_rules(
         before = rules_of(book)
         changed = {name: text for name, text in texts.items() if text != book.text(name)}
         if not changed:
-            raise Fault("nothing of that is new", remedy="change a file, and say this again")
+            raise Fault("nothing in it is new", remedy="change a file, and type this again")
         _check(book, before, texts)
         action = Action(Act.RULES, what=" ".join(sorted(changed)), why=why, who=who)
         action.written = dict(changed)
@@ -79,12 +79,12 @@ def _check(book: Store, before: Rules | None, texts: dict[str, str]) -> None:
     if before is None and RULES not in texts:
         raise Fault("this book has no rules yet", remedy="name a file of rules too")
     rules = read_rules(RULES, texts[RULES]) if RULES in texts else before
-    assert rules is not None, "one of both is there"
+    assert rules is not None, "one of the two is there"
     there = list(keys_of(book).signers)
     signers = read_signers(SIGNERS, texts[SIGNERS]) if SIGNERS in texts else there
     for lost in lost_keys(there, signers):
         raise InputFault(
-            f"the key {lost.fingerprint} of {lost.name} isn't there any more",
+            f"the key {lost.fingerprint} of {lost.name} no longer exists",
             place=Place(file=SIGNERS),
             remedy='leave its line there, with valid-before="20250101": without it nobody could '
             "verify what it has signed",

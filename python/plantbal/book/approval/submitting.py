@@ -38,7 +38,7 @@ class Submitted(Fault):
     head : Head
         The head of the book with the submission, which an approval names.
     wants : tuple of Want
-        Why it wants an approval.
+        Why it needs an approval.
     """
 
     def __init__(self, found: Submission) -> None:
@@ -62,7 +62,7 @@ class Submission:
     act, of : str
         The action.
     wants : tuple of Want
-        Why it wants an approval.
+        Why it needs an approval.
     """
 
     def __init__(self, head: Head, act: str, of: str, wants: Sequence[Want]) -> None:
@@ -90,7 +90,7 @@ def submit(
     action : Action
         The action, which isn't done.
     wants : sequence of Want
-        Why it wants an approval.
+        Why it needs an approval.
     periods : sequence of str
         The periods whose figures it is about.
     reasons : mapping of Gate to str, optional

@@ -19,7 +19,7 @@ from plantbal.signing.stamps import stamp
 if TYPE_CHECKING:
     from plantbal.book.store import Store
 
-_KEY = "name your key by --key, or in PLANTBAL_KEY"
+_KEY = "name your key with --key, or in PLANTBAL_KEY"
 
 
 def record_for(
@@ -67,7 +67,7 @@ def written_for(
     elif book.key is not None:
         signature = sign(record.text.encode("utf-8"), book.key, BOOK)
     elif rules.keys:
-        raise Fault("this book wants it signed", remedy=_KEY)
+        raise Fault("this book requires a signature", remedy=_KEY)
     if signature:
         found = verified(record.text.encode(), signature, keys_of(book), BOOK, record.time)
         if not found.name:
@@ -116,7 +116,7 @@ def _check_person(record: ApprovalRecord, rules: Rules, what: May, signed: str) 
     name = signed or record.who
     if rules.people and not name:
         raise Fault(
-            f"the user {record.user} is nobody's in rules.toml",
+            f"the user {record.user} belongs to nobody in rules.toml",
             remedy="let somebody submit rules that have a person with this user",
         )
     if not rules.may(name, what):

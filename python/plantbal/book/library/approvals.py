@@ -52,7 +52,7 @@ class Approvals(Base):
         Raises
         ------
         Submitted
-            If the book has rules: then others want an approval by these.
+            If the book has rules: then others need an approval by these.
         Fault
             If nothing could be approved by them, or a key would be lost.
         """

@@ -130,7 +130,7 @@ class Book(BookFacts, Reports, Looking, Approvals):
         """
         day = day_or_none(until, locale)
         if day is None:
-            raise Fault("there is no last day", remedy="say it as 2024-02-20")
+            raise Fault("there is no last day", remedy="write it as 2024-02-20")
         return retire(self._store(), name, day, year=year, program=self.program, who=self.who)
 
     # ---- quiet

@@ -35,7 +35,7 @@ class BookFacts(Base):
             The reason of what is changed or struck, or what gives it for each change: it gets
             the sentence that says the change, or the fact.
         strike : bool
-            Whether facts are struck that aren't in the workbook any more.
+            Whether facts are struck that are no longer in the workbook.
         anyway : bool
             Whether most of what is booked may be struck so.
         year : str, optional

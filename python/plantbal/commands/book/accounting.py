@@ -136,7 +136,7 @@ def _add_difference(parser: argparse.ArgumentParser) -> None:
 def _difference(options: argparse.Namespace) -> int:
     """Say what is otherwise."""
     if len(options.states) > 2:
-        raise WordsFault("there are more than two states", remedy="say FROM and TO")
+        raise WordsFault("there are more than two states", remedy="give FROM and TO")
     found = Book(options.book).difference(options.period, *options.states)
     options.found = found
     for line in said(found):
@@ -192,8 +192,8 @@ def _postings_text(found: Difference) -> str:
 
 def _add_posted(parser: argparse.ArgumentParser) -> None:
     parser.add_argument("period", metavar="PERIOD", help="the period")
-    parser.add_argument("--anyway", action="store_true", help="also if the period is open")
-    parser.add_argument("--why", metavar="TEXT", default="", help="what there is to say of it")
+    parser.add_argument("--anyway", action="store_true", help="even if the period is open")
+    parser.add_argument("--why", metavar="TEXT", default="", help="a remark on it")
     parser.add_argument("--postings", metavar="FILE", help="write the postings too")
 
 

@@ -19,14 +19,14 @@ def add_arguments(parser: argparse.ArgumentParser) -> None:
     parser.add_argument("workbook", metavar="WORKBOOK")
     parser.add_argument("--why", metavar="TEXT", help="the reason of what is changed or struck")
     parser.add_argument(
-        "--strike", action="store_true", help="strike facts that aren't in the workbook any more"
+        "--strike", action="store_true", help="strike facts that are no longer in the workbook"
     )
     parser.add_argument(
         "--anyway", action="store_true", help="strike even if that removes most booked facts"
     )
     parser.add_argument("--year", metavar="YEAR", help="the year of its plant (default: the last)")
     parser.add_argument(
-        "--dry-run", action="store_true", help="say what would be booked, and book nothing"
+        "--dry-run", action="store_true", help="show what would be booked, and book nothing"
     )
     add_reading(parser)
 
@@ -84,6 +84,6 @@ class ReasonPrompt:
             try:
                 typed = input(f"{said}. Why?{offer} ").strip() or self._before
             except EOFError:
-                raise WordsFault("no reason given", remedy="say --why TEXT") from None
+                raise WordsFault("no reason given", remedy="use --why TEXT") from None
         self._before = typed
         return typed

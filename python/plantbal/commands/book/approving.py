@@ -1,4 +1,4 @@
-"""Submits, shows, approves and rejects what wants an approval; sets the rules; says who signed."""
+"""Submits, shows, approves and rejects what needs an approval; sets the rules; says who signed."""
 
 from __future__ import annotations
 
@@ -40,7 +40,7 @@ def _add_rules(parser: argparse.ArgumentParser) -> None:
     signers = "who may sign: a file of OpenSSH's form allowed_signers"
     parser.add_argument("--signers", metavar="FILE", help=signers)
     parser.add_argument("--revoked", metavar="FILE", help="keys that are revoked")
-    parser.add_argument("--why", metavar="TEXT", default="", help="what there is to say of it")
+    parser.add_argument("--why", metavar="TEXT", default="", help="a remark on it")
 
 
 def _rules(options: argparse.Namespace) -> int:
@@ -52,7 +52,7 @@ def _rules(options: argparse.Namespace) -> int:
             print("this book has no rules: nobody has to approve anything")
             return ExitStatus.GOOD
         wants = [*rules.wants, *(["estimates"] if rules.estimates is not None else [])]
-        print(f"wants an approval: {', '.join(sorted(wants)) or 'the rules alone'}")
+        print(f"needs an approval: {', '.join(sorted(wants)) or 'the rules alone'}")
         print(f"by {counted(rules.approvers, 'person')}{', signed' if rules.keys else ''}")
         for person in rules.people.values():
             print(f"{person.name}: may {', '.join(sorted(person.may)) or 'do neither'}")
@@ -61,7 +61,7 @@ def _rules(options: argparse.Namespace) -> int:
         options.rules, signers=options.signers, revoked=options.revoked, why=options.why
     )
     options.found = head
-    print("the book has these rules from now on; who changes them wants an approval")
+    print("the book has these rules from now on; changing them needs an approval")
     print(f"head {head}")
     return ExitStatus.GOOD
 
@@ -217,13 +217,14 @@ def _signed(options: argparse.Namespace) -> int:
         print(f"{each.kind}: {each.said}")
     wrong = sum(each.kind is SentenceKind.WRONG for each in found)
     if wrong:
-        raise Fault(f"{counted(wrong, 'thing')} isn't as the rules of the book want it")
+        raise Fault(f"{counted(wrong, 'thing')} isn't as the rules of the book require")
     return ExitStatus.GOOD
 
 
 RULES = SimpleNamespace(
-    __doc__="Gives the book rules: what wants an approval, by whom, and whether it is signed; and "
-    "says who may sign. The first rules hold at once. Others want an approval by those before.",
+    __doc__="Gives the book rules: what needs an approval, by whom, and whether it is signed; and "
+    "says who may sign. The first rules apply at once. Later ones need an approval by those before "
+    "them.",
     add_arguments=_add_rules,
     run=_rules,
 )

@@ -28,7 +28,7 @@ def add_anyway(parser: argparse.ArgumentParser) -> None:
         metavar="GATE=REASON",
         action="append",
         default=[],
-        help="also if a gate stops it, with the reason; once for each such gate",
+        help="close even if a gate stops it, with the reason; once for each such gate",
     )
 
 

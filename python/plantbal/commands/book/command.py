@@ -21,7 +21,7 @@ The book is the current folder, or that of --book. It has
   reports/      the last report of each period, with its history, and of each window; those that
                 went out before are in reports/earlier/
   posted/       what was handed over of each period
-  rules.toml    what wants an approval, by whom; allowed_signers and revoked_keys: who may sign
+  rules.toml    what needs an approval, by whom; allowed_signers and revoked_keys: who may sign
   approvals/    what was submitted and approved, with signatures
   journal.csv   a line for each action: when, who, what, why, which rows it added, and the digests
                 of the line before it and of each file that it left
@@ -96,13 +96,13 @@ COMMANDS: Sequence[Inner] = (
     ),
     Inner("close", "closing:CLOSE", "close a period with its report"),
     Inner("submit", "approving:SUBMIT", "submit the close of a period, to be approved"),
-    Inner("submitted", "approving:SUBMITTED", "say what waits for an approval"),
+    Inner("submitted", "approving:SUBMITTED", "show what waits for an approval"),
     Inner("approve", "approving:APPROVE", "approve what was submitted, by the head that was shown"),
     Inner("reject", "approving:REJECT", "reject what was submitted, or take it back"),
-    Inner("rules", "approving:RULES", "say what wants an approval, by whom, and who may sign"),
-    Inner("signed", "approving:SIGNED", "say who has signed and approved what"),
+    Inner("rules", "approving:RULES", "show what needs an approval, by whom, and who may sign"),
+    Inner("signed", "approving:SIGNED", "show who has signed and approved what"),
     Inner("quiet", "quieting:QUIET", "quiet a rule of lint for good, with a reason"),
-    Inner("difference", "accounting:DIFFERENCE", "say how two reports differ, and why"),
+    Inner("difference", "accounting:DIFFERENCE", "show how two reports differ, and why"),
     Inner("posted", "accounting:POST", "record what is handed over of a period, once"),
     Inner(
         "account",
@@ -110,13 +110,13 @@ COMMANDS: Sequence[Inner] = (
         "show a period's account: stocks, receipts, shipments, losses",
     ),
     Inner(
-        "status", "showing:STATUS", "say what is open, what is missing, and how full the year is"
+        "status", "showing:STATUS", "show what is open, what is missing, and how full the year is"
     ),
     Inner("next", "years:NEXT", "begin the next year"),
     Inner("retire", "years:RETIRE", "end the service of a tank or stream that is booked"),
     Inner("verify", "verifying:VERIFY", "test every file of the book against its journal"),
     Inner("head", "verifying:HEAD", "print the head of its chain, to be kept elsewhere"),
-    Inner("accept", "verifying:ACCEPT", "take a file as it is, with a reason, and say so for good"),
+    Inner("accept", "verifying:ACCEPT", "accept a file as it is, with a reason, for good"),
 )
 
 

@@ -26,7 +26,7 @@ def _add(parser: argparse.ArgumentParser) -> None:
 def _estimate(options: argparse.Namespace) -> int:
     """Propose estimates, or book them."""
     if options.take and not options.why:
-        raise WordsFault("no reason given", remedy="say --why TEXT")
+        raise WordsFault("no reason given", remedy="use --why TEXT")
     book = Book(options.book, who=options.who, key=options.key)
     period, stream = options.period, options.stream
     found = book.estimate(period, stream, take=options.take, why=options.why)

@@ -12,14 +12,14 @@ from plantbal.statuses import ExitStatus
 
 def _add_quiet(parser: argparse.ArgumentParser) -> None:
     parser.add_argument("rule", metavar="RULE", nargs="?", help="a rule of plantbal-desk lint")
-    names = "the streams, tanks or units that it speaks of"
+    names = "the streams, tanks or units that it reports"
     parser.add_argument("names", metavar="NAME", nargs="*", help=names)
     parser.add_argument("--why", metavar="TEXT", default="", help="the reason")
-    parser.add_argument("--off", action="store_true", help="let it speak again")
+    parser.add_argument("--off", action="store_true", help="report its findings again")
 
 
 def _quiet(options: argparse.Namespace) -> int:
-    """Quiet a rule, let it speak again, or list what is quieted."""
+    """Quiet a rule, report its findings again, or list what is quieted."""
     book = Book(options.book, who=options.who, key=options.key)
     rule, names = options.rule, options.names
     if rule is None:
@@ -28,7 +28,7 @@ def _quiet(options: argparse.Namespace) -> int:
             print(f"{each.code} {' '.join(each.names)}: {each.why} ({each.who}, {each.when})")
         return ExitStatus.GOOD
     if not options.why:
-        raise WordsFault("no reason given", remedy="say --why TEXT")
+        raise WordsFault("no reason given", remedy="use --why TEXT")
     if options.off:
         book.heed(rule, *names, why=options.why)
     else:
@@ -39,7 +39,7 @@ def _quiet(options: argparse.Namespace) -> int:
 
 
 QUIET = SimpleNamespace(
-    __doc__="Quiets a rule of lint for good, for the names that it speaks of, with a reason that "
+    __doc__="Quiets a rule of lint for good, for the names that it reports, with a reason that "
     "the journal keeps. Without a rule it lists what is quieted. What is quieted stops no close.",
     add_arguments=_add_quiet,
     run=_quiet,

@@ -122,7 +122,7 @@ def _after(name: str) -> str:
 def _apart(found: TankApart) -> str:
     return (
         f"{found.tank}: {found.old_year} ends with {found.old.said()}, and {found.new_year} begins "
-        f"with {found.new.said()}: amend one of both"
+        f"with {found.new.said()}: amend one of the two"
     )
 
 
@@ -133,7 +133,8 @@ SHOW = SimpleNamespace(
     run=_show,
 )
 STATUS = SimpleNamespace(
-    __doc__="Says how a book stands: what is open or missing, which report is old, how full it is.",
+    __doc__="Shows the state of a book: what is open or missing, which report is old, and how full it "
+    "is.",
     add_arguments=_add_status,
     run=_status,
 )

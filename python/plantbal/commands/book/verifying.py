@@ -75,8 +75,8 @@ def _accept(options: argparse.Namespace) -> int:
 
 VERIFY = SimpleNamespace(
     __doc__="Tests every file of the book against its journal, up to each place that the journal "
-    "names, and says all that is wrong. An older copy of the whole folder is told by a head that "
-    "was kept elsewhere, or by a bundle.",
+    "names, and says all that is wrong. An older copy of the whole folder is detected by a head "
+    "that was kept elsewhere, or by a bundle.",
     add_arguments=_add_verify,
     run=_verify,
 )

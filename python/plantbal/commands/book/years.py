@@ -81,7 +81,7 @@ def _retire(options: argparse.Namespace) -> int:
 def _say_begun(found: Begun) -> int:
     """Say how a next year begins."""
     if not found.is_begun:
-        print(f"{found.year}.csv is there already")
+        print(f"{found.year}.csv already exists")
         return ExitStatus.GOOD
     assert found.first is not None and found.contents is not None
     rows = counted(found.rows, "row")

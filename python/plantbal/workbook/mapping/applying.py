@@ -62,7 +62,7 @@ def applied(mapping: WorkbookMapping, sheets: Sequence[Sheet]) -> list[Sheet]:
             found.append(_unmapped(sheet))
         elif not own.kind or (own.plant and own.plant != mapping.plant):
             why = "as the mapping says" if not own.kind else f"it is of the plant {own.plant}"
-            sheet.notes.append(f"the sheet is passed over: {why}")
+            sheet.notes.append(f"the sheet is skipped: {why}")
             found.append(replace(sheet, word="about"))
         else:
             applying = Applying(mapping, own, sheet)
@@ -99,8 +99,8 @@ def _unmapped(sheet: Sheet) -> Sheet:
         raise InputFault(
             "the mapping has no sheet of this name",
             place=sheet.place(),
-            remedy=f'write name = "{sheet.name}" and its kind under [[sheet]], or kind = "" to '
-            "pass it over",
+            remedy=f'write name = "{sheet.name}" and its kind under [[sheet]], or kind = "" '
+            "to skip it",
         )
     return sheet
 
@@ -124,7 +124,7 @@ class Applying:
         self.given = given
         self.kind = SHEETS[own.kind]
         self.lines: list[Line] = [(line, list(values)) for line, values in given.lines]
-        self.taken: dict[int, bool] = {}  # rows that are heads, and those that are passed over
+        self.taken: dict[int, bool] = {}  # rows that are heads, and those that are skipped
         self.notes: list[str] = []
         # columns that the sheet itself doesn't have
         self.beside: dict[str, Value] = {head: self._given(v) for head, v in own.given.items()}
@@ -260,7 +260,7 @@ class Applying:
             told = self.units.get(column)
             if told is not None and unit_of(told) != unit:
                 what = f"{value} is here, but the mapping has {told}"
-                raise self.fault(line, column, what, "correct one of both")
+                raise self.fault(line, column, what, "correct one of the two")
             self.units[column] = unit
 
     def _has_pairs(self, columns: dict[int, str]) -> bool:
@@ -344,7 +344,7 @@ class Applying:
             if self._is_total(values):
                 self.taken[line] = False
                 shown = next(str(value) for value in values if value is not None)
-                self.notes.append(f"line {line}: the row {shown!r} is passed over")
+                self.notes.append(f"line {line}: the row {shown!r} is skipped")
                 continue
             if not self._is_here(line, values, columns):
                 self.taken[line] = False
@@ -352,7 +352,7 @@ class Applying:
                 continue
             yield line, self._row(line, values, columns, above)
         if others:
-            self.notes.append(f"{others:,} rows of other plants are passed over")
+            self.notes.append(f"{others:,} rows of other plants are skipped")
 
     def _is_total(self, values: list[Value]) -> bool:
         first = next((value for value in values if value is not None), None)
@@ -432,7 +432,7 @@ class Applying:
         own = self.own.month
         month = month_of_sheet(self.given.name) if own == NAME else month_of(own)
         if month is None:
-            what = "no month is told of which this is a day"
+            what = "no month is given for this day"
             remedy = 'write month = "2024-01" into the mapping, or name the sheet by its month'
             raise self.fault(line, column, what, remedy)
         try:

@@ -319,7 +319,7 @@ class Columns:
             units = "mm" if head.startswith("water") else units
             self.evidence[
                 "given", head
-            ] = f"no error is told: a standard deviation, in {units}: {such}"
+            ] = f"no error is given: a standard deviation, in {units}: {such}"
         return {head: OPEN for head, _ in asked}
 
     def _counters(self, columns: dict[str, str]) -> dict[str, str]:
@@ -418,7 +418,7 @@ class Columns:
             if to == "error" and key not in units and own - {"kg/m3"}:
                 units[key] = OPEN
                 why = f"the densities are in {', '.join(sorted(own))}: kg/m3, or the same"
-                self.evidence["units", key] = f"no unit is told, and {why}"
+                self.evidence["units", key] = f"no unit is given, and {why}"
 
     def _is_wide(self, column: ColumnProfile) -> bool:
         """Say whether a column has the figures of a tag, a tank, a name or a month."""
@@ -445,7 +445,7 @@ class Columns:
         if any(each == 0 for each in numbers) and to == "error" and most == 0:
             return None, ""
         such = ", ".join(list(_UNITS_OF[to])[:6])
-        return OPEN, f"no unit is told of {least} to {most}: {such}"
+        return OPEN, f"no unit is given for {least} to {most}: {such}"
 
     def _unit_of_titles(self, to: str) -> str:
         found = {split_unit(title)[1] for title in self.profile.titles} - {""}

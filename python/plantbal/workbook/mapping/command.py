@@ -19,9 +19,9 @@ HELP = """
 WORKBOOK is an xlsx or ods file, a CSV file, or a folder of CSV files, as the plant keeps it. The
 mapping says which sheet is what, which column, whose numbers and days, which unit, what streams and
 tanks are called in the book. It is guessed from words in English, German, Spanish and French, and
-from the shape of the data; what speaks for each guess stands beside it.
+from the shape of the data; the reason for each guess is beside it.
 
-A "?" is a question: what stands there can be read in two ways, and no workbook is read by a mapping
+A "?" is a question: what is there can be read in two ways, and no workbook is read by a mapping
 that has one. The status is 1 then. `convert`, `book new` and `book add` take the mapping by
 --mapping FILE; a book keeps it, and reads every later workbook by it.
 

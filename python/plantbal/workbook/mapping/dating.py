@@ -29,7 +29,7 @@ def month_said(profile: SheetProfile) -> tuple[str, str]:
         if found:
             return f"{found[0]}-{found[1]:02}", f"{title[:60]!r} is above the heads"
     word = month_word(name)
-    return OPEN, f"days are numbers, and no year is told{f' of {word}' if word else ''}"
+    return OPEN, f"days are numbers, and no year is given{f' of {word}' if word else ''}"
 
 
 def year_said(profile: SheetProfile) -> tuple[str, str]:
@@ -46,7 +46,7 @@ def year_said(profile: SheetProfile) -> tuple[str, str]:
     for title in profile.titles:
         if year_of(title):
             return year_of(title), f"{title[:60]!r} is above the heads"
-    return OPEN, f"no year is told of {bare[0]}"
+    return OPEN, f"no year is given of {bare[0]}"
 
 
 def _short_years(profile: SheetProfile, heads: Sequence[str]) -> tuple[str, str]:

@@ -39,7 +39,7 @@ class SheetMapping:
     name : str
         Its name; `*` stands for whatever is different each month.
     kind : str
-        Which sheet of a plant's workbook it is; empty if it is passed over.
+        Which sheet of a plant's workbook it is; empty if it is skipped.
     plant : str
         Which plant it is of, if the workbook has several.
     locale : str
@@ -57,7 +57,7 @@ class SheetMapping:
     down : tuple of str
         The heads below which an empty cell has what stands above it.
     totals : tuple of str
-        What rows begin with that are passed over.
+        What rows begin with that are skipped.
     year : str
         The year of months that are heads without one: ``2024``, ``name`` for the sheet's name, or
         ``head`` if each has two digits of it.
@@ -177,7 +177,7 @@ class _MappingReading:
                 raise self.fault("[[sheet]]", f"a sheet has no {key}", f"write {key} = ..")
         found = SheetMapping(**self.checked(told, SheetMapping, f"the sheet {told['name']!r}"))
         if found.kind and found.kind != OPEN and found.kind not in SHEETS:
-            remedy = f"write one of {', '.join(SHEETS)}, or nothing to pass the sheet over"
+            remedy = f"write one of {', '.join(SHEETS)}, or nothing to skip the sheet"
             raise self.fault(found.kind, f"there is no kind of sheet {found.kind!r}", remedy)
         self._check_columns(found)
         self._locale(found.locale)
@@ -189,7 +189,7 @@ class _MappingReading:
             raise self.fault("year", f"{found.year!r} isn't a year", remedy)
         for head, figure in found.counters.items():
             if figure not in ("", OPEN) and not re.fullmatch("[1-9][0-9]{0,17}", figure):
-                what = f"{figure!r} is no figure at which a counter begins again"
+                what = f"{figure!r} isn't a figure at which a counter begins again"
                 raise self.fault(head, what, "write a whole number, such as 1000000")
         for head in found.given:
             if found.kind in SHEETS and head not in {

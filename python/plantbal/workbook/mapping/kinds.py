@@ -59,7 +59,7 @@ class KindsOfSheets:
             return self.said[name], "as it was said"
         plain = re.split(r"[^a-z]", name.strip().casefold(), maxsplit=1)[0]
         if plain in PASSED:
-            return "", "sheets of this name are passed over"
+            return "", "sheets of this name are skipped"
         cover = cover_meaning(name)
         if cover is not None and not any(c.has_figures for c in profile.columns):
             return "", cover.said()
