@@ -124,12 +124,12 @@ def whole_of(number: int | Decimal | str, what: str) -> str:
     if isinstance(number, Decimal):
         if number.is_finite() and number.adjusted() <= 100 and number == int(number):
             return str(int(number))
-        raise Fault(f"{what} is {number}", text=str(number), remedy="say a whole number")
+        raise Fault(f"{what} is {number}", text=str(number), remedy="use a whole number")
     if isinstance(number, bool) or not hasattr(number, "__index__"):
         raise Fault(
             f"{what} is {number!r}, of type {type(number).__name__}",
             text=repr(number),
-            remedy="say a whole number",
+            remedy="use a whole number",
         )
     return str(number.__index__())
 

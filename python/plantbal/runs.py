@@ -130,7 +130,7 @@ def _require_fallback(fallback: str, eliminate: int) -> None:
     """
     if fallback not in ("", "scipy"):
         raise InputFault(
-            f"there is no engine {fallback!r}", text=str(fallback), remedy="say 'scipy'"
+            f"there is no engine {fallback!r}", text=str(fallback), remedy="use 'scipy'"
         )
     if fallback and eliminate:
         what = "elimination needs the program's own solver, so it can't be combined with a fallback"

@@ -358,7 +358,7 @@ def test_signed(keys: Path, user: As, tmp_path: Path) -> None:
     for name, fault, what in (
         ("anna", SamePerson, "submitted action 4 yourself"),
         ("eva", Fault, "its key was no longer allowed"),
-        ("stranger", Fault, "its key is nobody's"),
+        ("stranger", Fault, "its key belongs to nobody"),
     ):
         with pytest.raises(fault, match=what):
             Book(mill, key=keys / name).approve(head)

@@ -267,7 +267,7 @@ def test_a_folder_of_another_user(
     assert book("status").status == 0
     said = book(*AMEND)
     assert said.status == 1 and "belongs to nobody (65534)" in said.err
-    assert f"say PLANTBAL_TRUST={mill} before the command" in said.err
+    assert f"set PLANTBAL_TRUST={mill} before the command" in said.err
     monkeypatch.setenv("PLANTBAL_TRUST", str(mill))
     assert book(*AMEND).status == 0
     monkeypatch.delenv("PLANTBAL_TRUST")
@@ -344,7 +344,7 @@ def test_new_writes_over_nothing(say: Desk, book: Type, tmp_path: Path) -> None:
         before = files_of(mill)
     (mill / "reports" / "2024-04.csv").unlink()
     (mill / "2023.csv").write_bytes(whole["2024.csv"])
-    assert "2023.csv: it is there already" in book(*new).err
+    assert "2023.csv: it already exists" in book(*new).err
     (mill / "2023.csv").write_text("day,F-1\n2023-01-01,5\n", encoding="utf-8")
     assert book(*new).status == 0, "a sheet that begins with a year isn't a year of a book"
 
@@ -396,5 +396,5 @@ def test_a_plant_that_is_there(say: Desk, tmp_path: Path) -> None:
     """A workbook that is called plant.csv isn't overwritten."""
     (tmp_path / "plant.csv").write_text("mine\n", encoding="utf-8")
     words = ("new", "2024", folder(tmp_path / "plant", PLANT), "--book", tmp_path)
-    assert "plant.csv: it is there already" in say("book", *words).err
+    assert "plant.csv: it already exists" in say("book", *words).err
     assert text_of(tmp_path / "plant.csv") == "mine\n"

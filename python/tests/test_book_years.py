@@ -131,7 +131,7 @@ def test_the_plant_of_an_older_year(book: Type, tmp_path: Path) -> None:
     assert book("add", tmp_path / "late", "--year", "2024").status == 0
     assert rows_of(tmp_path)[-1].startswith("transfer,t-7,TRUCKS,2024-04-30")
     found = book("add", tmp_path / "late", "--year", "2023")
-    assert "there is no year 2023: say 2024, 2024-2" in found.err
+    assert "there is no year 2023: use one of 2024, 2024-2" in found.err
 
 
 def test_a_plant_that_was_spoilt(book: Type, tmp_path: Path) -> None:

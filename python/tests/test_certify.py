@@ -111,7 +111,7 @@ def test_uncertified(program: Path, flows: Any, multipliers: Any, test: str, sai
         ({"A": 102, "B": 102, "C": 1}, None, {}, "row d, C: there is no stream of this name"),
         ({"A": 102, "B": 102}, {"V": 1}, {}, "multipliers: row d, V: there is no node"),
         ({"A": 102, "B": 102}, {}, {}, "multipliers: row d: there is no multiplier of U"),
-        ({"A": 102, "B": 102}, None, {"unit": "kg"}, "no unit 'kg' of figures: say 'tonnes' or"),
+        ({"A": 102, "B": 102}, None, {"unit": "kg"}, "no unit 'kg' of figures: use 'tonnes' or"),
         (102, None, {}, "flows is of type int: give a mapping, a Series or a DataFrame"),
         ([], None, {}, "figures of 0 reports, and the session has 1"),
         ({"e": {"A": 102, "B": 102}}, None, {}, "there are no figures of d"),
@@ -224,7 +224,7 @@ def test_fallback_of_one_report(program: Path) -> None:
 @pytest.mark.parametrize(
     "how, said",
     [
-        ({"fallback": "cvxpy"}, "there is no engine 'cvxpy': say 'scipy'"),
+        ({"fallback": "cvxpy"}, "there is no engine 'cvxpy': use 'scipy'"),
         ({"fallback": "scipy", "eliminate": 1}, "elimination needs the program's own solver"),
     ],
 )

@@ -176,7 +176,7 @@ def test_a_row_that_vanished(
         text = text.replace('sheet = "tickets"', f'sheet = "tickets"\nvanished = "{vanished}"')
     mapping.write_text(text, encoding="utf-8")
     said = say("pull", mapping, "--book", mill, *DAYS)
-    told = "truck-04: 800 t is booked, and isn't in historian.toml any more" in said.out
+    told = "truck-04: 800 t is booked, and is no longer in historian.toml" in said.out
     assert told == (vanished in ("", "ask")) and "typed" not in said.out, said
     assert said.status == (1 if told else 0), said
     struck = rows_of(tmp_path)[len(before) :]

@@ -165,7 +165,7 @@ def test_uncertified(program: Path, monkeypatch: pytest.MonkeyPatch) -> None:
 
 
 def test_no_engine() -> None:
-    with pytest.raises(Fault, match="there is no engine 'cvxpy': say 'scipy'"):
+    with pytest.raises(Fault, match="there is no engine 'cvxpy': use 'scipy'"):
         solve(Session(), engine="cvxpy")
 
 

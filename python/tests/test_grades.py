@@ -101,7 +101,7 @@ def test_tables_of_grades(say: Desk, plant: Path, tmp_path: Path) -> None:
             assert shown == pytest.approx(line[key]), (row["stream"], head)
     for more, said in (
         ((*words, "--component", "au"), "no grades of au: there are grades of cu"),
-        (words[:3], "grades need the assays: say --session"),
+        (words[:3], "grades need the assays: use --session"),
         ((*words, "--window"), "leave --window out"),
         ((*words, "--keep", "x"), "leave it out"),
     ):

@@ -196,7 +196,7 @@ ASKED: dict[str, tuple[Sheets, str]] = {
     ),
     "a volume without a unit": (
         {"straps": [["tank", "level [mm]", "volume"], ["T1", 0, 0], ["T1", 16000, 16000]]},
-        "straps: units volume: no unit is told",
+        "straps: units volume: no unit is given",
     ),
     "a column of figures that nobody names": (
         {"daily": [["Date", "F1", "F2", "F9"], *([day, 1, 2, 3] for day in DAYS)]},

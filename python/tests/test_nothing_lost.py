@@ -217,4 +217,4 @@ def test_the_account_adds_up(
 def _check_said(tickets: SheetFates, notes: list[str], faults: list[Any]) -> None:
     """Each row that isn't read has a note or a fault that says so."""
     assert not tickets.at_fault or faults, tickets
-    assert not tickets.passed or any("passed over" in note for note in notes), tickets
+    assert not tickets.passed or any("skipped" in note for note in notes), tickets

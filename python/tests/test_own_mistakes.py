@@ -434,7 +434,7 @@ NAMES = [
     (["run", DAY, "--out", "a.pdf"], "a.pdf ends with '.pdf': use .csv, .sqlite or .xlsx"),
     (["solve", DAY, "--out", "a.pdf"], "a.pdf ends with '.pdf': use .csv, .sqlite or .xlsx"),
     (["report", OUTPUT, "--out", "a.json"], "a.json ends with '.json': use .csv, .sqlite or .xlsx"),
-    (["template", "refinery", "a.ods"], "a.ods doesn't end with .xlsx: say a name such as"),
+    (["template", "refinery", "a.ods"], "a.ods doesn't end with .xlsx: use a name such as"),
     (["convert", DAY.parent / "refinery_workbook", "--locale", "xx"], "xx"),
 ]
 

@@ -420,7 +420,7 @@ CANT = {
     ): "flow of a stream row is 'x': it has to be a whole",
     STREAM.replace("redundant", "red"): "class of a stream row is 'red': it has to be one of",
     STREAM.replace("5,4", "5,"): "A has a value without a variance",
-    f"{STREAM}\n{STREAM}": "record 2: the stream A is there already",
+    f"{STREAM}\n{STREAM}": "record 2: the stream A already exists",
     "design,2,2\nclass,A,env,U,no,observable,cut,U,+A": "the design is cut off",
     "design,2,2\nrefused,1,1,kind": "record 2: the design before this row is cut off",
 }

@@ -26,7 +26,7 @@ CHANGES = [
     (DAY, r"(?<=,)\d(\d{9}),", r"\g<1>x,", "a whole number"),
     (DAY, r"^report,(\w+),0,9", r"report,\1,0,x", "nodes of a report row is 'x'"),
     (DAY, r"^report,(\w+),0,", r"report,\1,1,", "there is no round before round 1"),
-    (DAY, r"^node,env,", "node,VDU,", "the node VDU is there already"),
+    (DAY, r"^node,env,", "node,VDU,", "the node VDU already exists"),
     (TESTED, r"^nodal,\w+", "nodal,NONE", "there is no node NONE"),
     (TESTED, r"^measure,\w+", "measure,NONE", "there is no stream NONE"),
     (TESTED, r"^measure,\w+", "measure," + "9" * 5000, "stream of a measure row is '9999"),

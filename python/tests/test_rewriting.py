@@ -237,7 +237,7 @@ def test_bundles_made_anew(room: Room, say: Desk, monkeypatch: pytest.MonkeyPatc
     shutil.copy(made, bundle)
     shutil.copy(f"{made}.sig", f"{bundle}.sig")
     found[OWN_KEYS] = auditor.found()
-    assert "its key is nobody's" in auditor.signed
+    assert "its key belongs to nobody" in auditor.signed
     assert found == rows, "each way that is tried has a row, and each row is tried"
 
 
@@ -248,8 +248,8 @@ def test_signatures_of_a_bundle(room: Room, say: Desk) -> None:
     path, rows = Path(f"{auditor.bundle}.sig"), attacks.of(What.SIGNATURE)
     signature = path.read_text("ascii")
     tried = {
-        "by a stranger": (sign(genuine, room.key("stranger"), BUNDLE), "its key is nobody's"),
-        "by a key that has ended": (sign(genuine, room.key("eva"), BUNDLE), "not allowed any more"),
+        "by a stranger": (sign(genuine, room.key("stranger"), BUNDLE), "its key belongs to nobody"),
+        "by a key that has ended": (sign(genuine, room.key("eva"), BUNDLE), "no longer allowed"),
         "of another use": (sign(genuine, room.key("anna"), "plantbal-book"), "doesn't fit"),
         "by somebody else": (sign(genuine, room.key("paul"), BUNDLE), "anna has to have signed it"),
         "taken away": ("", "nobody has signed it"),

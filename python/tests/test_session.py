@@ -400,7 +400,7 @@ def test_rows_as_dicts() -> None:
         ({"kind": "units", "name": "U"}, "row 1: there is no kind 'units': use one of version"),
         ({"name": "U"}, "there is no kind None"),
         ({"kind": "unit"}, "its keys aren't those of a row unit: beside kind it has name"),
-        ({"kind": "unit", "name": 1.5}, "name is 1.5, of type float: say a text"),
+        ({"kind": "unit", "name": 1.5}, "name is 1.5, of type float: use a text"),
         ({"kind": "unit", "name": True}, "of type bool"),
     ]
     for row, said in wrong:

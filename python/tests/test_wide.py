@@ -106,7 +106,7 @@ NAIVE = pandas.DataFrame(FLOATS, index=DAYS)
     "frame, how, said",
     [
         (NAIVE, {"error": ERROR}, "row 2024-05-01, column A: 102.5 is a float, .* round='gram'"),
-        (NAIVE, {"round": "gram"}, "nothing says how good the readings are: say error="),
+        (NAIVE, {"round": "gram"}, "nothing says how good the readings are: use error="),
         (NAIVE, {"round": "kg", "error": ERROR}, "round is 'kg': use 'gram', or leave it out"),
         (NAIVE, {"round": "gram", "error": "1"}, "'1' isn't an error with its unit"),
         (NAIVE, {"round": "gram", "error": {"A": "1 %"}}, "there is no error of B"),

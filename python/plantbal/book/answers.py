@@ -141,7 +141,9 @@ def checked_rule(code: str, names: Sequence[str]) -> None:
     """
     if code not in RULES or RULES[code].severity == "error":
         words = ", ".join(code for code, rule in RULES.items() if rule.severity != "error")
-        raise Fault(f"{code!r} isn't a rule that can be quieted", text=code, remedy=f"say {words}")
+        raise Fault(
+            f"{code!r} isn't a rule that can be quieted", text=code, remedy=f"use one of {words}"
+        )
     if code in list(Gate) and not Gate(code).is_of_names:
         remedy = f"give it at each close: --anyway '{code}=REASON'"
         raise Fault(f"{code}: {about(Gate(code))} is of a single month", text=code, remedy=remedy)

@@ -172,7 +172,7 @@ def _side(book: Store, versions: dict[str, ReportVersion], period: str, word: st
     if not name or not book.has(name):
         count = _earlier(book, period)
         there = f"1 to {count}, " if count > 1 else "1, " if count else ""
-        raise Fault(f"there is no report {word} of {period}", remedy=f"say {there}posted or now")
+        raise Fault(f"there is no report {word} of {period}", remedy=f"use {there}posted or now")
     year = versions[period].year
     return _of_version(book, versions, version_of(book, period, year, book.text(name)), word)
 

@@ -75,7 +75,7 @@ def check_folder(folder: Path) -> None:
     raise Fault(
         f"the book {folder.resolve()} belongs to {owner_said(found.st_uid)}",
         remedy="let its owner do it, or share it with a group that may write to it; if you trust "
-        f"whoever filled it, say {TRUSTED}={folder.resolve()} before the command",
+        f"whoever filled it, set {TRUSTED}={folder.resolve()} before the command",
     )
 
 
@@ -103,7 +103,7 @@ def check_links(folder: Path, names: Iterable[str]) -> None:
             raise InputFault(
                 f"it is a link, to {link.resolve()}, and nothing is written through it",
                 place=Place(file=str(link)),
-                remedy="put the file itself there; if the link is your own, say "
+                remedy="put the file itself there; if the link is your own, set "
                 f"{TRUSTED}={folder.resolve()} before the command",
             )
 

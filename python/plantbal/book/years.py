@@ -170,7 +170,9 @@ class Years:
         if name is None:
             return self.last
         if name not in names:
-            raise Fault(f"there is no year {name}", text=name, remedy=f"say {', '.join(names)}")
+            raise Fault(
+                f"there is no year {name}", text=name, remedy=f"use one of {', '.join(names)}"
+            )
         return self[name]
 
     def all(self) -> list[YearLedger]:

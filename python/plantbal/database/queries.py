@@ -197,7 +197,7 @@ class _Reader:
         if sheet not in QUERIED:
             assert set(QUERIED) <= set(SHEETS)
             raise self.fault(
-                f"{where}: {sheet!r} isn't a sheet of facts", f"say {', '.join(QUERIED)}"
+                f"{where}: {sheet!r} isn't a sheet of facts", f"use one of {', '.join(QUERIED)}"
             )
         quality = self._text(found, "quality", where, "")
         good, bad = (self._codes(found.get(name, []), where, name) for name in ("good", "bad"))

@@ -38,7 +38,7 @@ def add_arguments(parser: argparse.ArgumentParser) -> None:
         "--change",
         metavar=("STREAM", "GRAMS"),
         nargs=2,
-        help="say a flow that is this many grams higher",
+        help="write a flow that is this many grams higher",
     )
     parser.add_argument(
         "--without-least", action="store_true", help="leave the two columns of least bounds out"

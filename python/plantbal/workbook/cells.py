@@ -487,7 +487,7 @@ def check_locale(locale: str) -> str:
         return str(Locale.parse(locale.replace("-", "_")))
     except (ValueError, UnknownLocaleError):
         raise Fault(
-            f"there is no locale {locale!r}", text=locale, remedy="say de, en_GB, fr or another"
+            f"there is no locale {locale!r}", text=locale, remedy="use de, en_GB, fr or another"
         ) from None
 
 

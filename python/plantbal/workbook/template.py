@@ -55,7 +55,7 @@ def template(kind: str, path: str | Path) -> None:
         An xlsx file, which is written whole or not at all.
     """
     if kind not in KINDS:
-        raise WordsFault(f"there is no template {kind!r}", remedy=f"say {', '.join(KINDS)}")
+        raise WordsFault(f"there is no template {kind!r}", remedy=f"use one of {', '.join(KINDS)}")
     if Path(path).suffix.lower() != ".xlsx":
         raise WordsFault(f"{path} doesn't end with .xlsx", remedy="use a name such as plant.xlsx")
     try:

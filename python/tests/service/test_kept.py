@@ -76,7 +76,7 @@ def test_backup_and_restore(office: services.Service, tmp_path: Path) -> None:
     assert "isn't encrypted" not in said
     assert b"FI-302" in (tmp_path / "plain.tar").read_bytes()
     assert b"FI-302" not in (tmp_path / "secret.age").read_bytes()
-    assert "is there already" in office.office("backup", tmp_path / "plain.tar", allowed=(1,))
+    assert "already exists" in office.office("backup", tmp_path / "plain.tar", allowed=(1,))
     assert office.office("restore", tmp_path / "plain.tar", allowed=(1,)), "it isn't empty"
     other = services.Service('[sign_in]\nsecond = "none"\n', office.database)
     try:

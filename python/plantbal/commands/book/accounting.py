@@ -113,7 +113,7 @@ def chosen(account: MonthAccount, by: str | None, owner: str | None) -> list[Acc
             raise Fault("no account has an owner", remedy=remedy)
         if owner is not None and owner not in names:
             raise Fault(
-                f"there is no owner {owner!r}", text=owner, remedy=f"say {', '.join(names)}"
+                f"there is no owner {owner!r}", text=owner, remedy=f"use one of {', '.join(names)}"
             )
         return [each for each in account.owners if owner in (None, each.name or NOBODY)]
     if by is not None:
