@@ -2,7 +2,7 @@
 
 .ci/documents write        makes anew docs/STATEMENT.md, docs/statement/ and python/plantbal/schema.json,
                            and the parts of docs/ASSURANCE.md, docs/GUIDE.md, docs/ARCHITECTURE.md,
-                           docs/MESSAGES.md and README.md that are made; lowers the numbers of .ci/at_most.txt
+                           and docs/MESSAGES.md that are made; lowers the numbers of .ci/at_most.txt
 .ci/documents check        ends with 1 if one of these is stale, if a document cites what isn't
                            there, or if there is more of a form than .ci/at_most.txt says
 .ci/documents list NAME    prints what there is of a form of .ci/at_most.txt

@@ -9,6 +9,7 @@ from .guide import between
 from .sources import Sources
 
 ASSURANCE = "docs/ASSURANCE.md"
+ARCHITECTURE = "docs/ARCHITECTURE.md"
 NUMBERS = "<!-- numbers: made by .ci/documents write -->"
 TIMES = "<!-- times: made by .ci/documents write from docs/times.txt -->"
 COLUMNS = (
@@ -89,7 +90,7 @@ def numbers(sources: Sources) -> dict[str, int]:
 
 
 def front(t: dict[str, int]) -> list[str]:
-    """Return the table of times of README.md."""
+    """Return the table of times of docs/ARCHITECTURE.md."""
     return [
         "| what | command | time |",
         "|---|---|---|",
@@ -136,6 +137,6 @@ def paragraphs(t: dict[str, int]) -> list[str]:
 
 def times(sources: Sources) -> dict[str, str]:
     """Return the documents that say how long things take."""
-    parts = {"README.md": front, "docs/ARCHITECTURE.md": paragraphs}
     t = numbers(sources)
-    return {path: between(sources.text(path), TIMES, part(t), path) for path, part in parts.items()}
+    made = [*front(t), "", *paragraphs(t)]
+    return {ARCHITECTURE: between(sources.text(ARCHITECTURE), TIMES, made, ARCHITECTURE)}

@@ -304,7 +304,7 @@ complete -c plantbal-desk -n '__fish_seen_subcommand_from critical' -l nodal -x 
 complete -c plantbal-desk -n '__fish_seen_subcommand_from critical' -l measure -x -d 'how many measured streams are'
 complete -c plantbal-desk -n '__fish_seen_subcommand_from from-scipy' -s h -l help -d 'show this help message and exit'
 complete -c plantbal-desk -n '__fish_seen_subcommand_from from-scipy' -l period -x -d 'the period; without it the first one'
-complete -c plantbal-desk -n '__fish_seen_subcommand_from from-scipy' -l change -x -d 'say a flow that is this many grams higher'
+complete -c plantbal-desk -n '__fish_seen_subcommand_from from-scipy' -l change -x -d 'write a flow that is this many grams higher'
 complete -c plantbal-desk -n '__fish_seen_subcommand_from from-scipy' -l without-least -d 'leave the two columns of least bounds out'
 complete -c plantbal-desk -n '__fish_seen_subcommand_from from-scipy' -F
 complete -c plantbal-desk -n '__fish_seen_subcommand_from schema' -s h -l help -d 'show this help message and exit'

@@ -430,7 +430,7 @@ _plantbal_desk() {
             '-h[show this help message and exit]'
             '--help[show this help message and exit]'
             '--period=[the period; without it the first one]:NAME:'
-            '--change=[say a flow that is this many grams higher]:STREAM GRAMS:'
+            '--change=[write a flow that is this many grams higher]:STREAM GRAMS:'
             '--without-least[leave the two columns of least bounds out]'
             '1:word:(from-scipy)'
             '*:REPORT:_files'
