@@ -236,7 +236,7 @@ def test_tables(say: Desk) -> None:
     assert line == "day2,1,F2,3.925000,1.224745,3.20,,"
     assert "EXCHANGER,4.250000,3.01" in say("tables", "balances", path).out
     assert say("tables", "unseen", path).out.splitlines()[1:] == []
-    assert "is of the table holes" in say("tables", "flows", path, "--keep", "x").err
+    assert "works only with the table holes" in say("tables", "flows", path, "--keep", "x").err
 
 
 # ---- what can't be seen
