@@ -145,7 +145,7 @@ def test_a_german_refinery(tmp_path: Path) -> None:
     assert dips == {
         (f"B-1{tank}", day): level(tank, at) for tank in (1, 2) for day, at in days.items()
     }
-    for text in ("am 15.01., Menge geschätzt' is passed", "'ab hier die neue Waage' is passed"):
+    for text in ("am 15.01., Menge geschätzt' is skipped", "'ab hier die neue Waage' is skipped"):
         assert any(text in note for note in found.notes), found.notes
 
 
