@@ -6,10 +6,10 @@ use Rattle.std.proofs.lemmas.Bool.{cases_Bool}
 use Rattle.pb_fixed.proofs.Lists.{some_same}
 use Rattle.pb_graph.specs.declared.records.Meas.{Meas}
 use Rattle.pb_graph.specs.declared.records.Stream.{Stream}
-use Rattle.pb_window.specs.declared.plant.Plant.{Plant}
-use Rattle.pb_window.specs.declared.plant.PlantArc.{PlantArc}
-use Rattle.pb_window.specs.declared.plant.Span.{Span}
-use Rattle.pb_window.specs.Plant.{NumberedArc, arcs_in, closing_day, is_end, is_node_in, is_served, nodes_in, opening_day}
+use Rattle.pb_plan.specs.declared.plant.Plant.{Plant}
+use Rattle.pb_plan.specs.declared.plant.PlantArc.{PlantArc}
+use Rattle.pb_plan.specs.declared.plant.Span.{Span}
+use Rattle.pb_plan.specs.Plant.{NumberedArc, arcs_in, closing_day, is_end, is_node_in, is_served, nodes_in, opening_day}
 use Rattle.pb_site.specs.declared.declared.Arc.{Arc}
 use Rattle.pb_site.specs.declared.declared.ArcKind.{ArcKind}
 use Rattle.pb_site.specs.declared.declared.ArcKind.TheVariants.{Tank}

@@ -3,8 +3,8 @@
 use Rattle.std.specs.Prelude.{◌≡◌, ℕ, ◌-ℤ◌, List, ◌∷◌, map, Option, Some, None}
 use Rattle.pb_graph.specs.declared.records.Meas.{Meas}
 use Rattle.pb_graph.specs.declared.records.Stream.{Stream}
-use Rattle.pb_window.specs.declared.plant.PlantArc.{PlantArc}
-use Rattle.pb_window.specs.Plant.{NumberedArc, arcs_in, closing_day, nodes_in, opening_day}
+use Rattle.pb_plan.specs.declared.plant.PlantArc.{PlantArc}
+use Rattle.pb_plan.specs.Plant.{NumberedArc, arcs_in, closing_day, nodes_in, opening_day}
 use Rattle.pb_site.specs.declared.declared.Arc.{Arc}
 use Rattle.pb_site.specs.declared.declared.ArcKind.TheVariants.{Tank}
 use Rattle.pb_site.specs.declared.declared.Declared.{Declared}
