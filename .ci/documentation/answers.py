@@ -83,7 +83,13 @@ WRITTEN_AFTER = {
     ("pb_site::OnDays::of", "Ok"): REPORT,
     ("pb_site::Site::names", "Ok"): r"class,",
     ("pb_site::names_on", "Ok"): REPORT,
-    ("pb_window::window_places", "Ok"): r"place,",
+    ("pb_plan::window_places", "Ok"): r"place,",
+    ("pb_window::window", "Ok"): r"window,",
+    ("pb_window::window", "Over"): r"over,[^,]*,s\d+\.\d+$",
+    ("pb_window::places", "Ok"): r"place,",
+    ("pb_window::code_of", "Ok"): r"over,[^,]*,s\d+\.\d+$",
+    ("pb_assay::component", "Ok"): r"component,",
+    ("pb_assay::component", "Over"): r"over,d1,O$",
     ("pb_session::Session::row", "None"): r"report,",
 }
 # How a test names an answer that isn't a variant of an enum of the libraries.

@@ -9,6 +9,7 @@ from . import (
     described,
     forms,
     guide,
+    laws,
     links,
     messages,
     numbers,
@@ -25,6 +26,7 @@ def made(sources: Sources) -> dict[str, str]:
     path = numbers.ASSURANCE
     assurance = guide.between(sources.text(path), numbers.NUMBERS, numbers.table(sources), path)
     assurance = guide.between(assurance, answers.ANSWERS, answers.table(sources), path)
+    assurance = guide.between(assurance, laws.LAWS, laws.table(sources), path)
     times = numbers.times(sources)
     times[described.ARCHITECTURE] = described.document(sources, times[described.ARCHITECTURE])
     return {
@@ -84,6 +86,7 @@ CHECKS = (
     heads,
     second_names,
     calls.complaints,
+    laws.complaints,
     forms.complaints,
     citations.missing,
     citations.edits,

@@ -236,6 +236,8 @@ def faults_of(found: Night, plants: int, books: int, room: Path) -> list[str]:
         run = json.loads(packed.read_member(pack, f"plant{k:05}/run.json", 1 << 20) or b"{}")
         if run.get("status") != 0:
             wrong.append(f"the record of plant {k} has the status {run.get('status')}")
+    if list(room.glob("disk*/tmp/plantbal-*")):
+        wrong.append("the killed worker has left a session where no other worker looks")
     if not found.is_killed:
         wrong.append("no worker was killed in the middle")
     # what the killed one had begun and not sent back runs once more, and nothing else does

@@ -1,13 +1,13 @@
 ghost use Rattle.std.specs.Prelude.{IfOk};
-ghost use Rattle.pb_window.specs.Window.{IsWindow};
+ghost use Rattle.pb_plan.specs.Window.{IsWindow};
 
 use pb_classify::classify;
 use pb_graph::{Class, Classified, Graph, List, Meas};
-use pb_rows::Names;
-use pb_window::{
+use pb_plan::{
     Plant, PlantArc, Service, Source, Span, Window, WindowAssembly, WindowFault, WindowNode,
     is_plant, node_code, stream_code, window_graph, window_names, window_of,
 };
+use pb_rows::Names;
 use std::alloc::{AllocError, Global};
 use std::process::Abort;
 

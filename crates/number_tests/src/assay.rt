@@ -4,8 +4,8 @@ ghost use Rattle.std.specs.Prelude.{◌↔◌, IfSome, IsTrue};
 ghost use Rattle.pb_facts.specs.Grade.{IsGrade};
 
 use crate::elim::study_of;
-use pb_assay::{ComponentFault, carried_by, component_graph};
 use pb_facts::Grade;
+use pb_grades::{ComponentFault, carried_by, component_graph};
 use pb_graph::{Graph, Stream};
 use pb_limits::{MOST_GRADE, MOST_GRADE_VARIANCE};
 use pb_study::{Stage, Study};

@@ -1,5 +1,2 @@
-mod CarriedLemmas
-mod ComponentLemmas
-mod ErrorLemmas
-mod FormLemmas
-mod MeaningLemmas
+mod BalanceLemmas
+pub mod CountLemmas

@@ -1,4 +1,2 @@
 -- Statement
-pub mod Grade
-pub mod Component
-pub mod Laws
+pub mod Balance

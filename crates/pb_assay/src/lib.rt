@@ -1,16 +1,7 @@
-//! The balance of one component, such as copper, on the printed flows of a period: the component graph, whose streams are measured
-//! by what their flows carry of the component.
-//!
-//! Flows are reconciled first and count as exact here. A bilinear reconciliation adjusts flows and grades at once
-//! (Narasimhan and Jordache, "Data Reconciliation and Gross Error Detection", chapter 4).
-//!
-//! The laws are the contracts of empty functions, which state them for the crates above.
+//! The balance of one component in a period of a book: the component graph, by what a stage of the period's study prints and by the assays
+//! of the component in the period.
 #![tactic(auto)]
 
-mod carried;
-mod component;
-mod laws;
+mod balance;
 
-pub use carried::carried_by;
-pub use component::{ComponentFault, component_graph};
-pub use laws::{component_form_law, component_law, error_law, first_over_law};
+pub use balance::component;

@@ -8,12 +8,12 @@ use Rattle.std.proofs.lemmas.List.Elements.{All-map}
 use Rattle.std.proofs.lemmas.Option.{get_or_from_slice_get, slice_get-get_or, slice_get_within}
 use Rattle.std.proofs.Math.Seq.{take-suc}
 use Rattle.pb_limits.specs.Limits.{most_periods_of_window}
-use Rattle.pb_window.specs.declared.plant.Span.{Span}
-use Rattle.pb_window.specs.declared.window.Window.{Window}
-use Rattle.pb_window.specs.Laws.{WindowFormLaw, WindowNamesLaw, WindowPlacesLaw}
-use Rattle.pb_window.specs.Places.{IsNamedBy}
-use Rattle.pb_window.specs.Plant.{IsPlant, IsSpan}
-use Rattle.pb_window.specs.Window.{is_too_great, unless_too_great, window_of}
+use Rattle.pb_plan.specs.declared.plant.Span.{Span}
+use Rattle.pb_plan.specs.declared.window.Window.{Window}
+use Rattle.pb_plan.specs.Laws.{WindowFormLaw, WindowNamesLaw, WindowPlacesLaw}
+use Rattle.pb_plan.specs.Places.{IsNamedBy}
+use Rattle.pb_plan.specs.Plant.{IsPlant, IsSpan}
+use Rattle.pb_plan.specs.Window.{is_too_great, unless_too_great, window_of}
 use Rattle.pb_site.specs.declared.declared.Arc.{Arc}
 use Rattle.pb_site.specs.declared.declared.Declared.{Declared}
 use Rattle.pb_site.specs.Laws.{IsDeclaredPlant, PlantLaw}

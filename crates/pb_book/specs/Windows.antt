@@ -2,12 +2,12 @@
 use Rattle.std.specs.Prelude.{◌≡◌, ℕ, ◌≤◌, List, All, length, map, slice_get, Option, Some, None, Ok}
 use Rattle.std.specs.Option.{option_map}
 use Rattle.pb_limits.specs.Limits.{most_periods_of_window}
-use Rattle.pb_window.specs.declared.plant.Plant.{Plant}
-use Rattle.pb_window.specs.declared.window.Window.{Window}
-use Rattle.pb_window.specs.Plant.{IsPlant, IsSpan}
-use Rattle.pb_window.specs.Window.{IsWindow, window_of}
-use Rattle.pb_window.specs.Codes.{AreWindowNames}
-use Rattle.pb_window.specs.Places.{HaveNames}
+use Rattle.pb_plan.specs.declared.plant.Plant.{Plant}
+use Rattle.pb_plan.specs.declared.window.Window.{Window}
+use Rattle.pb_plan.specs.Plant.{IsPlant, IsSpan}
+use Rattle.pb_plan.specs.Window.{IsWindow, window_of}
+use Rattle.pb_plan.specs.Codes.{AreWindowNames}
+use Rattle.pb_plan.specs.Places.{HaveNames}
 use Rattle.pb_site.specs.Site.{names_of}
 use Rattle.pb_periods.specs.declared.period.Period.{Period}
 use Rattle.pb_periods.specs.declared.windows.BetweenFault.{BetweenFault}

@@ -31,8 +31,8 @@ ghost use Rattle.pb_book.specs.TakenOut.{last_row, takes_out, touched_at, touche
 ghost use Rattle.pb_book.specs.VersionOne.{first_answer_of, says_version};
 ghost use Rattle.pb_book.specs.Windows.{ArePlacesBetween, HavePlaceNames, IsWindowAsked, IsWindowBetween, refusal_of_window};
 ghost use Rattle.pb_book.specs.Written.{WriteRows};
-ghost use Rattle.pb_window.specs.Codes.{AreWindowNames};
-ghost use Rattle.pb_window.specs.Window.{IsWindow};
+ghost use Rattle.pb_plan.specs.Codes.{AreWindowNames};
+ghost use Rattle.pb_plan.specs.Window.{IsWindow};
 
 use crate::answer::{Accepted, NotAccepted, Refused};
 use crate::costs::{judge_costs, meter_costs};
@@ -44,9 +44,9 @@ use crate::shelves::row_at;
 use pb_facts::{Assays, Fact, Facts, Grade};
 use pb_kinds::{Assay, Edit, Effect, NamedCosts, Request, StoredRow, read_reading, read_request};
 use pb_periods::{Period, Periods, judge_window, places_between, touches_in, window_over};
+use pb_plan::Window;
 use pb_rows::{Name, Reason, Row, Rows};
 use pb_site::{Declared, Site, Version};
-use pb_window::Window;
 use std::alloc::{AllocError, Global};
 use std::collections::HashMap;
 use std::marker::Model;

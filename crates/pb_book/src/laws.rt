@@ -9,8 +9,8 @@ ghost use Rattle.pb_book.specs.VersionOne.{VersionOneLaw};
 ghost use Rattle.pb_book.specs.Windows.{BookWindowsLaw};
 
 use pb_kinds::{named_costs_law, stored_law};
+use pb_plan::{window_form_law, window_names_law, window_places_law};
 use pb_site::plant_law;
-use pb_window::{window_form_law, window_names_law, window_places_law};
 
 /// The law that the rows of a session were accepted one after the other, whatever its records are; and that then no two periods
 /// share a name or a day, and each dip lies in its tank's table, which may have grown since.

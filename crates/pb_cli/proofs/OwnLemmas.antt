@@ -11,8 +11,8 @@ use Rattle.pb_rows.specs.declared.name.Names.{Names}
 use Rattle.pb_rows.specs.Name.{is_name}
 use Rattle.pb_rows.specs.Records.{records_of}
 use Rattle.pb_rows.specs.Written.{begins_with_word}
-use Rattle.pb_window.specs.Codes.{window_names}
-use Rattle.pb_window.specs.Places.{window_places}
+use Rattle.pb_plan.specs.Codes.{window_names}
+use Rattle.pb_plan.specs.Places.{window_places}
 use Rattle.pb_study.specs.declared.results.Options.{Options}
 use Rattle.pb_study.specs.declared.results.Bounds.{Bounds}
 use Rattle.pb_study.specs.declared.results.Stage.{Stage}
@@ -62,7 +62,8 @@ use Rattle.pb_report.specs.Over.{over_row}
 use Rattle.pb_report.specs.Refusal.{refused_row}
 use Rattle.pb_report.specs.Window.{place_row, window_row}
 use Rattle.pb_site.specs.Site.{names_of, version_of}
-use Rattle.pb_session.specs.Session.{Adds, AddsAccepted, AddsBy, Balances, IsHistoryText, IsReport, IsSessionText, IsTextOf, Reports, ReportsBy, SessionState, Windows, assembly_between, state_after, window_head}
+use Rattle.pb_window.specs.Between.{assembly_between}
+use Rattle.pb_session.specs.Session.{Adds, AddsAccepted, AddsBy, Balances, IsHistoryText, IsReport, IsSessionText, IsTextOf, Reports, ReportsBy, SessionState, Windows, state_after, window_head}
 use Rattle.pb_audit.specs.Judgement.{AreFindings, Finding, IsJudgement, IsPassedBlock, passed, is_wrong}
 use Rattle.pb_audit.specs.Laws.{OneFindingsLaw, PassedLaw}
 use Rattle.pb_readback.proofs.ReadbackLaws.{list_passed, one_passed, only_passed}

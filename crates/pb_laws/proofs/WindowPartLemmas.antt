@@ -6,10 +6,10 @@ use Rattle.std.proofs.lemmas.Bool.{cases_Bool}
 use Rattle.pb_fixed.proofs.Lists.{some_same}
 use Rattle.pb_graph.specs.declared.records.Meas.{Meas}
 use Rattle.pb_graph.specs.declared.records.Stream.{Stream}
-use Rattle.pb_window.specs.declared.plant.Plant.{Plant}
-use Rattle.pb_window.specs.declared.plant.PlantArc.{PlantArc}
-use Rattle.pb_window.specs.declared.plant.Span.{Span}
-use Rattle.pb_window.specs.Plant.{NumberedArc, arcs_in, closing_day, is_end, is_node_in, is_served, nodes_in, opening_day}
+use Rattle.pb_plan.specs.declared.plant.Plant.{Plant}
+use Rattle.pb_plan.specs.declared.plant.PlantArc.{PlantArc}
+use Rattle.pb_plan.specs.declared.plant.Span.{Span}
+use Rattle.pb_plan.specs.Plant.{NumberedArc, arcs_in, closing_day, is_end, is_node_in, is_served, nodes_in, opening_day}
 use Rattle.pb_site.specs.declared.declared.Arc.{Arc}
 use Rattle.pb_site.specs.declared.declared.ArcKind.{ArcKind}
 use Rattle.pb_site.specs.declared.declared.ArcKind.TheVariants.{Tank}
@@ -36,7 +36,7 @@ use Rattle.pb_period.specs.Facts.{content_of}
 use Rattle.pb_period.specs.Measurement.{amount_of, change_of, measured, measurement}
 use Rattle.pb_period.specs.PeriodGraph.{graph_in, measured_in, stream_among, stream_with}
 use Rattle.pb_period.specs.WindowGraph.{content_measured, flow_measured, held_at}
-use Rattle.pb_laws.specs.WindowParts.{ContentsLaw, WindowMeasuresLaw, WindowPartsLaw, arcs_numbered, service_used}
+use Rattle.pb_laws.specs.WindowParts.{ContentsLaw, WindowMeasuresLaw, WindowPartsLaw, service_used}
 
 -- ---- lists
 filter_all : {A : Type 0} (p : A → Bool) (xs : List A) → ((x : A) → p x ≡ true) → filter p xs ≡ xs
@@ -86,7 +86,7 @@ served_arcs Two declared period =
     ∙ ap (λ (p : Arc → Bool). map (window_arc Two) (filter p (arcs_of declared))) (λ i arc. served_same period arc i)
 
 arcs_same : (declared : List Declared) (period : Period)
-    → arcs_numbered (arcs_in (window_plant declared).arcs (span_of_period period)) ≡ map (window_arc (version_of declared)) (arcs_on (version_of declared) declared period.first period.last)
+    → map (λ (one : NumberedArc). one.1) (arcs_in (window_plant declared).arcs (span_of_period period)) ≡ map (window_arc (version_of declared)) (arcs_on (version_of declared) declared period.first period.last)
 unfolding window_plant
 arcs_same declared period =
     filter_numbered (is_served (span_of_period period)) 0 (map (window_arc (version_of declared)) (arcs_of declared))

@@ -12,7 +12,8 @@ pub record IsFlowWithin (flow : ℤ) (bounds : Bounds) : Type 0 where
 
 -- each printed flow of a certified stage is within its bounds, if it has any
 abbrev pub OwnBoundsLaw : Type 0
-OwnBoundsLaw = (stage : Stage) → IsCertifiedStage stage → EachStream stage (λ j r. IfSome r.bounds (IsFlowWithin r.flow))
+OwnBoundsLaw = (stage : Stage) → IsCertifiedStage stage
+    → EachStream stage (λ j r. IfSome r.bounds (IsFlowWithin r.flow))
 
 -- and within its least bounds, if it has any
 abbrev pub OwnLeastBoundsLaw : Type 0

@@ -30,8 +30,7 @@ pub record AddsMeters (graph more : ProcessGraph) : Type 0 where
 abbrev pub IsDeterminedClass : Class → Type 0
 IsDeterminedClass Observable = Unit {0}
 IsDeterminedClass Redundant = Unit {0}
-IsDeterminedClass Unobservable = ⊥
-IsDeterminedClass Nonredundant = ⊥
+IsDeterminedClass class = ⊥
 
 -- More meters never make a determined stream free: it stays observable, or is redundant.
 abbrev pub MoreMetersLaw : Type 0

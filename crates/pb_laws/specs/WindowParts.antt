@@ -3,8 +3,8 @@
 use Rattle.std.specs.Prelude.{◌≡◌, ℕ, ◌-ℤ◌, List, ◌∷◌, map, Option, Some, None}
 use Rattle.pb_graph.specs.declared.records.Meas.{Meas}
 use Rattle.pb_graph.specs.declared.records.Stream.{Stream}
-use Rattle.pb_window.specs.declared.plant.PlantArc.{PlantArc}
-use Rattle.pb_window.specs.Plant.{NumberedArc, arcs_in, closing_day, nodes_in, opening_day}
+use Rattle.pb_plan.specs.declared.plant.PlantArc.{PlantArc}
+use Rattle.pb_plan.specs.Plant.{NumberedArc, arcs_in, closing_day, nodes_in, opening_day}
 use Rattle.pb_site.specs.declared.declared.Arc.{Arc}
 use Rattle.pb_site.specs.declared.declared.ArcKind.TheVariants.{Tank}
 use Rattle.pb_site.specs.declared.declared.Declared.{Declared}
@@ -27,14 +27,11 @@ abbrev pub service_used : Version → Option Service → Option Service
 service_used One service = None
 service_used Two service = service
 
--- the arcs of a list of numbered ones
-abbrev pub arcs_numbered : List NumberedArc → List PlantArc
-arcs_numbered numbered = map (λ (one : NumberedArc). one.1) numbered
-
 -- In a window a period has the nodes and arcs of its own graph, and each arc has the same opening and closing days.
 pub record HasPartsOfItsOwn (declared : List Declared) (period : Period) : Type 0 where
   pub nodes : nodes_on (version_of declared) declared period.first period.last ≡ 0 ∷ nodes_in (window_plant declared) (span_of_period period)
-  pub arcs : arcs_numbered (arcs_in (window_plant declared).arcs (span_of_period period))
+  pub arcs : map (λ (one : NumberedArc). one.1)
+      (arcs_in (window_plant declared).arcs (span_of_period period))
       ≡ map (window_arc (version_of declared)) (arcs_on (version_of declared) declared period.first period.last)
   pub opens : (service : Option Service) → opening_day (arc_service (version_of declared) service) (span_of_period period)
       ≡ day_of_opening (service_used (version_of declared) service) period.first

@@ -11,12 +11,12 @@ use Rattle.std.proofs.lemmas.Option.{get_or_from_slice_get, slice_get-get_or, sl
 use Rattle.pb_graph.specs.declared.records.Meas.{Meas}
 use Rattle.pb_graph.specs.declared.records.Stream.{Stream}
 use Rattle.pb_graph.specs.ProcessGraph.{IsProcessGraph, IsStream, IsWithinLimits, ProcessGraph}
-use Rattle.pb_window.specs.declared.window.Source.{Source}
-use Rattle.pb_window.specs.declared.window.Source.TheVariants.{Content, Flow}
-use Rattle.pb_window.specs.declared.window.Window.{Window}
-use Rattle.pb_window.specs.declared.window.WindowStream.{WindowStream}
-use Rattle.pb_window.specs.Graph.{IsFirstStreamOutside, graph_stream, graph_streams, window_graph}
-use Rattle.pb_window.specs.Window.{IsWindow, IsWindowStream}
+use Rattle.pb_plan.specs.declared.window.Source.{Source}
+use Rattle.pb_plan.specs.declared.window.Source.TheVariants.{Content, Flow}
+use Rattle.pb_plan.specs.declared.window.Window.{Window}
+use Rattle.pb_plan.specs.declared.window.WindowStream.{WindowStream}
+use Rattle.pb_plan.specs.Graph.{IsFirstStreamOutside, graph_stream, graph_streams, window_graph}
+use Rattle.pb_plan.specs.Window.{IsWindow, IsWindowStream}
 use Rattle.pb_site.specs.declared.declared.Arc.{Arc}
 use Rattle.pb_site.specs.declared.declared.ArcKind.{ArcKind}
 use Rattle.pb_site.specs.declared.declared.ArcKind.TheVariants.{Metered, Batch, Plain, Tank}

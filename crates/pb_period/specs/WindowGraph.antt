@@ -3,11 +3,11 @@ use Rattle.std.specs.Prelude.{ℕ, ◌<◌, ℤ, ◌-◌, List, length, filter_m
 use Rattle.pb_strap.specs.declared.strap.Point.{Point}
 use Rattle.pb_graph.specs.declared.records.Meas.{Meas}
 use Rattle.pb_graph.specs.ProcessGraph.{ProcessGraph}
-use Rattle.pb_window.specs.declared.window.Source.{Source}
-use Rattle.pb_window.specs.declared.window.Source.TheVariants.{Content, Flow}
-use Rattle.pb_window.specs.declared.window.Window.{Window}
-use Rattle.pb_window.specs.declared.window.WindowStream.{WindowStream}
-use Rattle.pb_window.specs.Graph.{window_graph}
+use Rattle.pb_plan.specs.declared.window.Source.{Source}
+use Rattle.pb_plan.specs.declared.window.Source.TheVariants.{Content, Flow}
+use Rattle.pb_plan.specs.declared.window.Window.{Window}
+use Rattle.pb_plan.specs.declared.window.WindowStream.{WindowStream}
+use Rattle.pb_plan.specs.Graph.{window_graph}
 use Rattle.pb_site.specs.declared.declared.Arc.{Arc}
 use Rattle.pb_site.specs.Site.{arcs_of, table_of_arc, version_of}
 use Rattle.pb_facts.specs.declared.fact.Fact.{Fact}

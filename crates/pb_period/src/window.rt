@@ -5,8 +5,8 @@ ghost use Rattle.pb_site.specs.Row.{IsArcBase};
 ghost use Rattle.pb_site.specs.Site.{arcs_of, names_of};
 ghost use Rattle.pb_book.specs.Rows.{declared_of, periods_of};
 ghost use Rattle.pb_periods.specs.Windows.{names_of_periods};
-ghost use Rattle.pb_window.specs.Places.{HasStreamNames};
-ghost use Rattle.pb_window.specs.Window.{IsWindow};
+ghost use Rattle.pb_plan.specs.Places.{HasStreamNames};
+ghost use Rattle.pb_plan.specs.Window.{IsWindow};
 ghost use Rattle.pb_period.specs.declared.graph.Assembly.TheVariants.{NoMemory};
 ghost use Rattle.pb_period.specs.WindowGraph.{IsStreamOfWindow, content_measured, flow_measured, periods_at, stream_measured, window_assembly, window_measured};
 
@@ -15,9 +15,9 @@ use crate::graph::{Assembly, measured};
 use crate::measured::held_at;
 use pb_book::Book;
 use pb_graph::{Graph, Meas};
+use pb_plan::{Source, Window, WindowAssembly, WindowStream, window_graph};
 use pb_rows::NameList;
 use pb_site::{Arc, Version};
-use pb_window::{Source, Window, WindowAssembly, WindowStream, window_graph};
 use std::alloc::{AllocError, Global};
 
 /// The graph of a window of the periods at these places, from the facts that are live; or the first stream whose value or variance

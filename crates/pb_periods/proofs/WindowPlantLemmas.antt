@@ -7,14 +7,14 @@ use Rattle.std.proofs.lemmas.List.{at_drop_more, length-map}
 use Rattle.std.proofs.lemmas.List.Elements.{All-cons, All-head, All-map, All-nil, All-tail}
 use Rattle.std.proofs.lemmas.Option.{get_or_from_slice_get, slice_get-get_or, slice_get_within}
 use Rattle.pb_limits.specs.Limits.{most_periods_of_window}
-use Rattle.pb_window.specs.declared.plant.PlantArc.{PlantArc}
-use Rattle.pb_window.specs.declared.plant.Plant.{Plant}
-use Rattle.pb_window.specs.declared.plant.Span.{Span}
-use Rattle.pb_window.specs.declared.window.Window.{Window}
-use Rattle.pb_window.specs.declared.window.WindowFault.{WindowFault}
-use Rattle.pb_window.specs.declared.window.WindowFault.TheVariants.{TooGreat}
-use Rattle.pb_window.specs.Plant.{IsPlant, IsPlantArc}
-use Rattle.pb_window.specs.Window.{is_too_great, unless_too_great}
+use Rattle.pb_plan.specs.declared.plant.PlantArc.{PlantArc}
+use Rattle.pb_plan.specs.declared.plant.Plant.{Plant}
+use Rattle.pb_plan.specs.declared.plant.Span.{Span}
+use Rattle.pb_plan.specs.declared.window.Window.{Window}
+use Rattle.pb_plan.specs.declared.window.WindowFault.{WindowFault}
+use Rattle.pb_plan.specs.declared.window.WindowFault.TheVariants.{TooGreat}
+use Rattle.pb_plan.specs.Plant.{IsPlant, IsPlantArc}
+use Rattle.pb_plan.specs.Window.{is_too_great, unless_too_great}
 use Rattle.pb_site.specs.declared.declared.Arc.{Arc}
 use Rattle.pb_site.specs.declared.declared.Declared.{Declared}
 use Rattle.pb_site.specs.declared.declared.Declared.TheVariants.{Version2, Boundary, Tank, Strap, Stream, CritGlobal, CritNodal, CritMeasure}

@@ -3,11 +3,11 @@
 ghost use Rattle.std.specs.Prelude.{◌≡◌, ◌≢◌, ◌<◌, ◌≤◌, All, Contains, Err, filter_map, length, map, slice_get, true, IfOk, MatchOption};
 ghost use Rattle.pb_limits.specs.Limits.{most_periods_of_window};
 ghost use Rattle.pb_site.specs.Site.{arcs_of, version_of};
-ghost use Rattle.pb_window.specs.declared.window.WindowFault.TheVariants.{NoMemory};
-ghost use Rattle.pb_window.specs.Codes.{AreWindowNames};
-ghost use Rattle.pb_window.specs.Places.{IsNamedBy};
-ghost use Rattle.pb_window.specs.Plant.{IsPlant, IsSpan};
-ghost use Rattle.pb_window.specs.Window.{IsWindow, unless_too_great};
+ghost use Rattle.pb_plan.specs.declared.window.WindowFault.TheVariants.{NoMemory};
+ghost use Rattle.pb_plan.specs.Codes.{AreWindowNames};
+ghost use Rattle.pb_plan.specs.Places.{IsNamedBy};
+ghost use Rattle.pb_plan.specs.Plant.{IsPlant, IsSpan};
+ghost use Rattle.pb_plan.specs.Window.{IsWindow, unless_too_great};
 ghost use Rattle.pb_site.specs.Row.{is_inventory};
 ghost use Rattle.pb_periods.specs.Windows.{ArePlacesOf, arc_service, fault_between, fault_over, has_gap, span_of_period, window_arc, window_over, window_plant};
 ghost use Rattle.pb_periods.specs.Ranges.{IsPeriod};
@@ -16,8 +16,8 @@ use crate::period::Period;
 use crate::periods::Periods;
 use pb_graph::List;
 use pb_limits::MOST_PERIODS_OF_WINDOW;
+use pb_plan::{Plant, PlantArc, Service as ArcService, Span, Window, WindowFault, window_of};
 use pb_site::{Arc, ArcKind, Service, Site, Version};
-use pb_window::{Plant, PlantArc, Service as ArcService, Span, Window, WindowFault, window_of};
 use std::alloc::{AllocError, Global};
 
 /// What is wrong with a window from one period to another, in the order in which the faults are tested.

@@ -1,6 +1,6 @@
 -- Statement. The rows before the report of a window: which periods it has, and what its names stand for.
 use Rattle.std.specs.Prelude.{ℕ, pos, List, [], ◌∷◌, map}
-use Rattle.pb_window.specs.declared.names.WindowPlace.{WindowPlace}
+use Rattle.pb_plan.specs.declared.names.WindowPlace.{WindowPlace}
 use Rattle.pb_form.specs.Value.{Name, Number}
 use Rattle.pb_form.specs.declared.output.OutputKind.TheVariants as kind
 use Rattle.pb_report.specs.Row.{OutputRow, row_of}

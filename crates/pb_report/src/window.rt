@@ -9,8 +9,8 @@ ghost use Rattle.pb_report.specs.Window.{place_row, window_row, window_rows};
 use crate::form::Form;
 use crate::output::Output;
 use pb_form::{OutputKind, Value};
+use pb_plan::WindowPlace;
 use pb_rows::Name;
-use pb_window::WindowPlace;
 use std::alloc::{AllocError, Global};
 
 /// Appends the rows before the report of a window: `window` with the names of its first and its last period and the number of

@@ -1,5 +1,5 @@
 -- Sessions that agree on a period have the same report of it.
-use Rattle.std.proofs.Common.{◌≡◌, ◌∙◌, ◌↔◌, ℕ, Bool, List, [], ◌∷◌, ◌++◌, map, Option, Some, None, Result, slice_get, refl, sym, ap, ap₂, subst, inl, inr}
+use Rattle.std.proofs.Common.{◌≡◌, ◌∙◌, ◌↔◌, ℕ, List, [], ◌∷◌, ◌++◌, map, Option, Some, None, Result, slice_get, refl, sym, ap, ap₂, subst, inl, inr}
 use Rattle.std.specs.Prelude.{option_map}
 use Rattle.std.proofs.lemmas.Bool.{cases_Bool}
 use Rattle.std.proofs.lemmas.List.{append-nil}
@@ -7,8 +7,6 @@ use Rattle.std.proofs.lemmas.List.Elements.{filter_map-append}
 use Rattle.std.proofs.lemmas.List.Sums.{fold_push}
 use Rattle.std.proofs.lemmas.Option.{slice_get-map}
 use Rattle.pb_graph.specs.ProcessGraph.{ProcessGraph}
-use Rattle.pb_rows.specs.declared.name.Names.{Names}
-use Rattle.pb_site.specs.declared.declared.Declared.{Declared}
 use Rattle.pb_facts.specs.declared.facts.KeptFact.{KeptFact}
 use Rattle.pb_facts.specs.Facts.{live_facts}
 use Rattle.pb_kinds.specs.declared.rows.Effect.{Effect}
@@ -17,8 +15,7 @@ use Rattle.pb_kinds.specs.declared.rows.StoredRow.{StoredRow}
 use Rattle.pb_periods.specs.declared.period.Period.{Period}
 use Rattle.pb_periods.specs.Apart.{is_named}
 use Rattle.pb_periods.specs.Closing.{closed_if_named}
-use Rattle.pb_book.specs.Accepted.{AreAccepted}
-use Rattle.pb_book.specs.Plain.{booked, numbered, opened, plain_rows, plain_stored, settled, settled_rows}
+use Rattle.pb_book.specs.Plain.{booked, numbered, opened, plain_stored, settled, settled_rows}
 use Rattle.pb_book.specs.Rows.{declaration_in, declared_of, facts_after, facts_of, periods_after, periods_of, with_row}
 use Rattle.pb_period.specs.Days.{days_of}
 use Rattle.pb_period.specs.declared.days.Days.{Days}

@@ -1,33 +1,24 @@
 -- The component graph of a period: how many nodes and streams it has, and the last stage of a study.
-use Rattle.std.specs.Prelude.{◌+◌, IfErr, IfOk, IfSome, position}
-use Rattle.std.specs.Option.{option_map_or}
-use Rattle.std.proofs.Common.{◌≡◌, ◌≢◌, ◌∙◌, ◌<◌, ℕ, zero, suc, Bool, List, [], ◌∷◌, length, map, All, Option, Some, None, Result, Ok, Err, slice_get, refl, sym, ap, subst, arith}
-use Rattle.std.proofs.lemmas.List.{length-map}
+use Rattle.std.specs.Prelude.{◌+◌, IfErr, IfOk, IfSome}
+use Rattle.std.proofs.Common.{◌≡◌, ◌≢◌, ◌∙◌, ◌<◌, ℕ, zero, suc, List, [], ◌∷◌, length, All, Option, Some, Result, Ok, Err, slice_get, refl, sym, ap, subst, arith}
 use Rattle.std.proofs.lemmas.Option.{get_or_from_slice_get, slice_get_within}
 use Rattle.pb_rows.specs.declared.name.Names.{Names}
-use Rattle.pb_graph.specs.declared.records.Stream.{Stream}
 use Rattle.pb_study.specs.declared.results.Stage.{Stage}
-use Rattle.pb_study.specs.declared.results.StreamResult.{StreamResult}
 use Rattle.pb_study.specs.declared.results.Study.{Study}
-use Rattle.pb_graph.specs.ProcessGraph.{ProcessGraph, IsProcessGraph}
+use Rattle.pb_graph.specs.ProcessGraph.{ProcessGraph}
 use Rattle.pb_study.specs.WellFormed.{HasShapeOf, IsWellFormed, IsWellFormedStudy}
 use Rattle.pb_facts.specs.declared.grade.Grade.{Grade}
-use Rattle.pb_assay.specs.declared.component.ComponentFault.{ComponentFault}
-use Rattle.pb_assay.specs.declared.component.ComponentFault.TheVariants as fault
-use Rattle.pb_assay.specs.Component.{component_of, component_overs, component_streams}
-use Rattle.pb_elim.specs.Study.{IsStudyOf}
 use Rattle.pb_periods.specs.declared.period.Period.{Period}
 use Rattle.pb_kinds.specs.declared.rows.StoredRow.{StoredRow}
-use Rattle.pb_book.specs.Assays.{grade_of}
 use Rattle.pb_book.specs.Rows.{periods_of}
 use Rattle.pb_period.specs.Days.{days_of}
 use Rattle.pb_period.specs.Grades.{grades_of}
 use Rattle.pb_period.specs.declared.graph.Assembly.{Assembly}
 use Rattle.pb_period.specs.declared.graph.Assembly.TheVariants.{NoMemory}
 use Rattle.pb_period.specs.PeriodGraph.{IsStreamOfGraph, NamesAStream, assembly_of, period_graph, period_names}
+use Rattle.pb_assay.specs.Balance.{HasCountsOf, component_in}
 use Rattle.pb_report.specs.Component.{component_row}
-use Rattle.pb_session.specs.Criticals.{critical_of}
-use Rattle.pb_session.specs.Keeping.{HasCountsOf, IsBalanceAt, IsStudied}
+use Rattle.pb_session.specs.Keeping.{IsBalanceAt, IsStudied, IsStudiedAt}
 use Rattle.pb_session.specs.Kept.{IsKeptAt}
 use Rattle.pb_session.specs.Session.{AreNamesOf, Balances, BalancesIn, IsBalanceOf, ReportsBy, SessionState, last_stage}
 use Rattle.pb_session.proofs.KeepingLemmas.{first_classes, has_graph}
@@ -55,30 +46,6 @@ each_result graph study last formed is =
     ∙ (at_place (HasShapeOf graph) study.stages (length study.taken) last is formed.shapes).streams
 
 -- ---- the component graph
-
-streams_each : (streams : List Stream) (printed : List StreamResult) (grades : List (Option Grade)) → length printed ≡ length streams → length grades ≡ length streams
-    → length (component_streams streams printed grades) ≡ length streams
-streams_each [] printed grades results graded = refl
-streams_each (s ∷ streams) [] grades results graded = absurd (omega (arith, results))
-streams_each (s ∷ streams) (r ∷ printed) [] results graded = absurd (omega (arith, graded))
-streams_each (s ∷ streams) (r ∷ printed) (grade ∷ grades) results graded =
-    ap (λ (n : ℕ). suc n) (streams_each streams printed grades (omega (arith, results)) (omega (arith, graded)))
-
--- a graph, unless a stream is over the limits
-abbrev pub component_unless : ProcessGraph → Option ℕ → Result ProcessGraph ComponentFault
-component_unless graph found = option_map_or (λ j. Err (fault.Over j)) found (Ok graph)
-
-unless_made : (made component : ProcessGraph) (found : Option ℕ) → component_unless made found ≡ Ok component → made ≡ component
-unless_made made component (Some j) is = cc is
-unless_made made component None is = cc is
-
--- it has the nodes of the graph, and as many streams
-pub counts_of : (graph component : ProcessGraph) (printed : List StreamResult) (grades : List (Option Grade)) → length printed ≡ length graph.streams → length grades ≡ length graph.streams
-    → component_of graph printed grades ≡ Ok component → HasCountsOf graph component
-counts_of graph component printed grades results graded is =
-    let made : ProcessGraph = record { nodes = graph.nodes; streams = component_streams graph.streams printed grades } in
-    let same : made ≡ component = unless_made made component (position (λ (over : Bool). over) (component_overs printed grades)) is in
-    subst (λ (g : ProcessGraph). HasCountsOf graph g) same (record { nodes = refl; streams = streams_each graph.streams printed grades results graded })
 
 -- the names of the graph are names of it
 pub names_as : (names : Names) (graph other : ProcessGraph) → AreNamesOf names graph → HasCountsOf graph other → AreNamesOf names other
@@ -126,15 +93,6 @@ balances_at state component found period answer text there at by =
 
 -- ---- what the component graph of a period is made of
 
--- the graph of a period that is found, and its study
-pub record IsStudiedAt (state : SessionState) (found : Option Period) (graph : ProcessGraph) (study : Study) : Type 0 where
-  pub period : Period
-  pub there : found ≡ Some period
-  pub is : Ok graph ≡ assembly_of state.rows (days_of period)
-  pub limits : IsProcessGraph graph
-  pub is_study : IsStudyOf graph state.options (critical_of state.rows) study
-  pub formed : IsWellFormedStudy graph study
-
 -- those of a kept study
 pub kept_studied : (state : SessionState) (found : Option Period) (study : Study) (stage : Stage) → IsKeptAt state found study → slice_get study.stages 0 ≡ Some stage
     → IsStudiedAt state found stage.graph study
@@ -150,52 +108,32 @@ kept_studied state found study stage kept at =
       formed = has.kept.formed;
     })
 
--- the grades of its streams
-pub record AreGradesAt (state : SessionState) (found : Option Period) (component : List ℕ) (grades : List (Option Grade)) : Type 0 where
-  pub are : (period : Period) → found ≡ Some period → grades ≡ grades_of state.rows component period
-  pub each : (period : Period) → found ≡ Some period → length grades ≡ length (period_graph state.rows (days_of period)).streams
-
-pub grades_at : (state : SessionState) (rows : List StoredRow) (i : ℕ) (component : List ℕ) (streams asked : List (List ℕ)) (grades : List (Option Grade)) → rows ≡ state.rows → asked ≡ streams
-    → IfSome (slice_get (periods_of rows) i) (λ (p : Period). grades ≡ map (grade_of rows component p.name) asked)
-    → IfSome (slice_get (periods_of state.rows) i) (λ (p : Period). streams ≡ (period_names state.rows (days_of p)).streams)
-    → IfSome (slice_get (periods_of state.rows) i) (λ (p : Period). length streams ≡ length (period_graph state.rows (days_of p)).streams)
-    → AreGradesAt state (slice_get (periods_of state.rows) i) component grades
-grades_at state rows i component streams asked grades rows_is asked_is value names each = record {
-  are = λ period there. given period there ∙ ap (map (grade_of state.rows component period.name)) (asked_is ∙ at_found found period (λ (p : Period). streams ≡ (period_names state.rows (days_of p)).streams) there names);
-  each = λ period there.
-      ap (λ (gs : List (Option Grade)). length gs) (given period there) ∙ length-map asked (grade_of state.rows component period.name) ∙ ap (λ (ss : List (List ℕ)). length ss) asked_is
-      ∙ at_found found period (λ (p : Period). length streams ≡ length (period_graph state.rows (days_of p)).streams) there each;
-}
-  where
-    found : Option Period
-    found = slice_get (periods_of state.rows) i
-
-    value_now : IfSome found (λ (p : Period). grades ≡ map (grade_of state.rows component p.name) asked)
-    value_now = subst (λ (rs : List StoredRow). IfSome (slice_get (periods_of rs) i) (λ (p : Period). grades ≡ map (grade_of rs component p.name) asked)) rows_is value
-
-    given : (period : Period) → found ≡ Some period → grades ≡ map (grade_of state.rows component period.name) asked
-    given period there = at_found found period (λ (p : Period). grades ≡ map (grade_of state.rows component p.name) asked) there value_now
-
--- there is one for each stream
-pub grades_each : (state : SessionState) (found : Option Period) (component : List ℕ) (graph : ProcessGraph) (study : Study) (grades : List (Option Grade)) → IsStudiedAt state found graph study
-    → AreGradesAt state found component grades → length grades ≡ length graph.streams
-grades_each state found component graph study grades studied graded =
-    graded.each studied.period studied.there ∙ ap (λ (g : ProcessGraph). length g.streams) (unless_is (period_graph state.rows (days_of studied.period)) graph _ studied.is)
-
 -- the answer of the component graph by these
 pub record AnswersAt (state : SessionState) (found : Option Period) (component : List ℕ) (answer : Result ProcessGraph Assembly) : Type 0 where
   pub at : answer ≢ Err NoMemory → IsBalanceAt state component found answer
   pub counts : IfSome found (λ (p : Period). IfOk answer (HasCountsOf (period_graph state.rows (days_of p))))
   pub over : IfSome found (λ (p : Period). IfErr answer (NamesAStream state.rows (days_of p)))
 
-pub answers_at : (state : SessionState) (found : Option Period) (component : List ℕ) (graph : ProcessGraph) (study : Study) (grades : List (Option Grade)) (answer : Result ProcessGraph Assembly)
-    → IsStudiedAt state found graph study → AreGradesAt state found component grades → (answer ≢ Err NoMemory → IsBalanceOf state graph grades answer)
-    → IfOk answer (HasCountsOf graph) → IfErr answer (IsStreamOfGraph graph) → AnswersAt state found component answer
-answers_at state found component graph study grades answer studied graded of counts over = record {
-  at = λ sure. balance_at state component found studied.period graph grades answer studied.there studied.is (graded.are studied.period studied.there) (of sure);
-  counts = of_graph (λ (g : ProcessGraph). IfOk answer (HasCountsOf g)) state.rows found studied.period graph studied.there studied.is counts;
-  over = of_graph (λ (g : ProcessGraph). IfErr answer (IsStreamOfGraph g)) state.rows found studied.period graph studied.there studied.is over;
-}
+-- the answer by the last stage of the study
+pub answers_at : (state : SessionState) (found : Option Period) (component : List ℕ) (graph : ProcessGraph) (study : Study) (last : Stage) (answer : Result ProcessGraph Assembly)
+    → (studied : IsStudiedAt state found graph study) → last_stage study ≡ Some last
+    → (answer ≢ Err NoMemory → answer ≡ component_in state.rows component studied.period graph last) → IfOk answer (HasCountsOf graph)
+    → IfErr answer (IsStreamOfGraph graph) → AnswersAt state found component answer
+answers_at state found component graph study last answer studied is_last is counts over =
+    let period = studied.period in
+    let grades = grades_of state.rows component period in
+    record {
+      at = λ sure. balance_at state component found period graph grades answer studied.there studied.is refl (record {
+        limits = studied.limits;
+        study = study;
+        is_study = studied.is_study;
+        last = last;
+        is_last = is_last;
+        is = is sure;
+      });
+      counts = of_graph (λ (g : ProcessGraph). IfOk answer (HasCountsOf g)) state.rows found period graph studied.there studied.is counts;
+      over = of_graph (λ (g : ProcessGraph). IfErr answer (IsStreamOfGraph g)) state.rows found period graph studied.there studied.is over;
+    }
 
 -- and that of a period without a graph
 pub fails_at : (state : SessionState) (found : Option Period) (component : List ℕ) (period : Period) (why : Assembly) → found ≡ Some period
@@ -210,7 +148,7 @@ fails_at state found component period why there is over =
     }
 
 -- what is known about the book's rows is known about the session's
-moved : (P : List StoredRow → Period → Type 0) (rows : List StoredRow) (state : SessionState) (i : ℕ) (period : Period) → rows ≡ state.rows → slice_get (periods_of state.rows) i ≡ Some period
+pub moved : (P : List StoredRow → Period → Type 0) (rows : List StoredRow) (state : SessionState) (i : ℕ) (period : Period) → rows ≡ state.rows → slice_get (periods_of state.rows) i ≡ Some period
     → IfSome (slice_get (periods_of rows) i) (P rows) → P state.rows period
 moved P rows state i period is at holds =
     at_found (slice_get (periods_of state.rows) i) period (P state.rows) at (subst (λ (rs : List StoredRow). IfSome (slice_get (periods_of rs) i) (P rs)) is holds)

@@ -1,5 +1,5 @@
 -- An edited file stands for the edits.
-use Rattle.std.proofs.Common.{◌≡◌, ◌∙◌, ◌+◌, ◌-◌, ◌<◌, ℕ, suc, ℤ, Bool, false, List, [], ◌∷◌, ◌++◌, length, map, Option, Some, None, Result, Ok, Err, slice_get, position, refl, sym, ap, ap₂, subst, subst₂, arith}
+use Rattle.std.proofs.Common.{◌≡◌, ◌∙◌, ◌+◌, ◌<◌, ℕ, suc, ℤ, Bool, false, List, [], ◌∷◌, ◌++◌, length, map, Option, Some, None, Result, Ok, Err, slice_get, position, refl, sym, ap, ap₂, subst, subst₂, arith}
 use Rattle.std.specs.Prelude.{◌||◌, ◌↔◌, find, option_map}
 use Rattle.std.specs.List.{cons_option, list_any, position_or_len}
 use Rattle.std.proofs.lemmas.List.{append-nil, append_assoc, length-map}
@@ -9,7 +9,7 @@ use Rattle.std.proofs.Common.{length-append}
 use Rattle.pb_graph.specs.ProcessGraph.{ProcessGraph}
 use Rattle.pb_rows.specs.declared.name.Names.{Names}
 use Rattle.pb_facts.specs.declared.grade.Grade.{Grade}
-use Rattle.pb_assay.specs.Component.{component_of}
+use Rattle.pb_grades.specs.Component.{component_of}
 use Rattle.pb_elim.specs.Study.{IsStudyOf}
 use Rattle.pb_site.specs.declared.declared.Declared.{Declared}
 use Rattle.pb_site.specs.declared.declared.Version.{Version}
@@ -25,7 +25,7 @@ use Rattle.pb_kinds.specs.declared.rows.Effect.{Effect}
 use Rattle.pb_kinds.specs.declared.rows.Effect.TheVariants.{Declares, Opens, Books, Edits, Closes, Assays}
 use Rattle.pb_facts.specs.declared.fact.Fact.TheVariants.{Reading, Transfer, Dip}
 use Rattle.pb_facts.specs.Facts.{live_facts}
-use Rattle.pb_window.specs.Codes.{window_names}
+use Rattle.pb_plan.specs.Codes.{window_names}
 use Rattle.pb_site.specs.Site.{names_of}
 use Rattle.pb_periods.specs.declared.period.Period.{Period}
 use Rattle.pb_book.specs.Accepted.{AreAccepted, IsAcceptable}
@@ -57,7 +57,9 @@ use Rattle.pb_report.specs.Row.{OutputRow}
 use Rattle.pb_report.specs.Over.{over_row}
 use Rattle.pb_session.specs.Criticals.{declared_critical}
 use Rattle.pb_session.specs.Edited.{EditedFileLaw, begun}
-use Rattle.pb_session.specs.Session.{Adds, AddsAccepted, AddsBy, Balances, BalancesIn, component_assembly, IsAdviceText, IsDesign, IsReport, IsSessionText, Reports, ReportsBy, SessionState, Windows, assembly_between, refuses_some, state_after, window_head}
+use Rattle.pb_assay.specs.Balance.{component_assembly}
+use Rattle.pb_window.specs.Between.{assembly_between}
+use Rattle.pb_session.specs.Session.{Adds, AddsAccepted, AddsBy, Balances, BalancesIn, IsAdviceText, IsDesign, IsReport, IsSessionText, Reports, ReportsBy, SessionState, Windows, refuses_some, state_after, window_head}
 use Rattle.pb_session.proofs.EditedWindowLemmas.{assembly_same, head_same, same_window, window_same}
 
 -- a session with these rows in place of its own

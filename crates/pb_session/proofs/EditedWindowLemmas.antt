@@ -1,6 +1,6 @@
 -- Windows after the plain rows: the periods are the same, but that none is closed.
-use Rattle.std.proofs.Common.{◌≡◌, ◌∙◌, ◌+◌, ◌-◌, ◌<◌, ℕ, ℤ, Bool, List, [], ◌∷◌, ◌++◌, length, map, Option, Some, None, slice_get, refl, ap, ap₂, inl, inr}
-use Rattle.std.specs.Prelude.{◌||◌, ◌↔◌, filter_map, find, int_lt, nat_lt, not, option_and_then, option_map, if◌then◌else◌}
+use Rattle.std.proofs.Common.{◌≡◌, ◌∙◌, ◌-◌, ℕ, ℤ, Bool, List, [], ◌∷◌, length, map, Option, Some, None, slice_get, refl, ap, ap₂, inl, inr}
+use Rattle.std.specs.Prelude.{◌||◌, filter_map, find, int_lt, nat_lt, not, option_and_then, option_map, if◌then◌else◌}
 use Rattle.std.specs.List.{cons_option, list_any}
 use Rattle.std.proofs.lemmas.Bool.{cases_Bool}
 use Rattle.std.proofs.lemmas.List.{length-map}
@@ -11,14 +11,14 @@ use Rattle.pb_book.specs.declared.answer.Accepted.TheVariants.{Window}
 use Rattle.pb_facts.specs.declared.fact.Fact.{Fact}
 use Rattle.pb_graph.specs.declared.records.Meas.{Meas}
 use Rattle.pb_limits.specs.Limits.{most_periods_of_window}
-use Rattle.pb_window.specs.Graph.{window_graph}
-use Rattle.pb_window.specs.Places.{window_places}
-use Rattle.pb_window.specs.Window.{is_too_great, window_shape}
-use Rattle.pb_window.specs.declared.plant.Span.{Span}
-use Rattle.pb_window.specs.declared.window.Source.{Source}
-use Rattle.pb_window.specs.declared.window.Source.TheVariants.{Content, Flow}
-use Rattle.pb_window.specs.declared.window.Window as shape
-use Rattle.pb_window.specs.declared.window.WindowStream.{WindowStream}
+use Rattle.pb_plan.specs.Graph.{window_graph}
+use Rattle.pb_plan.specs.Places.{window_places}
+use Rattle.pb_plan.specs.Window.{is_too_great, window_shape}
+use Rattle.pb_plan.specs.declared.plant.Span.{Span}
+use Rattle.pb_plan.specs.declared.window.Source.{Source}
+use Rattle.pb_plan.specs.declared.window.Source.TheVariants.{Content, Flow}
+use Rattle.pb_plan.specs.declared.window.Window as shape
+use Rattle.pb_plan.specs.declared.window.WindowStream.{WindowStream}
 use Rattle.pb_site.specs.declared.declared.Arc.{Arc}
 use Rattle.pb_site.specs.Site.{arcs_of, names_of, table_of_arc}
 use Rattle.pb_periods.specs.declared.period.Period.{Period}
@@ -36,7 +36,8 @@ use Rattle.pb_period.specs.Measurement.{measurement}
 use Rattle.pb_period.specs.PeriodGraph.{measured_in, within_limits}
 use Rattle.pb_period.specs.WindowGraph.{flow_measured, held_at, source_measured, stream_measured, window_assembly}
 use Rattle.pb_report.specs.Window.{window_rows}
-use Rattle.pb_session.specs.Session.{assembly_between, window_head}
+use Rattle.pb_window.specs.Between.{assembly_between}
+use Rattle.pb_session.specs.Session.{window_head}
 
 -- ---- windows of periods that were closed
 

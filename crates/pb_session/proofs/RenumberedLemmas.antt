@@ -1,5 +1,5 @@
 -- What a session says doesn't depend on the numbers of its rows.
-use Rattle.std.proofs.Common.{◌≡◌, ◌∙◌, ◌↔◌, ◌⊎◌, ℕ, ◌+◌, Bool, List, [], ◌∷◌, ◌++◌, map, Option, Some, None, Result, Ok, Err, slice_get, position, refl, sym, ap, ap₂, subst, inl, inr}
+use Rattle.std.proofs.Common.{◌≡◌, ◌∙◌, ◌↔◌, ℕ, ◌+◌, Bool, List, [], ◌∷◌, ◌++◌, map, Option, Some, None, Result, Ok, Err, slice_get, position, refl, sym, ap, ap₂, subst, inl, inr}
 use Rattle.std.specs.Prelude.{filter, filter_map, option_map}
 use Rattle.std.specs.List.{cons_option, fold, list_any}
 use Rattle.std.proofs.lemmas.Bool.{cases_Bool}
@@ -36,11 +36,11 @@ use Rattle.pb_book.specs.Laws.{AcceptedLaw}
 use Rattle.pb_book.specs.Plain.{PlainLaw, booked, numbered, plain_stored, settled, settled_rows}
 use Rattle.pb_book.specs.Refusals.{refusal_behind, refusal_of}
 use Rattle.pb_book.specs.Rows.{declaration_in, declared_of, facts_after, facts_of, period_place, periods_after, periods_of, version_at}
-use Rattle.pb_book.specs.Windows.{cause_between, refusal_of_ends, refusal_of_window}
+use Rattle.pb_book.specs.Windows.{cause_between, refusal_of_ends}
 use Rattle.pb_period.specs.Laws.{PlainGraphsLaw}
 use Rattle.pb_session.specs.Agreeing.{with_stored}
 use Rattle.pb_session.specs.Renumbered.{AnswerAlike, HasNoNumbers, LeavesOut, LeftOutLaw, MayGo, RenumberedLaw, effects_of}
-use Rattle.pb_session.specs.Session.{Adds, AddsAccepted, AddsBy, SessionState, state_after_all}
+use Rattle.pb_session.specs.Session.{AddsAccepted, AddsBy, SessionState, state_after_all}
 use Rattle.pb_session.proofs.EditedLemmas.{AddsAlike, advice_alike, balances_alike, design_alike, reports_alike, windows_alike}
 
 abbrev Record : Type 0

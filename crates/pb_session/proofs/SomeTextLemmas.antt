@@ -5,16 +5,16 @@ use Rattle.std.proofs.lemmas.List.{length-map}
 use Rattle.std.proofs.lemmas.List.Elements.{All-map}
 use Rattle.std.proofs.lemmas.Option.{slice_get-get_or}
 use Rattle.pb_rows.specs.declared.name.Names.{Names}
-use Rattle.pb_window.specs.Codes.{window_names}
+use Rattle.pb_plan.specs.Codes.{window_names}
 use Rattle.pb_study.specs.declared.results.Stage.{Stage}
 use Rattle.pb_study.specs.declared.results.Study.{Study}
 use Rattle.pb_graph.specs.ProcessGraph.{ProcessGraph, IsProcessGraph}
-use Rattle.pb_assay.specs.declared.component.ComponentFault.{ComponentFault}
-use Rattle.pb_assay.specs.declared.component.ComponentFault.TheVariants as fault
+use Rattle.pb_grades.specs.declared.component.ComponentFault.{ComponentFault}
+use Rattle.pb_grades.specs.declared.component.ComponentFault.TheVariants as fault
 use Rattle.pb_facts.specs.declared.grade.Grade.{Grade}
-use Rattle.pb_assay.specs.Component.{component_of, component_streams}
+use Rattle.pb_grades.specs.Component.{component_of, component_streams}
 use Rattle.pb_facts.specs.Grade.{IsGrade}
-use Rattle.pb_assay.specs.Laws.{ComponentFormLaw}
+use Rattle.pb_grades.specs.Laws.{ComponentFormLaw}
 use Rattle.pb_classify.specs.Laws.{SomeClassificationLaw}
 use Rattle.pb_advise.specs.Laws.{CheapestLaw, SomeAdviceLaw}
 use Rattle.pb_study.specs.Criticals.{AreCritical}
@@ -47,12 +47,16 @@ use Rattle.pb_report.specs.Form.{text_in}
 use Rattle.pb_report.specs.Row.{OutputRow}
 use Rattle.pb_session.specs.Criticals.{critical_of}
 use Rattle.pb_report.specs.History.{history_rows}
-use Rattle.pb_session.specs.Session.{AddsAccepted, AddsBy, AreNamesOf, Balances, BalancesIn, IsBalanceOf, IsHistoryText, IsReport, Reports, ReportsBy, SessionState, Windows, assembly_between, component_assembly, last_stage, state_after, window_head}
+use Rattle.pb_assay.specs.Balance.{component_assembly}
+use Rattle.pb_window.specs.Between.{assembly_between}
+use Rattle.pb_session.specs.Session.{AddsAccepted, AddsBy, AreNamesOf, Balances, BalancesIn, IsBalanceOf, IsHistoryText, IsReport, Reports, ReportsBy, SessionState, Windows, last_stage, state_after, window_head}
 use Rattle.pb_session.specs.Laws.{SomeTextLaw, SomeSessionTextLaw}
-use Rattle.pb_session.proofs.BalanceLemmas.{counts_of, each_result, last_there, names_as, component_unless}
-use Rattle.pb_session.proofs.NamedLemmas.{costs_are, names_are, period_names_are}
+use Rattle.pb_assay.proofs.CountLemmas.{component_unless, counts_of}
+use Rattle.pb_session.proofs.BalanceLemmas.{each_result, last_there, names_as}
+use Rattle.pb_session.proofs.NamedLemmas.{costs_are, graph_names_are, names_are, period_names_are}
 use Rattle.pb_session.proofs.RowLemmas.{AnswersOf, answers, some_period}
-use Rattle.pb_session.proofs.WindowedLemmas.{window_names_are, windows_at}
+use Rattle.pb_window.proofs.NamedLemmas.{window_names_are}
+use Rattle.pb_session.proofs.WindowedLemmas.{windows_at}
 
 -- a period has a graph, or a stream of it is over the limits
 never_memory : (graph : ProcessGraph) (found : Option ℕ) → unless_over graph found ≢ Err NoMemory
@@ -205,7 +209,7 @@ some_window_by : (state : SessionState) → HaveBalances state.rows → (first l
     → (text : List ℕ) × ReportsBy state (window_head state.rows first last) (window_names (window_between state.rows first last)) first.name assembly text
 some_window_by state known first last (Ok graph) asked made within is sure =
     let names = window_names (window_between state.rows first last) in
-    let named = window_names_are state.rows (periods_between (periods_of state.rows) first last) (window_between state.rows first last) graph made.names is in
+    let named = graph_names_are names graph (window_names_are state.rows (periods_between (periods_of state.rows) first last) (window_between state.rows first last) graph made.names is) in
     some_study_text known.studies known.certified known.least known.tested state (window_head state.rows first last) names first.name graph asked within named
 some_window_by state known first last (Err (Over j)) asked made within is sure = (_, refl)
 some_window_by state known first last (Err NoMemory) asked made within is sure = absurd (sure refl)

@@ -1,14 +1,14 @@
 -- What a record adds to the output is one text.
-use Rattle.std.proofs.Common.{◌≡◌, ◌∙◌, ℕ, ◌+◌, List, [], ◌∷◌, ◌++◌, Option, Some, None, Result, Ok, Err, slice_get, sym, ap, ap₂, subst}
+use Rattle.std.proofs.Common.{◌≡◌, ◌∙◌, ℕ, ◌+◌, List, [], ◌∷◌, ◌++◌, Option, Some, None, Result, Ok, Err, slice_get, sym, ap, subst}
 use Rattle.pb_rows.specs.declared.name.Names.{Names}
-use Rattle.pb_window.specs.Codes.{window_names}
+use Rattle.pb_plan.specs.Codes.{window_names}
 use Rattle.pb_graph.specs.declared.records.Classified.{Classified}
 use Rattle.pb_graph.specs.ProcessGraph.{ProcessGraph}
 use Rattle.pb_classify.specs.Laws.{OneClassificationLaw}
 use Rattle.pb_advise.specs.declared.advice.Advice.{Advice}
 use Rattle.pb_advise.specs.Laws.{OneAdviceLaw}
 use Rattle.pb_facts.specs.declared.grade.Grade.{Grade}
-use Rattle.pb_assay.specs.Component.{component_of}
+use Rattle.pb_grades.specs.Component.{component_of}
 use Rattle.pb_study.specs.declared.results.Stage.{Stage}
 use Rattle.pb_study.specs.declared.results.Study.{Study}
 use Rattle.pb_elim.specs.Laws.{OneStudyLaw}
@@ -34,7 +34,9 @@ use Rattle.pb_report.specs.Advice.{advice_rows}
 use Rattle.pb_report.specs.Design.{design_rows}
 use Rattle.pb_report.specs.Study.{study_rows}
 use Rattle.pb_session.specs.Criticals.{critical_of}
-use Rattle.pb_session.specs.Session.{AddsAccepted, AddsBy, Balances, BalancesIn, IsBalanceOf, IsReport, SessionState, Reports, ReportsBy, IsHistoryText, Windows, assembly_between, component_assembly, last_stage, state_after, window_head}
+use Rattle.pb_assay.specs.Balance.{component_assembly}
+use Rattle.pb_window.specs.Between.{assembly_between}
+use Rattle.pb_session.specs.Session.{AddsAccepted, AddsBy, Balances, BalancesIn, IsBalanceOf, IsReport, SessionState, Reports, ReportsBy, IsHistoryText, Windows, last_stage, state_after, window_head}
 use Rattle.pb_session.specs.Laws.{OneTextLaw, OneSessionTextLaw}
 
 -- the report of a graph, after some rows

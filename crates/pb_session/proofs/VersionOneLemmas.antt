@@ -10,7 +10,7 @@ use Rattle.pb_graph.specs.declared.records.Meas.{Meas}
 use Rattle.pb_graph.specs.ProcessGraph.{ProcessGraph}
 use Rattle.pb_rows.specs.declared.name.Names.{Names}
 use Rattle.pb_facts.specs.declared.grade.Grade.{Grade}
-use Rattle.pb_window.specs.declared.plant.Plant.{Plant}
+use Rattle.pb_plan.specs.declared.plant.Plant.{Plant}
 use Rattle.pb_site.specs.declared.declared.Arc.{Arc}
 use Rattle.pb_site.specs.declared.declared.ArcKind.{ArcKind}
 use Rattle.pb_site.specs.declared.declared.ArcKind.TheVariants.{Metered, Batch, Plain}

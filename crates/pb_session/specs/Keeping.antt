@@ -140,10 +140,14 @@ IsReportedAt held i None reported = ⊥
 
 -- ---- the component graph of a period
 
--- the other graph has as many nodes and streams as this one
-pub record HasCountsOf (graph other : ProcessGraph) : Type 0 where
-  pub nodes : other.nodes ≡ graph.nodes
-  pub streams : length other.streams ≡ length graph.streams
+-- the period at a place has this graph, and this is a study of it by the critical values of the stored rows
+pub record IsStudiedAt (state : SessionState) (found : Option Period) (graph : ProcessGraph) (study : Study) : Type 0 where
+  pub period : Period
+  pub there : found ≡ Some period
+  pub is : Ok graph ≡ assembly_of state.rows (days_of period)
+  pub limits : IsProcessGraph graph
+  pub is_study : IsStudyOf graph state.options (critical_of state.rows) study
+  pub formed : IsWellFormedStudy graph study
 
 -- the answer is the component graph of the period at a place, or the first stream beyond the limits
 abbrev pub IsBalanceAt : SessionState → List ℕ → Option Period → Result ProcessGraph Assembly → Type 0

@@ -14,4 +14,3 @@ pub mod VersionOne
 -- Inside
 pub mod Accepted
 pub mod Keeping
-pub mod Windowed

@@ -1,17 +1,14 @@
 -- Statement. The output of a session.
 use Rattle.std.specs.Prelude.{◌≡◌, ℕ, ℤ, ◌+◌, Bool, ◌||◌, false, List, [], ◌∷◌, ◌++◌, Option, Some, None, IsSomeAnd, slice_get, length, All, Result, Ok, Err, codes}
 use Rattle.pb_rows.specs.declared.name.Names.{Names}
-use Rattle.pb_window.specs.Codes.{window_names}
-use Rattle.pb_window.specs.Places.{window_places}
+use Rattle.pb_plan.specs.Codes.{window_names}
 use Rattle.pb_graph.specs.declared.records.Classified.{Classified}
 use Rattle.pb_study.specs.declared.results.Options.{Options}
 use Rattle.pb_study.specs.declared.results.Stage.{Stage}
 use Rattle.pb_study.specs.declared.results.Study.{Study}
 use Rattle.pb_graph.specs.ProcessGraph.{ProcessGraph, IsProcessGraph}
-use Rattle.pb_assay.specs.declared.component.ComponentFault.{ComponentFault}
-use Rattle.pb_assay.specs.declared.component.ComponentFault.TheVariants as fault
 use Rattle.pb_facts.specs.declared.grade.Grade.{Grade}
-use Rattle.pb_assay.specs.Component.{component_of}
+use Rattle.pb_grades.specs.Component.{component_of}
 use Rattle.pb_classify.specs.Classification.{IsClassification}
 use Rattle.pb_advise.specs.declared.advice.Advice.{Advice}
 use Rattle.pb_advise.specs.Choice.{AreCosts}
@@ -29,7 +26,7 @@ use Rattle.pb_kinds.specs.declared.rows.StoredRow.{StoredRow}
 use Rattle.pb_book.specs.Rows.{declared_of, periods_of}
 use Rattle.pb_book.specs.Costs.{meter_costs}
 use Rattle.pb_book.specs.Edits.{history_of}
-use Rattle.pb_periods.specs.Windows.{names_of_periods, periods_between}
+use Rattle.pb_periods.specs.Windows.{periods_between}
 use Rattle.pb_book.specs.Windows.{window_between}
 use Rattle.pb_book.specs.Answer.{Answer, Refuses, Says, Stores, after, answer_of, cause_code, is_refused}
 use Rattle.pb_period.specs.Days.{days_of}
@@ -37,7 +34,8 @@ use Rattle.pb_period.specs.Grades.{grades_of}
 use Rattle.pb_period.specs.declared.graph.Assembly.{Assembly}
 use Rattle.pb_period.specs.declared.graph.Assembly.TheVariants.{Over, NoMemory}
 use Rattle.pb_period.specs.PeriodGraph.{assembly_of, design_graph, period_names}
-use Rattle.pb_period.specs.WindowGraph.{window_assembly}
+use Rattle.pb_assay.specs.Balance.{component_assembly}
+use Rattle.pb_window.specs.Between.{assembly_between, places_between}
 use Rattle.pb_session.specs.Criticals.{critical_of}
 use Rattle.pb_report.specs.declared.form.Form.{Form}
 use Rattle.pb_report.specs.Form.{text_in}
@@ -122,12 +120,6 @@ Reports state found text =
 abbrev pub last_stage : Study → Option Stage
 last_stage study = slice_get study.stages (length study.taken)
 
--- a component graph, or its first stream beyond the limits
-abbrev pub component_assembly : Result ProcessGraph ComponentFault → Result ProcessGraph Assembly
-component_assembly (Ok component) = Ok component
-component_assembly (Err (fault.Over j)) = Err (Over j)
-component_assembly (Err fault.NoMemory) = Err NoMemory
-
 -- The answer is the component graph of a graph, from what the last stage of its study prints for each stream and from these grades;
 -- or its first stream beyond the limits. The study is by the critical values of the stored rows.
 pub record IsBalanceOf (state : SessionState) (graph : ProcessGraph) (grades : List (Option Grade)) (answer : Result ProcessGraph Assembly) : Type 0 where
@@ -156,13 +148,7 @@ Balances state component found text =
 -- the rows before the report of the window from one period to another: which periods it covers, and what its names stand for
 abbrev pub window_head : List StoredRow → Period → Period → List OutputRow
 window_head rows first last =
-    let periods = periods_between (periods_of rows) first last in
-    window_rows first.name last.name (length periods)
-    (window_places (names_of (declared_of rows)) (names_of_periods periods) (window_between rows first last))
-
--- the graph of the window from one period to another, or its first stream beyond the limits
-abbrev pub assembly_between : List StoredRow → Period → Period → Result ProcessGraph Assembly
-assembly_between rows first last = window_assembly rows (periods_between (periods_of rows) first last) (window_between rows first last)
+    window_rows first.name last.name (length (periods_between (periods_of rows) first last)) (places_between rows first last)
 
 -- the text of the window from the period at one place to the period at another, under the name of the first: the rows before its
 -- report, and the report of its graph under the names of its nodes and streams

@@ -3,8 +3,8 @@ use Rattle.std.specs.Prelude.{◌≡◌, ◌↔◌, ℕ, ◌+◌, ◌-◌, pos, 
 use Rattle.std.specs.Ordering.{int_eq}
 use Rattle.pb_graph.specs.declared.records.Meas.{Meas}
 use Rattle.pb_graph.specs.ProcessGraph.{ProcessGraph}
-use Rattle.pb_window.specs.declared.plant.Plant.{Plant}
-use Rattle.pb_window.specs.declared.plant.PlantArc.{PlantArc}
+use Rattle.pb_plan.specs.declared.plant.Plant.{Plant}
+use Rattle.pb_plan.specs.declared.plant.PlantArc.{PlantArc}
 use Rattle.pb_site.specs.declared.declared.Arc.{Arc}
 use Rattle.pb_site.specs.declared.declared.ArcKind.{ArcKind}
 use Rattle.pb_site.specs.declared.declared.ArcKind.TheVariants.{Metered, Batch, Plain, Tank}

@@ -8,7 +8,6 @@ ghost use Rattle.pb_session.specs.Renumbered.{LeftOutLaw, RenumberedLaw};
 ghost use Rattle.pb_session.specs.VersionOne.{FirstPlantLaw, FirstRefusalLaw, FirstSessionTextLaw, FirstTextLaw, FirstWindowLaw};
 
 use pb_advise::{cheapest_law, one_advice_law, some_advice_law};
-use pb_assay::component_form_law;
 use pb_book::{
     accepted_law, book_windows_law, grades_law, meter_costs_law, plain_law, ranges_law,
     version_one_law,
@@ -17,6 +16,7 @@ use pb_classify::{one_classification_law, some_classification_law};
 use pb_elim::{
     certified_law, formed_law, least_throughout_law, one_study_law, some_study_law, tested_law,
 };
+use pb_grades::component_form_law;
 use pb_period::{agreeing_law, graphs_law, plain_graphs_law, window_graphs_law};
 
 /// The law that what a record adds to the output is one text, and so is the output of a session: the classes of a design and their

@@ -12,7 +12,6 @@ mod history;
 mod kept;
 mod laws;
 mod session;
-mod windows;
 
 pub use laws::{
     agreeing_report_law, criticals_law, edited_file_law, kept_law, left_out_law, one_text_law,

@@ -1,6 +1,6 @@
 // The state of a session.
 
-ghost use Rattle.std.specs.Prelude.{◌≡◌, ◌≢◌, ◌<◌, ◌≤◌, ◌↔◌, ◌∷◌, [], None, length, slice_get, take, option_map, All, OnOk, OnErr, IfErr, IfOk, IfSome, IsSome, IsTrue, Contains, Err};
+ghost use Rattle.std.specs.Prelude.{◌≡◌, ◌≢◌, ◌<◌, ◌≤◌, ◌↔◌, ◌∷◌, [], None, length, slice_get, take, option_map, OnOk, OnErr, IfErr, IfOk, IfSome, IsSome, IsTrue, Contains, Err};
 ghost use Rattle.pb_book.specs.declared.answer.Accepted.TheVariants.{Advise, Design, Stored};
 ghost use Rattle.pb_book.specs.Answer.{Says, cause_code};
 ghost use Rattle.pb_kinds.specs.Costs.{named_costs};
@@ -14,22 +14,19 @@ use crate::classes::classes_in;
 use crate::criticals::declared_critical;
 use crate::history::history_of;
 use crate::kept::{KeptStudy, drop_touched, last_stage, place_of, settle};
-use crate::windows::places_of;
 use pb_advise::advise;
-use pb_assay::{ComponentFault, component_graph};
 use pb_book::{Accepted, Book, NotAccepted, Refused};
 use pb_classify::classify;
 use pb_elim::{stage, study_classed};
-use pb_facts::Grade;
 use pb_graph::{Classified, Graph, List};
-use pb_period::{Assembly, assemble, assemble_window, design};
+use pb_period::{Assembly, assemble, design};
 use pb_report::{
     Form, write_advise, write_component, write_design, write_history, write_over, write_refused,
     write_study, write_window,
 };
-use pb_rows::{Name, NameList, Names, Row};
+use pb_rows::{Name, Names, Row};
 use pb_study::{Options, Stage, Study};
-use pb_window::{Window, window_names};
+use pb_window::{code_of, places, window};
 use std::alloc::{AllocError, Global};
 use std::marker::Model;
 
@@ -72,21 +69,18 @@ impl Session {
     ghost use Rattle.pb_classify.specs.Classification.{IsClassification};
     ghost use Rattle.pb_study.specs.Options.{AreOptions};
     ghost use Rattle.pb_stage.specs.Printed.{printed_classes};
-    ghost use Rattle.pb_elim.specs.Study.{IsStudyOf};
     ghost use Rattle.pb_graph.specs.ProcessGraph.{IsProcessGraph};
-    ghost use Rattle.pb_study.specs.WellFormed.{IsWellFormedStudy};
-    ghost use Rattle.pb_facts.specs.Grade.{IsGrade};
     ghost use Rattle.pb_period.specs.Days.{days_of};
-    ghost use Rattle.pb_period.specs.PeriodGraph.{IsStreamOfGraph, NamesAStream, period_graph, period_names};
-    ghost use Rattle.pb_session.specs.Criticals.{critical_of};
+    ghost use Rattle.pb_period.specs.PeriodGraph.{NamesAStream, period_graph};
     ghost use Rattle.pb_session.specs.Accepted.{IsOfPeriods};
     ghost use Rattle.pb_session.specs.Appending.{AppendsText, KeepsText};
     ghost use Rattle.pb_session.specs.Closed.{LeavesClosed};
     ghost use Rattle.pb_session.specs.FirstStage.{Begins, IsFirstStage, TellsAStream};
-    ghost use Rattle.pb_session.specs.Keeping.{HasCountsOf, IsBalanceAt, IsReportedAt, IsReportedOf, IsStudied};
+    ghost use Rattle.pb_session.specs.Keeping.{IsBalanceAt, IsReportedAt, IsReportedOf, IsStudied, IsStudiedAt};
     ghost use Rattle.pb_session.specs.Kept.{IsKeptAt, IsReportedStage, Keeps, KeepsAccepted, KeepsReportOf, most_kept, reported_after, reported_behind, reported_of};
-    ghost use Rattle.pb_session.specs.Session.{Adds, AddsAccepted, AreNamesOf, Balances, cause_in, IsAdviceText, IsBalanceOf, IsDesign, IsHistoryText, IsReport, IsTextOf, Reports, Windows, state_after, window_head};
-    ghost use Rattle.pb_session.specs.Windowed.{IsWindowAt};
+    ghost use Rattle.pb_session.specs.Session.{Adds, AddsAccepted, AreNamesOf, Balances, cause_in, IsAdviceText, IsDesign, IsHistoryText, IsReport, IsTextOf, Reports, Windows, state_after, window_head};
+    ghost use Rattle.pb_assay.specs.Balance.{HasCountsOf};
+    ghost use Rattle.pb_window.specs.Between.{IsStreamBetween, assembly_between};
 
     /// A session that has stored nothing.
     pub fn new(alloc: Global, options: Options, form: Form) -> Session
@@ -497,7 +491,7 @@ impl Session {
     {
         let names = pb_period::names(self.alloc, &self.book, i)?;
         let period = self.book.period(i).name;
-        match self.balance(component, i, &names.streams) {
+        match self.balance(component, i) {
             Ok(graph) => self.write_component(&names, component, &period, &graph, out),
             Err(Assembly::Over(j)) => write_over(
                 self.alloc,
@@ -531,16 +525,9 @@ impl Session {
         self.report_after(before, names, period, graph, out)
     }
 
-    // The component graph of a period whose streams have these names, by the last stage of its study: of the kept study, if there
-    // is one.
-    fn balance(&self, component: &Name, i: u32, streams: &NameList) -> Result<Graph, Assembly>
-        requires there { i < length (periods_of self.now.state.rows) }
-        requires streams { IfSome (slice_get (periods_of self.now.state.rows) i)
-            (λ period. streams.now
-            ≡ (period_names self.now.state.rows (days_of period)).streams) }
-        requires each { IfSome (slice_get (periods_of self.now.state.rows) i)
-            (λ period. length streams.now
-            ≡ length (period_graph self.now.state.rows (days_of period)).streams) }
+    // The component graph of a period, by the last stage of its study: of the kept study, if there is one.
+    fn balance(&self, component: &Name, i: u32) -> Result<Graph, Assembly>
+        requires { i < length (periods_of self.now.state.rows) }
         ensures answer { result ≢ Err Assembly.NoMemory → IsBalanceAt self.now.state component.now
             (slice_get (periods_of self.now.state.rows) i) result }
         ensures counts { IfSome (slice_get (periods_of self.now.state.rows) i)
@@ -549,45 +536,38 @@ impl Session {
         ensures over { IfSome (slice_get (periods_of self.now.state.rows) i)
             (λ period. IfErr result (NamesAStream self.now.state.rows (days_of period))) }
     {
-        let grades = self
-            .book
-            .grades(self.alloc, component, i, streams.as_slice())?;
         match self.kept(i) {
-            Some(study) => self.balance_by(&study.stages.at(0).graph, study, &grades),
+            Some(study) => self.balance_by(component, i, &study.stages.at(0).graph, study),
             None => match assemble(self.alloc, &self.book, i) {
                 Ok(graph) => {
                     let study = self.study_of(&graph)?;
-                    self.balance_by(&graph, &study, &grades)
+                    self.balance_by(component, i, &graph, &study)
                 }
                 Err(why) => Err(why),
             },
         }
     }
 
-    // The component graph of a graph with this study, by the last stage of the study and these grades.
+    // The component graph of a period that has this graph and this study, by the last stage of the study.
     fn balance_by(
         &self,
+        component: &Name,
+        i: u32,
         graph: &Graph,
         study: &Study,
-        grades: &[Option<Grade>],
     ) -> Result<Graph, Assembly>
-        requires limits { IsProcessGraph graph.now }
-        requires study { IsStudyOf graph.now self.now.state.options
-            (critical_of self.now.state.rows) study.now }
-        requires formed { IsWellFormedStudy graph.now study.now }
-        requires each { length grades.now ≡ length graph.now.streams }
-        requires grades { All (λ grade. IfSome grade IsGrade) grades.now }
-        ensures answer { result ≢ Err Assembly.NoMemory
-            → IsBalanceOf self.now.state graph.now grades.now result }
-        ensures counts { IfOk result (HasCountsOf graph.now) }
-        ensures over { IfErr result (IsStreamOfGraph graph.now) }
+        requires { IsStudiedAt self.now.state (slice_get (periods_of self.now.state.rows) i)
+            graph.now study.now }
+        ensures answer { result ≢ Err Assembly.NoMemory → IsBalanceAt self.now.state component.now
+            (slice_get (periods_of self.now.state.rows) i) result }
+        ensures counts { IfSome (slice_get (periods_of self.now.state.rows) i)
+            (λ period. IfOk result
+            (HasCountsOf (period_graph self.now.state.rows (days_of period)))) }
+        ensures over { IfSome (slice_get (periods_of self.now.state.rows) i)
+            (λ period. IfErr result (NamesAStream self.now.state.rows (days_of period))) }
     {
         let last = study.stages.at(study.taken.len());
-        match component_graph(self.alloc, graph, last.streams.as_slice(), grades) {
-            Ok(component) => Ok(component),
-            Err(ComponentFault::Over(j)) => Err(Assembly::Over(j)),
-            Err(ComponentFault::NoMemory) => Err(Assembly::NoMemory),
-        }
+        pb_assay::component(self.alloc, &self.book, component, i, graph, last)
     }
 
     // Appends the window from the period at one place to the period at another, or the row that names its first stream beyond the
@@ -599,20 +579,38 @@ impl Session {
             (slice_get (periods_of self.now.state.rows) last)) out.old out.new) }
         ensures err { OnErr result (KeepsText out.old out.new) }
     {
-        let periods = self.book.periods_between(self.alloc, first, last)?;
-        let window = self.book.window(self.alloc, first, last)?;
-        let names = window_names(self.alloc, &window)?;
-        match assemble_window(self.alloc, &self.book, &window, &periods) {
-            Ok(graph) => self.report_window(first, last, &periods, &window, &names, &graph, out),
-            Err(Assembly::Over(j)) => write_over(
-                self.alloc,
-                &self.book.period(first).name,
-                names.streams.at(j as usize),
-                self.form,
-                out,
-            ),
+        match window(self.alloc, &self.book, first, last) {
+            Ok((graph, names)) => self.report_window(first, last, &names, &graph, out),
+            Err(Assembly::Over(j)) => self.write_window_over(first, last, j, out),
             Err(Assembly::NoMemory) => Err(AllocError),
         }
+    }
+
+    // Appends the row that names the first stream beyond the limits in place of a window.
+    fn write_window_over(
+        &self,
+        first: u32,
+        last: u32,
+        j: u32,
+        out: &mut Vec<u8>,
+    ) -> Result<(), AllocError>
+        requires asked { IsWindowAsked self.now.state.rows first last }
+        requires over { OfEnds self.now.state.rows first last
+            (λ one other. Err (Assembly.Over j) ≡ assembly_between self.now.state.rows one other) }
+        requires there { IsStreamBetween self.now.state.rows first last j }
+        ensures ok { OnOk result (AppendsText (Windows self.now.state
+            (slice_get (periods_of self.now.state.rows) first)
+            (slice_get (periods_of self.now.state.rows) last)) out.old out.new) }
+        ensures err { OnErr result (KeepsText out.old out.new) }
+    {
+        let code = code_of(self.alloc, &self.book, first, last, j)?;
+        write_over(
+            self.alloc,
+            &self.book.period(first).name,
+            &code,
+            self.form,
+            out,
+        )
     }
 
     // Appends the rows before the report of a window, and the report of its graph under the name of its first period.
@@ -620,13 +618,11 @@ impl Session {
         &self,
         first: u32,
         last: u32,
-        periods: &[u32],
-        window: &Window,
         names: &Names,
         graph: &Graph,
         out: &mut Vec<u8>,
     ) -> Result<(), AllocError>
-        requires window { IsWindowAt self.now.state.rows first last periods.now window.now }
+        requires asked { IsWindowAsked self.now.state.rows first last }
         requires names { AreNamesOf names.now graph.now }
         requires limits { IsProcessGraph graph.now }
         ensures ok { OnOk result (OfEnds self.now.state.rows first last (λ one other. AppendsText
@@ -634,7 +630,8 @@ impl Session {
             one.name graph.now) out.old out.new)) }
         ensures err { OnErr result (KeepsText out.old out.new) }
     {
-        let places = places_of(self.alloc, &self.book, periods, window)?;
+        let periods = self.book.periods_between(self.alloc, first, last)?;
+        let places = places(self.alloc, &self.book, first, last)?;
         let name = self.book.period(first).name;
         let before = out.len();
         write_window(

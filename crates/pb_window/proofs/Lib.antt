@@ -1,12 +1,2 @@
-mod CodeLemmas
-mod GraphLemmas
-mod JoinLemmas
-mod JoinedLemmas
-mod ListLemmas
-mod MeaningLemmas
-mod NameLemmas
-mod NumberLemmas
-mod PlaceLemmas
-mod ReadLemmas
-mod RisingLemmas
-mod ShapeLemmas
+pub mod NamedLemmas
+mod WindowedLemmas

@@ -1,10 +1,4 @@
 -- Statement
-pub mod Plant
-pub mod Window
-pub mod Graph
-pub mod Codes
-pub mod Places
-pub mod Meaning
-pub mod Laws
+pub mod Between
 -- Inside
-pub mod Joined
+pub mod Windowed

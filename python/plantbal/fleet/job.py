@@ -127,6 +127,19 @@ def go_on() -> None:
     _STOPPED.clear()
 
 
+def own_room() -> str | None:
+    """Return the folder of this worker of dask, or None if this is no worker.
+
+    What a killed worker has left there goes when the next one starts.
+    """
+    try:
+        from distributed import get_worker
+
+        return str(get_worker().local_directory)
+    except (ImportError, ValueError):
+        return None
+
+
 def run_sent(
     command: list[str], session: bytes, name: str, timeout: float | None, limited: str
 ) -> tuple[str, dict[str, bytes]] | None:
@@ -147,7 +160,7 @@ def run_sent(
     limited : str
         What sets its limits, as `limits` returns it.
     """
-    with tempfile.TemporaryDirectory(prefix="plantbal-") as folder:
+    with tempfile.TemporaryDirectory(prefix="plantbal-", dir=own_room()) as folder:
         given = Path(folder, "session")
         given.write_bytes(session)
         part = Path(folder, "part")

@@ -3,9 +3,9 @@ use Rattle.std.proofs.Common.{◌≡◌, ◌≢◌, ◌∙◌, ◌<◌, ℕ, Lis
 use Rattle.std.proofs.lemmas.List.{length-map}
 use Rattle.pb_graph.specs.declared.records.Meas.{Meas}
 use Rattle.pb_graph.specs.ProcessGraph.{IsProcessGraph, ProcessGraph}
-use Rattle.pb_window.specs.declared.graph.WindowAssembly.{WindowAssembly}
-use Rattle.pb_window.specs.declared.graph.WindowAssembly.TheVariants.{Over}
-use Rattle.pb_window.specs.Graph.{IsFirstOutside, IsFirstStreamOutside, graph_streams, window_graph}
+use Rattle.pb_plan.specs.declared.graph.WindowAssembly.{WindowAssembly}
+use Rattle.pb_plan.specs.declared.graph.WindowAssembly.TheVariants.{Over}
+use Rattle.pb_plan.specs.Graph.{IsFirstOutside, IsFirstStreamOutside, graph_streams, window_graph}
 use Rattle.pb_period.specs.PeriodGraph.{within_limits}
 use Rattle.pb_period.specs.WindowGraph.{periods_at, stream_measured, window_measured}
 use Rattle.pb_period.proofs.GraphLemmas.{finished}

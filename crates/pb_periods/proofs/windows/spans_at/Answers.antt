@@ -1,8 +1,8 @@
 use Rattle.std.specs.Prelude.{All}
 use Rattle.std.proofs.Common.{◌≡◌, ◌∙◌, ◌++◌, [], ◌∷◌, List, ap, subst, sym}
 use Rattle.std.proofs.lemmas.List.Elements.{All-push}
-use Rattle.pb_window.specs.declared.plant.Span.{Span}
-use Rattle.pb_window.specs.Plant.{IsSpan}
+use Rattle.pb_plan.specs.declared.plant.Span.{Span}
+use Rattle.pb_plan.specs.Plant.{IsSpan}
 use Rattle.pb_periods.specs.Windows.{span_of_period}
 use Rattle.pb_periods.proofs.WindowPlantLemmas.{spans_next, spans_of}
 use Rattle.pb_periods.proofs.windows.spans_at.Goals as goal

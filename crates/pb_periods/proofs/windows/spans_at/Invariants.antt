@@ -1,6 +1,6 @@
 use Rattle.std.specs.Prelude.{All}
 use Rattle.std.proofs.Common.{◌≡◌, ◌++◌, drop}
-use Rattle.pb_window.specs.Plant.{IsSpan}
+use Rattle.pb_plan.specs.Plant.{IsSpan}
 use Rattle.pb_periods.proofs.WindowPlantLemmas.{spans_of}
 use Rattle.pb_periods.proofs.windows.spans_at.Given as goal
 

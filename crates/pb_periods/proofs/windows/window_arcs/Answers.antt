@@ -1,5 +1,5 @@
 use Rattle.std.proofs.Common.{◌∙◌, ◌++◌, [], ◌∷◌, map, ap}
-use Rattle.pb_window.specs.declared.plant.PlantArc.{PlantArc}
+use Rattle.pb_plan.specs.declared.plant.PlantArc.{PlantArc}
 use Rattle.pb_site.specs.Site.{arcs_of}
 use Rattle.pb_periods.specs.Windows.{window_arc}
 use Rattle.pb_periods.proofs.WindowPlantLemmas.{mapped_next}

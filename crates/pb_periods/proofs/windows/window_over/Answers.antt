@@ -1,10 +1,10 @@
 use Rattle.std.specs.Prelude.{filter_map, map, slice_get, IfOk}
 use Rattle.std.proofs.Common.{◌∙◌, List, ap, ap₂, arith, length, subst}
 use Rattle.std.proofs.lemmas.List.{length-map}
-use Rattle.pb_window.specs.declared.plant.Plant.{Plant}
-use Rattle.pb_window.specs.declared.plant.Span.{Span}
-use Rattle.pb_window.specs.Places.{IsNamedBy}
-use Rattle.pb_window.specs.Window.{window_of}
+use Rattle.pb_plan.specs.declared.plant.Plant.{Plant}
+use Rattle.pb_plan.specs.declared.plant.Span.{Span}
+use Rattle.pb_plan.specs.Places.{IsNamedBy}
+use Rattle.pb_plan.specs.Window.{window_of}
 use Rattle.pb_periods.specs.Windows.{span_of_period}
 use Rattle.pb_periods.proofs.WindowPlantLemmas.{as_many}
 use Rattle.pb_periods.proofs.windows.window_over.Goals as goal

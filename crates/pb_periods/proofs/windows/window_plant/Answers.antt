@@ -1,5 +1,5 @@
 use Rattle.std.proofs.Common.{◌≡◌, ◌∙◌, subst, sym}
-use Rattle.pb_window.specs.Plant.{IsPlant}
+use Rattle.pb_plan.specs.Plant.{IsPlant}
 use Rattle.pb_site.specs.Site.{version_of}
 use Rattle.pb_periods.specs.Windows.{keeps_idle_nodes, window_plant}
 use Rattle.pb_periods.proofs.WindowPlantLemmas.{idle_one, idle_two, plant_is, plant_made, plant_with}

@@ -1,4 +1,4 @@
-use Rattle.std.proofs.Common.{◌≡◌, ◌≢◌, ◌∙◌, ◌≤◌, List, Option, Some, None, length, IfSome, OnErr, Result, Ok, Err, true, false, refl, sym, ap, ap₂, subst}
+use Rattle.std.proofs.Common.{◌≡◌, ◌≢◌, ◌∙◌, ◌≤◌, List, Option, Some, None, length, IfSome, OnErr, Result, Ok, Err, refl, sym, ap, ap₂, subst}
 use Rattle.std.specs.List.{AllByRecursion}
 use Rattle.pb_study.specs.declared.results.Stage.{Stage}
 use Rattle.pb_classify.specs.Classification.{IsClassification}

@@ -1,4 +1,4 @@
-use Rattle.std.proofs.Common.{◌≡◌, ◌≢◌, ◌∙◌, ◌<◌, ◌∷◌, [], ℕ, List, length, Option, Some, IfSome, IfErr, IfOk, Result, Ok, Err, slice_get, sym, ap, ap₂, subst}
+use Rattle.std.proofs.Common.{◌≡◌, ◌≢◌, ◌∙◌, ◌<◌, ◌∷◌, [], ℕ, List, length, Some, IfSome, IfErr, IfOk, Result, Ok, Err, slice_get, sym, ap, ap₂, subst}
 use Rattle.pb_rows.specs.declared.name.Names.{Names}
 use Rattle.pb_graph.specs.ProcessGraph.{ProcessGraph}
 use Rattle.pb_periods.specs.declared.period.Period.{Period}
@@ -14,7 +14,8 @@ use Rattle.pb_report.specs.Component.{component_row}
 use Rattle.pb_report.specs.Form.{text_in}
 use Rattle.pb_report.specs.Names.{name_at}
 use Rattle.pb_report.specs.Over.{over_row}
-use Rattle.pb_session.specs.Keeping.{HasCountsOf, IsBalanceAt}
+use Rattle.pb_assay.specs.Balance.{HasCountsOf}
+use Rattle.pb_session.specs.Keeping.{IsBalanceAt}
 use Rattle.pb_session.specs.Kept.{Held}
 use Rattle.pb_session.specs.Session.{AreNamesOf, Balances, IsReport, SessionState}
 use Rattle.pb_session.proofs.AppendingLemmas.{appends_so, appends_such}
@@ -31,9 +32,6 @@ is_over j why r is why_is = cc (is, why_is)
 
 over_sure : (j : ℕ) (r : Result ProcessGraph Assembly) → r ≡ Err (Over j) → r ≢ Err NoMemory
 over_sure j r is = λ other. cc (is, other)
-
-some_so : (found : Option Period) (period : Period) (P : Period → Type 0) → found ≡ Some period → P period → IfSome found P
-some_so found period P is holds = subst (λ (o : Option Period). IfSome o P) (sym is) holds
 
 -- what is known about the period and its names, by the rows of the session
 record IsNamedPeriod (state : SessionState) (i : ℕ) (period : Period) (names : Names) : Type 0 where
@@ -54,22 +52,6 @@ named_period state rows i period names rows_is there names_are own =
       names_are = subst (λ (rs : List StoredRow). names ≡ period_names rs (days_of period)) rows_is names_here;
       own = subst (λ (rs : List StoredRow). AreGraphNames (period_names rs (days_of period)) (period_graph rs (days_of period))) rows_is own_here;
     }
-
-pub balance-requires-clause-streams : goal.balance-requires-clause-streams
-balance-requires-clause-streams c =
-    let state = c.args.self.now.state in
-    let names = c.in_ok-names.names in
-    let k = named_period state c.self.inside.book c.args.i c.period-period.result c.in_ok-names.names (ap (λ (h : Held). h.state.rows) c.self.view_is) c.period-period.ensures.value c.in_ok-names.ensures.ok c.in_ok-names.ensures.named in
-    some_so (slice_get (periods_of state.rows) c.args.i) c.period-period.result (λ (p : Period). names.streams ≡ (period_names state.rows (days_of p)).streams) k.there
-    (ap (λ (n : Names). n.streams) k.names_are)
-
-pub balance-requires-clause-each : goal.balance-requires-clause-each
-balance-requires-clause-each c =
-    let state = c.args.self.now.state in
-    let names = c.in_ok-names.names in
-    let k = named_period state c.self.inside.book c.args.i c.period-period.result c.in_ok-names.names (ap (λ (h : Held). h.state.rows) c.self.view_is) c.period-period.ensures.value c.in_ok-names.ensures.ok c.in_ok-names.ensures.named in
-    some_so (slice_get (periods_of state.rows) c.args.i) c.period-period.result (λ (p : Period). length names.streams ≡ length (period_graph state.rows (days_of p)).streams) k.there
-    (ap (λ (n : Names). length n.streams) k.names_are ∙ k.own.each_stream)
 
 counts_now : (graph other : ProcessGraph) (r : Result ProcessGraph Assembly) → r ≡ Ok other → IfOk r (HasCountsOf graph) → HasCountsOf graph other
 counts_now graph other r is counts = subst (λ (r : Result ProcessGraph Assembly). IfOk r (HasCountsOf graph)) is counts

@@ -1,5 +1,0 @@
-use Rattle.pb_assay.proofs.MeaningLemmas.{first_is}
-use Rattle.pb_assay.proofs.laws.first_over_law.Goals as goal
-
-pub returns : goal.returns
-returns c = first_is

@@ -1,0 +1,5 @@
+mod CarriedLemmas
+mod ComponentLemmas
+mod ErrorLemmas
+mod FormLemmas
+mod MeaningLemmas

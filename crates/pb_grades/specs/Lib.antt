@@ -1,0 +1,4 @@
+-- Statement
+pub mod Grade
+pub mod Component
+pub mod Laws

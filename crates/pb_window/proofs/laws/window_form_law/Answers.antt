@@ -1,5 +1,0 @@
-use Rattle.pb_window.proofs.JoinLemmas.{form_is}
-use Rattle.pb_window.proofs.laws.window_form_law.Goals as goal
-
-pub returns : goal.returns
-returns c = form_is
