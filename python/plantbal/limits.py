@@ -48,6 +48,9 @@ DRAWING_SECONDS = 60.0
 # A mapping of a workbook, or of a database.
 MAPPING_BYTES = 1 << 20
 
+# Facts of a period of whose masses a statement shows how they were calculated; others are counted.
+MEASURED_SHOWN = 400
+
 # What a query of a database gives: rows, seconds until it is cancelled, and megabytes of figures.
 QUERY_ROWS = 2_000_000
 QUERY_SECONDS = 60

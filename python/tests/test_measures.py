@@ -3,14 +3,16 @@
 from __future__ import annotations
 
 import csv
+import re
 from decimal import Decimal
 from pathlib import Path
 
+import openpyxl
 import pytest
 from books import Sheets, folder, rows_of
 from conftest import Desk, text_of
 
-from plantbal import convert
+from plantbal import convert, limits
 from plantbal.audit.bundle import MEASURED, unpacked
 from plantbal.audit.reckoned import reckoned
 from plantbal.volumes.trail import read_trails
@@ -168,3 +170,35 @@ def test_faults(tmp_path: Path, sheet: str, row: int, column: int, text: str, wh
         del sheets["factors"]
     found = convert(folder(tmp_path / "jan", sheets))
     assert not found.ok and any(what in said for said in found.said()), found.said()
+
+
+def test_a_statement_has_how(
+    say: Desk, tmp_path: Path, program: Path, monkeypatch: pytest.MonkeyPatch
+) -> None:
+    """From a tank's content on the page to what was measured and applied, and the sum by hand."""
+    book = "--book", tmp_path / "mill"
+    assert say("book", "new", "2024", folder(tmp_path / "plant", PLANT), *book).status == 0
+    assert say("book", "add", folder(tmp_path / "jan", FACTS), *book).status == 0
+    session, out = tmp_path / "2024.csv", tmp_path / "page.html"
+    session.write_text(text_of(tmp_path / "mill" / "2024.csv") + "report,jan\n", encoding="utf-8")
+    words = ("page", session, "--run", "--out", out, "--program", program)
+    assert say(*words, *book, "--xlsx", tmp_path / "page.xlsx").status in (0, 1)
+    shown = text_of(out)
+    rows = shown.split('<tr id="p0-m')[1:]
+    link = re.search('<a href="#p0-m([0-9]+)"[^>]*>3,840.800</a>', shown)
+    assert len(rows) == 6 and link is not None, "the opening of the tank leads to its dip"
+    dip = rows[int(link[1])].replace("\u00a0", " ")
+    for text in (
+        "dip of T1",
+        "level 5,000 mm ± 3; free water 100 mm ± 2; temperature 25 °C ± 0.4",
+        "factor 0.990, by the product&#39;s own factors; less the roof, 40,000 kg ± 100",
+        "(5,000 − 100) × 800 × 0.990 − 40,000 = 3,840,800 kg",
+    ):
+        assert text in dip, (text, dip)
+    assert "✗" not in "".join(rows)
+    table = openpyxl.load_workbook(tmp_path / "page.xlsx")["measured"]
+    assert table.max_row == 7 and table["A1"].value == "period"
+    monkeypatch.setattr(limits, "MEASURED_SHOWN", 2)
+    assert say(*words, *book).status in (0, 1)
+    assert "4 more are in measured.csv of the book" in text_of(out)
+    assert say(*words).status in (0, 1) and "How masses were" not in text_of(out)

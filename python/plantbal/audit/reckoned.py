@@ -38,13 +38,18 @@ def measured_of(book: str | None, session: bytes) -> bytes | None:
     InputFault
         If the book's file can't be read.
     """
+    found = trails_of_session(book, session)
+    return text_of(found).encode("utf-8") if found else None
+
+
+def trails_of_session(book: str | None, session: bytes) -> list[Trail]:
+    """Return how masses of a session were reckoned, as `measured_of` does, each as a trail."""
     path = Path(book or "") / OF_BOOK
     if book is None or not path.exists():
-        return None
+        return []
     source, data = read_bytes(path, SESSION_BYTES)
-    rows = _rows(session)
-    found = [each for each in _trails(source, data) if _fits(each, rows)]
-    return text_of(found).encode("utf-8") if found else None
+    rows = rows_of_session(session)
+    return [each for each in _trails(source, data) if _fits(each, rows)]
 
 
 def reckoned(path: str, files: Mapping[str, bytes]) -> Iterator[tuple[SentenceKind, str]]:
@@ -57,8 +62,8 @@ def reckoned(path: str, files: Mapping[str, bytes]) -> Iterator[tuple[SentenceKi
     except InputFault as fault:
         yield SentenceKind.WRONG, str(fault)
         return
-    rows = _rows(files[SESSION])
-    wrong = [said for each in trails if (said := _differs(each, rows))]
+    rows = rows_of_session(files[SESSION])
+    wrong = [said for each in trails if (said := differs(each, rows))]
     for said in wrong[:_SAID]:
         yield SentenceKind.WRONG, f"{name}: {said}"
     if len(wrong) > _SAID:
@@ -85,7 +90,7 @@ def _trails(source: str, data: bytes) -> list[Trail]:
         raise InputFault(what, place=Place(file=source), remedy=remedy) from error
 
 
-def _rows(session: bytes) -> list[list[str]]:
+def rows_of_session(session: bytes) -> list[list[str]]:
     """Return the fields of the rows of a session, by their numbers from 0."""
     return [line.split(",") for line in session.decode("utf-8", "replace").split("\n")]
 
@@ -106,7 +111,7 @@ def _fits(trail: Trail, rows: Sequence[Sequence[str]]) -> bool:
     return _booked(rows[trail.row - 1])[0] == trail.fact
 
 
-def _differs(trail: Trail, rows: Sequence[Sequence[str]]) -> str:
+def differs(trail: Trail, rows: Sequence[Sequence[str]]) -> str:
     """Return in what a trail contradicts itself, or the session; nothing if it does so in nothing."""
     said = f"row {trail.row} ({trail.fact})"
     try:

@@ -28,6 +28,7 @@ from plantbal.page.gates import (
 )
 from plantbal.page.grades import grades_on
 from plantbal.page.head import Origin
+from plantbal.page.measured import measured_on
 from plantbal.page.render import render
 from plantbal.page.statement import Prepared, ShownRefusal, Worth
 from plantbal.report.blocks import Values, blocks_of, last_blocks
@@ -54,7 +55,9 @@ streams only what lies within two steps of the chosen stream is drawn. If Graphv
 than --seconds, the page comes without drawings and says so.
 
 With --book each period has its account: stock that rolls forward from month to month, receipts,
-shipments, losses and owners' shares, with what has changed since it was posted.
+shipments, losses and owners' shares, with what has changed since it was posted; and each fact whose
+mass follows from more than its amount has what was measured and applied, so that it can be
+calculated again.
 
 --xlsx writes the tables as a workbook, --pdf the page on A4, with chromium. If either is given,
 the page itself is written only if --out names a file.
@@ -316,6 +319,9 @@ def run(options: argparse.Namespace) -> int:
     """Write the page, the workbook and the PDF."""
     source, output, program = _source(options)
     prepared = prepare(replace(source, told=told_of(options.book)))
+    account = prepared.account
+    measured = measured_on(options.book, source.session, account.ledger, account)
+    prepared = replace(prepared, measured=measured)
     plant = options.plant
     if not plant and source.session is not None and source.session[0] != "standard input":
         plant = Path(source.session[0]).stem
@@ -340,9 +346,7 @@ def run(options: argparse.Namespace) -> int:
         from plantbal.page.sheets import write_workbook
 
         accounts = list(added.accounts.values())
-        write_workbook(
-            options.xlsx, prepared.account, prepared.told, origin, accounts, prepared.grades
-        )
+        write_workbook(options.xlsx, prepared, origin, accounts)
     why = output.why if output is not None else []
     if output is None and prepared.account.is_empty:
         why = [f"{source.name}: there is no report"]

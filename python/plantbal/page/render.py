@@ -11,7 +11,7 @@ from typing import TYPE_CHECKING, Any
 from plantbal.amounts import tonnes_text
 from plantbal.faults import ToolMissing
 from plantbal.model.facts import Fact
-from plantbal.model.forms import day_text
+from plantbal.model.forms import day_number, day_text
 from plantbal.model.ledger import Ledger
 from plantbal.page import diagnosed, gates
 from plantbal.page.drawing import KINDS, Draftsman
@@ -258,6 +258,7 @@ def environment() -> Environment:
         real=real,
         grade_unit=_grade_unit,
         estimated=gates.estimated,
+        day_number=day_number,
         **diagnosed.FILTERS,
     )
     return made
@@ -299,6 +300,7 @@ def render(
     made.filters["gates"] = (
         lambda each: account.gates.get(each.period) if each.is_of_period else None
     )
+    made.filters["measured"] = lambda each: prepared.measured.get(each.period)
     made.filters["way"] = lambda line: way_of(line, crossings)
     return made.get_template("page.html.j2").render(
         title=title or default_title(account, origin),

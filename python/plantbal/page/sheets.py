@@ -2,7 +2,7 @@
 
 from __future__ import annotations
 
-from collections.abc import Iterable, Mapping, Sequence
+from collections.abc import Iterable, Sequence
 from decimal import Decimal
 from pathlib import Path
 from typing import TYPE_CHECKING, Any
@@ -13,13 +13,12 @@ from plantbal.balance.grades import table_of
 from plantbal.faults import ToolMissing
 from plantbal.files import replacing
 from plantbal.inert import store
-from plantbal.page import diagnosed
+from plantbal.page import diagnosed, measured
 from plantbal.page.head import Origin, head_of
-from plantbal.page.statement import PageContents, Round, Statement, StreamLine
+from plantbal.page.statement import PageContents, Prepared, Round, Statement, StreamLine
 
 if TYPE_CHECKING:
     from plantbal.accounts.account import MonthAccount
-    from plantbal.balance.grades import Grades
     from plantbal.explain import ExplainedRow
 
 Cell = str | int | float | Decimal | None
@@ -161,11 +160,9 @@ def lint(account: PageContents) -> tuple[Row, list[Row]]:
 
 def write_workbook(
     path: str | Path,
-    account: PageContents,
-    told: Sequence[ExplainedRow],
+    prepared: Prepared,
     origin: Origin,
     accounts: Sequence[MonthAccount] = (),
-    grades: Mapping[str, Grades] | None = None,
 ) -> None:
     """Write the workbook, whole or not at all.
 
@@ -173,32 +170,30 @@ def write_workbook(
     ----------
     path : str or Path
         The file.
-    account : PageContents
+    prepared : Prepared
         What is shown.
-    told : sequence of ExplainedRow
-        The refused rows in sentences.
     origin : Origin
         Where it comes from.
     accounts : sequence of MonthAccount
         The accounts of periods, if the book is known.
-    grades : mapping of str to Grades, optional
-        The grades of periods with assays.
     """
     try:
         from openpyxl import Workbook
     except ImportError as error:
         raise ToolMissing("openpyxl", "python3-openpyxl") from error
+    account = prepared.account
     head: list[Row] = [(term, text) for term, text, _ in head_of(account, origin)]
     tables: dict[str, tuple[Row, Sequence[Row]]] = {
         "head": (("what", "which"), head),
         "periods": periods(account),
         "streams": streams(account),
         "tanks": tanks(account),
-        "grades": table_of(grades or {}),
+        "grades": table_of(prepared.grades),
+        "measured": (measured.SHEET, list(measured.sheet(prepared.measured))),
         "bounds": bounds(account),
         "diagnosis": (diagnosed.SHEET, diagnosed.sheet(account.statements)),
         "edits": edits(account),
-        "refused": refused(account, told),
+        "refused": refused(account, prepared.told),
         "looks wrong": lint(account),
     }
     book = Workbook()

@@ -19,6 +19,7 @@ if TYPE_CHECKING:
     from plantbal.explain import ExplainedRow
     from plantbal.lint import Finding
     from plantbal.page.gates import PeriodGates
+    from plantbal.page.measured import MeasuredPart
 
 
 @dataclass(frozen=True, slots=True)
@@ -318,7 +319,8 @@ class PageContents:
 class Prepared:
     """An account, its refused rows in sentences, and why there is no ± if there is none.
 
-    `more` is how many further rows are refused, and `grades` has those of each period with assays.
+    `more` is how many further rows are refused, `grades` has those of each period with assays, and
+    `measured` how the masses of each period were calculated.
     """
 
     account: PageContents
@@ -326,6 +328,7 @@ class Prepared:
     why_no_worth: str = ""
     more: int = 0
     grades: Mapping[str, Grades] = field(default_factory=dict)
+    measured: Mapping[str, MeasuredPart] = field(default_factory=dict)
 
 
 def _rank(line: StreamLine) -> tuple[int, float]:

@@ -26,6 +26,8 @@ from plantbal.volumes.groups import COEFFICIENTS, Expansion, Group, check_temper
 
 # Whole figures of amounts have some 20 digits; nothing here comes near to losing one.
 CONTEXT = Context(prec=40)
+# What is said in place of a petroleum table, if a factor is the product's own.
+OWN_TABLE = "table"
 STANDARD = Decimal(15)
 _CURVE = Decimal("0.8")
 
@@ -172,4 +174,4 @@ class FactorTable:
             slopes = [(high[1] - low[1]) / (high[0] - low[0]) for low, high in beside]
             low, _ = beside[0]
             value = low[1] + slopes[0] * (temperature - low[0])
-            return VolumeFactor(value, max(slopes, key=abs), Decimal(0), "table")
+            return VolumeFactor(value, max(slopes, key=abs), Decimal(0), OWN_TABLE)

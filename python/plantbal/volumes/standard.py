@@ -19,7 +19,15 @@ from decimal import Decimal, localcontext
 
 from plantbal.causes import CausedFault
 from plantbal.volumes.causes import VolumeCause
-from plantbal.volumes.factor import CONTEXT, STANDARD, FactorTable, Rounding, petroleum, to_nearest
+from plantbal.volumes.factor import (
+    CONTEXT,
+    OWN_TABLE,
+    STANDARD,
+    FactorTable,
+    Rounding,
+    petroleum,
+    to_nearest,
+)
 from plantbal.volumes.groups import Group
 
 _STEPS = 100
@@ -116,4 +124,4 @@ def by_table(table: FactorTable, observed: Decimal, temperature: Decimal) -> Sta
     """Return the density at the standard temperature by a product's own factors."""
     with localcontext(CONTEXT):
         factor = table.at(temperature).value
-        return Standard(observed / factor, 1 / factor, "table")
+        return Standard(observed / factor, 1 / factor, OWN_TABLE)

@@ -8,7 +8,8 @@ from __future__ import annotations
 
 import datetime
 import re
-from collections.abc import Mapping
+from array import array
+from collections.abc import Iterable, Iterator, Mapping
 from dataclasses import dataclass, field, replace
 
 from plantbal.faults import InputFault
@@ -28,7 +29,7 @@ from plantbal.workbook.hours import (
     summed,
 )
 from plantbal.workbook.settings import Settings
-from plantbal.workbook.sheets import Cell
+from plantbal.workbook.sheets import Cell, Sheet
 
 _BY_HOUR = re.compile(r"[\[(]?([^\W\d_][\w³]*)/(?:h|hr|hour)[\])]?", re.IGNORECASE)
 
@@ -41,8 +42,8 @@ class Daily:
     ----------
     lines : list of list of Cell
         The rows below the heads.
-    taken : list of list of Cell
-        The rows of hours that were read.
+    taken : iterable of int
+        The numbers of the rows of hours that were read.
     faults : list of InputFault
         What is wrong.
     notes : list of str
@@ -50,7 +51,7 @@ class Daily:
     """
 
     lines: list[list[Cell]]
-    taken: list[list[Cell]] = field(default_factory=list)
+    taken: Iterable[int] = ()
     faults: list[InputFault] = field(default_factory=list)
     notes: list[str] = field(default_factory=list)
     by_hours: dict[int, set[datetime.date]] = field(default_factory=dict)
@@ -108,7 +109,7 @@ def wide_by_day(
     instants = bool(counters) and len(counters) == len(columns) and are_instants(clock, first)
     if timed and not instants:  # what a counter shows at an instant is of no hour
         clock = clock_of(reader, settings, first, first)
-    found = Daily([], taken=[cells for cells, _ in stamped])
+    found = Daily([], taken=[cells[0].line for cells, _ in stamped])
     starts = Starts(clock)
     rows: dict[datetime.date, list[Cell]] = {}
     for column, figures in series.items():
@@ -128,11 +129,71 @@ def wide_by_day(
     return found
 
 
+class LongRows:
+    """The rows of a long sheet by their tags, as places alone: cells are made a tag at a time.
+
+    Parameters
+    ----------
+    reader : Reader
+        How its cells are written.
+    sheet : Sheet
+        The sheet.
+    begin : int
+        The place of the first row below the heads.
+    at : mapping of str to int
+        The columns ``day``, ``tag``, ``value`` and perhaps ``unit``.
+
+    Attributes
+    ----------
+    series : dict of str to array of int
+        The places of the rows of each tag that have a stamp.
+    others : list of int
+        The places of the rows without one.
+    first : dict of datetime to int
+        The place of the first row with each stamp.
+    """
+
+    def __init__(self, reader: Reader, sheet: Sheet, begin: int, at: Mapping[str, int]) -> None:
+        self.reader, self.sheet, self.at = reader, sheet, at
+        self.series: dict[str, array[int]] = {}
+        self.others: list[int] = []
+        self.first: dict[datetime.datetime, int] = {}
+        for place in range(begin, len(sheet.lines)):
+            stamp = self.stamp(place)
+            if stamp is None:
+                self.others.append(place)
+                continue
+            self.series.setdefault(self._cell(place, at["tag"]).text, array("q")).append(place)
+            self.first.setdefault(stamp, place)
+
+    def _cell(self, place: int, column: int) -> Cell:
+        line, values = self.sheet.lines[place]
+        return Cell(self.sheet, line, column + 1, values[column] if column < len(values) else None)
+
+    def stamp(self, place: int) -> datetime.datetime | None:
+        """Return the stamp of a row."""
+        return stamp_of(self.reader, self._cell(place, self.at["day"]))
+
+    def figures(self, places: Iterable[int]) -> list[SeriesFigure]:
+        """Return the figures of rows in the order of their stamps; of one clock time as they are."""
+        found = []
+        for place in places:
+            stamp = self.stamp(place)
+            if stamp is not None:
+                day = self._cell(place, self.at["day"])
+                found.append(SeriesFigure(day, self._cell(place, self.at["value"]), stamp))
+        return sorted(found, key=_order_of)
+
+    def taken(self) -> Iterator[int]:
+        """Give the numbers of the rows that have a stamp."""
+        return (self.sheet.lines[place][0] for places in self.series.values() for place in places)
+
+
 def long_by_day(
     reader: Reader,
     settings: Settings,
-    heads: list[Cell],
-    lines: list[list[Cell]],
+    sheet: Sheet,
+    head: int,
     names: Mapping[str, str],
     at: Mapping[str, int],
 ) -> Daily | None:
@@ -140,8 +201,12 @@ def long_by_day(
 
     Parameters
     ----------
-    reader, settings, heads, lines, names
+    reader, settings, names
         As `wide_by_day` has them.
+    sheet : Sheet
+        The sheet.
+    head : int
+        The place of its heads.
     at : mapping of str to int
         The columns ``day``, ``tag``, ``value`` and perhaps ``unit``.
 
@@ -150,41 +215,30 @@ def long_by_day(
     InputFault
         If a stamp can be read in two ways, or a tag has several units.
     """
-    column, tag = at["day"], at["tag"]
-    stamped = [(cells, stamp_of(reader, _at(cells, column))) for cells in lines]
-    there = [stamp for _, stamp in stamped if stamp is not None]
-    tags = {_at(cells, tag).text for cells, stamp in stamped if stamp is not None}
-    timed = has_times(there)
-    counters = sorted(each for each in tags if names.get(each) in settings.counters)
-    if not there or not (timed or counters):
+    column, heads = at["day"], sheet.row(head)
+    rows = LongRows(reader, sheet, head + 1, at)
+    timed = has_times([*rows.first])
+    counters = sorted(each for each in rows.series if names.get(each) in settings.counters)
+    if not rows.first or not (timed or counters):
         return None
-    series: dict[str, list[tuple[list[Cell], SeriesFigure]]] = {}
-    found = Daily([])
-    for cells, stamp in stamped:
-        if stamp is None:
-            found.lines.append(cells)
-            continue
-        figure = SeriesFigure(_at(cells, column), _at(cells, at["value"]), stamp)
-        series.setdefault(_at(cells, tag).text, []).append((cells, figure))
-        found.taken.append(cells)
-    most = max(len(rows) for rows in series.values())
-    longest = sorted(next(r for r in series.values() if len(r) == most), key=_order_of)
-    every = [figure for rows in series.values() for _, figure in rows]
+    found = Daily([sheet.row(place) for place in rows.others], taken=rows.taken())
     clock = Clock(settings, settings.stamps == "end")
     if timed:
-        clock = clock_of(reader, settings, [figure for _, figure in longest], every)
-    for name, rows in series.items():
+        longest = rows.figures(max(rows.series.values(), key=lambda places: len(places)))
+        clock = clock_of(reader, settings, longest, rows.figures(rows.first.values()))
+    for name, places in rows.series.items():
         if name not in names:
-            found.lines.append(_as_day(rows[0][0], column, rows[0][1].at.date()))
+            stamp = rows.stamp(places[0])
+            assert stamp is not None, "rows of a series have a stamp"
+            found.lines.append(_as_day(sheet.row(places[0]), column, stamp.date()))
             continue
-        rows.sort(key=_order_of)
-        every = [each for _, each in rows]
-        days = _days_of(reader, clock, name, names[name], every, timed, Starts(clock))
+        figures = rows.figures(places)
+        days = _days_of(reader, clock, name, names[name], figures, timed, Starts(clock))
         found.take(days)
-        by_stamp = {figure.stamp.line: cells for cells, figure in rows}
-        unit = _one_unit(reader, [cells for cells, _ in rows], at.get("unit"))
+        own = {sheet.lines[place][0]: place for place in places}
+        unit = _one_unit(reader, [sheet.row(own[each.stamp.line]) for each in figures], at)
         for each in days.found:
-            row = _as_day(by_stamp[each.stamp.line], column, each.day)
+            row = _as_day(sheet.row(own[each.stamp.line]), column, each.day)
             row[at["value"]] = each.cell
             found.lines.append(_without_rates(row, [unit]) if each.hours > 1 else row)
     hourly = timed and max(found.by_hours, default=1) > 1
@@ -192,9 +246,9 @@ def long_by_day(
     return found
 
 
-def _order_of(row: tuple[list[Cell], SeriesFigure]) -> datetime.datetime:
-    """Return what rows are put in order by; those of one clock time stay as they are."""
-    at = row[1].at
+def _order_of(figure: SeriesFigure) -> datetime.datetime:
+    """Return what figures are put in order by; those of one clock time stay as they are."""
+    at = figure.at
     return at.astimezone(datetime.timezone.utc).replace(tzinfo=None) if at.tzinfo else at
 
 
@@ -233,7 +287,7 @@ def _at_begins(reader: Reader, clock: Clock, figures: list[SeriesFigure]) -> lis
     return [replace(each, at=each.at + shift) for each in figures]
 
 
-def _one_unit(reader: Reader, rows: list[list[Cell]], column: int | None) -> int:
+def _one_unit(reader: Reader, rows: Iterable[list[Cell]], at: Mapping[str, int]) -> int:
     """Return the column of the units, if all rows of a tag have one unit; -1 without a column.
 
     Raises
@@ -241,8 +295,9 @@ def _one_unit(reader: Reader, rows: list[list[Cell]], column: int | None) -> int
     InputFault
         If they have several.
     """
-    if column is None:
+    if "unit" not in at:
         return -1
+    column, rows = at["unit"], list(rows)
     first = _at(rows[0], column)
     for cells in rows:
         if _at(cells, column).text != first.text:

@@ -9,6 +9,7 @@ from __future__ import annotations
 
 import enum
 import re
+from collections import Counter
 from collections.abc import Iterable, Iterator, Sequence
 from dataclasses import dataclass, field
 
@@ -88,6 +89,12 @@ class Fates:
             if at is not None:
                 self.fates[at].setdefault(cells[0].line, fate)
 
+    def put_lines(self, fate: Fate, sheet: Sheet, lines: Iterable[int]) -> None:
+        """Say what became of rows of a sheet by their numbers."""
+        fates = self.fates[self._places[id(sheet)]]
+        for line in lines:
+            fates.setdefault(line, fate)
+
     def put_sheet(self, fate: Fate, sheet: Sheet) -> None:
         """Say what became of the rows of a sheet of which nothing is known."""
         at = self._places.get(id(sheet))
@@ -110,16 +117,18 @@ class Fates:
     def left(self, sheet: Sheet) -> list[list[Cell]]:
         """Return the rows of a sheet that nothing is known of."""
         fates = self.fates[self._places[id(sheet)]]
-        return [cells for cells in sheet.rows() if cells[0].line not in fates]
+        return [sheet.row(at) for at, (line, _) in enumerate(sheet.lines) if line not in fates]
 
     def of_sheets(self) -> list[SheetFates]:
         """Return what became of the rows of each sheet."""
         found = []
         for sheet, fates in zip(self.sheets, self.fates):
-            lines = dict.fromkeys([*sheet.taken, *(line for line, _ in sheet.lines)])
-            every = [fates.get(line) for line in lines]
-            count = [every.count(fate) for fate in Fate]
-            found.append(SheetFates(sheet.file, sheet.name, len(every), *count))
+            counts = Counter(fates.get(line) for line, _ in sheet.lines)
+            if sheet.taken:  # rows that a mapping has taken, which may be gone
+                lines = {line for line, _ in sheet.lines}
+                counts.update(fates.get(line) for line in sheet.taken if line not in lines)
+            count = [counts[fate] for fate in Fate]
+            found.append(SheetFates(sheet.file, sheet.name, counts.total(), *count))
         return found
 
 

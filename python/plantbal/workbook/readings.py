@@ -4,17 +4,18 @@ from __future__ import annotations
 
 import datetime
 import re
+from itertools import islice
 
 from plantbal.causes import CausedFault
 from plantbal.faults import Fault
 from plantbal.workbook.bookings import Bookings
 from plantbal.workbook.causes import SheetCause
 from plantbal.workbook.cells import Error, Reader, day_order
-from plantbal.workbook.daily import long_by_day, wide_by_day
+from plantbal.workbook.daily import Daily, long_by_day, wide_by_day
 from plantbal.workbook.fates import Fate, is_unit
 from plantbal.workbook.plant import PlantReader, StreamRow
 from plantbal.workbook.shapeparts import HEADS_WITHIN
-from plantbal.workbook.sheets import Cell
+from plantbal.workbook.sheets import Cell, Sheet
 from plantbal.workbook.tables import TOTALS, Tables
 from plantbal.workbook.units import AMOUNTS, is_rate, unit_of
 
@@ -84,22 +85,21 @@ class Readings:
         found: set[str] = set()
         wide = False
         for sheet in self.tables.sheets["readings"]:
-            lines = list(sheet.rows())
             with self.tables.kept():
-                at, form = self._form(lines)
+                at, form = self._form(list(islice(sheet.rows(), HEADS_WITHIN)))
+                heads = sheet.row(at)
                 if form:
-                    self.tables.fates.put(Fate.HEADS, lines[at])
+                    self.tables.fates.put(Fate.HEADS, heads)
                 if form == "long":
-                    self._read_long(lines[at], self._by_day(lines[at], lines[at + 1 :], form))
+                    self._read_long(heads, self._long_lines(sheet, at))
                 elif form == "wide":
                     wide = True
-                    below = self._by_day(lines[at], lines[at + 1 :], form)
-                    found |= self._read_wide(lines[at], below)
+                    found |= self._read_wide(heads, self._wide_lines(sheet, at))
                 elif form == "across":
-                    self._read_across(lines[at], lines[at + 1 :])
+                    self._read_across(heads, list(islice(sheet.rows(), at + 1, None)))
                 else:
                     remedy = "write the tags of the sheet streams over the columns"
-                    place = sheet.place(lines[0][0].line)
+                    place = sheet.place(sheet.lines[0][0])
                     raise CausedFault(SheetCause.NO_TAGS(), place=place, remedy=remedy)
         for stream in self.plant.tags.values():
             if wide and self.whole and stream.kind == "metered" and stream.tag not in found:
@@ -118,18 +118,29 @@ class Readings:
             if stream is not None:
                 self.plant.settings.counters[stream.name] = counters[row.text("for")]
 
-    def _by_day(self, heads: list[Cell], lines: list[list[Cell]], form: str) -> list[list[Cell]]:
-        """Return the rows below the heads with a figure a day, if they have hours or counters."""
+    def _names(self) -> dict[str, str]:
+        """Return the streams by their names and tags."""
         names = {stream.name: stream.name for stream in self.plant.streams.values()}
-        names |= {tag: stream.name for tag, stream in self.plant.tags.items()}
-        if form == "wide":
-            found = wide_by_day(self.reader, self.plant.settings, heads, lines, names)
-        else:
-            at = _long_columns(heads)
-            found = long_by_day(self.reader, self.plant.settings, heads, lines, names, at)
+        return names | {tag: stream.name for tag, stream in self.plant.tags.items()}
+
+    def _long_lines(self, sheet: Sheet, at: int) -> list[list[Cell]]:
+        """Return the rows below the heads with a figure a day, if they have hours or counters."""
+        columns = _long_columns(sheet.row(at))
+        found = long_by_day(self.reader, self.plant.settings, sheet, at, self._names(), columns)
         if found is None:
-            return lines
-        self.tables.fates.put(Fate.READ, *found.taken)
+            return list(islice(sheet.rows(), at + 1, None))
+        return self._lines_of(sheet, found)
+
+    def _wide_lines(self, sheet: Sheet, at: int) -> list[list[Cell]]:
+        """Return the rows below the heads with figures a day, if they have hours or counters."""
+        lines = list(islice(sheet.rows(), at + 1, None))
+        settings = self.plant.settings
+        found = wide_by_day(self.reader, settings, sheet.row(at), lines, self._names())
+        return lines if found is None else self._lines_of(sheet, found)
+
+    def _lines_of(self, sheet: Sheet, found: Daily) -> list[list[Cell]]:
+        """Return the rows by day, and keep what is said of their hours."""
+        self.tables.fates.put_lines(Fate.READ, sheet, found.taken)
         self.tables.faults += found.faults
         self.tables.notes += found.notes
         return found.lines

@@ -8,7 +8,6 @@ from __future__ import annotations
 
 import csv
 import datetime
-import io
 import re
 import sys
 from collections.abc import Iterator, Mapping, Sequence
@@ -26,6 +25,10 @@ _LETTERS = 26
 EPOCH = datetime.date(1899, 12, 30)
 EPOCH_1904 = datetime.date(1904, 1, 1)
 _TABLES = (".csv", ".txt", ".tsv")
+# A line of a text with its end, as a file gives it that is opened without newlines being changed.
+_LINE = re.compile(r"[^\r\n]*(?:\r\n?|\n)|[^\r\n]+")
+_MARK = 20  # letters in which `sep=;` and the end of its line are
+_MOST_KEPT = 100_000
 _WORKBOOKS = (".xlsx", ".xlsm", ".xls", ".xlsb", ".ods")
 
 
@@ -134,8 +137,12 @@ class Sheet:
 
     def rows(self) -> Iterator[list[Cell]]:
         """Give the rows as cells, empty ones at the end left out."""
-        for line, values in self.lines:
-            yield [Cell(self, line, at, value) for at, value in enumerate(values, 1)]
+        return map(self.row, range(len(self.lines)))
+
+    def row(self, place: int) -> list[Cell]:
+        """Return the row at a place among the lines as cells."""
+        line, values = self.lines[place]
+        return [Cell(self, line, at, value) for at, value in enumerate(values, 1)]
 
 
 def letters(column: int) -> str:
@@ -284,20 +291,42 @@ def read_csv(path: Path) -> Sheet:
     InputFault
         If it can't be read, or a double quote in it isn't closed.
     """
-    name, data = read_bytes(path, limits.WORKBOOK_BYTES)
-    text, notes = _decoded(name, data)
-    first, _, rest = text.partition("\n")
+    name, text, notes = _text_of(path)
+    first, _, rest = text[:_MARK].partition("\n")
     marked = re.fullmatch(r"sep=(.)\r?", first.lower())
     part = marked.group(1) if marked else _parting(text)
     sheet = Sheet(name, path.stem, [], is_csv=True, notes=notes)
-    held = Held()
-    for row in csv_rows(rest if marked else text, part, name, 1 + bool(marked)):
-        values: list[Value] = [each.strip(" \t\u00a0\u202f") or None for each in row.fields]
+    held, same = Held(), Same()
+    if marked:
+        text = rest + text[_MARK:]
+    for row in csv_rows(text, part, name, 1 + bool(marked)):
+        values: list[Value] = [
+            same.text(each.strip(" \t\u00a0\u202f")) or None for each in row.fields
+        ]
         if any(value is not None for value in values):
             sheet.lines.append((row.first, without_end(values)))
             held.take(sheet.place(row.first), values)
             _say_lines(sheet, row, part)
     return sheet
+
+
+def _text_of(path: Path) -> tuple[str, str, list[str]]:
+    """Return the name of a file, its text, and what is to be said of its encoding."""
+    name, data = read_bytes(path, limits.WORKBOOK_BYTES)
+    return name, *_decoded(name, data)
+
+
+class Same:
+    """Keeps each of many texts once: stamps and tags stand in a sheet again and again."""
+
+    def __init__(self) -> None:
+        self._kept: dict[str, str] = {}
+
+    def text(self, text: str) -> str:
+        """Return a text, or one like it that was there before."""
+        if len(self._kept) < _MOST_KEPT:
+            return self._kept.setdefault(text, text)
+        return self._kept.get(text, text)
 
 
 @dataclass(frozen=True, slots=True)
@@ -320,7 +349,8 @@ def csv_rows(text: str, part: str, name: str, begin: int = 1) -> Iterator[CsvRow
     csv.field_size_limit(sys.maxsize)
     at = begin
     try:
-        reader = csv.reader(io.StringIO(text, newline=""), delimiter=part, strict=True)
+        lines = (found[0] for found in _LINE.finditer(text))
+        reader = csv.reader(lines, delimiter=part, strict=True)
         for fields in reader:
             last = begin + reader.line_num - 1
             yield CsvRow(fields, at, last)

@@ -252,7 +252,8 @@ for (const table of document.querySelectorAll('table.sortable')) {
 
 function unfold() {
   const target = location.hash && document.getElementById(location.hash.slice(1));
-  if (target && target.tagName === 'DETAILS') { target.open = true; target.scrollIntoView(); }
+  const folded = target && target.closest('details');
+  if (folded) { folded.open = true; target.scrollIntoView(); }
 }
 addEventListener('hashchange', unfold);
 unfold();
