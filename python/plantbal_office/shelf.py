@@ -15,11 +15,14 @@ from typing import Any, TypeVar
 
 from django.conf import settings
 from django.http import HttpRequest
+from django.utils.translation import gettext as _
 
+from plantbal.book.actions import Withheld
 from plantbal.book.expected import BookVersion
 from plantbal.book.forms import CHECKS, PENDING, there
 from plantbal.book.library import Book
 from plantbal.book.looking import Contents, MonthFacts
+from plantbal.faults import Fault
 from plantbal.program import RunSettings
 from plantbal_office.plants.models import Plant
 
@@ -82,8 +85,37 @@ def who_of(request: HttpRequest) -> str:
     return request.user.get_username() if settings.PLANTBAL_NAMES_PEOPLE else ""
 
 
+def given_of(request: HttpRequest) -> tuple[str, str] | None:
+    """Return the text that somebody has signed and its signature, if a form has both files.
+
+    Raises
+    ------
+    Fault
+        If it has one of them alone.
+    """
+    record, signature = _text_of(request, "record"), _text_of(request, "signature")
+    if bool(record) != bool(signature):
+        remedy = _("take the text to be signed, sign it by the command shown, and send both files")
+        raise Fault(_("this book requires a signature"), remedy=remedy)
+    return (record, signature) if signature else None
+
+
+def _text_of(request: HttpRequest, name: str) -> str:
+    """Return the text of a small file of a form; nothing without one."""
+    found = request.FILES.get(name)
+    if found is None:
+        return ""
+    if found.size > 1 << 16:
+        raise Fault(_("this isn't a signature"), remedy=_("send the file that ssh-keygen has made"))
+    found.seek(0)
+    return str(found.read().decode("ascii", "replace"))
+
+
 def book_of(request: HttpRequest, *, expected: bool = False) -> Book:
     """Return the book of the plant that a request names.
+
+    What wants an approval by its rules is submitted, with the signature that the form has; or the
+    text to be signed is given, if the form asks for it.
 
     Parameters
     ----------
@@ -100,6 +132,8 @@ def book_of(request: HttpRequest, *, expected: bool = False) -> Book:
         who=who_of(request),
         program=settings.PLANTBAL_PROGRAM,
         expected=version,
+        given=given_of(request),
+        withheld=(Withheld.TO_SIGN if request.POST.get("answer") == "text" else Withheld.SUBMITTED),
     )
 
 

@@ -26,7 +26,7 @@ from plantbal_office.access import Role, rule_of
 from plantbal_office.deeds.once import new_key
 from plantbal_office.plants.models import Plant
 from plantbal_office.sentences import change_said, error_said, fact_said, figure, stop_said
-from plantbal_office.shelf import contents_of
+from plantbal_office.shelf import contents_of, plain_book
 
 if TYPE_CHECKING:
     from plantbal_office.enter.grid import GridCell
@@ -194,6 +194,13 @@ def may(context: dict[str, Any], address: str, method: str = "POST") -> bool:
     rule = rule_of(address, method)
     roles: frozenset[Role] = context.get("roles") or frozenset()
     return rule is not None and rule.allows(roles)
+
+
+@register.simple_tag(takes_context=True)
+def signs(context: dict[str, Any]) -> bool:
+    """Say whether what wants an approval in the plant of the page is signed by who submits it."""
+    rules = plain_book(context["plant"]).rules()
+    return rules is not None and rules.keys
 
 
 @register.simple_tag

@@ -3,11 +3,20 @@
 from __future__ import annotations
 
 from dataclasses import dataclass, field
+from enum import Enum
 from fractions import Fraction
 
 from plantbal.book.forms import year_file
 from plantbal.book.journal import Act
 from plantbal.book.ledger import YearLedger
+
+
+class Withheld(Enum):
+    """What becomes of an action that wants an approval by the rules of its book."""
+
+    SUBMITTED = "it is submitted, and waits"
+    TO_SIGN = "the text that its submission signs is given, and nothing is done"
+    DONE = "it is done, as on a copy on which something is tried"
 
 
 @dataclass

@@ -20,7 +20,7 @@ from pathlib import Path
 
 from plantbal import limits
 from plantbal.book import expected as expecting
-from plantbal.book.actions import Action, Head
+from plantbal.book.actions import Action, Head, Withheld
 from plantbal.book.chain import Chain, checks_of, checks_text, read_checks, state_of
 from plantbal.book.forms import (
     APPROVALS,
@@ -75,6 +75,8 @@ class Store:
         The key with which submissions and approvals are signed.
     given : tuple of str, optional
         A record that was signed elsewhere, and its signature.
+    withheld : Withheld
+        What becomes of an action that wants an approval.
 
     Attributes
     ----------
@@ -90,12 +92,14 @@ class Store:
         *,
         key: str | Path | None = None,
         given: tuple[str, str] | None = None,
+        withheld: Withheld = Withheld.SUBMITTED,
     ) -> None:
         self.folder = Path(folder)
         self.seconds = seconds
         self.expected = expected
         self.key = key
         self.given = given
+        self.withheld = withheld
         self.waits: list[PendingFile] = []
         self._journal: list[JournalLine] | None = None
         self._is_old = False
@@ -292,6 +296,8 @@ class Store:
         ------
         Submitted
             If it needs an approval by the rules of the book, and waits for it now.
+        Unsigned
+            If the text that its submission signs was asked for.
         Fault
             If it can't be done. The fault says whether it is going to be.
         """

@@ -13,7 +13,8 @@ from plantbal.book.approval.state import Waiting
 from plantbal.faults import Fault
 from plantbal.gates import Gate
 from plantbal_office.deeds.once import once
-from plantbal_office.shelf import book_of, contents_of, plain_book, run_settings
+from plantbal_office.deeds.signing import SUBMISSION, signed_text
+from plantbal_office.shelf import book_of, contents_of, given_of, plain_book, run_settings
 
 _REASON = 80  # characters
 _ROWS = 40  # of what waits
@@ -26,7 +27,7 @@ def submit(request: HttpRequest, period: str) -> HttpResponse:
     if request.POST.get("answer") == "text":
         book = book_of(request, expected=True)
         text = book.close_to_sign(period, anyway=given, settings=run_settings())
-        return _text(text, "submission.txt")
+        return signed_text(text, SUBMISSION)
     record, signature = _signed(request)
 
     def act() -> str:
@@ -70,14 +71,8 @@ def to_sign(request: HttpRequest) -> HttpResponse:
         if request.GET.get("deed") == ApprovalDeed.REJECT.value
         else ApprovalDeed.APPROVE
     )
-    return _text(book_of(request).to_sign(request.GET.get("head", ""), deed), f"{deed.value}.txt")
-
-
-def _text(text: str, name: str) -> HttpResponse:
-    """Give a text as a file."""
-    answer = HttpResponse(text, content_type="text/plain; charset=utf-8")
-    answer["Content-Disposition"] = f'attachment; filename="{name}"'
-    return answer
+    text = book_of(request).to_sign(request.GET.get("head", ""), deed)
+    return signed_text(text, f"{deed.value}.txt")
 
 
 def approve(request: HttpRequest) -> HttpResponse:
@@ -112,20 +107,8 @@ def _signed(request: HttpRequest) -> tuple[str, str]:
     Fault
         If it wants it and one of the two isn't there.
     """
-    record, signature = _file(request, "record"), _file(request, "signature")
-    rules = plain_book(request.plant).rules()
-    is_wanted = rules is not None and rules.keys
-    if bool(record) != bool(signature) or (is_wanted and not signature):
+    given, rules = given_of(request), plain_book(request.plant).rules()
+    if rules is not None and rules.keys and given is None:
         remedy = _("take the text to be signed, sign it by the command shown, and send both files")
         raise Fault(_("this book requires a signature"), remedy=remedy)
-    return record, signature
-
-
-def _file(request: HttpRequest, name: str) -> str:
-    """Return the text of a small file of a form; nothing without one."""
-    found = request.FILES.get(name)
-    if found is None:
-        return ""
-    if found.size > 1 << 16:
-        raise Fault(_("this isn't a signature"), remedy=_("send the file that ssh-keygen has made"))
-    return str(found.read().decode("ascii", "replace"))
+    return given or ("", "")

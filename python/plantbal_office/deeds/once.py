@@ -16,11 +16,14 @@ from django.contrib import messages
 from django.db import IntegrityError, transaction
 from django.http import HttpRequest, HttpResponse
 from django.shortcuts import redirect
+from django.urls import reverse
 from django.utils import timezone
 from django.utils.translation import gettext as _
 
+from plantbal.book.approval.submitting import Submitted, Unsigned
 from plantbal.faults import Fault
 from plantbal_office.deeds.models import Deed
+from plantbal_office.deeds.signing import SUBMISSION, signed_text
 
 LONGEST = 64
 # After this long a deed without an end was stopped, and its key may be used again.
@@ -40,7 +43,9 @@ def once(request: HttpRequest, act: Callable[[], str]) -> HttpResponse:
     request : HttpRequest
         The form that was sent.
     act : callable
-        Does it, and returns the address of the page that shows what came of it.
+        Does it, and returns the address of the page that shows what came of it. What the rules of
+        the book withhold is submitted, and what waits is shown; or nothing is done, and the text to
+        be signed is given.
 
     Raises
     ------
@@ -65,6 +70,13 @@ def once(request: HttpRequest, act: Callable[[], str]) -> HttpResponse:
         return _again(request, key)
     try:
         outcome = act()
+    except Submitted as waits:
+        what = _("{name} is submitted, and waits for an approval by somebody else.")
+        messages.success(request, what.format(name=waits.said))
+        outcome = reverse("correct:waiting", args=[request.plant.slug])
+    except Unsigned as asked:
+        deed.delete()
+        return signed_text(asked.signs, SUBMISSION)
     except BaseException:
         deed.delete()
         raise

@@ -15,6 +15,7 @@ from django.utils.translation import gettext as _
 from django.utils.translation import gettext_lazy
 
 from plantbal.book.adding import Unreasoned
+from plantbal.book.approval.submitting import Submitted
 from plantbal.book.library import Book
 from plantbal.book.results import Added
 from plantbal.commands.book.adding import lines_of
@@ -169,7 +170,11 @@ def book(request: HttpRequest, drop: str) -> HttpResponse:
             what = _("this workbook is no longer waiting: it was booked, or put aside")
             raise Fault(what, remedy=_("look at the months"))
         how = form.cleaned_data
-        added = act_of(found, how, how["why"].strip())(book_of(request, expected=True))
+        try:
+            added = act_of(found, how, how["why"].strip())(book_of(request, expected=True))
+        except Submitted:
+            forget(found)  # what waits has its rows
+            raise
         for line in lines_of(added):
             messages.success(request, without_folders(line))
         forget(found)

@@ -24,16 +24,19 @@ WORDS = ("--headless=new", "--no-sandbox", "--disable-dev-shm-usage", "--hide-sc
 # The pages whose look is kept at a width.
 REFERENCES = {"sign-in": (800,), "password": (800,), "close-signed": (800,), "waiting": (1280, 800)}
 _CODE = """
-from pathlib import Path; from plantbal import Book
+from pathlib import Path; from plantbal import Book; from plantbal.gates import Gate
 from plantbal.workbook.options import ReadingOptions
 top = Path({top!r}); book = Book({book!r}, who='eva'); de = ReadingOptions('de')
 book.begin('2023-24', top / 'plant', reading=de); book.add(top / 'april', reading=de)
+if {closes!r}: book.close('2024-04', anyway={{gate: 'as it is' for gate in Gate}})
 book.set_rules({rules!r}, signers={signers!r} or None)
 """
 
 
-def mill(office: services.Service, slug: str, rules: str, signers: str = "") -> Path:
-    """A plant whose book has rules, filled by Eva."""
+def mill(
+    office: services.Service, slug: str, rules: str, signers: str = "", closes: bool = False
+) -> Path:
+    """A plant whose book has rules, filled by Eva, who has closed April before them if told."""
     book, examples = office.books / slug, services.TOP / "examples" / "month_end"
     paths = {"rules": office.room / f"{slug}.rules", "signers": office.room / f"{slug}.signers"}
     paths["rules"].write_text(rules, "ascii")
@@ -43,6 +46,7 @@ def mill(office: services.Service, slug: str, rules: str, signers: str = "") -> 
         book=str(book),
         rules=str(paths["rules"]),
         signers=str(paths["signers"]) if signers else "",
+        closes=closes,
     )
     subprocess.run([sys.executable, "-c", code], env=office.here, check=True)
     office.plant(slug, book)
@@ -51,7 +55,7 @@ def mill(office: services.Service, slug: str, rules: str, signers: str = "") -> 
 
 @pytest.fixture(name="office", scope="module")
 def fixture_office() -> Iterator[services.Service]:
-    """A service with two mills: in one a close wants two people, in the other their keys too."""
+    """Mills in which a close wants two people, or what changes a closed month; in some their keys too."""
     office = services.Service('[sign_in]\nsecond = "none"\n')
     try:
         rules = f"[wants]\nclose = true\n[sign]\nvouching = [{os.geteuid()}]\n"
@@ -59,8 +63,11 @@ def fixture_office() -> Iterator[services.Service]:
         keys = [keyring.key(office.room / "keys", name) for name in ("lisa", "paul")]
         signers = "".join(keyring.line(key.name, key) for key in keys)
         mill(office, "keys", rules + "keys = true\n", signers)
-        roles = {"lisa": ("engineer",), "paul": ("engineer", "approver")}
-        office.people(roles, "two", "keys")
+        rules = rules.replace("close", "anyway = true\namend")
+        mill(office, "late", rules, closes=True)
+        mill(office, "late-keys", rules + "keys = true\n", signers, closes=True)
+        roles = {"lisa": ("engineer", "clerk"), "paul": ("engineer", "approver")}
+        office.people(roles, "two", "keys", "late", "late-keys")
         office.start()
         yield office
     finally:
@@ -235,6 +242,70 @@ def test_with_keys(office: services.Service, tmp_path: Path) -> None:
     assert re.search("submit 2024-04 close.*signed by lisa with the key SHA256:", said), said
     assert "approved by paul" in said
     assert said.count("nobody has signed it") == 1, "the first rules"
+
+
+# ---- what changes a closed month
+
+
+_AMEND = "correct/fact/2023-24/FI-302_2024-04-18/amend"
+
+
+def test_a_closed_month(office: services.Service) -> None:
+    """An amendment, a workbook and a quieted rule are seen as they would be, and wait; somebody else approves."""
+    lisa, paul = office.signed_in("lisa"), office.signed_in("paul")
+    words = {"amount": "12188 t", "why": "a digit short"}
+    at = f"/p/late/{_AMEND}"
+    page = lisa.get(f"{at}?amount=12188 t&why=a digit short").text
+    assert "What it would do" in page and "Your signature" not in page
+    answer = lisa.post(at, hidden(page) | words, at="/")
+    assert answer.headers["Location"] == "/p/late/correct/waiting", answer.text
+    page = lisa.get("/p/late/correct/waiting").text
+    assert "is submitted, and waits for an approval by somebody else" in page
+    again = hidden(lisa.get(f"{at}?amount=12188 t&why=a digit short").text)
+    assert lisa.post(at, again | words, at="/").status_code == 400, "it waits already"
+    cells = '[{"name": "FI-302", "day": "2024-04-20", "amount": "11900"}]'
+    grid = {"cells": cells, "deed": "k" * 20}
+    seen = lisa.post("/p/late/enter/grid/2024-04/readings", grid, at="/").headers["Location"]
+    answer = lisa.post(f"{seen}/book", hidden(lisa.get(seen).text) | {"why": "x"}, at="/")
+    assert answer.headers["Location"] == "/p/late/correct/waiting", answer.text
+    assert lisa.get(seen).status_code == 404, "what waits has its rows"
+    quiet = {"code": "near-names", "names": "TAILS ORE", "why": "x"}
+    page = lisa.get("/p/late/correct/quiet").text
+    assert lisa.post("/p/late/correct/quiet", hidden(page) | quiet, at="/").status_code == 302
+    page = paul.get("/p/late/correct/waiting").text
+    assert page.count("<h2>") == 3
+    words = hidden(page) | {"answer": "approve", "head": field(page, "head")}
+    assert paul.post("/p/late/correct/approve", words, at="/").status_code == 302
+    assert "12,188 t" in paul.get("/p/late/look/fact/2023-24/FI-302_2024-04-18").text
+    assert "approved by paul" in signed(office, "late")
+
+
+def test_a_closed_month_with_keys(office: services.Service, tmp_path: Path) -> None:
+    """Whoever submits an amendment signs it; nothing waits before, and what wants no approval isn't signed."""
+    lisa, paul = office.signed_in("lisa"), office.signed_in("paul")
+    at = f"/p/late-keys/{_AMEND}"
+    page = lisa.get(f"{at}?amount=12188 t&why=short").text
+    assert "Your signature" in page
+    words = hidden(page) | {"amount": "12188 t", "why": "short"}
+    answer = lisa.post(at, words, at="/")
+    assert answer.status_code == 400 and "this book requires a signature" in answer.text
+    text = lisa.post(at, words | {"answer": "text"}, at="/")
+    assert text.headers["Content-Disposition"] == 'attachment; filename="submission.txt"'
+    assert "Nothing waits" in lisa.get("/p/late-keys/correct/waiting").text
+    for key, status in (("paul", 400), ("lisa", 302)):
+        sent = files(office, tmp_path, key, text.text)
+        assert lisa.post(at, words, at="/", files=sent).status_code == status, key
+    page = paul.get("/p/late-keys/correct/waiting").text
+    words = hidden(page) | {"answer": "approve", "head": field(page, "head")}
+    sent = files(
+        office,
+        tmp_path,
+        "paul",
+        paul.get(f"/p/late-keys/correct/to-sign?head={words['head']}&deed=approve").text,
+    )
+    assert paul.post("/p/late-keys/correct/approve", words, at="/", files=sent).status_code == 302
+    said = signed(office, "late-keys")
+    assert re.search("submit FI-302_2024-04-18 amend.*signed by lisa", said), said
 
 
 def files(

@@ -13,7 +13,8 @@ from typing import TYPE_CHECKING
 from plantbal.book.approval.changers import reopened
 from plantbal.book.approval.rules import Rules, Want
 from plantbal.book.approval.state import rules_of
-from plantbal.book.approval.submitting import Submitted, submit
+from plantbal.book.approval.submitting import Submitted, Unsigned, submission_to_sign, submit
+from plantbal.book.actions import Withheld
 from plantbal.book.chain import state_of
 from plantbal.book.forms import ACCOUNTS, APPROVALS, JOURNAL, RULES, SIGNERS, REVOKED
 from plantbal.book.journal import Act
@@ -32,16 +33,22 @@ def check(book: Store, action: Action) -> None:
     ------
     Submitted
         If it needs an approval, and was submitted.
+    Unsigned
+        If it needs one, and the text that its submission signs was asked for.
     Fault
-        If it wants one and can't be submitted so.
+        If it needs one and can't be submitted so; or needs none, and that text was asked for.
     """
     if action.act is Act.ACCEPT and RULES in state_of(book.journal()):
         _check_acceptable(action.of)
     rules = rules_of(book)
-    if rules is None or action.cleared or action.act in _OWN:
+    is_free = rules is None or action.cleared or action.act in _OWN
+    wants = [] if rules is None or is_free else list(wants_of(book, action, rules))
+    if book.withheld is Withheld.DONE:
         return
-    wants = list(wants_of(book, action, rules))
     if not wants:
+        if book.withheld is Withheld.TO_SIGN:
+            what = "this needs no approval, so there is nothing to sign"
+            raise Fault(what, remedy="do it without a signature")
         return
     if action.act is Act.CLOSE:
         said = ", ".join(wants)
@@ -53,6 +60,8 @@ def check(book: Store, action: Action) -> None:
         remedy = "close it first: what is open isn't handed over"
         raise Fault(f"by the rules of this book {action.of} isn't posted yet", remedy=remedy)
     periods = [name for ledger in action.ledgers for name in reopened(ledger)]
+    if book.withheld is Withheld.TO_SIGN:
+        raise Unsigned(submission_to_sign(book, action, wants, periods=periods))
     raise Submitted(submit(book, action, wants, periods=periods))
 
 

@@ -39,6 +39,8 @@ class Submitted(Fault):
         The head of the book with the submission, which an approval names.
     wants : tuple of Want
         Why it needs an approval.
+    said : str
+        The action, and what it is done to.
     """
 
     def __init__(self, found: Submission) -> None:
@@ -50,6 +52,21 @@ class Submitted(Fault):
         )
         self.head = found.head
         self.wants = found.wants
+        self.said = said
+
+
+class Unsigned(Fault):
+    """An action that isn't submitted: the text that its submission signs was asked for.
+
+    Attributes
+    ----------
+    signs : str
+        The text.
+    """
+
+    def __init__(self, signs: str) -> None:
+        super().__init__("nothing is submitted yet", remedy="sign the text, and send both")
+        self.signs = signs
 
 
 class Submission:

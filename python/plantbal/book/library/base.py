@@ -5,6 +5,7 @@ from __future__ import annotations
 import datetime
 from pathlib import Path
 
+from plantbal.book.actions import Withheld
 from plantbal.book.expected import BookVersion
 from plantbal.book.naming import day_of
 from plantbal.book.store import Store
@@ -25,6 +26,8 @@ class Base:
         seconds: float = 10,
         expected: BookVersion | None = None,
         key: str | Path | None = None,
+        given: tuple[str, str] | None = None,
+        withheld: Withheld = Withheld.SUBMITTED,
     ) -> None:
         self.folder = Path(folder)
         self.who = who
@@ -32,9 +35,18 @@ class Base:
         self.seconds = seconds
         self.expected = expected
         self.key = key
+        self.given = given
+        self.withheld = withheld
 
     def _store(self, given: tuple[str, str] | None = None) -> Store:
-        return Store(self.folder, self.seconds, self.expected, key=self.key, given=given)
+        return Store(
+            self.folder,
+            self.seconds,
+            self.expected,
+            key=self.key,
+            given=given or self.given,
+            withheld=self.withheld,
+        )
 
     def _settings(self, settings: RunSettings | None) -> RunSettings:
         return settings or RunSettings(program=self.program)

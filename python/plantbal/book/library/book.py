@@ -38,6 +38,12 @@ class Book(BookFacts, Reports, Looking, Approvals):
         action isn't done, and raises `plantbal.book.expected.Moved`.
     key : str or Path, optional
         The key with which submissions and approvals are signed.
+    given : tuple of str, optional
+        A submission that was signed elsewhere: its text, and its signature.
+    withheld : Withheld
+        What becomes of an action that wants an approval by the rules of the book: it is submitted
+        and raises `Submitted`, nothing is done and the text that its submission signs comes as
+        `Unsigned`, or it is done, as on the copy of `trial`.
 
     Examples
     --------

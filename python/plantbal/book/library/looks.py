@@ -7,6 +7,7 @@ from contextlib import contextmanager
 from typing import TYPE_CHECKING
 
 from plantbal.book import looking, trial
+from plantbal.book.actions import Withheld
 from plantbal.book.looking import Contents, FactLine, KeptReport, MonthFacts
 from plantbal.book.library.base import Base
 from plantbal.workbook.mapping.form import WorkbookMapping
@@ -77,6 +78,8 @@ class Looking(Base):
     def trial(self) -> Iterator[Book]:
         """Give a copy of the book, on which anything can be tried; it goes away in the end.
 
+        What wants an approval by the rules of the book is done there without one.
+
         Raises
         ------
         Fault
@@ -85,4 +88,4 @@ class Looking(Base):
         from plantbal.book.library.book import Book
 
         with trial.copied(self._store()) as folder:
-            yield Book(folder, program=self.program)
+            yield Book(folder, program=self.program, withheld=Withheld.DONE)
