@@ -33,8 +33,9 @@ def closed(site: Site, period: str) -> str:
     form = site.fields("correct/quiet") | ANYWAY
     answer = site.client.post(f"/p/{site.plant.slug}/correct/{period}/close", form, follow=True)
     page, head = answer.content.decode(), str(Book(site.book).head)
-    assert f"writes to the book: {head}" in page, "at the close"
-    assert f'<dd class="hash">{head}</dd>' in page, "on the statement"
+    on_statement = f'<dd class="hash">{head}</dd>'
+    assert head in page.replace(on_statement, ""), "at the close"
+    assert on_statement in page, "on the statement"
     assert head in site.get(f"look/{period}/file/page").content.decode(), "on its page"
     return head
 
