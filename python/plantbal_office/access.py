@@ -135,6 +135,7 @@ _OF_PLANTS: tuple[tuple[str, str, frozenset[Role]], ...] = (
     ("enter:grid", "GET", ENTERS),
     ("enter:grid", "POST", ENTERS),
     ("enter:judge", "POST", ENTERS),
+    ("enter:rules", "GET", ENTERS),
     ("enter:tests", "POST", ENTERS),
     ("look:statement", "GET", SEES),
     ("look:earlier", "GET", SEES),

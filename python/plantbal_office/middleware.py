@@ -36,6 +36,10 @@ POLICY = "; ".join(
         "frame-ancestors 'none'",
     ]
 )
+# The same for a page that runs the program's core: its code is compiled, and no text of a script is.
+POLICY_WITH_CORE = POLICY.replace(
+    "script-src 'self'", "script-src 'self' 'wasm-unsafe-eval'; worker-src 'self'"
+)
 # What a form has beside the files in it.
 _BESIDE = 1 << 20
 

@@ -149,10 +149,13 @@ class MonthFacts:
         The facts, with those that were struck.
     state : State
         The session as it is in the end.
+    plant : tuple of tuple of str
+        The rows of its year that declare the plant.
     """
 
     facts: tuple[ShownFact, ...]
     state: State
+    plant: tuple[tuple[str, ...], ...] = ()
 
 
 def contents(book: Store) -> Contents:
@@ -271,7 +274,7 @@ def facts_of(book: Store, period: str) -> MonthFacts:
             if period in touched_by(ledger, fact)
         ]
     found.sort(key=lambda each: (each.fact.place, each.fact.first, each.fact.id))
-    return MonthFacts(tuple(found), ledger.session.state)
+    return MonthFacts(tuple(found), ledger.session.state, tuple(ledger.plant))
 
 
 def mapping(book: Store) -> WorkbookMapping | None:

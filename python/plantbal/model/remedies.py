@@ -195,17 +195,23 @@ def _form_of_reason(refused: Refused) -> Remedy:
     return Remedy(remedy, True)
 
 
+# What a name has to be, and what is added by what is wrong with a text.
+NAME_FORM = f"1 to {LIMITS['most_name']} letters, digits, `_`, `-` or `.`"
+NAME_LETTERS = f"{NAME_FORM}, without umlauts and accents"
+NAME_LONG = f"{NAME_FORM}, and has {{count}} characters"
+NAME_SUCH = f"{NAME_FORM}, such as {{plain}}"
+
+
 def _form_of_name(refused: Refused) -> Remedy:
     said = refused.text
-    remedy = f"1 to {LIMITS['most_name']} letters, digits, `_`, `-` or `.`"
     plain = re.sub(r"[^A-Za-z0-9_.-]+", "_", said.strip())
     if not said.isascii():
-        remedy += ", without umlauts and accents"
-    elif len(said) > LIMITS["most_name"]:
-        remedy += f", and has {len(said)} characters"
-    elif plain != said and NAME.fullmatch(plain) and plain.strip("_"):
-        remedy += f", such as {plain}"
-    return Remedy(remedy, True)
+        return Remedy(NAME_LETTERS, True)
+    if len(said) > LIMITS["most_name"]:
+        return Remedy(NAME_LONG.format(count=len(said)), True)
+    if plain != said and NAME.fullmatch(plain) and plain.strip("_"):
+        return Remedy(NAME_SUCH.format(plain=plain), True)
+    return Remedy(NAME_FORM, True)
 
 
 def _is_beyond(text: str) -> bool:

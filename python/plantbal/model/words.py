@@ -136,9 +136,14 @@ def a_thing(kind: str) -> str:
     return f"a {kind} stream" if kind in ("metered", "batch", "plain") else f"a {kind}"
 
 
+# What is said of a field that isn't of its form: of one with a text, and of an empty one.
+FORM_OF_TEXT = "{label} is {text!r}"
+FORM_OF_NOTHING = "{label} is empty"
+
+
 def _of_form(record: tuple[str, ...], refused: Refused) -> str:
-    label, text = refused.values["label"], refused.text
-    return f"{label} is {text!r}" if text else f"{label} is empty"
+    said = FORM_OF_TEXT if refused.text else FORM_OF_NOTHING
+    return said.format(label=refused.values["label"], text=refused.text)
 
 
 def _of_name(record: tuple[str, ...], refused: Refused) -> str:

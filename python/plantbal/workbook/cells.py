@@ -14,6 +14,7 @@ from plantbal import limits
 from plantbal.causes import Case, CausedFault
 from plantbal.faults import Fault
 from plantbal.workbook.causes import SheetCause
+from plantbal.workbook.remedies import CellRemedy
 from plantbal.workbook.sheets import Cell, NoValue, Percent
 from plantbal.workbook.units import (
     AMOUNTS,
@@ -41,8 +42,15 @@ _TIME = re.compile(r"(.*?)[ T]+([0-9]{1,2}:[0-9]{2}(?::[0-9]{2}(?:[.,][0-9]+)?)?
 _NAMED = re.compile(r"([0-9]{1,2})\.?[ -]([^\W\d]+)\.?[ -]([0-9]{4})")
 _GRADE = re.compile(r"(.*?[0-9])\s*(%|[^\W\d_]+(?:/[^\W\d_]+)?)")
 EXACT = Context(prec=400, traps=[Inexact])
+# The locales whose marks are recognised in another's figures, and what their marks are called.
+MARKS = {"en": "a decimal point", "de": "a decimal comma"}
+OWN_LOCALE = ", and --locale is {locale}"
+# Tons that aren't of 1,000 kg, or may not be.
+OTHER_TONS = ("ton", "tons", "short ton", "short tons", "st", "lt")
+# In kg/m3 the least and the greatest density that is written without its unit.
+PLAIN_DENSITY = 20, 20_000
 # Days that Excel's numbers stand for: 1954 to 2119.
-_FIRST_SERIAL, _LAST_SERIAL = 20_000, 80_000
+SERIALS = 20_000, 80_000
 
 
 @lru_cache
@@ -146,9 +154,9 @@ class Reader:
     divisor: int = 1
     rounded: dict[str, tuple[int, Cell, Fraction]] = field(default_factory=dict)
 
-    def fault(self, cell: Cell, what: Case, remedy: str = "", head: str = "") -> CausedFault:
+    def fault(self, cell: Cell, what: Case, remedy: str | Case = "", head: str = "") -> CausedFault:
         """Return a fault at a cell."""
-        return CausedFault(what, place=cell.place(head), text=cell.text, remedy=remedy)
+        return CausedFault(what, place=cell.place(head), text=cell.text, remedy=str(remedy))
 
     def is_missing(self, cell: Cell) -> bool:
         """Say whether nothing stands in a cell, or a word for nothing."""
@@ -165,7 +173,7 @@ class Reader:
             raise self.fault(cell, *self._no_number(cell), head)
         return self.number_of(cell, value, head)
 
-    def _no_number(self, cell: Cell) -> tuple[Case, str]:
+    def _no_number(self, cell: Cell) -> tuple[Case, str | Case]:
         if isinstance(cell.value, NoValue):
             return SheetCause.NO_VALUE(), "open the workbook in a spreadsheet, and save it"
         if isinstance(cell.value, Percent):
@@ -173,7 +181,7 @@ class Reader:
         if isinstance(cell.value, datetime.datetime | datetime.time):
             remedy = "give the cell the form of a number, and look whether its figure is right"
             return SheetCause.DATE_FOR_FIGURE(text=cell.text), remedy
-        return SheetCause.NO_FIGURE(text=cell.text), "write a figure, or leave the cell empty"
+        return SheetCause.NO_FIGURE(text=cell.text), CellRemedy.WRITE_FIGURE()
 
     def number_of(self, cell: Cell, text: str, head: str = "") -> Decimal:
         """Return the number of a text in a cell."""
@@ -199,7 +207,7 @@ class Reader:
         locale = self.locale_of(cell)
         return symbols(locale) if locale else (".", "")
 
-    def _why_not(self, cell: Cell, text: str, plain: str) -> tuple[Case, str]:
+    def _why_not(self, cell: Cell, text: str, plain: str) -> tuple[Case, str | Case]:
         """Return what is wrong with a text that is no number, and what to do."""
         own_locale = self.locale_of(cell)
         if not own_locale and _EITHER.fullmatch(plain):
@@ -207,18 +215,17 @@ class Reader:
                 SheetCause.POINT_OR_THOUSANDS(text=text),
                 "use --locale en, --locale de or another",
             )
-        for locale in ("en", "de"):
+        for locale, mark in MARKS.items():
             if plain_number(plain, *symbols(locale)) is not None:
-                mark = "a decimal point" if locale == "en" else "a decimal comma"
-                own = f", and --locale is {own_locale}" if own_locale else ""
+                own = OWN_LOCALE.format(locale=own_locale) if own_locale else ""
                 what = SheetCause.MARK_OF_OTHER_LOCALE(text=text, mark=mark, locale=own)
-                return what, f"use --locale {locale}, or write it in another way"
+                return what, CellRemedy.USE_LOCALE(locale=locale)
         what = SheetCause.NO_FIGURE(text=text)
         if of_rate(text.rpartition(" ")[2]):
             return what, of_rate(text.rpartition(" ")[2])
         if text.startswith("#"):
-            return SheetCause.FORMULA_FAILS(text=text), "correct it, or clear the cell"
-        return what, f"correct it, or use --missing {text!r} if it means that there is none"
+            return SheetCause.FORMULA_FAILS(text=text), CellRemedy.CLEAR_CELL()
+        return what, CellRemedy.USE_MISSING(text=text)
 
     # ---- days
 
@@ -237,18 +244,17 @@ class Reader:
             time = split.group(2) if split else None
             found = self._day_of(cell, split.group(1) if split else value, head)
         if found is None:
-            remedy = self._of_order(cell)
+            remedy: str | Case = self._of_order(cell)
             if isinstance(value, NoValue):
                 remedy = "open the workbook and save it"
             what = SheetCause.NOT_A_DAY(text=cell.text) if cell.text else SheetCause.NO_DAY()
-            raise self.fault(cell, what, remedy or "write it as 2024-06-30", head)
+            raise self.fault(cell, what, remedy or CellRemedy.WRITE_DAY(), head)
         if time is not None and not re.fullmatch(r"0?0:00(:00([.,]0+)?)?", str(time)):
-            remedy = "a figure is a day's: add the hours of a day up, and write the day alone"
             what = SheetCause.TIME_OF_DAY(text=cell.text, time=time)
-            raise self.fault(cell, what, remedy, head)
+            raise self.fault(cell, what, CellRemedy.DAY_ALONE(), head)
         return found
 
-    def _of_order(self, cell: Cell) -> str:
+    def _of_order(self, cell: Cell) -> str | Case:
         """Return what to do if a text is a day once its day and month are exchanged."""
         locale, match = self.locale_of(cell), _DAY.fullmatch(cell.text)
         if not locale or match is None or match.group(2) == "." or len(match.group(1)) == 4:
@@ -257,13 +263,11 @@ class Reader:
         months = [part for part in match.group(1, 3) if int(part) <= 12]
         if order == "ymd" or len(months) != 1:
             return ""
-        first = "month" if order == "mdy" else "day"
-        remedy = "use --locale en_GB" if order == "mdy" else "write it as 2024-06-30"
-        return f"--locale {locale} has the {first} first: {remedy}"
+        return (CellRemedy.MONTH_FIRST if order == "mdy" else CellRemedy.DAY_FIRST)(locale=locale)
 
     def _serial(self, cell: Cell, number: Decimal) -> datetime.date | None:
         """Return the day of one of Excel's numbers."""
-        if not _FIRST_SERIAL <= number <= _LAST_SERIAL:
+        if not SERIALS[0] <= number <= SERIALS[1]:
             return None
         return cell.sheet.epoch + datetime.timedelta(int(number))
 
@@ -316,11 +320,11 @@ class Reader:
             return default
         found = unit_of(cell.text)
         if found not in kinds:
-            remedy = of_rate(cell.text) or f"write one of {', '.join(kinds)}"
-            if cell.text.casefold() in ("ton", "tons", "short ton", "short tons", "st", "lt"):
-                remedy = "write t for 1,000 kg; 2,000 lb are 2 klb"
+            remedy: str | Case = of_rate(cell.text) or CellRemedy.ONE_OF(units=", ".join(kinds))
+            if cell.text.casefold() in OTHER_TONS:
+                remedy = CellRemedy.NOT_TONS()
             elif found in WET:
-                remedy = "wet tonnes have water in them: write the dry ones, in t or dmt"
+                remedy = CellRemedy.DRY_TONNES()
             raise self.fault(cell, SheetCause.NO_UNIT_OF_KIND(text=cell.text), remedy, "unit")
         return found
 
@@ -347,9 +351,8 @@ class Reader:
         if unit in GRAMS or unit in WET:
             return (GRAMS | WET)[unit]
         if density is None:
-            remedy = "write a density, such as 862 (kg/m3), in the row or in that of its stream"
             what = SheetCause.NO_DENSITY_OF_VOLUME(text=cell.text, unit=unit)
-            raise self.fault(cell, what, remedy, head)
+            raise self.fault(cell, what, CellRemedy.WRITE_DENSITY(), head)
         return VOLUMES[unit] * density
 
     def whole(self, cell: Cell, exact: Fraction) -> int:
@@ -367,9 +370,10 @@ class Reader:
         if cell is None or self.is_missing(cell):
             return None
         number, unit = self.split(cell, DENSITIES, "density")
-        if number <= 0 or (not unit and not 20 <= number <= 20_000):
-            remedy = "write kg/m3 without its unit, others with it: 862, 0.862 t/m3, 862000 g/m3"
-            raise self.fault(cell, SheetCause.NOT_A_DENSITY(text=cell.text), remedy, "density")
+        low, high = PLAIN_DENSITY
+        if number <= 0 or (not unit and not low <= number <= high):
+            what = SheetCause.NOT_A_DENSITY(text=cell.text)
+            raise self.fault(cell, what, CellRemedy.DENSITY_WITH_UNIT(), "density")
         return Fraction(number) * DENSITIES[unit or "kg/m3"]
 
     def level(
@@ -391,13 +395,13 @@ class Reader:
         """
         number, own = self.split(cell, LENGTHS, head)
         own = own or self.unit(unit, LENGTHS, "")
-        if top is not None and not own and number % 1:
+        if top is not None and not own and number != number.to_integral_value():
             others = [each for each in ("m", "cm") if 0 < number * int(LENGTHS[each]) <= top]
             if others:
                 said = " or ".join(f"{cell.text} {each}" for each in others)
                 what = SheetCause.LEVEL_WITHOUT_UNIT(text=cell.text, readings=said)
-                remedy = f"write {cell.text} {others[0]}, or {round(number)} mm if it is that; or "
-                raise self.fault(cell, what, f"{remedy}the unit into a column unit", head)
+                remedy = CellRemedy.LEVEL_IN(text=cell.text, unit=others[0], mm=round(number))
+                raise self.fault(cell, what, remedy, head)
         return self.whole(cell, Fraction(number) * LENGTHS[own or "mm"])
 
     def grade(self, cell: Cell, unit: Cell | None = None, head: str = "grade") -> Fraction:

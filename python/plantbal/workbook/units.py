@@ -5,6 +5,8 @@ from __future__ import annotations
 import re
 from fractions import Fraction
 
+from plantbal.workbook.remedies import CellRemedy
+
 GRAMS = {
     "t": Fraction(10**6),
     "kt": Fraction(10**9),
@@ -43,7 +45,7 @@ GRADES = {
 # Of temperatures: degrees Celsius alone are read.
 TEMPERATURES = ("°C", "°F")
 AMOUNTS = GRAMS | VOLUMES | WET
-_OTHER_WORDS = {
+OTHER_WORDS = {
     "tonne": "t",
     "tonnes": "t",
     "to": "t",
@@ -81,7 +83,7 @@ _KNOWN = {
 def unit_of(text: str) -> str:
     """Return a unit as it is written here."""
     plain = text.strip().strip("[]()").strip()
-    plain = _OTHER_WORDS.get(plain.casefold(), plain)
+    plain = OTHER_WORDS.get(plain.casefold(), plain)
     return _KNOWN.get(plain.casefold(), plain)
 
 
@@ -95,4 +97,4 @@ def of_rate(text: str) -> str:
     match = _RATE.fullmatch(text)
     if match is None:
         return ""
-    return f"a figure is what flowed in all of its day, not a rate: write it in {match.group(1)}"
+    return str(CellRemedy.NOT_A_RATE(unit=match.group(1)))

@@ -22,11 +22,14 @@ from plantbal.faults import Fault
 from plantbal.model.plant import in_service
 from plantbal.workbook.units import GRAMS, VOLUMES, WET
 from plantbal_office.deeds.once import once
+from plantbal_office.enter.core import core_files
 from plantbal_office.enter.drops import write, folder_of
 from plantbal_office.enter.judging import Judged, judge, judge_ticket
 from plantbal_office.enter.models import Drop
+from plantbal_office.enter.rules import JUDGED, rules_of
 from plantbal_office.enter.typed import KINDS, SHEETS, cells_of, file_of, parted, typing_locale
 from plantbal_office.look.views import month_of
+from plantbal_office.middleware import POLICY_WITH_CORE
 from plantbal_office.shelf import contents_of, facts_of
 from plantbal_office.shown import in_language
 
@@ -88,6 +91,7 @@ def grid(request: HttpRequest, period: str, kind: str) -> HttpResponse:
             fault = found
     contents = contents_of(request.plant)
     flows = contents.flows[month.year]
+    core = core_files() if kind in JUDGED else None
     words = {
         "month": month,
         "kind": kind,
@@ -99,12 +103,16 @@ def grid(request: HttpRequest, period: str, kind: str) -> HttpResponse:
         "all_streams": [each.name for each in flows],
         "heads": SHEETS.get(kind, ()),
         "blank": range(BLANK_ROWS),
+        "core": core,
     }
     if kind == "readings":
         words["columns"], words["rows"] = readings_of(request, month)
     elif kind == "dips":
         words["dips"] = dips_of(request, month)
-    return render(request, "enter/grid.html", words, status=400 if fault else 200)
+    answer = render(request, "enter/grid.html", words, status=400 if fault else 200)
+    if core is not None:
+        answer["Content-Security-Policy"] = POLICY_WITH_CORE
+    return answer
 
 
 def tests(request: HttpRequest) -> HttpResponse:
@@ -220,6 +228,12 @@ def judged(request: HttpRequest, period: str) -> HttpResponse:
             )
         found.append(_answer(said))
     return JsonResponse({"cells": found})
+
+
+def rules(request: HttpRequest, period: str, kind: str) -> HttpResponse:
+    """Give a page what it needs to judge the cells of its grid by itself."""
+    month = month_of(request, period)
+    return JsonResponse({"rules": rules_of(request.plant, month, kind, typing_locale())})
 
 
 def _answer(said: Judged) -> dict[str, object]:

@@ -2,7 +2,8 @@
 
 The text is read by the reader of workbooks, in the unit of the meter; the row that would be booked
 is judged by the model of the session, as the program would; and a figure far from the meter's
-others is said to be, though it may be right.
+others is said to be, though it may be right. A browser that has the program's core judges by
+itself, of what `plantbal_office.enter.rules` gives it; this is for the others.
 """
 
 from __future__ import annotations
@@ -10,14 +11,19 @@ from __future__ import annotations
 import datetime
 from dataclasses import dataclass
 from fractions import Fraction
+from itertools import chain, count
 
 from plantbal.book.looking import BookMonth, BookStream, MonthFacts, Vessel
 from plantbal.book.naming import cell_of
 from plantbal.faults import Fault
-from plantbal.model.causes import Reason, Refused
+from plantbal.model.causes import Refused
+from plantbal.model.forms import day_number
 from plantbal.model.state import State
 from plantbal.model.words import refusal_of
+from plantbal.workbook.causes import SheetCause
 from plantbal.workbook.cells import Error, Reader, check_locale
+from plantbal.workbook.units import AMOUNTS
+from plantbal_office.causes import GridCause, GridRemedy
 from plantbal_office.look.days import place_of
 from plantbal_office.plants.models import Plant
 from plantbal_office.sentences import refusal_said
@@ -26,6 +32,10 @@ from plantbal_office.shelf import contents_of, facts_of
 # A reading beyond this many times the median of its others, or below a part of it, is told.
 FAR = 3
 FAULT, LOOK, GOOD = "fault", "look", ""
+# The fewest other days of which a median is taken.
+ENOUGH = 4
+# The reason of an amendment that isn't booked.
+WHY = "typed"
 
 
 @dataclass(frozen=True)
@@ -77,12 +87,10 @@ def _reading(
     grams = reader.grams(cell_of(text), unit, density)
     error = meter.error if meter is not None and meter.error is not None else Error()
     if not grams and not error.grams:
-        raise Fault(
-            "a reading of 0 has no error in percent",
-            remedy="give its meter one in tonnes as well, such as `1.5 % or 0.2 t`",
-        )
-    fields = ("reading", "typed", place.name, str(day), str(grams), str(error.variance(grams)))
-    refused = _refused(found.state, fields)
+        what, remedy = SheetCause.ZERO_WITHOUT_ERROR(), GridRemedy.ERROR_IN_TONNES()
+        raise Fault(str(what), remedy=str(remedy))
+    values = str(grams), str(error.variance(grams))
+    refused = refused_of(found.state, row_of(found.state, "reading", place.name, day, values))
     if refused:
         return Judged(FAULT, refused, grams)
     others = sorted(
@@ -91,11 +99,10 @@ def _reading(
         if each.fact.place == place.name and not each.struck and each.fact.first != day
     )
     if grams < 0:
-        return Judged(LOOK, "below 0: does the stream run the other way?", grams)
-    middle = others[len(others) // 2] if len(others) >= 4 else 0
+        return Judged(LOOK, str(GridCause.RUNS_BACK()), grams)
+    middle = others[len(others) // 2] if len(others) >= ENOUGH else 0
     if middle > 0 and not middle <= FAR * grams <= FAR * FAR * middle:
-        percent = 100 * grams / middle
-        return Judged(LOOK, f"{percent:,.0f} % of the median of its other days", grams)
+        return Judged(LOOK, str(GridCause.FAR(percent=round(Fraction(100 * grams, middle)))), grams)
     return Judged(GOOD, "", grams)
 
 
@@ -109,10 +116,9 @@ def _dip(
     density = reader.density(cell_of(words.get("density", "")))
     density = density or (place.meter.density if place.meter is not None else None)
     if density is None:
-        raise Fault("there is no density", remedy="write it beside the level, such as 862")
-    whole = round(density)
-    fields = ("dip", "typed", place.name, str(day), str(mm), str(whole), "1")
-    refused = _refused(found.state, fields)
+        raise Fault(str(SheetCause.DENSITY_MISSING()), remedy=str(GridRemedy.DENSITY_BESIDE()))
+    values = str(mm), str(round(density)), "1"
+    refused = refused_of(found.state, row_of(found.state, "dip", place.name, day, values))
     if refused:
         return Judged(FAULT, refused)
     ml = volume_at(points, mm)
@@ -128,15 +134,27 @@ def volume_at(points: list[tuple[int, int]], mm: int) -> int | None:
     return None
 
 
-def _refused(state: State, fields: tuple[str, ...]) -> str:
-    """Return why the program would refuse a row, or nothing.
+def row_of(
+    state: State, kind: str, name: str, day: datetime.date, values: tuple[str, ...]
+) -> tuple[str, ...]:
+    """Return the row that books a reading or a dip, or that amends the one that the day has."""
+    number = day_number(str(day))
+    there = state.facts.on(name, number) if number is not None else None
+    if there is not None:
+        return ("amend", there.id, *values, WHY)
+    return (kind, free_id(state), name, str(day), *values)
 
-    That the day has a figure already isn't said: booking the grid amends it.
-    """
+
+def free_id(state: State) -> str:
+    """Return an id that no fact of a session has."""
+    ids = chain(("typed",), (f"typed.{number}" for number in count(1)))
+    return next(each for each in ids if each not in state.facts)
+
+
+def refused_of(state: State, fields: tuple[str, ...]) -> str:
+    """Return why the program would refuse a row, or nothing."""
     answer = state.judge(fields)
-    if not isinstance(answer, Refused) or answer.reason is Reason.DAY_TAKEN:
-        return ""
-    return refusal_said(refusal_of(state, fields, answer))
+    return refusal_said(refusal_of(state, fields, answer)) if isinstance(answer, Refused) else ""
 
 
 def judge_ticket(plant: Plant, month: BookMonth, words: dict[str, str], locale: str) -> Judged:
@@ -144,11 +162,11 @@ def judge_ticket(plant: Plant, month: BookMonth, words: dict[str, str], locale: 
     try:
         place = place_of(contents_of(plant), month, words.get("stream", ""))
         if not isinstance(place, BookStream) or place.kind == "metered":
-            raise Fault(
-                f"{place.name} has no tickets", remedy="name a stream that is sold or bought"
-            )
+            what = GridCause.NO_TICKETS(name=place.name)
+            raise Fault(str(what), remedy=str(GridRemedy.NAME_SOLD()))
         reader = Reader(check_locale(locale))
-        unit = words.get("unit", "") or (place.meter.unit if place.meter is not None else "") or "t"
+        usual = (place.meter.unit if place.meter is not None else "") or "t"
+        unit = reader.unit(cell_of(words.get("unit", "")), AMOUNTS, usual)
         density = place.meter.density if place.meter is not None else None
         grams = reader.grams(cell_of(words.get("amount", "")), unit, density)
         first = reader.day(cell_of(words.get("first", "")))
@@ -162,7 +180,7 @@ def judge_ticket(plant: Plant, month: BookMonth, words: dict[str, str], locale: 
             str(grams),
             "1",
         )
-        refused = _refused(facts_of(plant, month.name).state, fields)
+        refused = refused_of(facts_of(plant, month.name).state, fields)
         return Judged(FAULT if refused else GOOD, refused, grams)
     except (Fault, ValueError) as error:
         said = f"{error.what}: {error.remedy}" if isinstance(error, Fault) else str(error)

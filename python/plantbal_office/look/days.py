@@ -13,6 +13,7 @@ from plantbal.commands.book.showing import in_unit
 from plantbal.estimates import is_marked
 from plantbal.faults import Fault
 from plantbal.model.plant import in_service
+from plantbal_office.causes import GridCause
 from plantbal_office.effects import flows_of, kept_output
 from plantbal_office.plants.models import Plant
 from plantbal_office.shelf import contents_of, facts_of
@@ -71,9 +72,10 @@ def place_of(contents: Contents, month: BookMonth, name: str) -> BookStream | Ve
     """
     some: list[BookStream | Vessel] = [*contents.flows[month.year], *contents.vessels[month.year]]
     for each in some:
-        if name in (each.name, each.meter.tag if each.meter is not None else None):
+        tag = each.meter.tag if each.meter is not None else ""
+        if name == each.name or (tag and name == tag):
             return each
-    raise Fault(f"there is no stream or tank {name} in {month.name}", text=name)
+    raise Fault(str(GridCause.NO_PLACE(name=name, month=month.name)), text=name)
 
 
 def days_of(plant: Plant, month: BookMonth, place: BookStream | Vessel) -> list[Day]:

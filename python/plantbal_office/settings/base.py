@@ -69,7 +69,11 @@ TEMPLATES = [
 ]
 
 STATIC_URL = "/static/"
-STATICFILES_DIRS = [HERE / "static", ("statement", STATEMENT)]
+STATICFILES_DIRS: list[Path | tuple[str, Path]] = [HERE / "static", ("statement", STATEMENT)]
+# In a checkout the core for browsers is where `make page` builds it; a package has it in `static`.
+_BUILT = HERE.parent.parent / "page" / "out"
+if (_BUILT / "plantbal.wasm").exists():
+    STATICFILES_DIRS.append(("office/core", _BUILT))
 
 LANGUAGE_CODE = "en"
 LANGUAGES = [("en", "English"), ("de", "Deutsch"), ("es", "Español")]

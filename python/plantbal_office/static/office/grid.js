@@ -1,5 +1,6 @@
 'use strict';
-// A grid of cells with one editor: typing, moving, pasting a block; each changed cell is judged by the server.
+// A grid of cells with one editor: typing, moving, pasting a block. Each changed cell is judged here by the program's core, if the
+// browser has it, and else, or if it can't be said here, by the server.
 (() => {
   const form = document.querySelector('form[data-grid]');
   if (!form) return;
@@ -7,7 +8,7 @@
   const kind = form.dataset.grid, rows = [...table.tBodies[0].rows], token = form.querySelector('[name=csrfmiddlewaretoken]').value;
   const cellsOf = row => [...row.querySelectorAll('td[data-part]')];
   const all = rows.map(cellsOf);
-  let active = all.flat()[0], input = null, waiting = new Set(), timer = 0, leaving = false;
+  let active = all.flat()[0], input = null, waiting = new Set(), timer = 0, leaving = false, isHere = false;
   if (!active) return;
   active.tabIndex = 0;
   const where = cell => { const row = all.findIndex(cells => cells.includes(cell)); return [row, all[row].indexOf(cell)]; };
@@ -34,7 +35,7 @@
     const isCleared = !text && Boolean(cell.dataset.was) && cell.dataset.part !== 'density';
     cell.classList.toggle('cleared', isCleared);
     if (isCleared) { cell.title = cell.dataset.said = form.dataset.cleared; if (cell === active) told.textContent = cell.title; }
-    if (text !== cell.dataset.was && text) { waiting.add(cell); clearTimeout(timer); timer = setTimeout(judge, 250); }
+    if (text !== cell.dataset.was && text) { waiting.add(cell); clearTimeout(timer); timer = setTimeout(judge, isHere ? 0 : 250); }
     counted.textContent = edited.size ? String(edited.size) : '';
   }
   function edit(text) {
@@ -101,20 +102,42 @@
     delete form.dataset.sending;
     return kind === 'dips' ? found.filter((row, at) => row.level || cells[at].dataset.was) : found;
   }
+  // ---- what is said of it
+
+  const {rules, script, wasm, worker} = form.dataset;
+  const opened = rules && typeof WebAssembly === 'object'
+    ? import('./judging/judge.js').then(({Judge}) => Judge.open({rules, script, wasm, worker})).catch(() => null) : Promise.resolve(null);
+  opened.then(here => { isHere = Boolean(here); });
+  const late = new Promise(done => setTimeout(done, 3000, null));
+  // Whether the cell's day has a figure already, which is then amended.
+  function isBooked(cell) {
+    const figure = kind === 'dips' ? cellsOf(cell.closest('tr')).find(each => each.dataset.part === 'level') : cell;
+    return Boolean(figure.dataset.was);
+  }
   async function judge() {
     const cells = [...waiting].slice(0, 400);
     waiting = new Set([...waiting].slice(400));
     if (kind === 'assays' || kind === 'estimates' || !cells.length) return;
+    const asked = cells.map(cell => ({cell, text: cell.textContent, row: rowOf(cell)}));
+    const here = await Promise.race([opened, late]), left = [];
+    for (const one of asked) {
+      const said = here && await here.judge({...one.row, was: isBooked(one.cell)}).catch(() => null);
+      if (said) show(one, said); else left.push(one);
+    }
+    if (left.length) await ask(left);
+    if (waiting.size) judge();
+  }
+  async function ask(some) {
     const body = new FormData();
-    body.append('cells', JSON.stringify(cells.map(rowOf)));
+    body.append('cells', JSON.stringify(some.map(({row}) => row)));
     try {
       const answer = await fetch(form.dataset.judge, {method: 'POST', body, headers: {'X-CSRFToken': token}});
       if (!answer.ok) throw new Error(answer.status);
-      (await answer.json()).cells.forEach((said, at) => show(cells[at], said));
+      (await answer.json()).cells.forEach((said, at) => show(some[at], said));
     } catch { told.textContent = '…'; }
-    if (waiting.size) judge();
   }
-  function show(cell, said) {
+  function show({cell, text}, said) {
+    if (cell.textContent !== text) return; // it was typed over meanwhile
     cell.classList.toggle('fault', said.level === 'fault'); cell.classList.toggle('look', said.level === 'look');
     Object.assign(cell.dataset, {level: said.level, said: said.said});
     if (said.said) cell.title = said.said;
