@@ -9,22 +9,12 @@ import sys
 import time
 from pathlib import Path
 
+from chromium import WIDTHS, browser, wide
 from selenium import webdriver
-from selenium.webdriver.chrome.options import Options
-from selenium.webdriver.chrome.service import Service
 
 PAGES = ("index.html", "gallery/refinery_day.html", "docs/GUIDE.html", "docs/REFERENCE.html")
-WIDTHS = (1440, 800, 390)
 # The longest time that a search of a busy machine may take, in seconds.
 PATIENCE = 60
-
-
-def browser() -> webdriver.Chrome:
-    """Return a browser without a window."""
-    options = Options()
-    for word in ("--headless=new", "--no-sandbox", "--disable-gpu", "--disable-dev-shm-usage"):
-        options.add_argument(word)
-    return webdriver.Chrome(service=Service("/usr/bin/chromedriver"), options=options)
 
 
 def found_by_search(driver: webdriver.Chrome, base: str, word: str) -> int:
@@ -49,12 +39,11 @@ def main() -> int:
     try:
         for page in PAGES:
             for width in WIDTHS:
-                size = {"width": width, "height": 900, "deviceScaleFactor": 1, "mobile": False}
-                driver.execute_cdp_cmd("Emulation.setDeviceMetricsOverride", size)
+                wide(driver, width)
                 driver.get(f"{base}/{page}")
-                wide = driver.execute_script("return document.documentElement.scrollWidth")
-                if wide > width:
-                    wrong.append(f"{page} is {wide} wide at {width}")
+                found = driver.execute_script("return document.documentElement.scrollWidth")
+                if found > width:
+                    wrong.append(f"{page} is {found} wide at {width}")
             wrong += [f"{page}: {entry['message']}" for entry in driver.get_log("browser")]
         found = found_by_search(driver, base, "refusal")
         if not found:

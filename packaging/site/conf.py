@@ -34,4 +34,5 @@ html_copy_source = False
 html_show_search_summary = False
 html_static_path = ["static"]
 html_css_files = ["plantbal.css"]
+html_js_files = [("try.js", {"defer": "defer"})]
 pygments_style = "sas"

@@ -10,6 +10,7 @@ from dataclasses import dataclass
 from pathlib import Path
 from typing import Any
 
+import trying
 from plantbal import desk
 
 # The lines of a session or an output that a page shows; the file has all of them.
@@ -71,12 +72,16 @@ def desk_made(words: list[str], wanted: Path) -> None:
         )
 
 
-def lines_of(path: Path, about: str, held: str) -> list[str]:
-    """Return the part of a page that shows the first lines of a file, and links to all of it."""
+def lines_of(path: Path, about: str, held: str, tried: str = "") -> list[str]:
+    """Return the part of a page that shows the first lines of a file, and links to all of it.
+
+    With `tried`, the place where it can be changed and run, that stands before the lines.
+    """
     lines = path.read_text("utf-8").splitlines()
     head = [f"    {line}" for line in lines[:SHOWN]]
     more = "" if len(lines) <= SHOWN else f" (the first {SHOWN} of {len(lines)} lines)"
-    return [f"## {about}", "", f"[{path.name}]({held}){more}:", "", *head, ""]
+    there = [tried] if tried else []
+    return [f"## {about}", "", f"[{path.name}]({held}){more}:", "", *there, *head, ""]
 
 
 def page(plant: Plant, folder: Path, static: Path) -> str:
@@ -117,11 +122,16 @@ def page(plant: Plant, folder: Path, static: Path) -> str:
             f'<iframe class="statement" loading="lazy" title="The statement" src="{link}"></iframe>'
         ]
         lines += ["```", ""]
+    text = plant.asked.read_text("utf-8")
+    is_short = text.count("\n") <= SHOWN
+    if not is_short:
+        trying.write_text(plant.name, text, static)
+    tried = trying.button(" ".join(plant.words), "" if is_short else plant.name)
     if plant.session:
-        lines += lines_of(plant.session, "The session", held[plant.session])
-    lines += lines_of(
-        plant.output, "The output" if plant.session else "The report", held[plant.output]
-    )
+        lines += lines_of(plant.session, "The session", held[plant.session], tried)
+        lines += lines_of(plant.output, "The output", held[plant.output])
+    else:
+        lines += lines_of(plant.output, "The report", held[plant.output], tried)
     return "\n".join(lines)
 
 

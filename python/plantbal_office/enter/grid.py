@@ -26,7 +26,7 @@ from plantbal_office.enter.core import core_files
 from plantbal_office.enter.drops import write, folder_of
 from plantbal_office.enter.judging import Judged, judge, judge_ticket
 from plantbal_office.enter.models import Drop
-from plantbal_office.enter.rules import JUDGED, rules_of
+from plantbal_office.enter.rules import JUDGED, judging_rules
 from plantbal_office.enter.typed import KINDS, SHEETS, cells_of, file_of, parted, typing_locale
 from plantbal_office.look.views import month_of
 from plantbal_office.middleware import POLICY_WITH_CORE
@@ -233,7 +233,7 @@ def judged(request: HttpRequest, period: str) -> HttpResponse:
 def rules(request: HttpRequest, period: str, kind: str) -> HttpResponse:
     """Give a page what it needs to judge the cells of its grid by itself."""
     month = month_of(request, period)
-    return JsonResponse({"rules": rules_of(request.plant, month, kind, typing_locale())})
+    return JsonResponse({"rules": judging_rules(request.plant, month, kind, typing_locale())})
 
 
 def _answer(said: Judged) -> dict[str, object]:

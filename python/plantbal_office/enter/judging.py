@@ -90,7 +90,7 @@ def _reading(
         what, remedy = SheetCause.ZERO_WITHOUT_ERROR(), GridRemedy.ERROR_IN_TONNES()
         raise Fault(str(what), remedy=str(remedy))
     values = str(grams), str(error.variance(grams))
-    refused = refused_of(found.state, row_of(found.state, "reading", place.name, day, values))
+    refused = typed_refusal(found.state, typed_row(found.state, "reading", place.name, day, values))
     if refused:
         return Judged(FAULT, refused, grams)
     others = sorted(
@@ -118,7 +118,7 @@ def _dip(
     if density is None:
         raise Fault(str(SheetCause.DENSITY_MISSING()), remedy=str(GridRemedy.DENSITY_BESIDE()))
     values = str(mm), str(round(density)), "1"
-    refused = refused_of(found.state, row_of(found.state, "dip", place.name, day, values))
+    refused = typed_refusal(found.state, typed_row(found.state, "dip", place.name, day, values))
     if refused:
         return Judged(FAULT, refused)
     ml = volume_at(points, mm)
@@ -134,7 +134,7 @@ def volume_at(points: list[tuple[int, int]], mm: int) -> int | None:
     return None
 
 
-def row_of(
+def typed_row(
     state: State, kind: str, name: str, day: datetime.date, values: tuple[str, ...]
 ) -> tuple[str, ...]:
     """Return the row that books a reading or a dip, or that amends the one that the day has."""
@@ -151,7 +151,7 @@ def free_id(state: State) -> str:
     return next(each for each in ids if each not in state.facts)
 
 
-def refused_of(state: State, fields: tuple[str, ...]) -> str:
+def typed_refusal(state: State, fields: tuple[str, ...]) -> str:
     """Return why the program would refuse a row, or nothing."""
     answer = state.judge(fields)
     return refusal_said(refusal_of(state, fields, answer)) if isinstance(answer, Refused) else ""
@@ -180,7 +180,7 @@ def judge_ticket(plant: Plant, month: BookMonth, words: dict[str, str], locale: 
             str(grams),
             "1",
         )
-        refused = refused_of(facts_of(plant, month.name).state, fields)
+        refused = typed_refusal(facts_of(plant, month.name).state, fields)
         return Judged(FAULT if refused else GOOD, refused, grams)
     except (Fault, ValueError) as error:
         said = f"{error.what}: {error.remedy}" if isinstance(error, Fault) else str(error)

@@ -33,7 +33,7 @@ from plantbal.workbook.causes import SheetCause
 from plantbal.workbook.remedies import CellRemedy
 from plantbal.workbook.sheets import EPOCH
 from plantbal_office.causes import GridCause, GridRemedy
-from plantbal_office.enter.judging import ENOUGH, FAR, WHY, free_id, row_of
+from plantbal_office.enter.judging import ENOUGH, FAR, WHY, free_id, typed_row
 from plantbal_office.enter.typed import MOST_CELLS
 from plantbal_office.plants.models import Plant
 from plantbal_office.sentences import refusal_said
@@ -62,7 +62,7 @@ _SHEET = (
 )
 
 
-def rules_of(plant: Plant, month: BookMonth, kind: str, locale: str) -> dict[str, Any] | None:
+def judging_rules(plant: Plant, month: BookMonth, kind: str, locale: str) -> dict[str, Any] | None:
     """Return what judges the cells of a grid, or None if the server has to.
 
     Parameters
@@ -160,12 +160,13 @@ def _said(state: State, reason: Reason, column: str, values: Values, text: str =
 
 def _refused(
     found: MonthFacts, month: BookMonth, kind: str, places: Sequence[BookStream | Vessel]
-) -> dict[str, dict[str, list[object]]]:
-    """Return for each place and day on which any figure is refused the code, and what is said."""
+) -> dict[str, Any]:
+    """Return for each place and day on which any figure is refused the code, and which sentence is said."""
     state = found.state
     days = range(month.first.toordinal() - (kind == "dips"), month.last.toordinal() + 1)
-    said: dict[str, dict[str, list[object]]] = {}
-    sentences: dict[object, str] = {}
+    refused: dict[str, dict[str, tuple[int, int]]] = {}
+    sentences: dict[str, int] = {}
+    told: dict[object, int] = {}
     for place in places if kind != "tickets" else ():
         is_tank = isinstance(place, Vessel)
         points = state.plant.tables.get(place.name, [])
@@ -177,14 +178,15 @@ def _refused(
         values = (level, "1", "1") if is_tank else ("1", "1")
         for number in days:
             day = datetime.date.fromordinal(number)
-            fields = row_of(state, "dip" if is_tank else "reading", place.name, day, values)
+            fields = typed_row(state, "dip" if is_tank else "reading", place.name, day, values)
             answer = state.judge(fields)
             if isinstance(answer, Refused):
                 key = answer.reason, answer.text, *answer.values.items()
-                if key not in sentences:
-                    sentences[key] = refusal_said(refusal_of(state, fields, answer))
-                said.setdefault(place.name, {})[str(day)] = [int(answer.cause), sentences[key]]
-    return said
+                if key not in told:
+                    sentence = refusal_said(refusal_of(state, fields, answer))
+                    told[key] = sentences.setdefault(sentence, len(sentences))
+                refused.setdefault(place.name, {})[str(day)] = int(answer.cause), told[key]
+    return {"places": refused, "said": list(sentences)}
 
 
 def _sentences(state: State, kind: str, places: Sequence[BookStream | Vessel]) -> dict[str, Any]:

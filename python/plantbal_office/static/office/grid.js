@@ -107,7 +107,7 @@
   const {rules, script, wasm, worker} = form.dataset;
   const opened = rules && typeof WebAssembly === 'object'
     ? import('./judging/judge.js').then(({Judge}) => Judge.open({rules, script, wasm, worker})).catch(() => null) : Promise.resolve(null);
-  opened.then(here => { isHere = Boolean(here); });
+  opened.then(here => { isHere = Boolean(here); form.dataset.here = isHere ? 'yes' : 'no'; });
   const late = new Promise(done => setTimeout(done, 3000, null));
   // Whether the cell's day has a figure already, which is then amended.
   function isBooked(cell) {

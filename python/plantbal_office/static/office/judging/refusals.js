@@ -15,8 +15,8 @@ function ofNumber({ sentences }, values) {
 
 /** What is said of a place's day on which any figure is refused with a code, or null. */
 function ofDay({ refused }, name, day, code) {
-  const [found, said] = refused[name]?.[day] ?? [];
-  return found === code ? said : null;
+  const [found, at] = refused.places[name]?.[day] ?? [];
+  return found === code ? refused.said[at] : null;
 }
 
 /** Returns why a reading is refused, or null. */
