@@ -2,7 +2,8 @@
 
     times.py make FOLDER     books: a refinery of 25 tanks and 53 streams, plants of 300 and 2,000 streams, a grid of 100 meters
     times.py pages FOLDER    each page twenty times, in time of processors; and the memory of the process at the end
-    times.py grid FOLDER     the grid of 31 days and 100 meters in Chromium: time of processors for each frame of its main thread
+    times.py grid FOLDER     the grid of 31 days and 100 meters in Chromium: time of processors for each frame of its main thread, and
+                             by the clock from the key that ends a cell to its sentence
 
 The status is 1 if one is above what is wanted. Times of processors are taken, since a machine with
 other work to do is slow by the clock.
@@ -25,6 +26,8 @@ from office import site_of  # noqa: E402
 
 ROUNDS = 20
 PAGE, LARGE, LONGEST, WORKER, FRAME = 0.3, 2.0, 3_000_000, 200 << 20, 1000 / 60
+# Milliseconds until a wrong cell is told, of how many cells.
+TOLD, CELLS = 50, 60
 PAGES = (
     "",
     "enter/",
@@ -138,8 +141,28 @@ requestAnimationFrame(step);
 """
 
 
+# Types a digit too few and a text that is no number into cells, one after the other: milliseconds from the key to the sentence.
+TYPED = """
+const [count, done] = [arguments[0], arguments[arguments.length - 1]], times = [];
+const cells = [...document.querySelectorAll('table.grid td[data-part]')];
+const key = (at, name) => at.dispatchEvent(new KeyboardEvent('keydown', {key: name, bubbles: true, cancelable: true}));
+const type = (cell, text) => new Promise(told => {
+  new MutationObserver((_, seen) => { if (cell.dataset.said) { seen.disconnect(); told(performance.now() - began); } }).observe(cell, {attributes: true});
+  cell.dispatchEvent(new MouseEvent('mousedown', {bubbles: true}));
+  key(cell, '1');
+  cell.querySelector('input').value = text;
+  const began = performance.now();
+  key(cell.querySelector('input'), 'Enter');
+});
+(async () => {
+  for (let at = 0; at < count; at += 1) times.push(await type(cells[at * 37], at % 2 ? '1x' : '0.5'));
+  done(times);
+})();
+"""
+
+
 def grid(room: Path) -> Iterator[str]:
-    """Scroll the grid, and give what is above what is wanted."""
+    """Scroll the grid and type into it, and give what is above what is wanted."""
     from office.conftest import WORDS, Served
     from selenium import webdriver
     from selenium.webdriver.chrome.options import Options
@@ -167,6 +190,17 @@ def grid(room: Path) -> Iterator[str]:
         )
         if each > FRAME:
             yield f"{each:.1f} ms for a frame"
+        form = "return document.querySelector('form[data-grid]').dataset.here"
+        while not (here := driver.execute_script(form)):
+            time.sleep(0.2)
+        told = sorted(driver.execute_async_script(TYPED, CELLS))
+        half = told[len(told) // 2]
+        print(
+            f"grid: {CELLS} cells judged {'here' if here == 'yes' else 'by the server'}, {half:.1f} ms "
+            f"from key to sentence in the middle, {told[int(0.95 * CELLS)]:.1f} ms p95"
+        )
+        if half > TOLD or here != "yes":
+            yield f"{half:.1f} ms until a wrong cell is told"
     finally:
         driver.quit()
         served.end()
