@@ -230,7 +230,7 @@ def judged(request: HttpRequest, period: str) -> HttpResponse:
     return JsonResponse({"cells": found})
 
 
-def rules(request: HttpRequest, period: str, kind: str) -> HttpResponse:
+def judged_by(request: HttpRequest, period: str, kind: str) -> HttpResponse:
     """Give a page what it needs to judge the cells of its grid by itself."""
     month = month_of(request, period)
     return JsonResponse({"rules": judging_rules(request.plant, month, kind, typing_locale())})

@@ -15,5 +15,5 @@ urlpatterns = [
     path("grid/<str:period>/<slug:kind>", grid.grid, name="grid"),
     path("tests", grid.tests, name="tests"),
     path("judge/<str:period>", grid.judged, name="judge"),
-    path("rules/<str:period>/<slug:kind>", grid.rules, name="rules"),
+    path("rules/<str:period>/<slug:kind>", grid.judged_by, name="rules"),
 ]
