@@ -44,8 +44,8 @@ class Example:
         return self.place.find_element(By.CSS_SELECTOR, css)
 
     def begin(self) -> None:
-        """Press its button, and wait for the text."""
-        self.one(".try-begin").click()
+        """Press its button by a key, and wait for the text."""
+        self.one(".try-begin").send_keys(Keys.ENTER)
         WebDriverWait(self.driver, PATIENCE).until(
             lambda _: self.place.find_elements(By.CSS_SELECTOR, "textarea")
             or self.place.find_elements(By.CSS_SELECTOR, ".try-said")
@@ -66,7 +66,7 @@ class Example:
         if by_key:
             self.one("textarea").send_keys(Keys.CONTROL, Keys.ENTER)
         else:
-            self.one(".try-run").click()
+            self.one(".try-run").send_keys(Keys.ENTER)
         WebDriverWait(self.driver, PATIENCE).until(
             lambda _: self.place.get_attribute("data-runs") != before
         )
@@ -92,12 +92,10 @@ def wrong_of(example: Example, program: str) -> str:
         return "it gives the same once it is changed"
     if is_session and not example.place.find_elements(By.CSS_SELECTOR, ".try-refused li"):
         return "a refused row isn't told"
-    if (
-        example.place.find_element(By.CSS_SELECTOR, ".try-acts button:nth-of-type(2)").text
-        != "Reset"
-    ):
+    reset = example.one(".try-acts button:nth-of-type(2)")
+    if reset.text != "Reset":
         return "it has no Reset"
-    example.one(".try-acts button:nth-of-type(2)").click()
+    reset.send_keys(Keys.ENTER)
     return "" if example.text == text else "Reset doesn't put its text back"
 
 
