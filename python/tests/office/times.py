@@ -155,7 +155,7 @@ const type = (cell, text) => new Promise(told => {
   key(cell.querySelector('input'), 'Enter');
 });
 (async () => {
-  for (let at = 0; at < count; at += 1) times.push(await type(cells[at * 37], at % 2 ? '1x' : '0.5'));
+  for (let at = 0; at < count; at += 1) times.push(await type(cells[(at * 37) % cells.length], at % 2 ? '1x' : '0.5'));
   done(times);
 })();
 """
