@@ -102,14 +102,14 @@ def test_a_reason_is_asked_for(
         return next(answers)
 
     monkeypatch.setattr("builtins.input", answer)
-    monkeypatch.setattr("plantbal.commands.book.adding._may_ask", lambda: True)
+    monkeypatch.setattr("plantbal.commands.book.adding.may_ask", lambda: True)
     assert book("add", folder(tmp_path / "april", sheets)).status == 0
     assert asked[0] == asked[1] == "F-1_2024-04-01: 1,200 t becomes 1,210 t. Why? "
     assert asked[2] == "P-1_2024-04-01: 1,199.5 t becomes 1,200 t. Why? [typed wrong] "
     assert [row.rsplit(",", 1)[1] for row in rows_of(tmp_path)[-2:]] == ["typed wrong"] * 2
     assert journal_of(tmp_path / "mill")[-1][4] == "typed wrong"
     monkeypatch.undo()
-    monkeypatch.setattr("plantbal.commands.book.adding._may_ask", lambda: True)
+    monkeypatch.setattr("plantbal.commands.book.adding.may_ask", lambda: True)
     before = files_of(tmp_path / "mill")
     said = book("add", folder(tmp_path / "april", month()))
     assert said.status == 2 and "no reason given: use --why TEXT" in said.err

@@ -69,6 +69,7 @@ def test_what_critical_writes_is_added(book: Type, say: Desk, tmp_path: Path, na
         "critical,global,4,9488",
         "critical,nodal,5002",
     ]
+    assert "nothing new" in book("add", tmp_path / name).out
 
 
 @pytest.mark.parametrize("level", ["5", "0", "100 %", "often"])

@@ -156,6 +156,39 @@ def test_late_facts(say: Desk, mill: Path, mapping: Path, tables: Server, tmp_pa
     )
 
 
+def test_a_pull_is_shown_before_it_is_booked(
+    say: Desk, mill: Path, mapping: Path, tables: Server, monkeypatch: pytest.MonkeyPatch
+) -> None:
+    """What is new, what changes from which figure to which and when, what vanished; then a question."""
+    assert say("pull", mapping, "--book", mill, *DAYS).status == 0
+    tables.sql(
+        "UPDATE tickets SET tonnes = 810.5, changed = '2024-05-03T09:00:00Z';"
+        "INSERT INTO tickets SELECT 'new-' || n, 'TRUCKS', '2024-04-02', n, '2024-05-04T10:00:00Z'"
+        " FROM generate_series(1, 14) AS n;"
+        "DELETE FROM dips WHERE day = '2024-04-30'"
+    )
+    wanted = (
+        "new: new-3: 3 t, of 2024-05-04T10:00:00Z at the source",
+        "2 more are new",
+        "truck-04: 800 t becomes 810.5 t, changed at the source at 2024-05-03T09:00:00Z",
+        "SILO_2024-04-30: 9,500 mm at 1,250 kg/m3 is booked, and is no longer in historian.toml",
+    )
+    before = files_of(mill)
+    monkeypatch.setattr("plantbal.commands.database.may_ask", lambda: True)
+    for words, answer, last in (
+        (("--dry-run",), "", "nothing is booked, as --dry-run says"),
+        ((), "n", "nothing is booked"),
+        ((), "", "nothing is booked"),
+        ((), "y", "it is booked"),
+    ):
+        monkeypatch.setattr("builtins.input", lambda question, answer=answer: answer)
+        said = say("pull", mapping, "--book", mill, *DAYS, *words)
+        assert [text for text in wanted if text not in said.out] == [], said.out
+        assert said.out.splitlines()[-1] == last, (answer, said)
+        assert (files_of(mill) == before) == (answer != "y"), answer
+    assert "nothing new" in say("pull", mapping, "--book", mill, *DAYS, "--yes").out
+
+
 GONE = "DELETE FROM tickets WHERE id = 'truck-04'"
 
 

@@ -132,7 +132,8 @@ def add(
         plant = put_plant(read.into, read.work)
         put_periods(read.years, read.work, read.facts)
         changes, strike = _changed(read, strike, anyway)
-        check_reasons(changes, strike, why, [] if why else list(_causes(read, changes)))
+        causes = tuple(_causes(read, changes))
+        check_reasons(changes, strike, why, causes)
         reasons = Reasons(why)
         changes.put(reasons, strike)
         raise_all(put_assays(read.years, read.work))
@@ -149,7 +150,7 @@ def add(
             book.do(action)
     closed = tuple(closed_in(changes.edited(strike)))
     notes = tuple(read.work.notes)
-    return Added(name, parts, tuple(told), changes, strike, notes, is_booked, closed)
+    return Added(name, parts, tuple(told), changes, strike, notes, is_booked, closed, causes)
 
 
 def _read(book: Store, workbook: Given, year: str | None, reading: ReadingOptions) -> _ReadWorkbook:

@@ -95,6 +95,8 @@ class Added:
         Whether something was booked: not if there was nothing new, or only to see what would be.
     closed : tuple of str
         The closed periods whose facts it changes or strikes.
+    causes : tuple of str
+        The densities by which booked facts change.
     """
 
     workbook: str
@@ -105,6 +107,7 @@ class Added:
     notes: tuple[str, ...]
     is_booked: bool
     closed: tuple[str, ...] = ()
+    causes: tuple[str, ...] = ()
 
 
 @dataclass(frozen=True)

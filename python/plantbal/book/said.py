@@ -4,7 +4,7 @@ from __future__ import annotations
 
 import datetime
 from collections import Counter
-from collections.abc import Collection, Iterable
+from collections.abc import Callable, Collection, Iterable
 
 from plantbal.book.changes import Changes
 from plantbal.book.forms import JOURNAL, year_file
@@ -78,7 +78,9 @@ def added(year: YearAdded) -> str:
 _ASKED = "is booked, and is no longer in {}: plantbal-desk book strike takes it out"
 
 
-def changed(changes: Changes, name: str, struck: bool) -> list[str]:
+def changed(
+    changes: Changes, name: str, struck: bool, when: Callable[[BookFact], str] = lambda fact: ""
+) -> list[str]:
     """Return what a workbook changes, a line each, and what it leaves.
 
     Parameters
@@ -89,8 +91,12 @@ def changed(changes: Changes, name: str, struck: bool) -> list[str]:
         The workbook's name.
     struck : bool
         Whether facts that are gone are struck.
+    when : callable
+        Returns when the source changed a fact; empty if that isn't known.
     """
-    every = list(dict.fromkeys(each.said() for each in [*changes.changed, *changes.left]))
+    pairs = [(each.said(), when(each.old)) for each in [*changes.changed, *changes.left]]
+    said = [f"{text}, changed at the source at {at}" if at else text for text, at in pairs]
+    every = list(dict.fromkeys(said))
     lines = every[:FIRST]
     if len(every) > FIRST:
         lines.append(f"{len(every) - FIRST:,} more are changed")

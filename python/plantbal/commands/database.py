@@ -7,8 +7,9 @@ import sys
 
 from plantbal.book.library import Book
 from plantbal.commands.book.adding import lines_of as added_lines
+from plantbal.commands.book.adding import may_ask
 from plantbal.database.queries import read_queries
-from plantbal.database.pulling import lines_of, pull
+from plantbal.database.pulling import Pulled, lines_of, pull
 from plantbal.database.pushing import push, tables_sql
 from plantbal.faults import WordsFault
 from plantbal.book.naming import day_of
@@ -23,6 +24,10 @@ QUERIES is a TOML file with the database and the queries, each with the sheet of
 gives (docs/PYTHON.md, "Databases"). All figures of the days are read, and the book says what is new,
 changed or late, as `book add` does; so what was pulled already is booked once. What is changed is
 amended, with the time at which the source changed it as the reason.
+
+At a terminal it is shown first, and you are asked: what is new, what is changed from which figure to
+which and when at the source, what is gone, and the densities by which facts change; the first twelve of
+each, and how many more. --yes books at once, as a pull of a night does, which has no terminal.
 
 What was pulled and is no longer at the source is a question: it is reported, and the status is 1. With
 vanished = "strike" under its query it is struck, and with "keep" it stays without a word.
@@ -47,10 +52,14 @@ examples:
         parser.add_argument(
             "--dry-run", action="store_true", help="show what would be booked, and book nothing"
         )
+        parser.add_argument(
+            "--yes", action="store_true", help="book it without being asked at a terminal"
+        )
 
     @staticmethod
     def run(options: argparse.Namespace) -> int:
-        """Pull, and say what that was."""
+        """Pull, and say what that was; at a terminal, ask before it is booked."""
+        asks = not options.yes and not options.dry_run and may_ask()
         days = [day_of(each, "") if each else None for each in (options.first, options.last)]
         found = pull(
             Book(options.book, who=options.who),
@@ -58,11 +67,33 @@ examples:
             first=days[0],
             last=days[1],
             dry_run=options.dry_run,
+            agree=_agreed if asks else None,
         )
-        print("\n".join([*lines_of(found), *added_lines(found.added)]))
+        if not asks:
+            print("\n".join(_said(found)))
         if options.dry_run:
             print("nothing is booked, as --dry-run says")
+        elif asks:
+            print("it is booked" if found.added.is_booked else "nothing is booked")
         return ExitStatus.LOOK if found.added.changes.asked else ExitStatus.GOOD
+
+
+def _said(found: Pulled) -> list[str]:
+    """Return what a pull books, a line each."""
+    return [*lines_of(found), *added_lines(found.added, found.times.time_of)]
+
+
+def _agreed(found: Pulled) -> bool:
+    """Show what would be booked, and ask whether it is to be; nothing is asked if it is nothing."""
+    print("\n".join(_said(found)))
+    changes, edited = found.added.changes, found.added.changes.edited(found.added.struck)
+    if not changes.new and not edited:
+        return True
+    try:
+        answer = input("Is it to be booked? [y/N] ")
+    except EOFError:
+        return False
+    return answer.strip().casefold() in ("y", "yes")
 
 
 class PushCommand:

@@ -9,7 +9,7 @@ time at which the source changed it as the reason, if a query has such a column.
 from __future__ import annotations
 
 import datetime
-from collections.abc import Iterable, Iterator, Mapping
+from collections.abc import Callable, Iterable, Iterator, Mapping
 from dataclasses import dataclass, field
 from pathlib import Path
 from typing import TYPE_CHECKING, Any
@@ -17,6 +17,7 @@ from typing import TYPE_CHECKING, Any
 from plantbal.book.ledger import BookFact
 from plantbal.book.reading import Tabled
 from plantbal.book.results import Added
+from plantbal.book.said import FIRST
 from plantbal.book.vanished import PulledSource
 from plantbal.book.years import calendar_year
 from plantbal.database.connect import connected
@@ -53,12 +54,15 @@ class Pulled:
         What the book says of them.
     notes : tuple of str
         What has to be said of the source: floats, figures of bad quality.
+    times : SourceTimes
+        When the source changed each fact.
     """
 
     first: datetime.date
     last: datetime.date
     added: Added
     notes: tuple[str, ...]
+    times: SourceTimes
 
 
 @dataclass
@@ -123,15 +127,19 @@ class SourceTimes:
         """
         if is_gone:
             return f"no longer at the source ({self.source})"
+        found = self.time_of(fact)
+        when = f"changed at the source at {found}" if found else "changed at the source"
+        return f"{when} ({self.source})"
+
+    def time_of(self, fact: BookFact) -> str:
+        """Return when the source changed a fact's row, or one beside it; empty if it doesn't say."""
         times = [self._own.get((fact.place, fact.first), "")]
         times.append(self._own.get((fact.id, fact.id), ""))
         for names, first, last, at in self._beside:
             days = first is None or (last is not None and first <= fact.first <= last)
             if days and (fact.place in names or fact.id in names):
                 times.append(at)
-        found = max(times)
-        when = f"changed at the source at {found}" if found else "changed at the source"
-        return f"{when} ({self.source})"
+        return max(times)
 
 
 def pull(
@@ -142,6 +150,7 @@ def pull(
     last: datetime.date | None = None,
     dry_run: bool = False,
     reading: ReadingOptions = ReadingOptions(),
+    agree: Callable[[Pulled], bool] | None = None,
 ) -> Pulled:
     """Read the facts of some days into a book.
 
@@ -158,6 +167,8 @@ def pull(
         Whether nothing is booked, to see what would be.
     reading : ReadingOptions
         How texts are read.
+    agree : callable, optional
+        Says whether what would be booked is to be booked; without it all is.
 
     Raises
     ------
@@ -179,8 +190,17 @@ def pull(
     kinds = {each.kind: each.vanished for each in queries.all if each.kind}
     source = PulledSource(Path(queries.file).name, begin, end, kinds)
     given = Tabled(source.name, _joined(found), source=source)
-    added = book.add(given, why=times, dry_run=dry_run, reading=reading)
-    return Pulled(begin, end, added, tuple(found.notes))
+
+    def added(dry_run: bool) -> Pulled:
+        """Add what was read once, perhaps to see what would be booked."""
+        own = book.add(given, why=times, dry_run=dry_run, reading=reading)
+        return Pulled(begin, end, own, tuple(found.notes), times)
+
+    if agree is not None:
+        would = added(dry_run=True)
+        if dry_run or not agree(would):
+            return would
+    return added(dry_run)
 
 
 def _joined(found: QueryResult) -> list[Sheet]:
@@ -243,6 +263,12 @@ def _parameters(
 
 
 def lines_of(found: Pulled) -> Iterator[str]:
-    """Give what is to be said of a pull before what the book says."""
+    """Give what is to be said of a pull before what the book says: of the source, what is new."""
     yield f"{found.first} to {found.last} were read"
     yield from found.notes
+    new = [fact for _, fact in found.added.changes.new]
+    for fact in new[:FIRST]:
+        at = found.times.time_of(fact)
+        yield f"new: {fact.id}: {fact.said()}" + (f", of {at} at the source" if at else "")
+    if len(new) > FIRST:
+        yield f"{len(new) - FIRST:,} more are new"

@@ -1,7 +1,8 @@
 """The groups of the petroleum tables, and how far a liquid of each expands.
 
 The tables of ASTM D1250-80 (API MPMS chapter 11.1, IP 200, ISO 91-1) for 15 degrees Celsius know a
-liquid by its group and its density at 15 degrees. Its coefficient of expansion there is
+liquid by its group and its density at 15 degrees: volumes VII (53A, 54A), VIII (53B, 54B), IX (54C)
+and XIV (53D, 54D). Its coefficient of expansion there is
 
     alpha = A + K1 / density + K0 / density^2
 
@@ -14,6 +15,9 @@ In table C the coefficient is that of the one liquid, and somebody has measured 
     between                 770 to 787.5           A = -0.00336312, K0 = 2680.3206
     jet fuels, kerosenes    787.5 to 838.5         K0 = 594.5418
     gas oils, fuel oils     from 838.5             K0 = 186.9696, K1 = 0.4862
+
+Crude oils have K0 = 613.9723, and lubricants K1 = 0.6278. Each is 1.8 times the constant of the same
+table for 60 degrees Fahrenheit, which a test holds; docs/PYTHON.md says what isn't confirmed.
 """
 
 from __future__ import annotations

@@ -224,7 +224,8 @@ def long_by_day(
     found = Daily([sheet.row(place) for place in rows.others], taken=rows.taken())
     clock = Clock(settings, settings.stamps == "end")
     if timed:
-        longest = rows.figures(max(rows.series.values(), key=lambda places: len(places)))
+        most = max(rows.series, key=lambda tag: len(rows.series[tag]))
+        longest = rows.figures(rows.series[most])
         clock = clock_of(reader, settings, longest, rows.figures(rows.first.values()))
     for name, places in rows.series.items():
         if name not in names:

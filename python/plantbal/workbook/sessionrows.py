@@ -26,11 +26,14 @@ class RowsSheet:
 
     def read(self) -> None:
         """Read rows of a session as they are, with numbers and days as a spreadsheet left them."""
+        critical = [list(row) for row in self.session if row[0] == "critical"]
         for sheet in self.tables.sheets["rows"]:
             for cells in sheet.rows():
                 self.tables.fates.put(Fate.READ, cells)
                 if [cell.text for cell in cells] == ["version", "2"] and len(self.session):
                     continue  # it has begun so
+                if [cell.text for cell in cells] in critical:
+                    continue  # it is of the book already
                 with self.tables.kept():
                     columns = self._columns_of(cells)
                     texts = [cells[0].text]

@@ -4,8 +4,10 @@ from __future__ import annotations
 
 import argparse
 import sys
+from collections.abc import Callable
 
 from plantbal.book.adding import Unreasoned
+from plantbal.book.ledger import BookFact
 from plantbal.book.library import Book
 from plantbal.book.results import Added
 from plantbal.book.said import FIRST, added, changed, reopened_said
@@ -33,7 +35,7 @@ def add_arguments(parser: argparse.ArgumentParser) -> None:
 
 def run(options: argparse.Namespace) -> int:
     """Add a workbook, and say what that was."""
-    asks = not options.why and not options.json and _may_ask()
+    asks = not options.why and not options.json and may_ask()
     try:
         found = Book(options.book, who=options.who, key=options.key).add(
             options.workbook,
@@ -54,10 +56,10 @@ def run(options: argparse.Namespace) -> int:
     return ExitStatus.GOOD
 
 
-def lines_of(found: Added) -> list[str]:
-    """Return what was added, changed and is missing, a line each."""
-    lines = [*(added(year) for year in found.years), *found.accounts]
-    lines += changed(found.changes, found.workbook, found.struck)
+def lines_of(found: Added, when: Callable[[BookFact], str] = lambda fact: "") -> list[str]:
+    """Return what was added, changed and is missing, a line each; `when` the source changed it."""
+    lines = [*(added(year) for year in found.years), *found.accounts, *found.causes[:FIRST]]
+    lines += changed(found.changes, found.workbook, found.struck, when)
     lines += map(reopened_said, found.closed)
     for year in found.years:
         lines += [f"look at it: {each.text}: {each.remedy}" for each in year.doubts[:FIRST]]
@@ -65,7 +67,7 @@ def lines_of(found: Added) -> list[str]:
     return [*lines, *found.notes]
 
 
-def _may_ask() -> bool:
+def may_ask() -> bool:
     """Say whether somebody sits at a terminal."""
     return sys.stdin.isatty()
 
