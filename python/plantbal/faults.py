@@ -168,6 +168,30 @@ class Hindered(Fault):
     ends = ExitStatus.FAILED
 
 
+class ModelFault(Hindered):
+    """The proved core accepts a row that the rules of this package refuse: a fault of the package.
+
+    Parameters
+    ----------
+    row : sequence of str
+        The row.
+    said : str
+        What these rules do with it, such as ``refuse it with 7, duplicate``.
+    place : Place, optional
+        Where the row stands.
+    """
+
+    def __init__(self, row: Sequence[str], said: str, place: Place | None = None) -> None:
+        text = ",".join(row)
+        super().__init__(
+            f"the proved core accepts the row {text[:80]}, and the rules of this package {said}",
+            place=place,
+            text=text,
+            remedy="the core is right: `plantbal run` has its answers; report this row as a fault "
+            "of plantbal",
+        )
+
+
 class Faults(Fault):
     """Several faults, each said by itself before what comes of them.
 

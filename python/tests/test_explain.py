@@ -430,6 +430,7 @@ FULL_2 = [
 def test_full_later(
     monkeypatch: pytest.MonkeyPatch, limit: str, most: int, row: str, said: str
 ) -> None:
+    monkeypatch.setattr("plantbal.model.core._is_installed", lambda _: False)  # it has its own
     monkeypatch.setitem(LIMITS, limit, most)  # type: ignore[arg-type]
     before = SMALL_3.replace("version,2\n", "version,2\nboundary,J\n")
     told = only(explain_bytes("day.csv", f"{before}{row}\nreport,o\n".encode()))
@@ -438,6 +439,7 @@ def test_full_later(
 
 @pytest.mark.parametrize("limit, most, row", FULL, ids=[f"{one}, {row}" for one, _, row in FULL])
 def test_full(monkeypatch: pytest.MonkeyPatch, limit: str, most: int, row: str) -> None:
+    monkeypatch.setattr("plantbal.model.core._is_installed", lambda _: False)  # it has its own
     monkeypatch.setitem(LIMITS, limit, most)  # type: ignore[arg-type]
     told = only(explain_bytes("day.csv", f"{SMALL}{row}\nreport,o\n".encode()))
     assert (told.code, told.column) == (13, "")

@@ -2,7 +2,9 @@
 
 from __future__ import annotations
 
+from collections.abc import Callable
 from dataclasses import dataclass
+from enum import Enum, auto
 from typing import TYPE_CHECKING, NamedTuple, Self
 
 from plantbal.model.causes import Reason, Refused, Values
@@ -70,72 +72,78 @@ class BooksFact(Effect):
         return "first" if self.fact.kind == "transfer" else "day"
 
     def refused(self, state: State) -> Refused | None:
-        fact = self.fact
-        if fact.kind == "dip":
-            unknown = tank_refused(state, fact.of)
-        else:
-            unknown = stream_refused(state, fact.of)
-        return (
-            unknown
-            or self._taken(state)
-            or self._order_refused()
-            or self._kind_refused(state)
-            or self._closed_refused(state)
-            or self._range_refused(state)
-            or full(Reason.FACTS_FULL, len(state.facts), "most_facts")
-        )
+        for rule in FACT_RULES:
+            refused = rule.refused(self, state)
+            if refused is not None:
+                return refused
+        return None
 
-    def _taken(self, state: State) -> Refused | None:
-        """Refuse a fact whose id or day is taken."""
+    def place_refused(self, state: State) -> Refused | None:
+        """Refuse a fact of a stream or tank that isn't declared."""
+        if self.fact.kind == "dip":
+            return tank_refused(state, self.fact.of)
+        return stream_refused(state, self.fact.of)
+
+    def id_refused(self, state: State) -> Refused | None:
+        """Refuse a fact whose id is taken."""
         fact = self.fact
         there = state.facts.find(fact.id) if fact.id in state.facts else None
-        if there is not None:
-            values: Values = {"kind": there.kind, "of": there.of, "struck": there.struck}
-            return Refused(Reason.ID_TAKEN, "id", fact.id, values, there.booked)
+        if there is None:
+            return None
+        values: Values = {"kind": there.kind, "of": there.of, "struck": there.struck}
+        return Refused(Reason.ID_TAKEN, "id", fact.id, values, there.booked)
+
+    def day_refused(self, state: State) -> Refused | None:
+        """Refuse a reading or a dip whose day is taken."""
+        fact = self.fact
         if fact.kind == "transfer" or not state.facts.has(fact.of, fact.first):
             return None
         same = state.facts.on(fact.of, fact.first)
         day = day_text(fact.first)
-        values = {"kind": fact.kind, "of": fact.of}
+        values: Values = {"kind": fact.kind, "of": fact.of}
         return Refused(Reason.DAY_TAKEN, "day", day, values, same.booked if same else 0)
 
-    def _order_refused(self) -> Refused | None:
+    def order_refused(self, state: State) -> Refused | None:
+        """Refuse a fact whose first day is after its last."""
         if self.fact.first <= self.fact.last:
             return None
         return Refused(Reason.FACT_ORDER, "first", day_text(self.fact.first))
 
-    def _kind_refused(self, state: State) -> Refused | None:
+    def kind_refused(self, state: State) -> Refused | None:
+        """Refuse a fact of a stream that has facts of another kind, or none."""
         wanted = _KIND_OF_STREAM.get(self.fact.kind)
         kind = state.plant.streams[self.fact.of].kind
         if wanted is None or kind == wanted:
             return None
         return Refused(Reason.FACT_OF_OTHER_KIND, "stream", self.fact.of, {"there": kind})
 
-    def _closed_refused(self, state: State) -> Refused | None:
+    def closed_refused(self, state: State) -> Refused | None:
         """Refuse a fact that touches a closed period, and isn't late."""
         if self.late or state.periods.first_closed is None:
             return None
         closed = closed_of(state, self.fact)
         return None if closed is None else Refused(Reason.TOUCHES_CLOSED, values={"period": closed})
 
-    def _range_refused(self, state: State) -> Refused | None:
-        """Refuse a fact that is too long, of a level outside its table, or out of service."""
+    def length_refused(self, state: State) -> Refused | None:
+        """Refuse a fact of too many days."""
         fact = self.fact
         days, most = fact.last - fact.first + 1, LIMITS["most_days_of_transfer"]
-        if days > most:
-            values = {"days": days, "most": most}
-            return Refused(Reason.TRANSFER_LONG, "last", day_text(fact.last), values)
-        if fact.kind == "dip":
-            level = level_refused(state, fact.of, fact.mm)
-            # the eve of its first day is taken
-            if level is not None or in_service(state.plant.service(fact.of), fact.first + 1):
-                return level
-        return self._service_refused(state)
+        if days <= most:
+            return None
+        values = {"days": days, "most": most}
+        return Refused(Reason.TRANSFER_LONG, "last", day_text(fact.last), values)
 
-    def _service_refused(self, state: State) -> Refused | None:
+    def level_refused(self, state: State) -> Refused | None:
+        """Refuse a dip of a level outside the table of its tank."""
+        return level_refused(state, self.fact.of, self.fact.mm) if self.fact.kind == "dip" else None
+
+    def service_refused(self, state: State) -> Refused | None:
         """Refuse a fact of a day on which its stream or tank isn't in service."""
         first, last, service = self.fact.first, self.fact.last, state.plant.service(self.fact.of)
         if service is None or service[0] <= first <= last <= service[1]:
+            return None
+        # of a tank the eve of its first day is taken
+        if self.fact.kind == "dip" and in_service(service, first + 1):
             return None
         outside = last if in_service(service, first) else first
         column = "last" if outside != first else self._column
@@ -143,12 +151,67 @@ class BooksFact(Effect):
         values: Values = {"of": self.fact.of, **days}
         return Refused(Reason.DAY_OUT_OF_SERVICE, column, day_text(outside), values)
 
+    def count_refused(self, state: State) -> Refused | None:
+        """Refuse a fact beyond the limit."""
+        return full(Reason.FACTS_FULL, len(state.facts), "most_facts")
+
     def store(self, state: State, at: At) -> None:
         line = at.line
         fact = self.fact._replace(booked=line, line=line, changed=line)
         state.facts.book(fact)
         if self.late:
             state.edits.append(Edit(at, "late", None, fact))
+
+
+class Looks(Enum):
+    """What of a reading a rule looks at: columns of its row, or what the other rows have, too."""
+
+    STREAM = auto()
+    DAY = auto()
+    STREAM_AND_DAY = auto()
+    KEYS = auto()
+    COUNT = auto()
+
+
+class FactRule(NamedTuple):
+    """A rule about facts.
+
+    A run of readings is judged by the same rules (`plantbal.model.doubts`): each is asked once for
+    each value of what it looks at, and not once for each row.
+
+    Attributes
+    ----------
+    looks : Looks
+        What of a reading it looks at.
+    refused : callable
+        Says whether it refuses a fact.
+    only : callable or None
+        Says of which streams it refuses some reading; None for all.
+    """
+
+    looks: Looks
+    refused: Callable[[BooksFact, State], Refused | None]
+    only: Callable[[State, str], bool] | None = None
+
+
+def _is_at_times(state: State, name: str) -> bool:
+    """Say whether a stream has days of service."""
+    return state.plant.service(name) is not None
+
+
+# The rules about facts, in the order of their codes.
+FACT_RULES = (
+    FactRule(Looks.STREAM, BooksFact.place_refused),
+    FactRule(Looks.KEYS, BooksFact.id_refused),
+    FactRule(Looks.KEYS, BooksFact.day_refused),
+    FactRule(Looks.DAY, BooksFact.order_refused),
+    FactRule(Looks.STREAM, BooksFact.kind_refused),
+    FactRule(Looks.DAY, BooksFact.closed_refused),
+    FactRule(Looks.DAY, BooksFact.length_refused),
+    FactRule(Looks.STREAM, BooksFact.level_refused),
+    FactRule(Looks.STREAM_AND_DAY, BooksFact.service_refused, _is_at_times),
+    FactRule(Looks.COUNT, BooksFact.count_refused),
+)
 
 
 @dataclass(frozen=True, slots=True)

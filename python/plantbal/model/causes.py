@@ -38,6 +38,11 @@ class Cause(IntEnum):
         """The word that stands beside the code in an output."""
         return self.name.lower()
 
+    @property
+    def said(self) -> str:
+        """The code and its word."""
+        return f"{int(self)}, {self.word}"
+
 
 class Reason(Enum):
     """Which rule refuses a row; the value is its cause and a word of its own."""
@@ -101,6 +106,9 @@ class Reason(Enum):
     ASSAYS_FULL = Cause.FULL, "assays-full"
     FACTS_FULL = Cause.FULL, "facts-full"
     WINDOW_FULL = Cause.FULL, "window-full"
+    # The proved core refuses a row, and none of these rules does so with its code; the cause is
+    # then that of the answer.
+    CORE_ALONE = Cause.KIND, "core-alone"
 
     @property
     def cause(self) -> Cause:
@@ -140,6 +148,8 @@ class Refused:
         What the rule compared: the name of a closed period, a limit, a count.
     clash : int
         The line of the accepted row that it clashes with; 0 if there is none, or it isn't known.
+    core : Cause or None
+        The code of the proved core, if it isn't known which rule refuses the row.
     """
 
     reason: Reason
@@ -147,8 +157,9 @@ class Refused:
     text: str = ""
     values: Values = field(default_factory=dict)
     clash: int = 0
+    core: Cause | None = None
 
     @property
     def cause(self) -> Cause:
         """The code of the program."""
-        return self.reason.cause
+        return self.reason.cause if self.core is None else self.core

@@ -1,20 +1,22 @@
 """The facts of a session: readings, transfers and dips by their ids, and by their days.
 
-Most sessions are long runs of readings that nothing changes afterwards. Such a run is kept as the
-columns it came in, and its facts are made when one of them is asked for.
+A run of readings waits as it came in, and its facts are made when one of them is asked for.
 """
 
 from __future__ import annotations
 
-from collections.abc import Iterable, Iterator, Sequence, Set
-from itertools import repeat
+from collections import Counter
+from collections.abc import Callable, Iterable, Iterator, Sequence
 from operator import add
-from typing import NamedTuple, TypeVar
+from typing import TYPE_CHECKING, Generic, NamedTuple, TypeVar
+
+if TYPE_CHECKING:
+    from plantbal.model.readings import ReadingRun
 
 KINDS = ("reading", "transfer", "dip")
 # The number of a day is below 2 to the power of this: that of 9999-12-31 is 3,652,059.
 _DAY_BITS = 22
-_T = TypeVar("_T")
+K = TypeVar("K", str, int)
 
 
 class At(NamedTuple):
@@ -91,35 +93,6 @@ class Edit(NamedTuple):
         return self.after or self.before
 
 
-class ReadingRun(NamedTuple):
-    """A run of readings as columns: the fields of its rows, and what they mean.
-
-    Attributes
-    ----------
-    ids, streams : sequence of str
-        The ids and the streams.
-    days, grams, variances : sequence of int
-        The numbers of the days, the amounts and the variances.
-    lines : sequence of int
-        The lines of the rows.
-    """
-
-    ids: Sequence[str]
-    streams: Sequence[str]
-    days: Sequence[int]
-    grams: Sequence[int]
-    variances: Sequence[int]
-    lines: Sequence[int]
-
-    def facts(self) -> Iterator[Fact]:
-        """Give its facts."""
-        no, on = repeat(0), self.days
-        kinds = repeat("reading", len(self.ids))
-        values = self.grams, no, no, self.variances
-        lines = self.lines, self.lines, self.lines
-        return map(Fact, kinds, self.ids, self.streams, on, on, *values, *lines)
-
-
 class _Places(dict[str, int]):
     """A number for each stream and tank, so far from the others that days go between them."""
 
@@ -128,28 +101,31 @@ class _Places(dict[str, int]):
         return number
 
 
-def _free(taken: Set[_T], some: Iterable[_T]) -> bool:
-    """Say whether none of some things is among those that are taken."""
-    return not taken or taken.isdisjoint(some)
-
-
-class _Waiting:
-    """Runs of readings whose facts aren't made yet, with what tells whether a fact is taken.
-
-    Attributes
-    ----------
-    runs : list of (ReadingRun, list of int)
-        The runs, each with the slots of its readings.
-    ids : set of str
-        All their ids.
-    slots : set of int
-        All their slots.
-    """
+class Keys(Generic[K]):
+    """The ids, or the slots, that facts have: of those that are made, and of runs that wait."""
 
     def __init__(self) -> None:
-        self.runs: list[tuple[ReadingRun, list[int]]] = []
-        self.ids: set[str] = set()
-        self.slots: set[int] = set()
+        self.made: dict[K, int] = {}
+        self.waiting: set[K] = set()
+
+    def __contains__(self, key: K) -> bool:
+        return key in self.made or key in self.waiting
+
+    def take(self, keys: Sequence[K]) -> bool:
+        """Take some keys, if none is there already and none is there twice; say whether they are.
+
+        If they aren't, what waits isn't known any more.
+        """
+        if self.made and not self.made.keys().isdisjoint(keys):
+            return False
+        wanted = len(self.waiting) + len(keys)
+        self.waiting.update(keys)
+        return len(self.waiting) == wanted
+
+    def places_taken(self, keys: Sequence[K]) -> set[int]:
+        """Return the places of those that are there already, or there twice."""
+        counts = Counter(keys)
+        return {at for at, key in enumerate(keys) if counts[key] > 1 or key in self}
 
 
 class Facts:
@@ -158,26 +134,35 @@ class Facts:
     A slot is the number that a stream or tank and a day have together: there is at most one reading
     or dip in it.
 
+    Parameters
+    ----------
+    verify : callable
+        Looks at a run that was booked unseen, before its facts are made.
+
     Attributes
     ----------
     struck : int
         How many were struck.
     """
 
-    def __init__(self) -> None:
+    def __init__(self, verify: Callable[[ReadingRun], None]) -> None:
         self._facts: list[Fact] = []
-        self._numbers: dict[str, int] = {}
-        self._on: dict[int, int] = {}
+        self._ids: Keys[str] = Keys()
+        self._slots: Keys[int] = Keys()
         self._of = _Places()
         self._transfers: dict[str, list[int]] = {}
-        self._waiting = _Waiting()
+        # the slots of a run are known if it wasn't booked unseen
+        self._runs: list[tuple[ReadingRun, list[int] | None]] = []
+        self._unseen = False
+        self._verify = verify
+        self._count = 0
         self.struck = 0
 
     def __len__(self) -> int:
-        return len(self._numbers) + len(self._waiting.ids)
+        return self._count
 
     def __contains__(self, identity: str) -> bool:
-        return identity in self._numbers or identity in self._waiting.ids
+        return identity in self._seen(self._ids)
 
     def __iter__(self) -> Iterator[Fact]:
         return iter(self._made())
@@ -185,7 +170,7 @@ class Facts:
     def ids(self) -> list[str]:
         """Return the ids of all facts, in the order of their rows."""
         self._made()
-        return list(self._numbers)
+        return list(self._ids.made)
 
     def live(self) -> list[Fact]:
         """Return the facts that aren't struck."""
@@ -193,22 +178,21 @@ class Facts:
 
     def find(self, identity: str) -> Fact | None:
         """Return the fact of an id, struck or not, or None."""
-        facts, number = self._made(), self._numbers.get(identity)
+        facts, number = self._made(), self._ids.made.get(identity)
         return None if number is None else facts[number]
 
     def has(self, of: str, day: int) -> bool:
         """Say whether a stream has a reading of a day, or a tank a dip."""
-        slot = self._slot(of, day)
-        return slot in self._on or slot in self._waiting.slots
+        return self._slot(of, day) in self._seen(self._slots)
 
     def on(self, of: str, day: int) -> Fact | None:
         """Return the reading or the dip of a day, or None."""
-        facts, number = self._made(), self._on.get(self._slot(of, day))
+        facts, number = self._made(), self._slots.made.get(self._slot(of, day))
         return None if number is None else facts[number]
 
     def on_days(self, of: str, days: Iterable[int]) -> list[Fact]:
         """Return the readings of a stream on some days."""
-        facts, on = self._made(), self._on
+        facts, on = self._made(), self._slots.made
         first = self._of[of]
         numbers = (on.get(first + day) for day in days)
         return [facts[number] for number in numbers if number is not None]
@@ -224,34 +208,39 @@ class Facts:
     def book(self, fact: Fact) -> None:
         """Book a fact."""
         facts = self._made()
-        number = self._numbers[fact.id] = len(facts)
+        number = self._ids.made[fact.id] = len(facts)
         facts.append(fact)
+        self._count += 1
         if fact.kind == "transfer":
             self._transfers.setdefault(fact.of, []).append(number)
         else:
-            self._on[self._slot(fact.of, fact.first)] = number
+            self._slots.made[self._slot(fact.of, fact.first)] = number
 
     def book_run(self, run: ReadingRun) -> bool:
         """Book a run of readings, if no id and no day of it is taken; say whether it is booked."""
-        slots = list(map(add, map(self._of.__getitem__, run.streams), run.days))
-        waiting = self._waiting
-        if not (
-            _free(self._numbers.keys(), run.ids)
-            and _free(self._on.keys(), slots)
-            and _free(waiting.ids, run.ids)
-            and _free(waiting.slots, slots)
-        ):
-            return False
-        wanted = len(waiting.ids) + len(slots), len(waiting.slots) + len(slots)
-        waiting.ids.update(run.ids)
-        waiting.slots.update(slots)
-        if (len(waiting.ids), len(waiting.slots)) == wanted:
-            waiting.runs.append((run, slots))
+        slots = self._slots_of(run)
+        if self._ids.take(run.ids) and self._slots.take(slots):
+            self._wait(run, slots)
             return True
-        # one appears twice within the run, and none of it was there before
-        waiting.ids.difference_update(run.ids)
-        waiting.slots.difference_update(slots)
+        self._made()
         return False
+
+    def book_unseen(self, run: ReadingRun) -> None:
+        """Book a run of readings of which it is known that no id and no day is taken."""
+        self._unseen = True
+        self._wait(run, None)
+
+    def _wait(self, run: ReadingRun, slots: list[int] | None) -> None:
+        self._runs.append((run, slots))
+        self._count += len(run)
+
+    def taken(self, run: ReadingRun) -> set[int]:
+        """Return the places of the readings whose id or day is taken, or there twice."""
+        slots = self._slots_of(run)
+        return self._ids.places_taken(run.ids) | self._slots.places_taken(slots)
+
+    def _slots_of(self, run: ReadingRun) -> list[int]:
+        return list(map(add, map(self._of.__getitem__, run.streams), run.days))
 
     def _slot(self, of: str, day: int) -> int:
         return self._of[of] + day
@@ -259,20 +248,48 @@ class Facts:
     def change(self, fact: Fact) -> None:
         """Put a fact in place of the one of its id, of the same kind, place and days."""
         facts = self._made()
-        facts[self._numbers[fact.id]] = fact
+        facts[self._ids.made[fact.id]] = fact
         if fact.struck:
             self.struck += 1
             if fact.kind != "transfer":
-                del self._on[self._slot(fact.of, fact.first)]
+                del self._slots.made[self._slot(fact.of, fact.first)]
+
+    # ---- runs that wait
+
+    def _seen(self, keys: Keys[K]) -> Keys[K]:
+        """Return keys, after those of runs that were booked unseen are among them."""
+        if self._unseen:
+            self._made()
+        return keys
+
+    def _clash(self, run: ReadingRun, slots: list[int]) -> int:
+        """Return the place of the first reading of a run whose id or day is taken."""
+        ids = {fact.id for fact in self._facts}
+        there = [each for each in self._facts if each.kind != "transfer" and not each.struck]
+        on = {self._slot(each.of, each.first) for each in there}
+        for place, (identity, slot) in enumerate(zip(run.ids, slots)):
+            if identity in ids or slot in on:
+                return place
+            ids.add(identity)
+            on.add(slot)
+        return 0
 
     def _made(self) -> list[Fact]:
         """Return all facts; those of runs are made and numbered now."""
-        facts = self._facts
-        for run, slots in self._waiting.runs:
+        facts, ids, on = self._facts, self._ids, self._slots
+        for run, slots in self._runs:
+            if slots is None:
+                self._verify(run)
+                slots = self._slots_of(run)
             numbers = range(len(facts), len(facts) + len(slots))
-            self._numbers.update(zip(run.ids, numbers))
-            self._on.update(zip(slots, numbers))
+            wanted = len(ids.made) + len(slots), len(on.made) + len(slots)
+            ids.made.update(zip(run.ids, numbers))
+            on.made.update(zip(slots, numbers))
+            if (len(ids.made), len(on.made)) != wanted:
+                raise run.disagreement(self._clash(run, slots))
             facts.extend(run.facts())
-        if self._waiting.runs:
-            self._waiting = _Waiting()
+        self._runs.clear()
+        self._unseen = False
+        ids.waiting.clear()
+        on.waiting.clear()
         return facts

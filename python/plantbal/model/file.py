@@ -1,7 +1,7 @@
 """The rows of a session's file, with long runs of readings kept together.
 
-A session of a year has mostly readings, one after the other. A run of them is judged at once, and
-if one of its rows may be refused, in pieces; only the rows of such a piece are judged one by one.
+A session of a year has mostly readings, one after the other. A run of them is taken as a whole; if
+some of them are refused, or may be, only these are looked at one by one.
 """
 
 from __future__ import annotations
@@ -10,62 +10,27 @@ import csv
 import io
 import re
 import sys
-from collections.abc import Iterator, Sequence
+from collections.abc import Callable, Iterator, Sequence
 from dataclasses import dataclass, replace
 from itertools import islice
-from typing import overload
 
+from plantbal.model.causes import Cause, Reason, Refused
 from plantbal.model.effects import Effect
-from plantbal.model.facts import At, ReadingRun
-from plantbal.model.forms import DATE, NAME, day_number
+from plantbal.model.facts import At
+from plantbal.model.readings import ReadingRows, ReadingRun
 from plantbal.model.state import Accepted, Answer, State
-from plantbal.schema import Column, schema
+from plantbal.records import without_empty_end
 
-# The longest run that is judged at once, and the pieces in which it is judged otherwise: one wrong
-# reading costs about as much as such a piece.
-_LONGEST = 5_000
-_PIECE = 500
+# The longest run of readings that is taken as a whole, in characters and in rows, the same of other
+# rows, and the longest run that is taken row by row without a look at its columns.
+_MOST_TEXT = 1 << 18
+_MOST_OTHERS = 1 << 17
+_MOST_ROWS = 5_000
+_FEW = 8
 # The rows that are in memory at once: a file of two letters a line has millions.
 _BATCH = 1 << 15
-_NAMES = re.compile(rf"(?:{NAME.pattern}(?:\n|\Z))*+")
-_WHOLE = r"(?:0|-?[1-9][0-9]{0,59})"
-_WHOLES = re.compile(rf"(?:{_WHOLE}(?:\n|\Z))*+")
-_READINGS = re.compile(
-    rf"(?:reading,{NAME.pattern},{NAME.pattern},{DATE.pattern},{_WHOLE},{_WHOLE}\n)"
-    rf"{{1,{_LONGEST}}}"  # not possessive: Python 3.11 ends such a match within a line
-)
-
-
-class ColumnRows(Sequence[Sequence[str]]):
-    """Rows that are kept as their columns, and made when they are asked for.
-
-    Parameters
-    ----------
-    columns : sequence of sequence of str
-        The columns, all of one length.
-    """
-
-    def __init__(self, columns: Sequence[Sequence[str]]) -> None:
-        self._columns = columns
-
-    def __len__(self) -> int:
-        return len(self._columns[0])
-
-    def __iter__(self) -> Iterator[tuple[str, ...]]:
-        return zip(*self._columns)
-
-    @overload
-    def __getitem__(self, place: int) -> tuple[str, ...]:
-        ...
-
-    @overload
-    def __getitem__(self, place: slice) -> ColumnRows:
-        ...
-
-    def __getitem__(self, place: int | slice) -> tuple[str, ...] | ColumnRows:
-        if isinstance(place, slice):
-            return ColumnRows([column[place] for column in self._columns])
-        return tuple(column[place] for column in self._columns)
+# Where a run of readings ends.
+_OTHER = re.compile(r"\n(?!reading,)")
 
 
 @dataclass(frozen=True, slots=True)
@@ -89,18 +54,19 @@ class Rows:
     lines: Sequence[int]
     run: ReadingRun | None = None
 
-    def pieces(self) -> Iterator[Rows]:
-        """Give its rows in pieces, of which none is a run yet."""
-        for at in range(0, len(self.rows), _PIECE):
-            end = at + _PIECE
-            yield Rows(self.rows[at:end], self.record + at, self.lines[at:end])
-
-    def readings(self) -> ReadingRun | None:
-        """Return what its rows say, if there are several and all are readings of valid forms."""
-        if self.run is not None or len(self.rows) == 1:
-            return self.run
-        _, ids, streams, days, grams, variances = zip(*self.rows)
-        return readings_of(ids, streams, days, grams, variances, self.lines)
+    def apart(self, places: set[int]) -> Iterator[Rows]:
+        """Give the rows at some places one by one, and the readings between them together."""
+        begin = 0
+        for place in (*sorted(places), len(self.rows)):
+            if begin < place:
+                rows = self.rows[begin:place]
+                if not isinstance(rows, ReadingRows):
+                    rows = ReadingRows(list(zip(*map(_of_reading, rows))))
+                yield Rows(rows, self.record + begin, self.lines[begin:place])
+            if place < len(self.rows):
+                row = [self.rows[place]]
+                yield Rows(row, self.record + place, self.lines[place : place + 1])
+            begin = place + 1
 
 
 @dataclass(frozen=True, slots=True)
@@ -127,7 +93,18 @@ class Step:
         return self.answer.effect if isinstance(self.answer, Accepted) else None
 
 
-def steps(state: State, data: bytes) -> Iterator[Step | Rows]:
+def _of_reading(row: Sequence[str]) -> tuple[str, ...]:
+    """Return a reading's row without empty fields at its end."""
+    return without_empty_end(tuple(row))
+
+
+def _always() -> bool:
+    return True
+
+
+def steps(
+    state: State, data: bytes, explained: Callable[[], bool] = _always
+) -> Iterator[Step | Rows]:
     """Fold the rows of a file into a state, and give each after it is judged.
 
     A run of readings that is accepted as a whole is given as one `Rows`.
@@ -138,52 +115,80 @@ def steps(state: State, data: bytes) -> Iterator[Step | Rows]:
         The state, which takes the rows.
     data : bytes
         The file.
+    explained : callable
+        Whether more is asked of a refused row than its code, when it comes.
     """
-    text = data.removeprefix(b"\xef\xbb\xbf").decode("latin-1")
-    parts = rows_of(data) if '"' in text or "\r" in text else _plain_rows(text)
-    for part in parts:
-        yield from _folded(state, part)
+    for part in rows_of(data):
+        yield from fold(state, part, explained)
 
 
-def _folded(state: State, part: Rows) -> Iterator[Step | Rows]:
-    """Fold some rows into a state, as a whole if all are readings that it takes."""
-    run = part.readings()
-    if run is not None and state.after_run(run):
-        yield replace(part, run=run)
-    elif len(part.rows) > _PIECE:
-        for piece in part.pieces():
-            yield from _folded(state, piece)
+def fold(
+    state: State, part: Rows, explained: Callable[[], bool] = _always
+) -> Iterator[Step | Rows]:
+    """Fold some rows into a state, as `steps` does."""
+    if state.core is not None:
+        yield from _answered(state, part, state.core.codes(part.rows), explained)
     else:
-        for number, (row, line) in enumerate(zip(part.rows, part.lines)):
-            fields, at = tuple(row), At(part.record + number, line)
+        yield from _judged(state, part)
+
+
+def _answered(
+    state: State, part: Rows, codes: bytes, explained: Callable[[], bool]
+) -> Iterator[Step | Rows]:
+    """Fold rows that the core has answered: which ones are refused is known."""
+    if isinstance(part.rows, ReadingRows) and len(codes) > 1:
+        refused = {place for place, code in enumerate(codes) if code} if any(codes) else set()
+        if not refused:
+            yield _accepted(state, part)
+            return
+        for some in part.apart(refused | part.rows.odd):
+            if isinstance(some.rows, ReadingRows):
+                yield _accepted(state, some)
+            else:
+                yield _coded(state, some, 0, codes[some.record - part.record], explained)
+        return
+    for place, code in enumerate(codes):
+        yield _coded(state, part, place, code, explained)
+
+
+def _accepted(state: State, part: Rows) -> Rows:
+    """Take readings that the core has accepted."""
+    assert isinstance(part.rows, ReadingRows)
+    run = ReadingRun(part.rows, part.lines)
+    state.after_accepted(run)
+    return replace(part, run=run)
+
+
+def _coded(state: State, part: Rows, place: int, code: int, explained: Callable[[], bool]) -> Step:
+    """Take a row that the core has answered with a code."""
+    fields, at = tuple(part.rows[place]), At(part.record + place, part.lines[place])
+    if code and not explained():
+        return Step(fields, at, Refused(Reason.CORE_ALONE, core=Cause(code)))
+    return Step(fields, at, state.after_core(code, fields, at))
+
+
+def _judged(state: State, part: Rows) -> Iterator[Step | Rows]:
+    """Fold rows that the rules of this package answer."""
+    rows = part.rows
+    if not isinstance(rows, ReadingRows) or len(rows) <= _FEW:
+        for place, (row, line) in enumerate(zip(rows, part.lines)):
+            fields, at = tuple(row), At(part.record + place, line)
             yield Step(fields, at, state.after(fields, at))
-
-
-def _plain_rows(text: str) -> Iterator[Rows]:
-    """Give the rows of a text without quotes whose lines end with LF, as `rows_of` does.
-
-    Readings of valid forms are told by one pattern, and their columns are every sixth field.
-    """
-    at, line, record = 0, 0, 1
-    while at < len(text):
-        found = _READINGS.match(text, at)
-        if found is not None:
-            fields = text[at : found.end() - 1].replace("\n", ",").split(",")
-            kinds, ids, streams, days, grams, variances = (fields[at::6] for at in range(6))
-            count, at = len(ids), found.end()
-            lines = range(line + 1, line + count + 1)
-            run = _run_of(ids, streams, days, grams, variances, lines) if count > 1 else None
-            rows = ColumnRows([kinds, ids, streams, days, grams, variances])
-            yield Rows(rows, record, lines, run)
-            line, record = line + count, record + count
-            continue
-        end = text.find("\nreading,", at) + 1 or len(text)
-        part = list(csv.reader(io.StringIO(text[at:end], newline="")))
-        for number, row in enumerate(part, start=line + 1):
-            if row:
-                yield Rows([row], record, (number,))
-                record += 1
-        at, line = end, line + len(part)
+    elif rows.odd:
+        for some in part.apart(rows.odd):
+            yield from _judged(state, some)
+    else:
+        run = ReadingRun(rows, part.lines)
+        doubtful = state.after_run(run)
+        if not doubtful:
+            yield replace(part, run=run)
+        for some in part.apart(doubtful) if doubtful else ():
+            if isinstance(some.rows, ReadingRows):
+                run = ReadingRun(some.rows, some.lines)
+                state.after_readings(run)
+                yield replace(some, run=run)
+            else:
+                yield from _judged(state, some)
 
 
 def rows_of(data: bytes) -> Iterator[Rows]:
@@ -194,25 +199,61 @@ def rows_of(data: bytes) -> Iterator[Rows]:
     data : bytes
         The text.
     """
+    text = data.removeprefix(b"\xef\xbb\xbf").decode("latin-1")
+    return _quoted_rows(text) if '"' in text or "\r" in text else _plain_rows(text)
+
+
+def _plain_rows(text: str) -> Iterator[Rows]:
+    """Give the rows of a text without quotes whose lines end with LF."""
+    at, line, record = 0, 1, 1
+    while at < len(text):
+        if text.startswith("reading,", at):
+            end = _end_of_run(text, at)
+            count = text.count("\n", at, end - 1) + 1
+            rows = ReadingRows(text=text[at:end], count=count)
+            yield Rows(rows, record, range(line, line + count))
+        else:
+            end = text.find("\nreading,", at, at + _MOST_OTHERS) + 1
+            end = end or text.find("\n", at + _MOST_OTHERS) + 1 or len(text)
+            lines = text[at : end - text.endswith("\n", at, end)].split("\n")
+            numbered = [
+                (number, each.split(",")) for number, each in enumerate(lines, line) if each
+            ]
+            count = len(numbered)
+            if numbered:
+                yield Rows([row for _, row in numbered], record, [number for number, _ in numbered])
+            line += len(lines) - count
+        line, record, at = line + count, record + count, end
+
+
+def _end_of_run(text: str, at: int) -> int:
+    """Return where the run of readings ends that begins at a place, or the part of it that is taken."""
+    least = text.rfind("\n", at, at + _MOST_TEXT) + 1 or text.find("\n", at) + 1 or len(text)
+    other = _OTHER.search(text, at, least)
+    return other.start() + 1 if other else least
+
+
+def _quoted_rows(text: str) -> Iterator[Rows]:
+    """Give the rows of any text."""
     record = 1
-    for rows, lines in _batches(data):
+    for rows, lines in _batches(text):
         # 1 for a row that may be part of a run
         flags = bytes([len(row) == 6 and row[0] == "reading" for row in rows])
         at, count = 0, len(rows)
         while at < count:
-            end = at + 1
+            end = flags.find(1 - flags[at], at, at + _MOST_ROWS)
+            end = min(at + _MOST_ROWS, count) if end < 0 else end
+            some: Sequence[Sequence[str]] = rows[at:end]
             if flags[at]:
-                end = flags.find(0, at, at + _LONGEST)
-                end = min(at + _LONGEST, count) if end < 0 else end
-            yield Rows(rows[at:end], record + at, lines[at:end])
+                some = ReadingRows(list(zip(*some)))
+            yield Rows(some, record + at, lines[at:end])
             at = end
         record += count
 
 
-def _batches(data: bytes) -> Iterator[tuple[list[list[str]], Sequence[int]]]:
+def _batches(text: str) -> Iterator[tuple[list[list[str]], Sequence[int]]]:
     """Give the rows of a text, some at a time, and the lines that they begin in."""
     csv.field_size_limit(sys.maxsize)
-    text = data.removeprefix(b"\xef\xbb\xbf").decode("latin-1")
     # With newline="" lines end with CR, LF or both, as they stand.
     reader = csv.reader(io.StringIO(text, newline=""))
     line = 0
@@ -239,60 +280,3 @@ def _batches(data: bytes) -> Iterator[tuple[list[list[str]], Sequence[int]]]:
 def _apart(numbered: list[tuple[int, list[str]]]) -> tuple[list[list[str]], Sequence[int]]:
     """Return rows and their lines apart."""
     return [row for _, row in numbered], [line for line, _ in numbered]
-
-
-def readings_of(
-    ids: Sequence[str],
-    streams: Sequence[str],
-    days: Sequence[str],
-    grams: Sequence[str],
-    variances: Sequence[str],
-    lines: Sequence[int],
-) -> ReadingRun | None:
-    """Return readings whose fields all have the forms of their columns, or None.
-
-    Parameters
-    ----------
-    ids, streams, days, grams, variances : sequence of str
-        The fields of the rows after their kind, as columns.
-    lines : sequence of int
-        The lines of the rows.
-    """
-    formed = _all_match(_NAMES, ids) and _all_match(_WHOLES, [*grams, *variances])
-    return _run_of(ids, streams, days, grams, variances, lines) if formed else None
-
-
-def _run_of(
-    ids: Sequence[str],
-    streams: Sequence[str],
-    days: Sequence[str],
-    grams: Sequence[str],
-    variances: Sequence[str],
-    lines: Sequence[int],
-) -> ReadingRun | None:
-    """Return readings whose ids are names and whose amounts are whole numbers, or None."""
-    texts = set(days)
-    numbers = {day: number for day in texts if (number := day_number(day)) is not None}
-    row = schema().row("reading")
-    amounts = _within(grams, row.column("grams"))
-    errors = _within(variances, row.column("variance"))
-    if len(numbers) < len(texts) or amounts is None or errors is None:
-        return None
-    on = list(map(numbers.__getitem__, days))
-    return ReadingRun(ids, streams, on, amounts, errors, lines)
-
-
-def _within(texts: Sequence[str], column: Column) -> list[int] | None:
-    """Return the whole numbers that texts write, or None if one is out of a column's range."""
-    numbers = list(map(int, texts))
-    low, high = column.low, column.high
-    if numbers and low is not None and high is not None:
-        return numbers if low <= min(numbers) and max(numbers) <= high else None
-    return numbers
-
-
-def _all_match(pattern: re.Pattern[str], texts: Sequence[str]) -> bool:
-    """Say whether each of some texts is one line that a pattern of lines takes."""
-    lines = "\n".join(texts)
-    whole = lines.count("\n") == len(texts) - 1 and "" not in texts
-    return whole and pattern.fullmatch(lines) is not None

@@ -15,11 +15,12 @@ LIMITS = schema().limits
 FIRST_DAY = datetime.date(LIMITS["first_year"], 1, 1)
 LAST_DAY = datetime.date(LIMITS["last_year"], 12, 31)
 NAME = re.compile(rf"[A-Za-z0-9_.-]{{1,{LIMITS['most_name']}}}")
+NAMES = re.compile(rf"(?:{NAME.pattern}(?:\n|\Z))*+")
 _REASON = re.compile(rf"[ -~]{{1,{LIMITS['most_reason']}}}")
-_WHOLE = re.compile(r"0|-?[1-9][0-9]*")
 DATE = re.compile(r"[0-9]{4}-[0-9]{2}-[0-9]{2}")
-# A number of more digits than this is none that a column takes.
-_MOST_DIGITS = 60
+# A number of more digits is none that a column takes.
+_WHOLE = re.compile(r"0|-?[1-9][0-9]{0,59}")
+_WHOLES = re.compile(rf"(?:(?:{_WHOLE.pattern})(?:\n|\Z))*+")
 # The rows that ask for output and aren't stored.
 ASKS = ("design", "advise", "report", "history", "window", "component")
 
@@ -56,14 +57,36 @@ def day_text(number: int) -> str:
     return datetime.date.fromordinal(number).isoformat()
 
 
+def all_match(pattern: re.Pattern[str], texts: Sequence[str]) -> bool:
+    """Say whether each of some texts is one line that a pattern of lines takes."""
+    lines = "\n".join(texts)
+    whole = lines.count("\n") == len(texts) - 1 and "" not in texts
+    return whole and pattern.fullmatch(lines) is not None
+
+
+def wholes_of(texts: Sequence[str]) -> list[int] | None:
+    """Return the numbers that texts write; None if one isn't a whole number in digits."""
+    distinct = set(texts)
+    if len(distinct) * 4 < len(texts):
+        some = list(distinct)
+        numbers = wholes_of(some)
+        return numbers and list(map(dict(zip(some, numbers)).__getitem__, texts))
+    return list(map(int, texts)) if not texts or all_match(_WHOLES, texts) else None
+
+
+def are_within(numbers: Sequence[int], low: int | None, high: int | None) -> bool:
+    """Say whether all of some numbers are in a range, of which None is no end."""
+    if not numbers:
+        return True
+    return (low is None or low <= min(numbers)) and (high is None or max(numbers) <= high)
+
+
 def whole_number(text: str, low: int | None, high: int | None) -> int | None:
     """Return the number that a field writes, or None if it writes none of the range."""
-    if len(text) > _MOST_DIGITS or not _WHOLE.fullmatch(text):
+    if not _WHOLE.fullmatch(text):
         return None
     number = int(text)
-    if (low is not None and number < low) or (high is not None and number > high):
-        return None
-    return number
+    return number if are_within((number,), low, high) else None
 
 
 def fault_of(column: Column, text: str) -> Reason | None:

@@ -17,6 +17,7 @@ from plantbal.memory import uncollected
 from plantbal.model.asking import Advise, Component, Design, Report, Window
 from plantbal.model.booking import Assay
 from plantbal.model.causes import Refused
+from plantbal.model.core import installed_core
 from plantbal.model.effects import Effect
 from plantbal.model.facts import At, Edit, Fact
 from plantbal.model.file import Rows, Step, steps
@@ -229,7 +230,7 @@ class Ledger:
     def __init__(self, source: str, data: bytes, *, kept: int | None = None) -> None:
         self.source = source
         self.data = data
-        self.state = State()
+        self.state = State(installed_core())
         self.rows = 0
         self.refused = Refusals(kept)
         self.seen: list[Seen] = []
@@ -240,7 +241,7 @@ class Ledger:
         self._declared: tuple[list[str], list[Stream]] | None = None
         self._critical: dict[tuple[str, int], int] | None = None
         with uncollected():
-            for step in steps(self.state, data):
+            for step in steps(self.state, data, lambda: not self.refused.is_full):
                 self._take(step)
 
     @classmethod

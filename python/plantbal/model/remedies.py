@@ -75,6 +75,7 @@ _DO = {
     Reason.NOT_VERSION_2: "write version,2 as the first row",
     Reason.VERSION_AFTER_ROWS: "write it as the first row",
     Reason.VERSION_AGAIN: "leave it out",
+    Reason.CORE_ALONE: "the core is right; report this row as a fault of plantbal",
     Reason.FIELD_COUNT: "write {patterns}",
     Reason.SERVICE_OF_VERSION_2: f"dates of service {_OF_VERSION_2}",
     Reason.FACT_STRUCK: "book it anew",

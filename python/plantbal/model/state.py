@@ -1,17 +1,31 @@
 """A session after its rows so far, and its one fold: `State.after`.
 
-Each row is read by the schema, refused by the rules of its effect, or stored. All that reads a
-session in this package reads this state; no rule of acceptance stands anywhere else.
+If the library of the proved core is installed, each row is answered by it, and the rules of this
+package say what the answer means: which rule refuses the row, its column, its values, the row it
+clashes with. Without the library these rules answer. All that reads a session in this package reads
+this state; no rule of acceptance stands anywhere but in the effects of rows.
 """
 
 from __future__ import annotations
 
+from collections import defaultdict
 from collections.abc import Callable
 from dataclasses import dataclass
+from typing import Any
 
 from plantbal.model.asking import Advise, Component, Design, History, Report, Window
-from plantbal.model.booking import Amends, Assay, BooksAssay, BooksFact, Closes, Strikes
-from plantbal.model.causes import Refused
+from plantbal.model.booking import (
+    Amends,
+    Assay,
+    BooksAssay,
+    BooksFact,
+    Closes,
+    FactRule,
+    Strikes,
+)
+from plantbal.model.causes import Cause, Reason, Refused
+from plantbal.model.core import Core, CoreSession
+from plantbal.model.doubts import doubtful, unformed, unmetered
 from plantbal.model.effects import (
     AddsPoint,
     Blank,
@@ -25,10 +39,12 @@ from plantbal.model.effects import (
     MakesVersion2,
     OpensPeriod,
 )
-from plantbal.model.facts import At, Edit, Fact, Facts, ReadingRun
-from plantbal.model.forms import LIMITS, form_refused, row_of
+from plantbal.faults import ModelFault, Place
+from plantbal.model.facts import At, Edit, Fact, Facts
+from plantbal.model.forms import form_refused, row_of
 from plantbal.model.periods import Period, Periods
-from plantbal.model.plant import DeclaredPlant, in_service
+from plantbal.model.plant import DeclaredPlant
+from plantbal.model.readings import ReadingRun
 from plantbal.records import without_empty_end
 
 # What reads the effect of each kind of row.
@@ -78,8 +94,15 @@ Answer = Accepted | Refused
 class State:
     """A session after its rows so far.
 
+    Parameters
+    ----------
+    core : Core, optional
+        A session of the library that has taken no row; it takes the rows of this one.
+
     Attributes
     ----------
+    core : CoreSession or None
+        What answers the rows; without it the rules of this package do.
     version : int
         The version of the session.
     stored : bool
@@ -94,19 +117,27 @@ class State:
         The assays by component, stream or tank, and period.
     edits : list of Edit
         The edits and closes, in order.
+    passed : dict of FactRule to set
+        The streams and the days of which a rule refuses no reading, as far as it was asked.
     """
 
-    def __init__(self) -> None:
+    def __init__(self, core: Core | None = None) -> None:
+        self.core = None if core is None else CoreSession(core)
         self.version = 1
         self.stored = False
         self.plant = DeclaredPlant()
         self.periods = Periods()
-        self.facts = Facts()
+        self.facts = Facts(self._verify)
         self.assays: dict[tuple[str, str, str], Assay] = {}
         self.edits: list[Edit] = []
+        self.passed: defaultdict[FactRule, set[Any]] = defaultdict(set)
+
+    def __getstate__(self) -> dict[str, Any]:
+        # a session of the library can't be copied; who copies a state asks anew, or has these rules
+        return {**self.__dict__, "core": None}
 
     def judge(self, fields: tuple[str, ...]) -> Answer:
-        """Return the answer to a row, without taking it.
+        """Return the answer to a row by the rules of this package, without taking it.
 
         Parameters
         ----------
@@ -134,49 +165,96 @@ class State:
             Its fields.
         at : At
             Where it stands.
+
+        Raises
+        ------
+        ModelFault
+            If the core accepts the row, and the rules of this package refuse it.
         """
-        answer = self.judge(fields)
+        if self.core is None:
+            return self._taken(self.judge(fields), at)
+        return self.after_core(self.core.code(fields), fields, at)
+
+    def after_core(self, code: int, fields: tuple[str, ...], at: At) -> Answer:
+        """Take a row that the core has answered, and return what the answer means.
+
+        The core's answer holds. If the rules of this package refuse the row otherwise, or not at
+        all, the answer says so; if they refuse what the core accepts, nothing can be said of the
+        session any more.
+
+        Parameters
+        ----------
+        code : int
+            The code of the core, 0 if it accepts the row.
+        fields, at
+            As in `after`.
+
+        Raises
+        ------
+        ModelFault
+            As in `after`.
+        """
+        own = self.judge(fields)
+        if code == (own.cause if isinstance(own, Refused) else 0):
+            return self._taken(own, at)
+        said = "accept it" if isinstance(own, Accepted) else f"refuse it with {own.cause.said}"
+        if code:
+            return Refused(Reason.CORE_ALONE, values={"own": said}, core=Cause(code))
+        place = Place(line=at.line or None, record=at.record or None)
+        raise ModelFault(without_empty_end(fields), said, place)
+
+    def _taken(self, answer: Answer, at: At) -> Answer:
+        """Do what an answered row does, and return the answer."""
         if isinstance(answer, Accepted):
             effect = answer.effect
             effect.store(self, at)
+            if not isinstance(effect, BooksFact):
+                self.passed.clear()
             self.stored = self.stored or not (effect.asks or isinstance(effect, Blank))
         return answer
 
-    def after_run(self, run: ReadingRun) -> bool:
-        """Take a run of readings of valid forms, if none would be refused; say whether it is taken.
+    def after_run(self, run: ReadingRun) -> set[int]:
+        """Take a run of readings, unless some of them have to be judged by themselves.
 
         Parameters
         ----------
         run : ReadingRun
-            The readings. Ids are names, and numbers within the ranges of their columns.
+            The readings.
+
+        Returns
+        -------
+        set of int
+            The places of those: the run is taken if there are none. All others are accepted, and
+            `after_readings` takes them.
         """
-        if not run.ids:
-            return True
-        accepted = (
-            len(self.facts) + len(run.ids) <= LIMITS["most_facts"]
-            and self._are_read(run)
-            and self._is_open(set(run.days))
-            and self.facts.book_run(run)
-        )
-        self.stored = self.stored or accepted
-        return accepted
+        places = doubtful(self, run)
+        if not places and self.facts.book_run(run):
+            self.stored = True
+            return places
+        return places | self.facts.taken(run)
 
-    def _are_read(self, run: ReadingRun) -> bool:
-        """Say whether each stream of a run is metered, and in service on the day beside it."""
-        known, names = self.plant.streams, set(run.streams)
-        streams = {name: known[name] for name in names if name in known}
-        if len(streams) < len(names) or any(each.kind != "metered" for each in streams.values()):
-            return False
-        if all(each.service is None for each in streams.values()):
-            return True
-        pairs = zip(run.streams, run.days)
-        return all(in_service(streams[name].service, day) for name, day in pairs)
+    def after_readings(self, run: ReadingRun) -> None:
+        """Take readings of which `after_run` had no doubt, when all before them are taken."""
+        booked = self.facts.book_run(run)
+        assert booked, "its ids and days are nowhere else"
+        self.stored = True
 
-    def _is_open(self, days: set[int]) -> bool:
-        """Say whether none of some days is in a closed period."""
-        if self.periods.first_closed is None:
-            return True
-        return all(self.periods.closed_within(day, day) is None for day in days)
+    def after_accepted(self, run: ReadingRun) -> None:
+        """Take a run of readings that the core has accepted."""
+        self.facts.book_unseen(run)
+        self.stored = True
+
+    def _verify(self, run: ReadingRun) -> None:
+        """Look at a run that the core accepted, before its facts are made.
+
+        Raises
+        ------
+        ModelFault
+            If it has no six fields, a form that isn't one, or a stream that isn't metered.
+        """
+        places = run.rows.odd or unformed(run) | unmetered(self, run)
+        if places:
+            raise run.disagreement(min(places))
 
     # ---- what is there
 

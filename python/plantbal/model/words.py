@@ -79,6 +79,7 @@ _SAID = {
     Reason.PERIODS_FULL: "{count:,} periods are the limit",
     Reason.ASSAYS_FULL: "{count:,} assays are the limit",
     Reason.FACTS_FULL: "{count:,} readings, transfers and dips are the limit",
+    Reason.CORE_ALONE: "the proved core refuses it, and the rules of this package {own}",
     Reason.WINDOW_FULL: "it would have {count:,} {things}, and at most {most:,} may be",
 }
 
@@ -99,7 +100,7 @@ def refusal_of(state: State, record: tuple[str, ...], refused: Refused) -> Refus
     count = _FIELDS_OF_HEAD.get(record[0], 2)
     head = " ".join(field for field in record[:count] if field).strip()
     return Refusal(
-        f"{head}: {what} (refused {int(cause)}, {cause.word})",
+        f"{head}: {what} (refused {cause.said})",
         code=int(cause),
         word=cause.word,
         column=refused.column,

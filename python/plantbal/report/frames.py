@@ -22,35 +22,59 @@ def whole_numbers(values: Sequence[int | None]) -> Any:
     values : sequence of int or None
         The numbers; None is one that is missing.
     """
+    import numpy
     import pandas
 
-    import numpy
-
-    there = [value for value in values if value is not None]
-    if there and not (min(there) in INT64 and max(there) in INT64):
-        return pandas.array(list(values), dtype=object)
     missing = numpy.array([value is None for value in values], dtype=bool)
-    numbers = numpy.array([value or 0 for value in values], dtype=numpy.int64)
+    try:
+        numbers = numpy.array([value or 0 for value in values], dtype=numpy.int64)
+    except OverflowError:
+        return pandas.array(list(values), dtype=object)
     return pandas.arrays.IntegerArray(numbers, missing)
 
 
-def _column(column: Column, texts: list[str | None]) -> Any:
+def numbers_of(texts: Sequence[str | None]) -> Any:
+    """Return texts of whole numbers as `whole_numbers` does; what is empty or None is missing."""
+    import numpy
+    import pandas
+
+    if not all(texts):
+        return whole_numbers([int(text) if text else None for text in texts])
+    values = list(map(int, filter(None, texts)))
+    try:
+        numbers = numpy.array(values, dtype=numpy.int64)
+    except OverflowError:
+        return whole_numbers(values)
+    return pandas.arrays.IntegerArray(numbers, numpy.zeros(len(values), dtype=bool))
+
+
+def _column(column: Column, texts: Sequence[str | None]) -> Any:
     """Return the texts of a column by its type."""
+    import numpy
     import pandas
 
     if column.type == "number":
-        return whole_numbers([int(text) if text else None for text in texts])
-    return pandas.array([text if text is not None else "" for text in texts], dtype=object)
+        return numbers_of(texts)
+    if None in texts:
+        texts = [text or "" for text in texts]
+    return pandas.arrays.PandasArray(numpy.array(texts, dtype=object))
+
+
+def _columns(kind: str, rows: Sequence[Values]) -> dict[str, Any]:
+    """Return the columns of rows of a kind."""
+    columns = schema().output[kind].columns
+    # the columns of a row come in their order, after its kind
+    if rows and all(map((len(columns) + 1).__eq__, map(len, rows))):
+        texts = list(zip(*(row.values() for row in rows)))[1:]
+        return {column.name: _column(column, each) for column, each in zip(columns, texts)}
+    return {each.name: _column(each, [row.get(each.name) for row in rows]) for each in columns}
 
 
 def frame_of(kind: str, rows: Sequence[Values], front: dict[str, Any]) -> pandas.DataFrame:
     """Return rows of a kind as a table, with further columns in front."""
     import pandas
 
-    data = dict(front)
-    for column in schema().output[kind].columns:
-        data[column.name] = _column(column, [row.get(column.name) for row in rows])
-    return pandas.DataFrame(data)
+    return pandas.DataFrame({**front, **_columns(kind, rows)})
 
 
 def repeat(values: list[Any], count: list[int]) -> Any:
@@ -96,14 +120,14 @@ def frame_of_blocks(blocks: Sequence[Block]) -> pandas.DataFrame:
     """Return a row a block; `plantbal.report.output.Output.blocks` says what it has."""
     import pandas
 
-    heads = frame_of("report", [{**b.head, "period": b.subject} for b in blocks], {})
-    heads.insert(0, "block", range(len(blocks)))
     none: Values = {}
-    solved = frame_of("solved", [block.solved or none for block in blocks], {})
-    whole = frame_of("global", [block.whole or none for block in blocks], {})
     last = {block.number for block in last_blocks(blocks).values()}
-    rest = pandas.DataFrame(
+    return pandas.DataFrame(
         {
+            "block": range(len(blocks)),
+            **_columns("report", [{**block.head, "period": block.subject} for block in blocks]),
+            **_columns("solved", [block.solved or none for block in blocks]),
+            **_columns("global", [block.whole or none for block in blocks]),
             "component": [block.component for block in blocks],
             "window": [block.window.last if block.window else "" for block in blocks],
             "taken": [" ".join(block.taken) for block in blocks],
@@ -112,7 +136,6 @@ def frame_of_blocks(blocks: Sequence[Block]) -> pandas.DataFrame:
             "last": [block.number in last for block in blocks],
         }
     )
-    return pandas.concat([heads, solved, whole, rest], axis=1)
 
 
 def frame_of_tests(blocks: Sequence[Block]) -> pandas.DataFrame:
@@ -132,7 +155,7 @@ def frame_of_tests(blocks: Sequence[Block]) -> pandas.DataFrame:
     }
     for name in ("low", "high", "net", "variance", "critical"):
         texts = [row.get(name) for row in flat]
-        data[name] = whole_numbers([int(text) if text else None for text in texts])
+        data[name] = numbers_of(texts)
     data["verdict"] = [row["verdict"] for row in flat]
     return pandas.DataFrame(data)
 
@@ -210,7 +233,7 @@ def verdict_frame(rows: Iterable[Values]) -> pandas.DataFrame:
         if name in ("period", "word", "name"):
             data[name] = texts
         else:
-            data[name] = whole_numbers([int(text) if text else None for text in texts])
+            data[name] = numbers_of(texts)
     codes = {"no": schema().tests, "unreadable": schema().unreadable}
     found = [codes[row["row"]].get(int(row["code"])) if "code" in row else None for row in judged]
     data["about"] = [code.about if code else "" for code in found]

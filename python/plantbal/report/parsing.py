@@ -125,6 +125,11 @@ def _lines_of(text: str, passed: Mapping[str, int]) -> Iterator[tuple[int, list[
             if fields and len(fields) - 1 != passed.get(fields[0]):
                 yield reader.line_num, fields
         return
+    if not passed:
+        yield from (
+            (number, line.split(",")) for number, line in enumerate(lines_of(text), 1) if line
+        )
+        return
     for number, line in enumerate(lines_of(text), 1):
         if line and line.count(",") != passed.get(line.partition(",")[0]):
             yield number, line.split(",")

@@ -10,15 +10,17 @@ from pathlib import Path
 from typing import TYPE_CHECKING, Any, Self
 
 from plantbal import limits
-from plantbal.faults import Fault, Place, read_bytes
+from plantbal.faults import Fault, Place, Refusal, read_bytes
 from plantbal.files import write_text
 from plantbal.memory import uncollected
 from plantbal.model.causes import Refused
 from plantbal.model.effects import Effect
 from plantbal.model.facts import At
-from plantbal.model.file import ColumnRows, Rows, Step, readings_of, steps
+from plantbal.model.core import CoreSession, installed_core
+from plantbal.model.file import Rows, Step, fold, steps
 from plantbal.model.periods import Period
 from plantbal.model.plant import Service
+from plantbal.model.readings import ReadingRows
 from plantbal.model.refusals import Refusals
 from plantbal.model.state import State
 from plantbal.model.words import refusal_of
@@ -84,12 +86,16 @@ class SessionRows:
         self.strict = strict
         self.refused = Refusals(kept)
         self.notes: list[str] = []
-        self.state = State()
+        self.state = State(installed_core())
         self._rows = _Kept()
         if version not in (1, 2):
             raise Fault(f"there is no version {version} of sessions", remedy="say 1 or 2")
         if version == 2:
             self.row("version", "2")
+
+    def __setstate__(self, found: dict[str, Any]) -> None:
+        self.__dict__.update(found)
+        self._ask_again()
 
     # ---- what is there
 
@@ -226,17 +232,40 @@ class SessionRows:
         source, data
             As in `take`.
         """
-        for step in steps(self.state, data):
-            if isinstance(step, Rows):
-                self._rows.add(step.rows)
-                yield step
-            elif isinstance(step.answer, Refused):
-                place = Place(file=source, line=step.at.line, record=step.at.record)
-                self._refuse(step.fields, step.answer, place)
-            else:
-                if record := without_empty_end(step.fields):
-                    self._rows.append(record)
-                yield step
+        yield from self._taken(
+            steps(self.state, data, self._explains),
+            lambda at: Place(file=source, line=at.line, record=at.record),
+        )
+
+    def _explains(self) -> bool:
+        """Say whether what is said of the next refused row is kept."""
+        return self.strict or not self.refused.is_full
+
+    def _taken(
+        self, answered: Iterable[Step | Rows], place: Callable[[At], Place]
+    ) -> Iterator[Step | Rows]:
+        """Keep the accepted rows and the refused ones, and give each that is accepted."""
+        try:
+            for step in answered:
+                if isinstance(step, Rows):
+                    self._rows.add(step.rows)
+                    yield step
+                elif isinstance(step.answer, Refused):
+                    self._refuse(step.fields, step.answer, place(step.at))
+                else:
+                    if record := without_empty_end(step.fields):
+                        self._rows.append(record)
+                    yield step
+        except Refusal:
+            self._ask_again()
+            raise
+
+    def _ask_again(self) -> None:
+        """Have a core take the accepted rows: the one before had others, or is of another session."""
+        core = installed_core()
+        self.state.core = None if core is None else CoreSession(core)
+        if self.state.core is not None:
+            self.state.core.codes(list(self._rows))
 
     def row(self, *fields: str, place: Place | None = None) -> bool:
         """Take a row as its fields, of which the first is its kind.
@@ -307,12 +336,12 @@ class SessionRows:
         place : callable
             The place of the row of a number, counted from 0, for what is said of it.
         """
-        run = readings_of(*columns, bytes(len(columns[0])))
-        if run is not None and self.state.after_run(run):
-            self._rows.add(ColumnRows([["reading"] * len(columns[0]), *columns]))
-            return
-        for number, fields in enumerate(zip(*columns)):
-            self.row("reading", *fields, place=place(number))
+        count = len(columns[0])
+        if count:
+            part = Rows(ReadingRows([["reading"] * count, *columns]), 0, bytes(count))
+            answered = fold(self.state, part, self._explains)
+            for _ in self._taken(answered, lambda at: place(at.record)):
+                pass
 
     # ---- dicts and frames
 
