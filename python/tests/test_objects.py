@@ -5,6 +5,7 @@ from __future__ import annotations
 import asyncio
 import json
 import pickle
+import sys
 from collections.abc import Iterator
 from concurrent.futures import Executor, ProcessPoolExecutor, ThreadPoolExecutor
 from contextlib import contextmanager
@@ -235,3 +236,19 @@ def test_too_little_memory(program: Path) -> None:
     with pytest.raises(ProgramFault) as caught:
         plantbal.run_text(rows, program=program, memory=5_000_000)
     assert caught.value.name in ("NoMemory", "Ended")
+
+
+def test_without_pandas(monkeypatch: pytest.MonkeyPatch, tmp_path: Path) -> None:
+    """A Python that has no pandas, or none of its parts, is told which package has them."""
+    for name in ("numpy", "pandas"):
+        monkeypatch.setitem(sys.modules, name, None)
+    output = plantbal.read_report(EXAMPLES / "refinery_day.out.csv")
+    for table in (
+        lambda: output.streams,
+        lambda: output.blocks,
+        lambda: output.tests,
+        output.tonnes,
+        lambda: output.to_xlsx(tmp_path / "output.xlsx"),
+    ):
+        with pytest.raises(ToolMissing, match="python3-pandas"):
+            table()

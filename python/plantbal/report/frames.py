@@ -5,6 +5,7 @@ from __future__ import annotations
 from collections.abc import Iterable, Sequence
 from typing import TYPE_CHECKING, Any
 
+from plantbal.faults import ToolMissing
 from plantbal.report.blocks import Block, Values, last_blocks
 from plantbal.schema import Column, schema
 
@@ -12,6 +13,21 @@ if TYPE_CHECKING:
     import pandas
 
 INT64 = range(-(2**63), 2**63)
+
+
+def need_pandas() -> None:
+    """Do nothing if pandas and its numpy are there.
+
+    Raises
+    ------
+    ToolMissing
+        If they aren't.
+    """
+    try:
+        import numpy  # noqa: F401
+        import pandas  # noqa: F401
+    except ImportError as error:
+        raise ToolMissing("pandas", "python3-pandas") from error
 
 
 def whole_numbers(values: Sequence[int | None]) -> Any:
@@ -112,12 +128,14 @@ def frame_in_blocks(
     kind: str, blocks: Sequence[Block], rows: Sequence[Sequence[Values]]
 ) -> pandas.DataFrame:
     """Return the rows of a kind of each block, with the block, the period and the round of each."""
+    need_pandas()
     front = _front(blocks, [len(some) for some in rows])
     return frame_of(kind, [row for some in rows for row in some], front)
 
 
 def frame_of_blocks(blocks: Sequence[Block]) -> pandas.DataFrame:
     """Return a row a block; `plantbal.report.output.Output.blocks` says what it has."""
+    need_pandas()
     import pandas
 
     none: Values = {}
@@ -140,6 +158,7 @@ def frame_of_blocks(blocks: Sequence[Block]) -> pandas.DataFrame:
 
 def frame_of_tests(blocks: Sequence[Block]) -> pandas.DataFrame:
     """Return all tests; `plantbal.report.output.Output.tests` says what the table has."""
+    need_pandas()
     import pandas
 
     rows: list[list[Values]] = []

@@ -22,6 +22,7 @@ from plantbal.report.frames import (
     frame_of_windows,
     frame_under,
     is_missing,
+    need_pandas,
     verdict_frame,
 )
 from plantbal.report.judged import judge_rows
@@ -339,6 +340,7 @@ class Output:
         NotOk
             If the output isn't ok, and that isn't said to be meant.
         """
+        need_pandas()
         import pandas
 
         if not anyway:

@@ -10,11 +10,12 @@ from decimal import Decimal
 from typing import TYPE_CHECKING
 
 from plantbal.amounts import tonnes_of
-from plantbal.faults import Fault, ToolMissing, WordsFault
+from plantbal.faults import Fault, WordsFault
 from plantbal.files import write_text
 from plantbal.forms import read_session
 from plantbal.inert import csv_text, inert_frame
 from plantbal.report.blocks import Block, Values, blocks_of, last_blocks
+from plantbal.report.frames import need_pandas
 from plantbal.report.parsing import read_rows
 from plantbal.statuses import ExitStatus
 
@@ -129,10 +130,9 @@ def _lines(block: Block) -> Iterator[tuple[str, str, Values]]:
 
 def frame(rows: Sequence[Values], choice: BlockChoice = BlockChoice()) -> pandas.DataFrame:
     """Return a row for each stream of each period."""
-    try:
-        import pandas
-    except ImportError as error:
-        raise ToolMissing("pandas", "python3-pandas") from error
+    need_pandas()
+    import pandas
+
     return pandas.DataFrame(
         [
             {

@@ -11,7 +11,7 @@ from typing import TYPE_CHECKING, Any
 from plantbal.faults import ToolMissing
 from plantbal.files import replacing
 from plantbal.inert import keep_text, printable
-from plantbal.report.frames import INT64, texts_of
+from plantbal.report.frames import INT64, need_pandas, texts_of
 
 if TYPE_CHECKING:
     import pandas
@@ -50,6 +50,7 @@ def write_xlsx(tables: Callable[[], Mapping[str, pandas.DataFrame]], path: str |
     ToolMissing
         If openpyxl isn't there.
     """
+    need_pandas()
     import pandas
 
     try:
