@@ -124,7 +124,7 @@ install-doc: $(SITE)/index.html
 
 install-office:
 	install -D -m 755 packaging/office/plantbal-office $(BIN)/plantbal-office
-	install -D -m 644 packaging/office/gunicorn.py $(SHARE)/plantbal-office/gunicorn.py
+	install -D -m 644 -t $(SHARE)/plantbal-office packaging/office/gunicorn.py packaging/office/nginx.conf
 	install -D -m 644 -t $(SHARE)/doc/plantbal-office docs/OFFICE.md
 	install -D -m 644 -t $(SHARE)/doc/plantbal-office/examples packaging/office/nginx.conf packaging/office/Caddyfile
 	install -D -m 644 -t $(SHARE)/man/man8 docs/plantbal-office.8

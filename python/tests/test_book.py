@@ -441,12 +441,21 @@ def test_not_amended(book: Type, tmp_path: Path, words: list[str], said: str) ->
         ("ошибка", "oshibka"),
     ],
 )
-def test_a_reason_in_any_language(book: Type, tmp_path: Path, why: str, row: str) -> None:
-    """The journal keeps it as it was typed, and the row has it in plain letters."""
+def test_a_reason_in_any_language(
+    book: Type, say: Desk, program: Path, tmp_path: Path, why: str, row: str
+) -> None:
+    """The journal keeps it as it was typed, the row has it in plain letters, the statement both."""
     assert book("amend", "F-1", "2024-04-02", "1210 t", "--why", why).status == 0
     assert rows_of(tmp_path)[-1].startswith("amend,F-1_2024-04-02,1210000000,")
     assert rows_of(tmp_path)[-1].endswith(f",{row}")
     assert journal_of(tmp_path / "mill")[-1][4] == why
+    session = tmp_path / "2024.csv"
+    text = text_of(tmp_path / "mill" / "2024.csv") + "report,2024-04\nhistory,2024-04\n"
+    session.write_text(text, encoding="utf-8")
+    words = "--run", "--book", tmp_path / "mill", "--program", program
+    shown = say("page", session, *words).out
+    plain = row.strip('"')
+    assert f"{why}<br><small>in its row: {plain}</small>" in shown, "both are on the statement"
 
 
 @pytest.mark.parametrize("why", ["Zähler\n", "x" * 81])

@@ -31,6 +31,7 @@ from plantbal.page.head import Origin
 from plantbal.page.measured import measured_on
 from plantbal.page.render import render
 from plantbal.page.statement import Prepared, ShownRefusal, Worth
+from plantbal.page.typed import with_typed
 from plantbal.report.blocks import Values, blocks_of, last_blocks
 from plantbal.report.parsing import csv_of, read_rows
 from plantbal.report.judged import judge_rows
@@ -319,9 +320,9 @@ def run(options: argparse.Namespace) -> int:
     """Write the page, the workbook and the PDF."""
     source, output, program = _source(options)
     prepared = prepare(replace(source, told=told_of(options.book)))
-    account = prepared.account
+    account = with_typed(prepared.account, options.book)
     measured = measured_on(options.book, source.session, account.ledger, account)
-    prepared = replace(prepared, measured=measured)
+    prepared = replace(prepared, account=account, measured=measured)
     plant = options.plant
     if not plant and source.session is not None and source.session[0] != "standard input":
         plant = Path(source.session[0]).stem

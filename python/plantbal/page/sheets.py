@@ -126,7 +126,18 @@ def edits(account: PageContents) -> tuple[Row, list[Row]]:
     """Return the table of edits."""
     from plantbal.page.render import fact_text
 
-    head = ("period", "record", "line", "edit", "fact", "of", "before", "after", "reason")
+    head = (
+        "period",
+        "record",
+        "line",
+        "edit",
+        "fact",
+        "of",
+        "before",
+        "after",
+        "reason",
+        "as typed",
+    )
     rows: list[Row] = []
     for each in account.statements:
         for edit in each.edits:
@@ -136,7 +147,7 @@ def edits(account: PageContents) -> tuple[Row, list[Row]]:
             after = fact_text(change.after if change else None, account.ledger)
             which = (edit.record, change.at.line if change else None, edit.word, edit.id)
             of = fact.of if fact else ""
-            rows.append((each.period, *which, of, before, after, edit.reason))
+            rows.append((each.period, *which, of, before, after, edit.reason, edit.typed or None))
     return head, rows
 
 

@@ -180,13 +180,17 @@ class ShownReport:
 
 @dataclass(frozen=True, slots=True)
 class ShownEdit:
-    """An edit that touches a period; the change is there if the session is."""
+    """An edit that touches a period; the change is there if the session is.
+
+    `typed` is the reason as it was typed, if the row has it in other letters.
+    """
 
     record: int
     word: str
     id: str
     reason: str
     change: Change | None = None
+    typed: str = ""
 
 
 @dataclass(frozen=True, slots=True)

@@ -211,4 +211,4 @@ def unread_rows(reader: Reader, rows: Sequence[Sequence[Cell]]) -> Iterator[Inpu
         lines = [str(cell.line) for cell in others[:_SAID]]
         more = f" and {len(others) - _SAID:,} more" if len(others) > _SAID else ""
         what = "the row is" if len(others) == 1 else f"the rows {', '.join(lines)}{more} are"
-        yield f"{others[0].sheet.place(others[0].line)} {what} passed over"
+        yield f"{others[0].sheet.place(others[0].line)} {what} skipped"

@@ -180,8 +180,7 @@ def _workbook(plant: Plant, period: str) -> File:
     origin = Origin(plant.name, "", None, str(contents_of(plant).version))
     with tempfile.TemporaryDirectory(prefix="plantbal-export-") as folder:
         place = Path(folder) / "month.xlsx"
-        told, grades = prepared.told, prepared.grades
-        write_workbook(str(place), prepared.account, told, origin, accounts, grades)
+        write_workbook(place, prepared, origin, accounts)
         return place.read_bytes(), XLSX, ".xlsx"
 
 

@@ -15,7 +15,8 @@ from pathlib import Path
 
 from plantbal.faults import Fault, ToolMissing
 from plantbal.files import write_text
-from plantbal_office.service.config import read_config
+from plantbal_office.service.config import USUAL, read_config
+from plantbal_office.service.proxy import put_in_front
 
 _CONFIG = """# plantbal-office: docs/OFFICE.md has all that this file may have
 hosts = ["{host}"]
@@ -64,12 +65,14 @@ def set_up(config: Path, host: str, admin: str, user: str) -> Iterator[str]:
     if os.geteuid() == 0 and not found.database.get("host"):
         _make_database(str(found.database.get("name", "plantbal_office")), user)
         yield "PostgreSQL has the database"
+        if config == USUAL:
+            yield from put_in_front(host)
         _become(user)
     from plantbal_office.service.command import ready
 
     ready()
     yield from _filled(admin)
-    yield f"systemctl enable --now plantbal-office.socket, and a proxy for https://{host}: docs/OFFICE.md"
+    yield f"systemctl enable --now plantbal-office.socket turns it on, behind https://{host}"
 
 
 def _own(paths: list[Path], user: str) -> None:

@@ -158,7 +158,30 @@ def damaged(data: bytes) -> dict[str, bytes]:
     }
 
 
-# ---- the unit
+# ---- the unit and the proxies
+
+
+def test_nginx_is_put_in_front(tmp_path: Path) -> None:
+    """The site has the name and a certificate for it, as nginx takes it; one that is there stays."""
+    from plantbal_office.service.proxy import put_in_front
+
+    for name in ("sites-available", "sites-enabled"):
+        (tmp_path / "nginx" / name).mkdir(parents=True)
+    (tmp_path / "plantbal-office").mkdir()
+    site = TOP / "packaging" / "office" / "nginx.conf"
+    assert len(list(put_in_front("books.mill.example", tmp_path, site))) == 2
+    enabled = tmp_path / "nginx" / "sites-enabled" / "plantbal-office"
+    text = enabled.read_text("utf-8")
+    assert text.count("server_name books.mill.example;") == 2 and "accounts" not in text
+    words = ["openssl", "x509", "-noout", "-checkhost", "books.mill.example", "-in"]
+    assert "does match" in services.run([*words, tmp_path / "plantbal-office" / "tls.pem"]).stdout
+    assert (tmp_path / "plantbal-office" / "tls.key").stat().st_mode & 0o077 == 0
+    conf = tmp_path / "nginx.conf"
+    conf.write_text(f"pid {tmp_path}/pid;\nevents {{}}\nhttp {{\ninclude {enabled};\n}}\n")
+    done = services.run(["/usr/sbin/nginx", "-t", "-q", "-c", conf])
+    assert done.returncode == 0, done.stderr
+    assert not list(put_in_front("other.example", tmp_path, site))
+    assert enabled.read_text("utf-8") == text
 
 
 def test_the_unit() -> None:

@@ -1,4 +1,4 @@
-"""Fifty people at once, by Locust: for some seconds here, for ten minutes by `make office-people`."""
+"""Fifty people at once, by Locust: for a minute here, for ten by `make office-people`."""
 
 from __future__ import annotations
 
@@ -12,7 +12,7 @@ import doings
 import pytest
 import services
 
-SECONDS = int(os.environ.get("OFFICE_SECONDS", "20"))
+SECONDS = int(os.environ.get("OFFICE_SECONDS", "60"))
 PEOPLE = int(os.environ.get("OFFICE_PEOPLE", "50"))
 
 
