@@ -6,7 +6,7 @@ import asyncio
 import json
 import pickle
 import sys
-from collections.abc import Iterator
+from collections.abc import Callable, Iterator
 from concurrent.futures import Executor, ProcessPoolExecutor, ThreadPoolExecutor
 from contextlib import contextmanager
 from pathlib import Path
@@ -240,15 +240,17 @@ def test_too_little_memory(program: Path) -> None:
 
 def test_without_pandas(monkeypatch: pytest.MonkeyPatch, tmp_path: Path) -> None:
     """A Python that has no pandas, or none of its parts, is told which package has them."""
+    modules: dict[str, Any] = sys.modules
     for name in ("numpy", "pandas"):
-        monkeypatch.setitem(sys.modules, name, None)
+        monkeypatch.setitem(modules, name, None)
     output = plantbal.read_report(EXAMPLES / "refinery_day.out.csv")
-    for table in (
+    tables: tuple[Callable[[], object], ...] = (
         lambda: output.streams,
         lambda: output.blocks,
         lambda: output.tests,
         output.tonnes,
         lambda: output.to_xlsx(tmp_path / "output.xlsx"),
-    ):
+    )
+    for table in tables:
         with pytest.raises(ToolMissing, match="python3-pandas"):
             table()
