@@ -79,7 +79,7 @@ _PLANTS: dict[tuple[str, str], Ask] = {
     ("look:drawing", "GET"): Ask(200, [f"look/{CLOSED}/drawing"]),
     ("look:proof", "GET"): Ask(200, [f"look/{CLOSED}/proof"]),
     ("look:export", "GET"): Ask(
-        200, [f"look/{CLOSED}/file/{kind}" for kind in ("report", "session")]
+        200, [f"look/{CLOSED}/file/{kind}" for kind in ("report", "session", "xlsx")]
     ),
     ("correct:amend", "GET"): Ask(
         200, [f"{_CHANGED}/{FACT}/amend", f"{_CHANGED}/{FACT}/amend?amount=12001 t&why=tried"]
