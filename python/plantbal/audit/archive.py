@@ -139,7 +139,7 @@ def period_of(output: Output, wanted: str | None) -> str:
     if wanted is None:
         return output.reports[-1].period
     if wanted not in reported:
-        remedy = f"the reports are of {', '.join(reported)}"
+        remedy = f"there are reports of {', '.join(reported)}"
         raise Fault(f"there is no report of the period {wanted}", text=wanted, remedy=remedy)
     return wanted
 
