@@ -69,6 +69,7 @@ _PLANTS: dict[tuple[str, str], Ask] = {
         [f"enter/grid/{OPEN}/{kind}" for kind in ("readings", "dips", "tickets", "assays")],
     ),
     ("enter:grid", "POST"): Ask(302, [f"enter/grid/{OPEN}/readings"], {"cells": _CELLS}),
+    ("enter:rules", "GET"): Ask(200, [f"enter/rules/{OPEN}/readings"]),
     ("enter:judge", "POST"): Ask(200, [f"enter/judge/{OPEN}"], {"cells": _CELLS}),
     ("enter:tests", "POST"): Ask(302, ["enter/tests"]),
     ("look:statement", "GET"): Ask(200, [f"look/{CLOSED}/", f"look/{OPEN}/"]),
