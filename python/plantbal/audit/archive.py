@@ -53,7 +53,7 @@ SESSION is a file; `-` is standard input. The program is run, and the bundle is 
                  session and output, and, if they are named, the head of the book, who submitted,
                  approved and signed the close, and the digest of the bundle before
   SHA256SUMS     the digests of all these, for `sha256sum --check`
-  measured.csv   with --book, if masses of the session were reckoned by temperatures, water,
+  measured.csv   with --book, if masses of the session were calculated by temperatures, water,
                  roofs or densities of days: what was measured and applied, a row for each
 
 The zip ends with a comment that has the digest of all bytes before it.
