@@ -273,7 +273,7 @@ _plantbal_desk() {
         fi
         _plantbal_words '-h --help --program --locale --missing --skip --limits --mapping --book --who --key --json --why --strike --anyway --year --dry-run --density --error --take --session --gap --sweeps --no-tests --eliminate --report --head --text --signed --signers --revoked --stamps --off --csv --xlsx --postings --by --owner --tanks --page --title --all --plant --first' ;;
     pull)
-        _plantbal_words '-h --help --book --who --from --to --dry-run' ;;
+        _plantbal_words '-h --help --book --who --from --to --dry-run --yes' ;;
     push)
         _plantbal_words '-h --help --book --who --tables' ;;
     template)

@@ -165,6 +165,7 @@ complete -c plantbal-desk -n '__fish_seen_subcommand_from pull' -l who -x -d 'wh
 complete -c plantbal-desk -n '__fish_seen_subcommand_from pull' -l from -x -d 'the first day (default: that of the book\'s last year)'
 complete -c plantbal-desk -n '__fish_seen_subcommand_from pull' -l to -x -d 'the last day (default: yesterday)'
 complete -c plantbal-desk -n '__fish_seen_subcommand_from pull' -l dry-run -d 'show what would be booked, and book nothing'
+complete -c plantbal-desk -n '__fish_seen_subcommand_from pull' -l yes -d 'book it without being asked at a terminal'
 complete -c plantbal-desk -n '__fish_seen_subcommand_from push' -s h -l help -d 'show this help message and exit'
 complete -c plantbal-desk -n '__fish_seen_subcommand_from push' -l book -x -a '(__fish_complete_directories)' -d 'the book\'s folder'
 complete -c plantbal-desk -n '__fish_seen_subcommand_from push' -l who -x -d 'who does it, in addition to the user\'s own name'

@@ -198,6 +198,7 @@ _plantbal_desk() {
             '--from=[the first day (default\: that of the book'\''s last year)]:DAY:'
             '--to=[the last day (default\: yesterday)]:DAY:'
             '--dry-run[show what would be booked, and book nothing]'
+            '--yes[book it without being asked at a terminal]'
             '1:word:(pull)'
             '*:QUERIES:'
         ) ;;

@@ -13,8 +13,7 @@ from enum import IntEnum
 from typing import Any, TypeVar
 
 from plantbal._native import NativeSession
-from plantbal._studies import Class, whole
-from plantbal._studies import Stream as MeasuredStream
+from plantbal._studies import FlowClass, MeasuredStream, whole
 
 FIRST_DAY = datetime.date(1970, 1, 1)
 Item = TypeVar("Item")
@@ -207,7 +206,7 @@ class Looks:
     def graph(self, period: int) -> Graph:
         """Return the graph of the period at a place with what was measured, as a report has it.
 
-        A study of it, `Study(len(graph.nodes), graph.streams)`, is that of the report.
+        A study of it, `ArrayStudy(len(graph.nodes), graph.streams)`, is that of the report.
 
         Raises
         ------
@@ -234,14 +233,14 @@ class Looks:
             [_measured(one) for one in room[0 : size.streams]],
         )
 
-    def classes(self) -> list[Class]:
+    def classes(self) -> list[FlowClass]:
         """Return the class of each stream of the plant before any reading, as a design has it."""
         ffi = self._session.ffi
         count = ffi.new("size_t *")
         self._session.read("classes", count, 0, count)
         codes = bytearray(int(count[0]))
         self._session.read("classes", ffi.from_buffer(codes), len(codes), count)
-        return [Class(code) for code in codes]
+        return [FlowClass(code) for code in codes]
 
     def _each(self, what: str, made: Callable[[Any], Item]) -> list[Item]:
         """Return what is at each place, until there is no more."""

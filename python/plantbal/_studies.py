@@ -22,7 +22,7 @@ from plantbal.faults import InputFault
 LAYOUT = Struct("=II?7xqQq")
 
 
-class Class(IntEnum):
+class FlowClass(IntEnum):
     """What the measurements say of a stream."""
 
     OBSERVABLE = 0
@@ -31,7 +31,7 @@ class Class(IntEnum):
     NONREDUNDANT = 3
 
 
-class Verdict(IntEnum):
+class StudyVerdict(IntEnum):
     """What a test says."""
 
     REJECT = 0
@@ -41,7 +41,7 @@ class Verdict(IntEnum):
     NO_TEST = 4
 
 
-class Stop(IntEnum):
+class Ending(IntEnum):
     """Why the elimination of suspects stopped."""
 
     NOT_ASKED = 0
@@ -54,7 +54,7 @@ class Stop(IntEnum):
 
 
 @dataclass(frozen=True)
-class Stream:
+class MeasuredStream:
     """A stream from one node to another, with its measured grams and their variance, if it has."""
 
     origin: int
@@ -64,7 +64,7 @@ class Stream:
 
 
 @dataclass(frozen=True)
-class Stage:
+class StudyStage:
     """The numbers of a stage: whether its gap was met, and the statistic with its test."""
 
     converged: bool
@@ -74,7 +74,7 @@ class Stage:
     low: int
     high: int | None
     critical: int | None
-    verdict: Verdict | None
+    verdict: StudyVerdict | None
 
 
 @dataclass(frozen=True)
@@ -89,7 +89,7 @@ class Result:
         The streams of the certificate with their signs.
     """
 
-    stream_class: Class
+    stream_class: FlowClass
     flow: int
     bounds: tuple[int, int] | None
     least: tuple[int, int] | None
@@ -105,17 +105,17 @@ class StageTest:
     low: int
     high: int | None
     critical: int | None
-    verdict: Verdict
+    verdict: StudyVerdict
 
 
-class Study:
+class ArrayStudy:
     """A study of a process graph.
 
     Parameters
     ----------
     nodes : int
         How many nodes there are, with the environment.
-    streams : iterable of Stream, or anything with a buffer
+    streams : iterable of MeasuredStream, or anything with a buffer
         The streams in order; or an array of them in memory, such as numpy's, whose items are laid
         out as `LAYOUT` says.
     gap, sweeps, eliminate, tests : optional
@@ -136,7 +136,7 @@ class Study:
     def __init__(
         self,
         nodes: int,
-        streams: Iterable[Stream] | Buffer,
+        streams: Iterable[MeasuredStream] | Buffer,
         *,
         gap: int = 10,
         sweeps: int = 5000,
@@ -173,7 +173,7 @@ class Study:
             raise fault(Status(status))
         counts: Any = self._read("counts", "plantbal_studied")
         self.stages = int(counts.stages)
-        self.stop = Stop(counts.stop)
+        self.stop = Ending(counts.stop)
 
     def _read(self, what: str, kind: str, *places: int) -> Any | None:
         """Return what a call of the library finds, or None if there is nothing there."""
@@ -193,10 +193,10 @@ class Study:
             found.append(one)
         return found
 
-    def stage(self, place: int = 0) -> Stage:
+    def stage(self, place: int = 0) -> StudyStage:
         """Return the numbers of a stage."""
         one: Any = self._read("stage", "plantbal_stage", place)
-        return Stage(
+        return StudyStage(
             bool(one.converged),
             one.sweeps,
             (one.g, one.h),
@@ -204,7 +204,7 @@ class Study:
             whole(one.low),
             whole(one.high) if one.has_high else None,
             one.critical if one.has_critical else None,
-            Verdict(one.verdict) if one.tested else None,
+            StudyVerdict(one.verdict) if one.tested else None,
         )
 
     def results(self, stage: int = 0) -> list[Result]:
@@ -244,13 +244,13 @@ def whole(wide: Any) -> int:
     return int(wide.high) * 2**64 + int(wide.low)
 
 
-def _given(ffi: Any, streams: Iterable[Stream] | Buffer) -> tuple[Any, int]:
+def _given(ffi: Any, streams: Iterable[MeasuredStream] | Buffer) -> tuple[Any, int]:
     """Return streams as the library takes them, and how many there are."""
     if isinstance(streams, Iterable) and not isinstance(streams, bytes | bytearray | memoryview):
         try:
             streams = memoryview(streams)  # type: ignore[arg-type]
         except TypeError:
-            listed = [_words(stream) for stream in cast("Iterable[Stream]", streams)]
+            listed = [_words(stream) for stream in cast("Iterable[MeasuredStream]", streams)]
             return ffi.new("plantbal_measured_stream[]", listed or 1), len(listed)
     view = memoryview(streams).cast("B")
     if len(view) % LAYOUT.size or set(view[8 :: LAYOUT.size]) - {0, 1}:
@@ -260,7 +260,7 @@ def _given(ffi: Any, streams: Iterable[Stream] | Buffer) -> tuple[Any, int]:
     return ffi.from_buffer("plantbal_measured_stream[]", view), len(view) // LAYOUT.size
 
 
-def _words(stream: Stream) -> tuple[Any, ...]:
+def _words(stream: MeasuredStream) -> tuple[Any, ...]:
     """Return a stream as the library takes it."""
     variance = divmod(stream.variance, 2**64)
     measured = stream.grams is not None
@@ -270,7 +270,7 @@ def _words(stream: Stream) -> tuple[Any, ...]:
 def _result(one: Any, members: list[Any]) -> Result:
     """Return what a stage says of a stream."""
     return Result(
-        Class(one.stream_class),
+        FlowClass(one.stream_class),
         whole(one.flow),
         (whole(one.lo), whole(one.hi)) if one.bounded else None,
         (whole(one.least_lo), whole(one.least_hi)) if one.least_bounded else None,
@@ -282,5 +282,5 @@ def _result(one: Any, members: list[Any]) -> Result:
 def _test(one: Any, place: int, low: int, high: int | None) -> StageTest:
     """Return a test."""
     return StageTest(
-        place, low, high, one.critical if one.has_critical else None, Verdict(one.verdict)
+        place, low, high, one.critical if one.has_critical else None, StudyVerdict(one.verdict)
     )

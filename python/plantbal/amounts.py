@@ -108,7 +108,7 @@ def many_grams(tonnes: Sequence[Decimal]) -> list[int] | None:
 def grams_of_texts(tonnes: Sequence[str]) -> list[str] | None:
     """Return tonnes in plain digits as texts of whole grams; None if one is written otherwise.
 
-    The point is only moved, so nothing is reckoned: 12.5 has the digits of 12500000.
+    The point is only moved, so nothing is calculated: 12.5 has the digits of 12500000.
     """
     lines = "\n".join(tonnes)
     if lines.count("\n") != len(tonnes) - 1 or not _PLAIN.fullmatch(lines):

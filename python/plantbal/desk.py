@@ -130,7 +130,7 @@ class Parser(argparse.ArgumentParser):
     _is_within = False
 
     def parse_known_args(self, args: Any = None, namespace: Any = None) -> Any:
-        """Read the words, of which some may be none of its own."""
+        """Read the words; with `parse_known_args` some may be unknown."""
         below = any(isinstance(each, argparse._SubParsersAction) for each in self._actions)
         if below or self._is_within:
             return super().parse_known_args(args, namespace)

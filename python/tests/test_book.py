@@ -476,6 +476,7 @@ def test_a_full_year(book: Type, tmp_path: Path, monkeypatch: pytest.MonkeyPatch
     from plantbal.schema import schema
 
     before = files_of(tmp_path / "mill")
+    monkeypatch.setattr("plantbal.model.core._is_installed", lambda _: False)  # it has its own
     monkeypatch.setitem(schema().limits, "most_facts", 10)
     (tmp_path / "more.csv").write_text("day,F-1,P-1\n2024-04-04,1,1\n", encoding="utf-8")
     said = book("add", tmp_path / "more.csv")

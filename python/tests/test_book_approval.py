@@ -14,12 +14,13 @@ from books import ANYWAY, Type, fixture_book, folder, journal_of, month
 from conftest import Desk, Said, text_of
 
 from plantbal import Book
+from plantbal.book.actions import Withheld
 from plantbal.book.approval.approving import SamePerson, Void, Voided
 from plantbal.audit.said import SentenceKind
 from plantbal.book.approval.proposal import SubmittedMonth
 from plantbal.book.approval.record import ApprovalDeed, ApprovalRecord
 from plantbal.book.approval.rules import Want, read_rules
-from plantbal.book.approval.submitting import Submitted
+from plantbal.book.approval.submitting import Submitted, Unsigned
 from plantbal.book.journal import HEAD_TEXT, chained, read_journal
 from plantbal.book.store import Store
 from plantbal.faults import Fault, InputFault
@@ -180,6 +181,13 @@ def test_what_changes_a_closed_period(mill: Path, user: As, tmp_path: Path) -> N
     user(PAUL)
     Book(mill).approve(head)
     user(OTTO)
+    before, asks = text_of(mill / "2024.csv"), Book(mill, withheld=Withheld.TO_SIGN)
+    with pytest.raises(Unsigned) as asked:
+        asks.amend("F-1", "2024-04-02", "1220 t", why="a")
+    assert "\ndeed submit\nact amend\n" in asked.value.signs, "the text that is signed elsewhere"
+    with pytest.raises(Fault, match="needs no approval, so there is nothing to sign"):
+        asks.next("2024-2")
+    assert text_of(mill / "2024.csv") == before and not Book(mill).waiting(), "nothing is done"
     late = folder(tmp_path / "late", {"tickets": [["id", "stream", "first", "amount"]]})
     (late / "tickets.csv").write_text("id,stream,first,amount\nt9,TRUCKS,2024-04-02,10\n", "ascii")
     for act in (

@@ -6,9 +6,9 @@ import re
 import subprocess
 from pathlib import Path
 
-from documentation import statement
-from documentation.guide import anchor_of
-from documentation.sources import Sources
+from gate.documentation import statement
+from gate.documentation.guide import anchor_of
+from gate.documentation.sources import Sources
 from plantbal import checker
 
 TOP = Path(__file__).resolve().parents[2]

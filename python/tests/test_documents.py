@@ -6,9 +6,9 @@ from collections.abc import Callable
 
 import pytest
 
-from documentation import answers, chapters, checks, citations, forms, links, rust, statement
-from documentation.command import main
-from documentation.sources import Sources, imports
+from gate.documentation import answers, chapters, checks, citations, forms, links, rust, statement
+from gate.documentation.command import main
+from gate.documentation.sources import Sources, imports
 
 LIMITS = "crates/pb_limits/src/lib.rt"
 ARCHITECTURE = "docs/ARCHITECTURE.md"

@@ -1,4 +1,4 @@
-"""The words as types are those of the rows; that mypy finds a misspelt one is in .ci/misspelt."""
+"""The words as types are those of the rows; that mypy finds a misspelt one is in .ci/gate/misspelt.py."""
 
 from __future__ import annotations
 

@@ -626,8 +626,8 @@ def test_summary() -> None:
 
 
 def test_the_guide_shows_it(say: Desk, monkeypatch: pytest.MonkeyPatch) -> None:
-    monkeypatch.chdir(TOP)
-    words = "plantbal-desk lint examples/flotation_shift.csv"
+    monkeypatch.chdir(TOP / "examples")
+    words = "plantbal-desk lint flotation_shift.csv"
     shown = "".join(f"    {line}\n" for line in [words, *say(*words.split()[1:]).out.splitlines()])
     guide = (TOP / "docs" / "GUIDE.md").read_text(encoding="utf-8")
     assert f"\n{shown}\n" in guide

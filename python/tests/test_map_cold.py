@@ -12,11 +12,12 @@ from libre import DAYS, EVE, Rows, office, written
 
 from plantbal import convert
 from plantbal.workbook.conversion import Conversion
+from plantbal.workbook.mapping.applying import mapping_of
 from plantbal.workbook.mapping.command import text_of
 from plantbal.workbook.mapping.form import parse_mapping
 from plantbal.workbook.mapping.months import month_of_sheet, pattern_of, short_year_of
 from plantbal.workbook.mapping.proposing import propose
-from plantbal.workbook.sheets import read_workbook
+from plantbal.workbook.sheets import Sheet, read_workbook
 
 Sheets = dict[str, Rows]
 ENDS = [EVE, *DAYS]
@@ -265,4 +266,8 @@ def test_months_of_names() -> None:
     }
     for name, wanted in names.items():
         assert (month_of_sheet(name), pattern_of(name)) == wanted, name
+    mapping = parse_mapping("m", '[[sheet]]\nname = "Werte [t] *"\nkind = "readings"\n')
+    for name, is_found in (("Werte [t] Mai", True), ("werte [T] juni", True), ("Werte t Mai", False)):
+        found = mapping_of(mapping, Sheet("a.xlsx", name, []))
+        assert (found is not None) == is_found, name
     assert [short_year_of(text) for text in ("Dez 23", "Dez 2023", "23 Dez")] == ["2023", "", ""]

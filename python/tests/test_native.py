@@ -26,7 +26,7 @@ from plantbal._looks import (  # noqa: E402
     StreamLook,
     StreamKind,
 )
-from plantbal._studies import Study  # noqa: E402
+from plantbal._studies import ArrayStudy  # noqa: E402
 
 EXAMPLES = Path(__file__).resolve().parents[2] / "examples"
 ROWS = b"unit,A\nunit,A\nfrob\n"
@@ -114,7 +114,7 @@ def test_graphs_of_periods() -> None:
         assert [(one.grams, one.variance) for one in graph.streams] == [
             (int(row[4]), int(row[5])) for row in rows
         ]
-        study = Study(len(graph.nodes), graph.streams)
+        study = ArrayStudy(len(graph.nodes), graph.streams)
         assert [one.flow for one in study.results()] == [int(row[7]) for row in rows]
         with pytest.raises(IndexError):
             looks.graph(1)

@@ -15,23 +15,30 @@ native = pytest.importorskip("plantbal._native", reason="python3-cffi isn't inst
 if not native.is_there():
     pytest.skip("./build library hasn't built it", allow_module_level=True)
 
-from plantbal._studies import LAYOUT, Stop, Stream, Study, StageTest, Verdict  # noqa: E402
+from plantbal._studies import (
+    LAYOUT,
+    Ending,
+    MeasuredStream,
+    ArrayStudy,
+    StageTest,
+    StudyVerdict,
+)  # noqa: E402
 
 EXAMPLES = Path(__file__).resolve().parents[2] / "examples"
 VERDICTS = {
-    "reject": Verdict.REJECT,
-    "accept": Verdict.ACCEPT,
-    "undecided": Verdict.UNDECIDED,
-    "nocritical": Verdict.NO_CRITICAL,
-    "notest": Verdict.NO_TEST,
+    "reject": StudyVerdict.REJECT,
+    "accept": StudyVerdict.ACCEPT,
+    "undecided": StudyVerdict.UNDECIDED,
+    "nocritical": StudyVerdict.NO_CRITICAL,
+    "notest": StudyVerdict.NO_TEST,
 }
 STOPS = {
-    "accepted": Stop.ACCEPTED,
-    "undecided": Stop.UNDECIDED,
-    "nocritical": Stop.NO_CRITICAL,
-    "notest": Stop.NO_TEST,
-    "nosuspect": Stop.NO_SUSPECT,
-    "spent": Stop.SPENT,
+    "accepted": Ending.ACCEPTED,
+    "undecided": Ending.UNDECIDED,
+    "nocritical": Ending.NO_CRITICAL,
+    "notest": Ending.NO_TEST,
+    "nosuspect": Ending.NO_SUSPECT,
+    "spent": Ending.SPENT,
 }
 
 
@@ -54,7 +61,7 @@ class Report:
 
     blocks: list[Block] = field(default_factory=list)
     taken: list[list[str]] = field(default_factory=list)
-    stop: Stop = Stop.NOT_ASKED
+    stop: Ending = Ending.NOT_ASKED
 
 
 def reports() -> list[tuple[str, Report]]:
@@ -89,13 +96,13 @@ def pair(low: str, high: str) -> tuple[int, int] | None:
     return (int(low), int(high)) if low else None
 
 
-def study_of(report: Report) -> Study:
+def study_of(report: Report) -> ArrayStudy:
     """Return the study of the graph of a report, with what its rows say was asked."""
     first = report.blocks[0]
     nodes = [row[1] for row in first.of("node")]
     places = {name: place for place, name in enumerate(nodes)}
     streams = [
-        Stream(places[row[2]], places[row[3]], number(row[4]), int(row[5] or 0))
+        MeasuredStream(places[row[2]], places[row[3]], number(row[4]), int(row[5] or 0))
         for row in first.of("stream")
     ]
     limits = {}
@@ -103,12 +110,12 @@ def study_of(report: Report) -> Study:
         for row in block.of("global"):
             if row[1]:
                 limits[int(block.of("solved")[0][5])] = int(row[1])
-    return Study(
+    return ArrayStudy(
         len(nodes),
         streams,
         gap=first.gap,
         sweeps=first.sweeps,
-        eliminate=0 if report.stop == Stop.NOT_ASKED else max(1, len(report.taken)),
+        eliminate=0 if report.stop == Ending.NOT_ASKED else max(1, len(report.taken)),
         tests=bool(first.of("global")),
         limits=limits,
         nodal=next((number(row[4]) for row in first.of("nodal")), None),
@@ -116,7 +123,7 @@ def study_of(report: Report) -> Study:
     )
 
 
-def say_as_rows(study: Study, place: int, block: Block) -> None:
+def say_as_rows(study: ArrayStudy, place: int, block: Block) -> None:
     """Assert that a stage says what the rows of a block say."""
     nodes = [row[1] for row in block.of("node")]
     names = [row[1] for row in block.of("stream")]
@@ -161,9 +168,9 @@ def test_reports_of_the_examples() -> None:
 
 def test_what_is_refused() -> None:
     """A stream that isn't one of a graph is named by its place, and limits are kept."""
-    good, loop = Stream(0, 1, 5, 1), Stream(1, 1)
+    good, loop = MeasuredStream(0, 1, 5, 1), MeasuredStream(1, 1)
     with pytest.raises(InputFault) as caught:
-        Study(2, [good, loop])
+        ArrayStudy(2, [good, loop])
     assert caught.value.text == "1"
     cases: list[dict[str, int]] = [
         {"gap": 0},
@@ -173,14 +180,18 @@ def test_what_is_refused() -> None:
     ]
     for named in cases:
         with pytest.raises(ProgramFault) as fault:
-            Study(2, [good], **named)
+            ArrayStudy(2, [good], **named)
         assert fault.value.status == 2, named
-    assert Study(1, []).results() == []
+    assert ArrayStudy(1, []).results() == []
 
 
 def test_streams_in_arrays() -> None:
     """An array of streams, from bytes, numpy or anything with a buffer, is what a list of them is."""
-    listed = [Stream(0, 1, 100, 1), Stream(1, 0, 104, 2**64 + 3), Stream(0, 1)]
+    listed = [
+        MeasuredStream(0, 1, 100, 1),
+        MeasuredStream(1, 0, 104, 2**64 + 3),
+        MeasuredStream(0, 1),
+    ]
     packed = b"".join(
         LAYOUT.pack(
             one.origin,
@@ -192,16 +203,16 @@ def test_streams_in_arrays() -> None:
         )
         for one in listed
     )
-    wanted = Study(2, listed).results()
-    assert Study(2, packed).results() == wanted
-    assert Study(2, memoryview(bytearray(packed))).results() == wanted
+    wanted = ArrayStudy(2, listed).results()
+    assert ArrayStudy(2, packed).results() == wanted
+    assert ArrayStudy(2, memoryview(bytearray(packed))).results() == wanted
     numpy = pytest.importorskip("numpy")
     fields = {"names": ["from", "to", "measured", "value", "low", "high"]}
     fields |= {"formats": ["u4", "u4", "?", "i8", "u8", "i8"], "offsets": [0, 4, 8, 16, 24, 32]}
     made = numpy.frombuffer(packed, numpy.dtype({**fields, "itemsize": LAYOUT.size}))
-    assert Study(2, made).results() == wanted
-    assert Study(1, b"").results() == []
+    assert ArrayStudy(2, made).results() == wanted
+    assert ArrayStudy(1, b"").results() == []
     for wrong in (packed[:-1], packed[:8] + b"\2" + packed[9:]):
         with pytest.raises(ProgramFault) as fault:
-            Study(2, wrong)
+            ArrayStudy(2, wrong)
         assert fault.value.status == 2

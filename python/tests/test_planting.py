@@ -6,7 +6,7 @@ from collections.abc import Mapping
 from pathlib import Path
 
 import pytest
-from planting.rests import Replaced, Sums
+from gate.planting.rests import Replaced, Sums
 
 LOGIC = "logic 1"
 # Three crates, each on the one before: a limit with its definition, a store, and what reads it.

@@ -9,8 +9,8 @@ from typing import Any
 
 import pytest
 
-from documentation import guide, rows
-from documentation.sources import Sources
+from gate.documentation import guide, rows
+from gate.documentation.sources import Sources
 from plantbal.schema import Column, Row, schema
 
 TOP = Path(__file__).resolve().parents[2]

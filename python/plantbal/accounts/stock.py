@@ -1,6 +1,6 @@
 """Stock that rolls forward: each month opens with what the month before it booked.
 
-A period's report reckons with the dip of its eve, and the books end the month before with the
+A period's report uses the dip of its eve, and the books end the month before with the
 reconciled closing stock, which is another figure. What the dip says otherwise is a *stock
 adjustment* of the tank, a line of its own. So opening + adjustment + gain = closing in each month,
 and the closing stock of one month is the opening stock of the next, over any number of months.

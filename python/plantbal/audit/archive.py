@@ -53,7 +53,7 @@ SESSION is a file; `-` is standard input. The program is run, and the bundle is 
                  session and output, and, if they are named, the head of the book, who submitted,
                  approved and signed the close, and the digest of the bundle before
   SHA256SUMS     the digests of all these, for `sha256sum --check`
-  measured.csv   with --book, if masses of the session were reckoned by temperatures, water,
+  measured.csv   with --book, if masses of the session were calculated by temperatures, water,
                  roofs or densities of days: what was measured and applied, a row for each
 
 The zip ends with a comment that has the digest of all bytes before it.
@@ -139,7 +139,7 @@ def period_of(output: Output, wanted: str | None) -> str:
     if wanted is None:
         return output.reports[-1].period
     if wanted not in reported:
-        remedy = f"the reports are of {', '.join(reported)}"
+        remedy = f"there are reports of {', '.join(reported)}"
         raise Fault(f"there is no report of the period {wanted}", text=wanted, remedy=remedy)
     return wanted
 

@@ -20,7 +20,7 @@ from plantbal.limits import SESSION_BYTES
 SESSION, OUTPUT, SUMMARY = "session.csv", "output.csv", "summary.txt"
 MANIFEST, DIGESTS = "manifest.json", "SHA256SUMS"
 NAMES = (SESSION, OUTPUT, SUMMARY, MANIFEST, DIGESTS)
-# How the masses of the session were reckoned, in a bundle of a book that has such.
+# How the masses of the session were calculated, in a bundle of a book that has such.
 MEASURED = "measured.csv"
 VERSION = 6
 # What a manifest has of the program, by the version of its form.
@@ -31,7 +31,7 @@ _SEALED = 3  # from this version on a manifest has the digests of parts, and a z
 _CHAINED = 4  # from this version on a manifest names the head of a book, and the bundle before it
 _JUDGING = 5  # from this version on a summary has the ± of each flow
 APPROVED = 6  # from this version on a manifest has the approvals of the month
-WITH_MEASURED = 7  # the version of a bundle that has how masses were reckoned
+WITH_MEASURED = 7  # the version of a bundle that has how masses were calculated
 # What it has of these two, if anything.
 _HEAD = ("number", "head")
 _LINKS = {"book": _HEAD, "before": ("sha256", *_HEAD)}
@@ -217,7 +217,7 @@ def _has_texts(item: Any, nested: bool) -> bool:
 
 
 def members_of(names: Iterable[str]) -> tuple[str, ...]:
-    """Return the files that a bundle has, in their order, by whether how masses were reckoned is."""
+    """Return the files that a bundle has, in their order, by whether how masses were calculated is."""
     return (*NAMES[:2], MEASURED, *NAMES[2:]) if MEASURED in names else NAMES
 
 

@@ -1,4 +1,4 @@
-"""How the masses of a session were reckoned: kept in its bundle, and reckoned again by the audit.
+"""How the masses of a session were calculated: kept in its bundle, and calculated again by the audit.
 
 A book has what was measured and applied for each fact whose mass follows from a temperature, free
 water, a floating roof or a density of its days. A bundle of a session of the book has those rows of
@@ -24,7 +24,7 @@ _SAID = 3  # rows that are named; the others are counted
 
 
 def measured_of(book: str | None, session: bytes) -> bytes | None:
-    """Return how masses of a session were reckoned, as its book has it; None if it has none.
+    """Return how masses of a session were calculated, as its book has it; None if it has none.
 
     Parameters
     ----------
@@ -43,7 +43,7 @@ def measured_of(book: str | None, session: bytes) -> bytes | None:
 
 
 def trails_of_session(book: str | None, session: bytes) -> list[Trail]:
-    """Return how masses of a session were reckoned, as `measured_of` does, each as a trail."""
+    """Return how masses of a session were calculated, as `measured_of` does, each as a trail."""
     path = Path(book or "") / OF_BOOK
     if book is None or not path.exists():
         return []
@@ -53,7 +53,7 @@ def trails_of_session(book: str | None, session: bytes) -> list[Trail]:
 
 
 def reckoned(path: str, files: Mapping[str, bytes]) -> Iterator[tuple[SentenceKind, str]]:
-    """Give what is to be said of the masses of a bundle, each reckoned again from its figures."""
+    """Give what is to be said of the masses of a bundle, each calculated again from its figures."""
     if MEASURED not in files:
         return
     name = f"{path}!{MEASURED}"

@@ -1,4 +1,4 @@
-"""What tanks hold at the end of a day, as the program reckons it."""
+"""What tanks hold at the end of a day, as the program calculates it."""
 
 from __future__ import annotations
 
@@ -20,7 +20,7 @@ _MOST = schema().limits["most_units_and_tanks"]
 def contents_of(
     plant: Iterable[tuple[str, ...]], dips: Iterable[BookFact], program: str | Path | None = None
 ) -> dict[str, int]:
-    """Return the grams in tanks by their dips, reckoned by the program.
+    """Return the grams in tanks by their dips, calculated by the program.
 
     The program reports what the contents of a tank gain. So each tank gets a table that goes on to
     a level at which it is empty, and stands there on the day before its dip: what it gains on the

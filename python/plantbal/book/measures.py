@@ -1,7 +1,7 @@
-"""What a book keeps of how volumes become masses, and how each of its masses was reckoned.
+"""What a book keeps of how volumes become masses, and how each of its masses was calculated.
 
 `measures.csv` has the products, factors, gauges and tables of water of its workbooks, so that a
-later workbook needs none of these sheets. `measured.csv` has a row for each fact that was reckoned
+later workbook needs none of these sheets. `measured.csv` has a row for each fact that was calculated
 by them: what was measured, what was applied, and the row of the session that it is booked in.
 """
 
@@ -129,11 +129,11 @@ def put_measures(book: Store, action: Action, found: Measures) -> list[str]:
     return [f"{MEASURES}: {counted(len(new), 'row')}, new or changed"]
 
 
-# ---- how masses were reckoned
+# ---- how masses were calculated
 
 
 def trails_of(book: Store) -> dict[tuple[str, str], Trail]:
-    """Return how each fact was reckoned last, by its year and its id."""
+    """Return how each fact was calculated last, by its year and its id."""
     return {(each.year, each.fact): each for each in read_trails(book.text(MEASURED))}
 
 
@@ -160,7 +160,7 @@ def check_measured(
 
 
 def put_trails(book: Store, action: Action, changes: Changes, trails: Sequence[Trail]) -> None:
-    """Have an action write how the facts were reckoned that it books."""
+    """Have an action write how the facts were calculated that it books."""
     by_fact = {each.fact: each for each in trails}
     found = [
         by_fact[own].booked(ledger.name, number, booked)
@@ -183,11 +183,11 @@ def density_changes(
     Parameters
     ----------
     before : mapping of (str, str) to Trail
-        How the booked facts were reckoned, by year and id.
+        How the booked facts were calculated, by year and id.
     changes : sequence of Change
         The booked facts that would change.
     trails : sequence of Trail
-        How those of the workbook were reckoned.
+        How those of the workbook were calculated.
     meters, now : mapping of str to Meter
         The meters of the book, and those of the workbook.
     """
@@ -206,7 +206,7 @@ def density_changes(
 
 
 def _density_of(trail: Trail | None, meter: Meter | None) -> str:
-    """Return the density by which a fact was reckoned, in kg/m3; nothing if none is known."""
+    """Return the density by which a fact was calculated, in kg/m3; nothing if none is known."""
     if trail is not None:
         return trail.figures["density"]
     if meter is None or meter.density is None:

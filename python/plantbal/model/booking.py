@@ -163,7 +163,7 @@ class BooksFact(Effect):
             state.edits.append(Edit(at, "late", None, fact))
 
 
-class Looks(Enum):
+class LooksAt(Enum):
     """What of a reading a rule looks at: columns of its row, or what the other rows have, too."""
 
     STREAM = auto()
@@ -181,7 +181,7 @@ class FactRule(NamedTuple):
 
     Attributes
     ----------
-    looks : Looks
+    looks : LooksAt
         What of a reading it looks at.
     refused : callable
         Says whether it refuses a fact.
@@ -189,7 +189,7 @@ class FactRule(NamedTuple):
         Says of which streams it refuses some reading; None for all.
     """
 
-    looks: Looks
+    looks: LooksAt
     refused: Callable[[BooksFact, State], Refused | None]
     only: Callable[[State, str], bool] | None = None
 
@@ -201,16 +201,16 @@ def _is_at_times(state: State, name: str) -> bool:
 
 # The rules about facts, in the order of their codes.
 FACT_RULES = (
-    FactRule(Looks.STREAM, BooksFact.place_refused),
-    FactRule(Looks.KEYS, BooksFact.id_refused),
-    FactRule(Looks.KEYS, BooksFact.day_refused),
-    FactRule(Looks.DAY, BooksFact.order_refused),
-    FactRule(Looks.STREAM, BooksFact.kind_refused),
-    FactRule(Looks.DAY, BooksFact.closed_refused),
-    FactRule(Looks.DAY, BooksFact.length_refused),
-    FactRule(Looks.STREAM, BooksFact.level_refused),
-    FactRule(Looks.STREAM_AND_DAY, BooksFact.service_refused, _is_at_times),
-    FactRule(Looks.COUNT, BooksFact.count_refused),
+    FactRule(LooksAt.STREAM, BooksFact.place_refused),
+    FactRule(LooksAt.KEYS, BooksFact.id_refused),
+    FactRule(LooksAt.KEYS, BooksFact.day_refused),
+    FactRule(LooksAt.DAY, BooksFact.order_refused),
+    FactRule(LooksAt.STREAM, BooksFact.kind_refused),
+    FactRule(LooksAt.DAY, BooksFact.closed_refused),
+    FactRule(LooksAt.DAY, BooksFact.length_refused),
+    FactRule(LooksAt.STREAM, BooksFact.level_refused),
+    FactRule(LooksAt.STREAM_AND_DAY, BooksFact.service_refused, _is_at_times),
+    FactRule(LooksAt.COUNT, BooksFact.count_refused),
 )
 
 

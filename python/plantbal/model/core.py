@@ -7,7 +7,7 @@ refused, or that it is accepted. What the answer means is the model's part.
 from __future__ import annotations
 
 import os
-from collections.abc import Iterable, Sequence
+from collections.abc import Iterable, Iterator, Sequence
 from functools import lru_cache
 from typing import Protocol
 
@@ -16,9 +16,10 @@ from plantbal.model.readings import ReadingRows
 from plantbal.records import without_empty_end
 
 # The core judges `report` as it judges `history`: whether the period is declared. Asked in this
-# way it makes no study, whose output nobody wants here. Of the other rows that ask it makes one
-# without a sweep.
+# way it makes no study, whose output nobody wants here.
 _ASKED_AS = {"report": "history"}
+# Of these it makes a study, without a sweep. A block ends with each, since a call can't be stopped.
+_STUDIED = ("window", "component")
 _GAP = LIMITS["most_gap"]
 
 
@@ -84,11 +85,29 @@ class CoreSession:
         plain = rows.plain() if isinstance(rows, ReadingRows) else None
         if plain is not None:
             found = self._core.rows(plain.encode("utf-8", "surrogatepass"))
+            self._core.output()
         else:
-            found = self._core.records(_encoded(without_empty_end(tuple(row))) for row in rows)
+            found = b"".join(map(self._block, _blocks(rows)))
         assert len(found) == len(rows), "the core answers each row"
+        return found
+
+    def _block(self, rows: Sequence[Sequence[str]]) -> bytes:
+        """Take rows by their fields, and return their codes."""
+        found = self._core.records(_encoded(without_empty_end(tuple(row))) for row in rows)
         self._core.output()
         return found
+
+
+def _blocks(rows: Iterable[Sequence[str]]) -> Iterator[list[Sequence[str]]]:
+    """Give rows in blocks, each of which ends with a row that is studied."""
+    block: list[Sequence[str]] = []
+    for row in rows:
+        block.append(row)
+        if row and row[0] in _STUDIED:
+            yield block
+            block = []
+    if block:
+        yield block
 
 
 def _encoded(fields: Sequence[str]) -> list[bytes]:

@@ -10,7 +10,7 @@ from __future__ import annotations
 from collections.abc import Callable, Sequence, Set
 from typing import TYPE_CHECKING, TypeVar
 
-from plantbal.model.booking import FACT_RULES, BooksFact, FactRule, Looks
+from plantbal.model.booking import FACT_RULES, BooksFact, FactRule, LooksAt
 from plantbal.model.facts import Fact
 from plantbal.model.forms import LIMITS, NAMES, all_match, are_within, fault_of
 from plantbal.model.readings import ReadingRun
@@ -61,11 +61,11 @@ def _refused(state: State, run: ReadingRun) -> set[int]:
     streams = _refused_streams(state, run)
     days = {-1} & run.distinct_days
     for rule in FACT_RULES:
-        if rule.looks is Looks.DAY:
+        if rule.looks is LooksAt.DAY:
             days |= _asked(rule, state, run.distinct_days - days, lambda day: _reading("", day))
     found = _places_of(run.streams, streams) | _places_of(run.days, days)
     for rule in FACT_RULES:
-        if rule.looks is Looks.STREAM_AND_DAY:
+        if rule.looks is LooksAt.STREAM_AND_DAY:
             found |= _of_pairs(rule, state, run, run.distinct_streams - streams, days)
     return found
 
@@ -74,7 +74,7 @@ def _refused_streams(state: State, run: ReadingRun) -> set[str]:
     """Return the streams of a run of which a rule refuses each reading."""
     found: set[str] = set()
     for rule in FACT_RULES:
-        if rule.looks is Looks.STREAM:
+        if rule.looks is LooksAt.STREAM:
             found |= _asked(rule, state, run.distinct_streams - found, lambda of: _reading(of, 1))
     return found
 

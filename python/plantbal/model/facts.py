@@ -101,7 +101,7 @@ class _Places(dict[str, int]):
         return number
 
 
-class Keys(Generic[K]):
+class TakenKeys(Generic[K]):
     """The ids, or the slots, that facts have: of those that are made, and of runs that wait."""
 
     def __init__(self) -> None:
@@ -147,8 +147,8 @@ class Facts:
 
     def __init__(self, verify: Callable[[ReadingRun], None]) -> None:
         self._facts: list[Fact] = []
-        self._ids: Keys[str] = Keys()
-        self._slots: Keys[int] = Keys()
+        self._ids: TakenKeys[str] = TakenKeys()
+        self._slots: TakenKeys[int] = TakenKeys()
         self._of = _Places()
         self._transfers: dict[str, list[int]] = {}
         # the slots of a run are known if it wasn't booked unseen
@@ -256,7 +256,7 @@ class Facts:
 
     # ---- runs that wait
 
-    def _seen(self, keys: Keys[K]) -> Keys[K]:
+    def _seen(self, keys: TakenKeys[K]) -> TakenKeys[K]:
         """Return keys, after those of runs that were booked unseen are among them."""
         if self._unseen:
             self._made()

@@ -28,6 +28,7 @@ from plantbal.report.frames import (
 from plantbal.report.judged import judge_rows
 from plantbal.report.kept import kept_table
 from plantbal.report.parsing import csv_of, parse_rows, read_rows
+from plantbal.report.reasons import impossible_of, reasons_of
 from plantbal.report.shown import html_of, json_of, output_dict, summary_of
 from plantbal.report.written import write_sqlite, write_xlsx
 from plantbal.schema import schema
@@ -124,35 +125,7 @@ class Output:
     @cached_property
     def _why(self) -> tuple[str, ...]:
         """The same, kept."""
-        said = []
-        if self.status is not None and self.status not in (0, 1):
-            said.append(f"the program ended with status {self.status}")
-        refused = sum(row["row"] == "refused" for row in self.rows)
-        if refused or self.left_out:
-            count = refused + self.left_out
-            rows = "1 row of the session was" if count == 1 else f"{count} rows of the session were"
-            said.append(f"{rows} refused")
-        blocks = self.blocks_in_order
-        if not blocks:
-            said.append("there is no report")
-        over = [f"the total of {row['stream']} in {row['period']}" for row in self._of_kind("over")]
-        if over:
-            said.append(f"{', '.join(over)} is beyond the limits")
-        said += [f"{b.title} is cut off" for b in blocks if not b.ended or b.solved is None]
-        said += [
-            f"{b.title} isn't converged after {b.head['sweeps']} sweeps (plantbal.solve needs none)"
-            for b in blocks
-            if b.solved and b.solved["state"] != "converged"
-        ]
-        for block, later in zip(blocks, [*blocks[1:], None]):
-            if block.whole and block.whole["verdict"] == "reject":
-                taken = later.taken[len(block.taken) :] if later and later.round else []
-                before = f" before {block.taken_said(taken)}" if taken else ""
-                said.append(f"{block.title} is rejected by the global test{before}")
-        wrong = self._of_kind("no") + self._of_kind("unreadable")
-        if wrong:
-            said.append(f"a check finds fault with {len(wrong)} blocks or rows")
-        return tuple(said)
+        return tuple(reasons_of(self.rows, self.blocks_in_order, self.status, self.left_out))
 
     @property
     def ok(self) -> bool:
@@ -175,12 +148,7 @@ class Output:
     @cached_property
     def _impossible(self) -> tuple[str, ...]:
         """The same, kept."""
-        from plantbal.gates import line_of, negative_flows
-        from plantbal.report.carried import impossible
-
-        blocks = self.blocks_in_order
-        carried = [str(each) for each in impossible(blocks)]
-        return (*map(line_of, negative_flows(blocks)), *carried)
+        return tuple(impossible_of(self.blocks_in_order))
 
     def require(self) -> Output:
         """Return the output itself if it is ok.

@@ -1,4 +1,4 @@
-"""Why a volume, a density or a temperature can't be reckoned with."""
+"""Why a volume, a density or a temperature can't be calculated with."""
 
 from __future__ import annotations
 

@@ -1,7 +1,7 @@
-"""What was measured of a fact and what was applied to it, so that anybody can reckon it again.
+"""What was measured of a fact and what was applied to it, so that anybody can calculate it again.
 
 A trail is a row of figures as plain decimal numbers: what was read, each with its standard
-deviation, what the tables gave, and the mass in grams. `again` reckons the mass from the others:
+deviation, what the tables gave, and the mass in grams. `again` calculates the mass from the others:
 
     tank    (volume - water volume) * density at 15 * factor - roof
     batch   volume * density at 15 * factor
@@ -35,7 +35,7 @@ _FIGURES = Decimal("1e-12")
 
 @dataclass(frozen=True)
 class Trail:
-    """How a fact was reckoned.
+    """How a fact was calculated.
 
     Attributes
     ----------
@@ -139,7 +139,7 @@ def _of_liquid(of: Liquid, weight: Weight, standard: Decimal) -> dict[str, str]:
         figures["density_by"] = sample.by.value if sample.by else ""
     if of.temperature is not None:
         figures |= _measured("temperature", of.temperature)
-    # The density and the factor have all their digits, so that the mass can be reckoned again.
+    # The density and the factor have all their digits, so that the mass can be calculated again.
     figures |= {"density_15": f"{weight.density.value:f}", "density_table": weight.density_by}
     figures |= {"factor": f"{weight.factor.value:f}", "factor_table": weight.factor.source}
     return figures | {"standard_volume": plain(standard)}

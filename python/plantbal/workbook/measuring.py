@@ -1,6 +1,6 @@
 """Makes masses of volumes by what a workbook measured: densities, temperatures, water, roofs.
 
-A figure that has a density of its days, a temperature, free water or a floating roof is reckoned by
+A figure that has a density of its days, a temperature, free water or a floating roof is calculated by
 `plantbal.volumes`; any other one as it always was, by the one density of its row.
 """
 
@@ -89,7 +89,7 @@ class Dipped:
 
 @dataclass
 class Measuring:
-    """Reckons masses, and keeps how each was reckoned.
+    """Calculates masses, and keeps how each was calculated.
 
     Attributes
     ----------
@@ -100,7 +100,7 @@ class Measuring:
     found : Measures
         What was read.
     trails : list of Trail
-        How each mass was reckoned.
+        How each mass was calculated.
     """
 
     tables: Tables
@@ -226,7 +226,7 @@ class Measuring:
         return Fraction(max([1, *days]))
 
     def keep(self, fact: str, applied: Applied, grams: int, variance: int) -> None:
-        """Keep how a booked mass was reckoned."""
+        """Keep how a booked mass was calculated."""
         source = _source(applied.cell)
         booked = grams, variance
         self.trails.append(
@@ -268,7 +268,7 @@ class Measuring:
         return _dipped(gauging, content, tank, mm, error)
 
     def keep_dip(self, fact: str, dipped: Dipped, cell: Cell) -> None:
-        """Keep how the content of a tank was reckoned."""
+        """Keep how the content of a tank was calculated."""
         source = _source(cell)
         booked = dipped.grams, dipped.variance
         self.trails.append(of_tank(fact, dipped.gauging, dipped.content, booked, source))
@@ -318,7 +318,7 @@ class Measuring:
             raise fault.at(cell.place(), cell.text) from fault
 
     def say(self) -> None:
-        """Say what was reckoned, and which densities and temperatures change nothing."""
+        """Say what was calculated, and which densities and temperatures change nothing."""
         if self.trails:
             count = len(self.trails)
             figures = "1 figure is" if count == 1 else f"{count:,} figures are"

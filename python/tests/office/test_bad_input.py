@@ -258,7 +258,7 @@ def test_killed(site: Site) -> None:
     form = site.fields(f"{AMEND}?amount=12188+t&why=x") | WORDS
     Deed.objects.create(key=form["deed"], person=site.person, plant=site.plant, address="/")
     answer = site.client.post(f"/p/{site.plant.slug}/{AMEND}", form, follow=True)
-    assert "at work still" in sentence(answer) and site.head() == 3
+    assert "still at work" in sentence(answer) and site.head() == 3
     Deed.objects.filter(key=form["deed"]).update(begun=timezone.now() - timedelta(hours=1))
     assert site.post(AMEND, form).status_code == 302 and site.head() == 4
 

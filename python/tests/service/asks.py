@@ -69,6 +69,7 @@ _PLANTS: dict[tuple[str, str], Ask] = {
         [f"enter/grid/{OPEN}/{kind}" for kind in ("readings", "dips", "tickets", "assays")],
     ),
     ("enter:grid", "POST"): Ask(302, [f"enter/grid/{OPEN}/readings"], {"cells": _CELLS}),
+    ("enter:rules", "GET"): Ask(200, [f"enter/rules/{OPEN}/readings"]),
     ("enter:judge", "POST"): Ask(200, [f"enter/judge/{OPEN}"], {"cells": _CELLS}),
     ("enter:tests", "POST"): Ask(302, ["enter/tests"]),
     ("look:statement", "GET"): Ask(200, [f"look/{CLOSED}/", f"look/{OPEN}/"]),
@@ -79,7 +80,7 @@ _PLANTS: dict[tuple[str, str], Ask] = {
     ("look:drawing", "GET"): Ask(200, [f"look/{CLOSED}/drawing"]),
     ("look:proof", "GET"): Ask(200, [f"look/{CLOSED}/proof"]),
     ("look:export", "GET"): Ask(
-        200, [f"look/{CLOSED}/file/{kind}" for kind in ("report", "session")]
+        200, [f"look/{CLOSED}/file/{kind}" for kind in ("report", "session", "xlsx")]
     ),
     ("correct:amend", "GET"): Ask(
         200, [f"{_CHANGED}/{FACT}/amend", f"{_CHANGED}/{FACT}/amend?amount=12001 t&why=tried"]

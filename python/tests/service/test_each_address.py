@@ -86,7 +86,7 @@ def test_each_address_with_each_role(said: list[list[str]]) -> None:
 
 
 def test_whoever_may_not_changes_nothing(said: list[list[str]]) -> None:
-    """No row not a file is another after a refusal; and each form that is for doing does something."""
+    """No row and no file is another after a refusal; and each form that is for doing does something."""
     nothing = {"enter:judge", "enter:mapping", "correct:report", "plants:mapping", "service:oidc"}
     does = set()
     for name, method, who, where, status, _, changed in said:

@@ -9,6 +9,7 @@ from __future__ import annotations
 
 import datetime
 import fnmatch
+import glob
 import re
 from collections.abc import Iterator, Sequence
 from dataclasses import replace
@@ -88,8 +89,13 @@ def mapping_of(mapping: WorkbookMapping, sheet: Sheet) -> SheetMapping | None:
     """Return what a mapping says of a sheet: by its whole name, or by the first pattern."""
     name = sheet.name.strip().casefold()
     whole = [each for each in mapping.sheets if each.name.strip().casefold() == name]
-    like = [each for each in mapping.sheets if fnmatch.fnmatchcase(name, each.name.casefold())]
+    like = [each for each in mapping.sheets if fnmatch.fnmatchcase(name, _pattern(each.name))]
     return next(iter([*whole, *like]), None)
+
+
+def _pattern(name: str) -> str:
+    """Return a name of a mapping as a pattern: no mark in it but `*` stands for anything."""
+    return glob.escape(name.strip().casefold()).replace("[*]", "*")
 
 
 def _unmapped(sheet: Sheet) -> Sheet:

@@ -8,9 +8,9 @@ import re
 from collections.abc import Iterator, Mapping
 from dataclasses import dataclass, field
 from functools import cached_property
-from pathlib import Path
 
-TOP = Path(__file__).resolve().parents[2]
+from gate.checkout import CRATES, TOP, crates_in
+
 # Folders of what tools make.
 MADE = {".git", "out", "__pycache__", ".mypy_cache", ".pytest_cache", ".hypothesis"}
 USE = re.compile(
@@ -193,12 +193,8 @@ class Sources:
     def layers(self) -> dict[str, list[str]]:
         """The crates of each layer of crates.txt, lowest first."""
         found: dict[str, list[str]] = {}
-        heading = ""
-        for line in self.text("crates.txt").splitlines():
-            if line.startswith("#"):
-                heading = line.lstrip("# ").strip()
-            elif line.strip():
-                found.setdefault(heading, []).append(line.split("#")[0].split(":")[0].split()[0])
+        for crate in crates_in(self.text(CRATES)):
+            found.setdefault(crate.layer, []).append(crate.name)
         return found
 
     @cached_property

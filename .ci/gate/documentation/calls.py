@@ -8,7 +8,7 @@ from dataclasses import dataclass, replace
 from .rust import Function, Types, of_libraries
 from .sources import Sources, Unknown
 
-CALLS = ".ci/documentation/calls.txt"
+CALLS = ".ci/gate/documentation/calls.txt"
 # A clause of a contract: what it demands or promises, and its name if it has one.
 CLAUSE = re.compile(r"^\s*(requires|ensures)(?: (\w+))? \{", re.M)
 # How the list writes a clause without a name.

@@ -19,7 +19,7 @@ INNER = (
     "docs/ASSURANCE.md",
     "docs/DECISIONS.md",
     "docs/DEFINITIONS.md",
-    ".ci/documentation/clauses.md",
+    ".ci/gate/documentation/clauses.md",
 )
 OUTER = (
     "CHANGELOG.md",

@@ -13,7 +13,7 @@ from dataclasses import dataclass
 from functools import cache
 from pathlib import Path
 
-from planting.tree import Tree
+from gate.planting.tree import Tree
 
 # An import of definitions or lemmas: its path, and the names or the name for the module.
 IMPORT = re.compile(r"(?m)^ *(?:pub )?(?:ghost )?use (Rattle\.[\w.]+?)(?:\.\{(.*)\}| as (\w+))?;?$")

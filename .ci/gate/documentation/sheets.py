@@ -4,8 +4,10 @@ from __future__ import annotations
 
 import sys
 
+from gate.checkout import TOP
+
 from .guide import between
-from .sources import TOP, Sources
+from .sources import Sources
 
 PAGE = "docs/PYTHON.md"
 MARK = "<!-- sheets: made by .ci/documents write from the list of sheets -->"

@@ -9,8 +9,8 @@ from dataclasses import dataclass, field
 from .reach import Part, Reach, Reached
 from .sources import Definition, Sources, Spec, Unknown
 
-CHAPTERS = ".ci/documentation/chapters.txt"
-OPENINGS = ".ci/documentation/openings"
+CHAPTERS = ".ci/gate/documentation/chapters.txt"
+OPENINGS = ".ci/gate/documentation/openings"
 
 
 @dataclass

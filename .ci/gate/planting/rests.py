@@ -30,9 +30,9 @@ from dataclasses import dataclass
 from functools import cache
 from pathlib import Path
 
-from planting.code import WORD, Code, Item, functions_in
-from planting.meanings import Meanings, digest_of
-from planting.tree import Tree
+from gate.planting.code import WORD, Code, Item, functions_in
+from gate.planting.meanings import Meanings, digest_of
+from gate.planting.tree import Tree
 
 
 @dataclass(frozen=True)

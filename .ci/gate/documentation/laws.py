@@ -7,8 +7,8 @@ from dataclasses import dataclass
 
 from .sources import Sources
 
-LAWS = "<!-- laws: made by .ci/documents write from .ci/documentation/laws.txt -->"
-LIST = ".ci/documentation/laws.txt"
+LAWS = "<!-- laws: made by .ci/documents write from .ci/gate/documentation/laws.txt -->"
+LIST = ".ci/gate/documentation/laws.txt"
 
 
 @dataclass(frozen=True)

@@ -2,6 +2,8 @@
 
 from __future__ import annotations
 
+from gate.checkout import TOP
+
 from . import (
     answers,
     calls,
@@ -18,7 +20,7 @@ from . import (
     sheets,
     statement,
 )
-from .sources import TOP, Sources
+from .sources import Sources
 
 
 def made(sources: Sources) -> dict[str, str]:

@@ -5,6 +5,8 @@ from __future__ import annotations
 import re
 import textwrap
 
+from gate.checkout import numbers_in
+
 from .guide import between
 from .sources import Sources
 
@@ -84,9 +86,7 @@ def tried(sources: Sources) -> str:
 
 def numbers(sources: Sources) -> dict[str, int]:
     """Return the times by their names."""
-    lines = sources.text("docs/times.txt").splitlines()
-    pairs = [line.split() for line in lines if line and not line.startswith("#")]
-    return {name: int(number) for name, number in pairs}
+    return numbers_in(sources.text("docs/times.txt"))
 
 
 def front(t: dict[str, int]) -> list[str]:

@@ -21,7 +21,8 @@ from collections.abc import Iterator
 from dataclasses import dataclass, field
 from functools import cache, cached_property
 
-from . import worked
+from gate.trials import cases
+
 from .expressions import Values
 from .rust import Function, Texts, Types, of_libraries, split
 from .sources import Sources
@@ -258,8 +259,8 @@ def outputs(sources: Sources) -> Iterator[tuple[str, str]]:
     for path in sources.files(r"examples/.*\.out(?:\.csv)?|crates/[^/]+/stdout"):
         for line in sources.text(path).splitlines():
             yield path, line
-    for path in sources.files(rf"{worked.FOLDER}/.*\.cases"):
-        for case in worked.cases(sources.text(path)):
+    for path in sources.files(rf"{cases.FOLDER}/.*\.cases"):
+        for case in cases.cases(sources.text(path)):
             for line in case.wanted.splitlines():
                 yield path, line
 

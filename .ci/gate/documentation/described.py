@@ -11,7 +11,8 @@ from .sources import Sources, Unknown
 ARCHITECTURE = "docs/ARCHITECTURE.md"
 CRATES = "<!-- crates: made by .ci/documents write from crates.txt and the head of each crate -->"
 MODULES = "<!-- modules: made by .ci/documents write from the head of each module -->"
-PACKAGES = ("plantbal", "plantbal_office")
+# The packages of Python, and the folders of modules that scripts beside them call.
+PACKAGES = ("python/plantbal", "python/plantbal_office", ".ci/gate", "packaging", "libplantbal")
 
 
 def cell(text: str) -> str:
@@ -61,19 +62,19 @@ def modules(sources: Sources) -> list[str]:
     lines = ["| module | what it does |", "|---|---|"]
     for package in PACKAGES:
         folders: dict[str, list[str]] = {}
-        for path in sources.files(rf"python/{package}/.*\.py"):
-            folder, _, name = path.removeprefix("python/").rpartition("/")
+        for path in sources.files(rf"{re.escape(package)}/.*\.py"):
+            folder, _, name = path.rpartition("/")
             if "migrations" not in folder:
                 folders.setdefault(folder, []).append(name)
         for folder, names in sorted(folders.items()):
             own = [name for name in names if name != "__init__.py"]
-            begin = f"python/{folder}/__init__.py"
+            begin, shown = f"{folder}/__init__.py", folder.removeprefix("python/")
             if "__init__.py" in names and sources.text(begin).strip():
-                lines.append(f"| **`{folder}/`** | **{cell(head_of_module(sources, begin))}** |")
+                lines.append(f"| **`{shown}/`** | **{cell(head_of_module(sources, begin))}** |")
             elif own:
-                lines.append(f"| **`{folder}/`** | |")
+                lines.append(f"| **`{shown}/`** | |")
             for name in own:
-                path = f"python/{folder}/{name}"
+                path = f"{folder}/{name}"
                 lines.append(f"| `{name}` | {cell(head_of_module(sources, path))} |")
     return lines
 

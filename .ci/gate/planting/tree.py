@@ -6,6 +6,8 @@ import re
 from functools import cache
 from pathlib import Path
 
+from gate.checkout import CRATES, crates_in
+
 _COMMENTED = re.compile(r"(?m)^\s*(?:(?:--|//).*)?\n")
 
 
@@ -32,12 +34,8 @@ class Tree:
     @cache
     def crates(self) -> dict[str, list[str]]:
         """Return each crate of crates.txt with the libraries that it names."""
-        below = {}
-        for line in self.read(self.top / "crates.txt").splitlines():
-            name, colon, used = line.split("#")[0].partition(":")
-            if colon:
-                below[name.split()[0]] = used.split()
-        return below
+        text = self.read(self.top / CRATES)
+        return {crate.name: crate.below for crate in crates_in(text)}
 
     @cache
     def reached(self, crate: str) -> tuple[str, ...]:

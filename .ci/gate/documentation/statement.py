@@ -25,9 +25,9 @@ TOP_CALL = "run_program"
 # What it makes of the arguments, of which its contract speaks.
 MADE_OF_ARGUMENTS = ("Words",)
 # The clauses of the contract of the call in words, which stand in front.
-IN_WORDS = ".ci/documentation/clauses.md"
+IN_WORDS = ".ci/gate/documentation/clauses.md"
 # How the signs of the contract and of the definitions are read.
-SIGNS = ".ci/documentation/signs.md"
+SIGNS = ".ci/gate/documentation/signs.md"
 # The definitions that carry most of what is claimed beside the core, each with its file.
 HEART = (
     ("pb_session/Session", "IsSessionText"),

@@ -14,8 +14,8 @@ from dataclasses import dataclass
 from functools import cache
 from pathlib import Path
 
-from planting.code import IMPORT
-from planting.tree import Tree
+from gate.planting.code import IMPORT
+from gate.planting.tree import Tree
 
 # A definition or lemma that an attribute of the code cites by its path.
 _CITED = re.compile(r"\b(\w+)::((?:specs|proofs)(?:::\w+)*)::(\w+)")

@@ -1,0 +1,1 @@
+"""What is tried with the built program, and with the commands around it."""
