@@ -198,7 +198,7 @@ def may(context: dict[str, Any], address: str, method: str = "POST") -> bool:
 
 @register.simple_tag(takes_context=True)
 def signs(context: dict[str, Any]) -> bool:
-    """Say whether what wants an approval in the plant of the page is signed by who submits it."""
+    """Say whether what needs an approval in the plant of the page is signed by who submits it."""
     rules = plain_book(context["plant"]).rules()
     return rules is not None and rules.keys
 

@@ -12,7 +12,7 @@ from plantbal.book.ledger import YearLedger
 
 
 class Withheld(Enum):
-    """What becomes of an action that wants an approval by the rules of its book."""
+    """What becomes of an action that needs an approval by the rules of its book."""
 
     SUBMITTED = "it is submitted, and waits"
     TO_SIGN = "the text that its submission signs is given, and nothing is done"

@@ -30,7 +30,7 @@ class Begun:
     classes : mapping of str to list of str
         The streams of each class by the design; of a next year only if it has another plant.
     notes : tuple of str
-        What was passed over in the workbook of the plant.
+        What was skipped in the workbook of the plant.
     first : date or None
         The first day of a next year.
     contents : mapping of str to int
@@ -90,7 +90,7 @@ class Added:
     struck : bool
         Whether those that are gone were struck.
     notes : tuple of str
-        What was rounded or passed over in it.
+        What was rounded or skipped in it.
     is_booked : bool
         Whether something was booked: not if there was nothing new, or only to see what would be.
     closed : tuple of str

@@ -89,7 +89,7 @@ class SessionRows:
         self.state = State(installed_core())
         self._rows = _Kept()
         if version not in (1, 2):
-            raise Fault(f"there is no version {version} of sessions", remedy="say 1 or 2")
+            raise Fault(f"there is no version {version} of sessions", remedy="use 1 or 2")
         if version == 2:
             self.row("version", "2")
 

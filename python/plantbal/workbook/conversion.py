@@ -62,7 +62,7 @@ class Conversion:
     faults : list of Fault
         All that is wrong, each with its place.
     notes : list of str
-        What was rounded, passed over or is missing.
+        What was rounded, skipped or is missing.
     account : list of SheetFates
         What became of the rows of each sheet.
     """

@@ -1,6 +1,6 @@
 """The account of a workbook: what became of each row, so that none is lost in silence.
 
-Each row of a sheet that isn't empty is a row of heads, was read, was passed over, or is at fault:
+Each row of a sheet that isn't empty is a row of heads, was read, was skipped, or is at fault:
 these four add up to the rows of the file. A row that no reader took is said in the end, and so is
 each column that isn't read; one of figures or units is a fault.
 """
@@ -34,7 +34,7 @@ class Fate(enum.Enum):
 
     HEADS = "heads"
     READ = "read"
-    PASSED = "passed over"
+    PASSED = "skipped"
     FAULT = "at fault"
 
 
@@ -49,7 +49,7 @@ class SheetFates:
     rows : int
         How many rows aren't empty.
     heads, read, passed, at_fault : int
-        How many of them are heads, were read, were passed over, or are at fault.
+        How many of them are heads, were read, were skipped, or are at fault.
     """
 
     file: str

@@ -114,7 +114,7 @@ class Sheet:
     locale : str
         Whose numbers and days it has, if others than the workbook.
     taken : dict of int to bool
-        The rows that a mapping has taken: whether they are heads, or passed over.
+        The rows that a mapping has taken: whether they are heads, or skipped.
     """
 
     file: str
