@@ -110,11 +110,15 @@ def grams_of_texts(tonnes: Sequence[str]) -> list[str] | None:
 
     The point is only moved, so nothing is calculated: 12.5 has the digits of 12500000.
     """
-    lines = "\n".join(tonnes)
-    if lines.count("\n") != len(tonnes) - 1 or not _PLAIN.fullmatch(lines):
+    distinct = list(dict.fromkeys(tonnes))
+    lines = "\n".join(distinct)
+    if lines.count("\n") != len(distinct) - 1 or not _PLAIN.fullmatch(lines):
         return None
-    parts = [text.partition(".") for text in tonnes]
-    return [whole + part.ljust(6, "0") for whole, _, part in parts]
+    parts = [text.partition(".") for text in distinct]
+    grams = [whole + part.ljust(6, "0") for whole, _, part in parts]
+    if len(distinct) == len(tonnes):
+        return grams
+    return list(map(dict(zip(distinct, grams)).__getitem__, tonnes))
 
 
 def whole_of(number: int | Decimal | str, what: str) -> str:

@@ -164,7 +164,7 @@ FAULTY = [
         "line 3: 1.5E+12 is how a spreadsheet writes long numbers: take the file as",
     ),
     ('{"row":"end"}\n', "line 1: the keys of the row end are period, round, row"),
-    ('{"row":"end"\n', "line 1, column 13: no JSON object"),
+    ('{"row":"end"\n', "line 1, column 13: not a JSON object"),
     ('{"row":"unit"}\n', "its \"row\" is 'unit'"),
     ('{"period":"p","round":1,"row":"end"}\n', "a value isn't text"),
 ]

@@ -105,7 +105,8 @@ class ReadingRows(Sequence[Sequence[str]]):
         """Return the rows as lines of CSV; None if a field would need quotes."""
         if self._text:
             return self._text
-        text = _END.join(map(",".join, zip(*self.columns))) + _END
+        rows = map(",".join, zip(*self.columns[1:]))
+        text = f"reading,{f'{_END}reading,'.join(rows)}{_END}"
         wanted = self._count * (_COLUMNS - 1), self._count
         plain = (text.count(","), text.count(_END)) == wanted and not ('"' in text or "\r" in text)
         return text if plain else None

@@ -119,20 +119,15 @@ class FrameTable:
                 remedy="read it with dtype=str, or make whole grams or Decimals of it; for readings "
                 "use round='gram'",
             )
-        missing = series.isna().to_numpy()
-        if missing.any():
-            number = int(missing.argmax())
-            raise InputFault(
-                "there is no value",
-                place=self.place(number, head),
-                remedy="leave the row out",
-            )
         values: list[Any] = series.tolist()
-        if pandas.api.types.is_integer_dtype(series.dtype):
-            if exact_integers:
-                return list(map(str, values))
-            values = list(map(int, values))  # a column of Int64 gives numbers of numpy
         kinds = set(map(type, values))
+        if kinds != {str}:  # nothing is missing from texts alone
+            self._refuse_missing(series, head)
+            if pandas.api.types.is_integer_dtype(series.dtype):
+                if exact_integers:
+                    return list(map(str, values))
+                values = list(map(int, values))  # a column of Int64 gives numbers of numpy
+                kinds = {int}
         if kinds <= {str} and convert is str:
             return values
         try:
@@ -142,6 +137,17 @@ class FrameTable:
             return [convert(value) for value in values]
         except Fault:
             return [self._text(convert, number, head, v) for number, v in enumerate(values)]
+
+    def _refuse_missing(self, series: pandas.Series[Any], head: str) -> None:
+        """Refuse a column without a value in some row."""
+        missing = series.isna().to_numpy()
+        if missing.any():
+            number = int(missing.argmax())
+            raise InputFault(
+                "there is no value",
+                place=self.place(number, head),
+                remedy="leave the row out",
+            )
 
     def _text(self, convert: Convert, number: int, head: str, value: Any) -> str:
         """Return the text of a value, or say where it stands."""
