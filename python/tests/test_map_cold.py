@@ -267,7 +267,11 @@ def test_months_of_names() -> None:
     for name, wanted in names.items():
         assert (month_of_sheet(name), pattern_of(name)) == wanted, name
     mapping = parse_mapping("m", '[[sheet]]\nname = "Werte [t] *"\nkind = "readings"\n')
-    for name, is_found in (("Werte [t] Mai", True), ("werte [T] juni", True), ("Werte t Mai", False)):
+    for name, is_found in (
+        ("Werte [t] Mai", True),
+        ("werte [T] juni", True),
+        ("Werte t Mai", False),
+    ):
         found = mapping_of(mapping, Sheet("a.xlsx", name, []))
         assert (found is not None) == is_found, name
     assert [short_year_of(text) for text in ("Dez 23", "Dez 2023", "23 Dez")] == ["2023", "", ""]

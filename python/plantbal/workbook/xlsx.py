@@ -1,9 +1,8 @@
 """Workbooks of Excel: their sheets by the cells that they hold, and not by their corners.
 
-The size of what is packed is looked at first. Then each sheet is read twice as a stream, once with
-the values of formulas and once with the formulas: a cell far away or a merge of a million cells
-takes no memory. Hidden sheets, rows and columns and cells that are struck through are read as all
-others, and said.
+The size of what is packed is looked at first. Then each sheet is read as a stream, with the values of
+formulas: a cell far away or a merge of a million cells takes no memory. Hidden sheets, rows and
+columns and cells that are struck through are read as all others, and said.
 """
 
 from __future__ import annotations
@@ -32,6 +31,7 @@ from plantbal.workbook.sheets import (
 )
 
 _TRUE = ("1", "true")
+_FORMULA = "f"  # as openpyxl calls such a cell
 
 
 def xlsx_of(name: str, data: bytes) -> list[Sheet]:
@@ -58,23 +58,21 @@ def xlsx_of(name: str, data: bytes) -> list[Sheet]:
     with readable(name):
         check_size(name, data)
         values = openpyxl.load_workbook(io.BytesIO(data), read_only=True, data_only=True)
-        written = openpyxl.load_workbook(io.BytesIO(data), read_only=True, data_only=False)
         epoch = EPOCH_1904 if values.epoch.year == EPOCH_1904.year else EPOCH
         held = Held()
-        pairs = zip(values.worksheets, written.worksheets)
-        return [_XlsxReading(name, one, other, epoch).sheet(held) for one, other in pairs]
+        return [_XlsxReading(name, each, epoch).sheet(held) for each in values.worksheets]
 
 
 @dataclass
 class _XlsxReading:
-    """Reads a sheet of openpyxl in both forms.
+    """Reads a sheet of openpyxl.
 
     Attributes
     ----------
     file : str
         The workbook's name.
-    values, written : ReadOnlyWorksheet
-        The sheet with the values of its formulas, and with the formulas.
+    values : ReadOnlyWorksheet
+        The sheet with the values of its formulas.
     epoch : date
         The day from which the workbook counts days.
     struck, hidden : list of str, list of int
@@ -85,7 +83,6 @@ class _XlsxReading:
 
     file: str
     values: Any
-    written: Any
     epoch: datetime.date
     struck: list[str] = field(default_factory=list)
     hidden: list[int] = field(default_factory=list)
@@ -95,10 +92,10 @@ class _XlsxReading:
         """Return the sheet, with notes on what is hidden or struck through."""
         made = Sheet(self.file, self.values.title, [], epoch=self.epoch)
         rows: dict[int, list[Value]] = {}
-        with _parser(self.values) as one, _parser(self.written) as other:
-            for (line, cells), (_, twins) in zip(one.parse(), other.parse()):
+        with _parser(self.values) as one:
+            for line, cells in one.parse():
                 self._check_place(line, cells)
-                found = without_end(self._row(line, cells, twins, rows.get(line, [])))
+                found = without_end(self._row(line, cells, rows.get(line, [])))
                 if found:
                     rows[line] = found
                     held.take(made.place(line), found)
@@ -122,16 +119,10 @@ class _XlsxReading:
                 remedy=f"a sheet has {limits.ROWS:,} rows and {limits.COLUMNS:,} columns",
             )
 
-    def _row(
-        self,
-        line: int,
-        cells: list[dict[str, Any]],
-        twins: list[dict[str, Any]],
-        row: list[Value],
-    ) -> list[Value]:
+    def _row(self, line: int, cells: list[dict[str, Any]], row: list[Value]) -> list[Value]:
         """Return the values of a row by their columns; `row` has those that stand there already."""
-        for cell, twin in zip(cells, twins):
-            value = self._value(cell, twin)
+        for cell in cells:
+            value = self._value(cell)
             if value is None:
                 continue
             place = cell["column"] - 1
@@ -152,11 +143,11 @@ class _XlsxReading:
             self.styles[number] = percent, bool(shown.font.strike)
         return self.styles[number]
 
-    def _value(self, cell: dict[str, Any], written: dict[str, Any]) -> Value:
+    def _value(self, cell: dict[str, Any]) -> Value:
         """Return what stands in a cell; numbers become Decimals as the file has them."""
         value = cell["value"]
         if value is None:
-            return NoValue() if written["data_type"] == "f" else None
+            return NoValue() if cell["data_type"] == _FORMULA else None
         if isinstance(value, (bool, datetime.datetime, datetime.time)):
             return value
         if isinstance(value, (int, float)):
@@ -171,11 +162,20 @@ class _XlsxReading:
 @contextmanager
 def _parser(sheet: Any) -> Iterator[Any]:
     """Give openpyxl's parser of a sheet's rows, which gives the cells that are there alone."""
-    from openpyxl.worksheet._reader import WorkSheetParser
+    from openpyxl.worksheet._reader import FORMULA_TAG, WorkSheetParser
+
+    class _Parser(WorkSheetParser):  # type: ignore[misc]  # it has no types
+        """Tells a formula without a value from a cell with nothing in it."""
+
+        def parse_cell(self, element: Any) -> dict[str, Any]:
+            cell: dict[str, Any] = super().parse_cell(element)
+            if cell["value"] is None and element.find(FORMULA_TAG) is not None:
+                cell["data_type"] = _FORMULA
+            return cell
 
     book = sheet.parent
     with sheet._get_source() as source:
-        yield WorkSheetParser(
+        yield _Parser(
             source,
             sheet._shared_strings,
             data_only=book.data_only,
