@@ -13,7 +13,7 @@ from pathlib import Path
 import pytest
 from conftest import TOP
 
-TOOLS = "sh readlink head wc mktemp tail grep sed cat awk nproc rm mkdir chmod"
+TOOLS = "sh readlink head wc mktemp tail grep sed cat awk nproc rm mkdir chmod sha256sum cut"
 CRATES = """# low
 pb_low: std
 
@@ -30,6 +30,7 @@ end() {
 }
 case $PWD:$* in
 */pb_low:"lib --jobs "*) echo one open goal; [ ! -e ../../broken ] ;;
+*:version) echo "kit 1 logic 1" ;;
 */plantbal:"run --jobs "*" -- run")
     mkdir -p out && printf '#!/bin/sh\necho "ran $*"\n' >out/plantbal && chmod +x out/plantbal
     ;;
