@@ -516,7 +516,11 @@ IMPOSSIBLE = [
     (FLOWS[0], f"{MOST + 1},{MOST},{MOST + 2}", ""),
     (FLOWS[0], f"{MOST + 2},{MOST + 1},{MOST + 3}", "343.902 t of cu in 342.960 t, more"),
     (FLOWS[0], f"{-ERROR - 1},{-ERROR - 2},{-ERROR}", ""),
-    (FLOWS[0], f"{-ERROR - 2},{-ERROR - 3},{-ERROR - 1}", "-0.941 t of cu in 342.960 t, against the"),
+    (
+        FLOWS[0],
+        f"{-ERROR - 2},{-ERROR - 3},{-ERROR - 1}",
+        "-0.941 t of cu in 342.960 t, against the",
+    ),
     (FLOWS[1], "-342960413,-342960593,-342960232", "96.341 t of cu in -342.960 t, against the"),
     (FLOWS[1], "100,-100,96340900", ""),
 ]
