@@ -35,7 +35,7 @@ CHANGES = [
     (DAY, r"^report,[^\n]*\n", "", "is in no report"),
     (DAY, r"^(stream,\w+,)\w+", r"\1NONE", "there is no node NONE"),
     (DAY, r"\d+,\d+(,\w+,cut)", r",\1", "or the other way round"),
-    (WINDOW, r"^place,n1.1", "place,n9.9", "n1.1 is the code of no place of the window"),
+    (WINDOW, r"^place,n1.1", "place,n9.9", "no place of the window has the code n1.1"),
     (WINDOW, r"^window,[^\n]*\n", "", "this place row is in no window"),
     (MAY, r"^refused,\d+", "refused,x", "at of a refused row is 'x'"),
     (MAY, r"^end,\w+", "end,NONE", "this ends the report of NONE, which hasn't begun"),

@@ -227,7 +227,7 @@ def _plain_rows(text: str) -> Iterator[Rows]:
 
 
 def _end_of_run(text: str, at: int) -> int:
-    """Return where the run of readings ends that begins at a place, or the part of it that is taken."""
+    """Return where the run of readings ends that begins at a place, or the part that is taken."""
     least = text.rfind("\n", at, at + _MOST_TEXT) + 1 or text.find("\n", at) + 1 or len(text)
     other = _OTHER.search(text, at, least)
     return other.start() + 1 if other else least

@@ -261,7 +261,7 @@ class SessionRows:
             raise
 
     def _ask_again(self) -> None:
-        """Have a core take the accepted rows: the one before had others, or is of another session."""
+        """Have a new core take the accepted rows: the one before had others, or isn't its own."""
         core = installed_core()
         self.state.core = None if core is None else CoreSession(core)
         if self.state.core is not None:
