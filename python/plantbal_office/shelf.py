@@ -85,7 +85,7 @@ def who_of(request: HttpRequest) -> str:
     return request.user.get_username() if settings.PLANTBAL_NAMES_PEOPLE else ""
 
 
-def given_of(request: HttpRequest) -> tuple[str, str] | None:
+def given_by(request: HttpRequest) -> tuple[str, str] | None:
     """Return the text that somebody has signed and its signature, if a form has both files.
 
     Raises
@@ -132,7 +132,7 @@ def book_of(request: HttpRequest, *, expected: bool = False) -> Book:
         who=who_of(request),
         program=settings.PLANTBAL_PROGRAM,
         expected=version,
-        given=given_of(request),
+        given=given_by(request),
         withheld=(Withheld.TO_SIGN if request.POST.get("answer") == "text" else Withheld.SUBMITTED),
     )
 

@@ -209,7 +209,9 @@ def _part(statement: Statement, found: Sequence[MeasuredFact]) -> MeasuredPart:
     return MeasuredPart(shown, len(own) - len(shown))
 
 
-def sheet(parts: Mapping[str, MeasuredPart]) -> Iterator[tuple[str | int | Decimal | None, ...]]:
+def measured_sheet(
+    parts: Mapping[str, MeasuredPart]
+) -> Iterator[tuple[str | int | Decimal | None, ...]]:
     """Give the rows of it for a workbook, with the heads of the book's file after the period."""
     for period, part in parts.items():
         for each in part.facts:

@@ -200,7 +200,7 @@ def write_workbook(
         "streams": streams(account),
         "tanks": tanks(account),
         "grades": table_of(prepared.grades),
-        "measured": (measured.SHEET, list(measured.sheet(prepared.measured))),
+        "measured": (measured.SHEET, list(measured.measured_sheet(prepared.measured))),
         "bounds": bounds(account),
         "diagnosis": (diagnosed.SHEET, diagnosed.sheet(account.statements)),
         "edits": edits(account),

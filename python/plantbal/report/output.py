@@ -28,7 +28,7 @@ from plantbal.report.frames import (
 from plantbal.report.judged import judge_rows
 from plantbal.report.kept import kept_table
 from plantbal.report.parsing import csv_of, parse_rows, read_rows
-from plantbal.report.reasons import impossible_of, reasons_of
+from plantbal.report.reasons import impossible_of, why_not_ok
 from plantbal.report.shown import html_of, json_of, output_dict, summary_of
 from plantbal.report.written import write_sqlite, write_xlsx
 from plantbal.schema import schema
@@ -125,7 +125,7 @@ class Output:
     @cached_property
     def _why(self) -> tuple[str, ...]:
         """The same, kept."""
-        return tuple(reasons_of(self.rows, self.blocks_in_order, self.status, self.left_out))
+        return tuple(why_not_ok(self.rows, self.blocks_in_order, self.status, self.left_out))
 
     @property
     def ok(self) -> bool:

@@ -7,7 +7,7 @@ from collections.abc import Sequence
 from plantbal.report.blocks import Block, Values
 
 
-def reasons_of(
+def why_not_ok(
     rows: Sequence[Values], blocks: Sequence[Block], status: int | None, left_out: int
 ) -> list[str]:
     """Return why an output isn't ok, a sentence each; nothing if it is.

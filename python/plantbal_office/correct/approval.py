@@ -14,7 +14,7 @@ from plantbal.faults import Fault
 from plantbal.gates import Gate
 from plantbal_office.deeds.once import once
 from plantbal_office.deeds.signing import SUBMISSION, signed_text
-from plantbal_office.shelf import book_of, contents_of, given_of, plain_book, run_settings
+from plantbal_office.shelf import book_of, contents_of, given_by, plain_book, run_settings
 
 _REASON = 80  # characters
 _ROWS = 40  # of what waits
@@ -107,7 +107,7 @@ def _signed(request: HttpRequest) -> tuple[str, str]:
     Fault
         If it wants it and one of the two isn't there.
     """
-    given, rules = given_of(request), plain_book(request.plant).rules()
+    given, rules = given_by(request), plain_book(request.plant).rules()
     if rules is not None and rules.keys and given is None:
         remedy = _("take the text to be signed, sign it by the command shown, and send both files")
         raise Fault(_("this book requires a signature"), remedy=remedy)

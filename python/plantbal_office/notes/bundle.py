@@ -15,7 +15,7 @@ from pathlib import Path
 
 from plantbal.audit import archive
 from plantbal.faults import Fault
-from plantbal_office.notes.handed import handed
+from plantbal_office.notes.handed import bundle_handed
 from plantbal_office.plants.models import Plant
 from plantbal_office.shelf import plain_book, run_settings
 
@@ -55,7 +55,7 @@ def bundle_of(
     """Return the zip that is handed over."""
     from plantbal_office.notes.views import as_text
 
-    inner = handed(plant, period, lambda before: archived(plant, period, folder, before))
+    inner = bundle_handed(plant, period, lambda before: archived(plant, period, folder, before))
     contents = {f"{plant.slug}_{period}.zip": inner}
     contents["comments.json"] = as_text(notes).encode("utf-8")
     for note in notes:

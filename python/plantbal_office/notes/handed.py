@@ -23,12 +23,12 @@ from plantbal_office.plants.models import Plant
 from plantbal_office.shelf import contents_of, plain_book
 
 
-def folder_of(plant: Plant) -> Path:
+def bundles_of(plant: Plant) -> Path:
     """Return where the bundles of a plant are kept."""
     return Path(settings.MEDIA_ROOT) / "bundles" / str(plant.pk)
 
 
-def handed(plant: Plant, period: str, make: Callable[[Path | None], Path]) -> bytes:
+def bundle_handed(plant: Plant, period: str, make: Callable[[Path | None], Path]) -> bytes:
     """Return the bundle of a month, made if the one that is kept isn't of its report.
 
     Parameters
@@ -40,7 +40,7 @@ def handed(plant: Plant, period: str, make: Callable[[Path | None], Path]) -> by
     make : callable
         Makes a bundle that names the one that it is given, if any, as the one before it.
     """
-    folder = folder_of(plant)
+    folder = bundles_of(plant)
     folder.mkdir(parents=True, exist_ok=True)
     with _locked(folder):
         before, is_closed = _before(plant, period), _is_closed(plant, period)
@@ -71,7 +71,7 @@ def _before(plant: Plant, period: str) -> Path | None:
     """Return the bundle that was handed out of the latest month before one; None without one."""
     names = [each.name for each in contents_of(plant).months]
     for name in reversed(names[: names.index(period)]):
-        place = folder_of(plant) / f"{name}.zip"
+        place = bundles_of(plant) / f"{name}.zip"
         if place.exists():
             return place
     return None

@@ -15,7 +15,7 @@ from plantbal.workbook.mapping.profile import (
     ColumnProfile,
     SheetProfile,
     is_running,
-    pairs_of,
+    tank_pairs,
     rises,
     split_unit,
 )
@@ -102,7 +102,7 @@ class Columns:
     @property
     def pairs(self) -> int:
         """How many tanks are over pairs of levels and volumes."""
-        return pairs_of(self.profile, self.known.tanks)
+        return tank_pairs(self.profile, self.known.tanks)
 
     @property
     def is_long(self) -> bool:

@@ -11,7 +11,7 @@ from plantbal.workbook.mapping.columns import Columns
 from plantbal.workbook.mapping.form import OPEN
 from plantbal.workbook.mapping.known import KnownPlant, tag_in
 from plantbal.workbook.mapping.months import month_of_head
-from plantbal.workbook.mapping.profile import ColumnProfile, SheetProfile, pairs_of
+from plantbal.workbook.mapping.profile import ColumnProfile, SheetProfile, tank_pairs
 from plantbal.workbook.mapping.vocabulary import (
     column_meanings,
     cover_meaning,
@@ -137,7 +137,7 @@ class KindsOfSheets:
             count = "1 of its heads is a tag or stream" if len(tags) == 1 else ""
             count = count or f"{len(tags)} of its heads are tags or streams"
             return "readings", f"{count} of the plant"
-        pairs = pairs_of(profile, self.known.tanks)
+        pairs = tank_pairs(profile, self.known.tanks)
         if pairs and not days and not heads:
             tank = "1 tank is" if pairs == 1 else f"{pairs} tanks are"
             return "straps", f"{tank} over pairs of levels and volumes"

@@ -384,7 +384,7 @@ def _sort_of_text(text: str) -> CellSort:
     return CellSort.MIXED if match and _unit(match[2]) else CellSort.TEXT
 
 
-def pairs_of(profile: SheetProfile, tanks: Sequence[str]) -> int:
+def tank_pairs(profile: SheetProfile, tanks: Sequence[str]) -> int:
     """Return how many tanks stand over pairs of columns, one of levels and one of volumes."""
     found: dict[str, Counter[str]] = {}
     for column in profile.columns:
