@@ -89,7 +89,10 @@ OF_REPORTS = {
     "empty": (b"", "it is empty: run a session that asks for a report"),
     "no row": (b"\n\n", "it is empty: run a session that asks for a report"),
     "cut JSON": (JSON[: len(JSON) // 2], "not a JSON object.*: give the file as plantbal wrote it"),
-    "other JSON": (b'{"a": 1}\n', "not a row of plantbal.*: give what `plantbal run --format json`"),
+    "other JSON": (
+        b'{"a": 1}\n',
+        "not a row of plantbal.*: give what `plantbal run --format json`",
+    ),
     "a list": (b'[{"row": "report"}]\n', "write an object a line: jq"),
     "workbook": (WORKBOOK, "this is a workbook: save the sheet as CSV"),
     "garbage": (GARBAGE, "this isn't UTF-8 text"),
