@@ -2,9 +2,11 @@
 
 from __future__ import annotations
 
-import csv
 import io
+import os
 import sqlite3
+import subprocess
+import sys
 from collections.abc import Callable
 from decimal import Decimal
 from pathlib import Path
@@ -278,8 +280,8 @@ def seconds(*calls: Callable[[], object]) -> list[float]:
     return least
 
 
-def test_reading_is_quick() -> None:
-    """A report of 2,000 streams takes at most three times what pandas takes to read its bytes."""
+def tell_times() -> None:
+    """Print what pandas takes to read the bytes of a report, and what its tables take."""
     text = large(2000)
     data = text.encode()
 
@@ -288,17 +290,23 @@ def test_reading_is_quick() -> None:
         assert len(output.streams) == 2000 and len(output.tests) == 2000
         assert len(output.nodes) == 1001 and len(output.blocks) == 1
 
-    def dicts() -> None:
-        names = [str(place) for place in range(16)]
-        assert len([dict(zip(names, row)) for row in csv.reader(io.StringIO(text))]) > 5000
-
-    plain, own, objects = seconds(
-        lambda: pandas.read_csv(io.BytesIO(data), header=None, names=range(16)), tables, dicts
+    print(
+        *seconds(lambda: pandas.read_csv(io.BytesIO(data), header=None, names=range(16)), tables)
     )
-    # The bound is three times; processors that are shared tell it within a fifth or so. Where other
-    # work takes the caches, whatever makes objects loses more than pandas does, which makes none:
-    # then these tables are compared with a dict for each row.
-    assert own < max(3.6 * plain, 4 * objects)
+
+
+def test_reading_is_quick() -> None:
+    """A report of 2,000 streams takes at most three times what pandas takes to read its bytes.
+
+    It is measured in a process of its own, as whoever reads a report has one: in a process that
+    holds what thousands of tests left, the system has to find new memory for each report.
+    """
+    words = [sys.executable, "-c", "import test_output; test_output.tell_times()"]
+    environment = os.environ | {"PYTHONPATH": os.pathsep.join(sys.path)}
+    done = subprocess.run(words, env=environment, capture_output=True, text=True, check=True)
+    plain, own = map(float, done.stdout.split())
+    # the bound is three times; processors that are shared tell it within a fifth or so
+    assert own < 3.6 * plain
 
 
 @settings(max_examples=30, deadline=None)

@@ -22,8 +22,17 @@ from surface import function_of, hints_of, public, value_of
 import plantbal
 from plantbal.accounts.sheet import Accounts
 from plantbal.book.ledger import YearLedger
-from plantbal.faults import Fault, InputFault, Place, ProgramFault, Refusal, ToolMissing
+from plantbal.faults import (
+    Fault,
+    InputFault,
+    ModelFault,
+    Place,
+    ProgramFault,
+    Refusal,
+    ToolMissing,
+)
 from plantbal.model.effects import DeclaresUnit, Effect
+from plantbal.model.readings import ReadingRows, ReadingRun
 from plantbal.model.state import State
 from plantbal.report.kept import kept_table
 from plantbal.report.output import Output
@@ -34,6 +43,14 @@ REPORT = TOP / "examples" / "refinery_day.out.csv"
 CHECKED = pandas.DataFrame(
     {"period": ["may"], "verdict": ["no"], "word": ["gap"], "name": ["U"], "about": ["wide"]}
 )
+READINGS = [
+    ["reading"] * 2,
+    ["a", "b"],
+    ["A"] * 2,
+    ["2024-05-01", "2024-05-02"],
+    ["7"] * 2,
+    ["1"] * 2,
+]
 
 
 def session() -> plantbal.Session:
@@ -61,6 +78,8 @@ MAKERS: dict[type, Callable[[], Any]] = {
     InputFault: lambda: InputFault("wrong", place=Place(file="f", sheet="s", cell="B7")),
     ToolMissing: lambda: ToolMissing("openpyxl", "python3-openpyxl"),
     ProgramFault: lambda: ProgramFault("it ended", status=6, name="NoMemory", remedy="more"),
+    ModelFault: lambda: ModelFault(("unit", "U"), "refuse it with 5, duplicate", Place(line=3)),
+    ReadingRun: lambda: ReadingRun(ReadingRows(READINGS), [4, 5]),
     Uncertified: lambda: Uncertified.by_check(CHECKED),
     Refusal: refusal,
     Output: lambda: plantbal.read_report(REPORT),
@@ -89,6 +108,8 @@ def is_same(one: Any, other: Any) -> bool:
         return False
     if isinstance(one, pandas.DataFrame):
         return bool(one.equals(other))
+    if inspect.ismethod(one):  # of an object that is compared by itself
+        return one.__func__ is other.__func__
     if isinstance(one, Mapping):
         return list(one) == list(other) and all(is_same(one[key], other[key]) for key in one)
     if isinstance(one, (list, tuple)):

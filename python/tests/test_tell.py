@@ -275,7 +275,7 @@ def test_words(say: Desk, nights: Path, tmp_path: Path) -> None:
         (("--to", TO, "--smtp", "h:0"), "has no port"),
         (("--to", TO, "--smtp", "h", "--sendmail", "s"), "two ways"),
         (("--to", TO, "--user", "u"), "--user is for a server"),
-        (("--to", TO, "--smtp", "h", "--user", "u"), "over the network as it is"),
+        (("--to", TO, "--smtp", "h", "--user", "u"), "would cross the network in plain text"),
         (("--to", TO, "--smtp", "h", "--user", "u", "--security", "tls"), "go together"),
         (("--age", "1"), "isn't an age"),
         (("--tries", "0"), "whole number"),

@@ -267,7 +267,7 @@ def test_any_change(program: Path, place: int, text: str) -> None:
     found = explain_check("r.csv", data, None, program)
     assert len(found.rows) == sum(not line.startswith("yes") for line in verdicts)
     for told in found.rows:
-        said = ("single", "isn't clear", "isn't found", "asked", "ends within")
+        said = ("single", "isn't clear", "isn't found", "expected", "ends within")
         assert told.column or any(each in told.sentence for each in said), told.sentence
 
 

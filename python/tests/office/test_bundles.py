@@ -59,7 +59,7 @@ def test_head_of_the_book(site: Site, tmp_path: Path) -> None:
 
 def test_a_month_that_changes(site: Site, tmp_path: Path) -> None:
     """Another report wants another bundle; the one that was handed out is kept beside it."""
-    from plantbal_office.notes.handed import folder_of
+    from plantbal_office.notes.handed import bundles_of
 
     closed(site, "2024-04")
     first = bundle_in(site, "2024-04", tmp_path)[0].read_bytes()
@@ -68,5 +68,5 @@ def test_a_month_that_changes(site: Site, tmp_path: Path) -> None:
     second = bundle_in(site, "2024-04", tmp_path)[0].read_bytes()
     assert second != first
     assert bundle_in(site, "2024-04", tmp_path)[0].read_bytes() == second
-    kept = {path.name: path.read_bytes() for path in folder_of(site.plant).iterdir()}
+    kept = {path.name: path.read_bytes() for path in bundles_of(site.plant).iterdir()}
     assert kept == {"2024-04.zip": second, "2024-04~1.zip": first}

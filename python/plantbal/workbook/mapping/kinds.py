@@ -196,6 +196,7 @@ def _sheets_of(text: str) -> set[str]:
 
 
 def meant_by(name: str) -> set[str]:
+    """Return what a head of a column may mean."""
     return {meaning.of for meaning in column_meanings(name)}
 
 
