@@ -7,7 +7,6 @@ of the rest and the contract of the call that `main` makes; the others have a pa
 from __future__ import annotations
 
 import re
-import textwrap
 from collections.abc import Iterator
 from dataclasses import dataclass
 from functools import cache
@@ -15,6 +14,7 @@ from functools import cache
 from . import second, toolchain
 from .chapters import OPENINGS, Chapter, chapters
 from .guide import anchor_of
+from .markdown import code_block, made_by, paragraph
 from .reach import Part, Reach, Reached, part_of, words_in
 from .rust import Function, functions_in, item_of, of_libraries
 from .sources import Sources, Spec, Unknown, imports
@@ -302,16 +302,6 @@ def file_of(sources: Sources, page: Page, reached: Reached, heading: str) -> lis
     return lines + code_block("antt", "\n\n".join(shown)) if shown else lines[:-1]
 
 
-def code_block(language: str, text: str) -> list[str]:
-    """Return a text as a block of code."""
-    return [f"```{language}", text.rstrip(), "```"]
-
-
-def paragraph(text: str) -> list[str]:
-    """Return a paragraph in lines of a width."""
-    return textwrap.wrap(text, 120, break_long_words=False, break_on_hyphens=False)
-
-
 def shown(page: Page, parts: list[Part]) -> list[str]:
     """Return parts of code, each with its file."""
     lines = []
@@ -351,13 +341,6 @@ def number_of(page: Page, chapter: Chapter) -> int:
 def titled(page: Page, chapter: Chapter) -> str:
     """Return the title of a chapter with its number."""
     return f"{number_of(page, chapter)}. {chapter.title}"
-
-
-def made_by() -> list[str]:
-    """Return the paragraph that says how a page is made."""
-    return paragraph(
-        "Made by `.ci/documents write` from the sources; `.ci/documents check` fails if it is stale."
-    )
 
 
 def words_of(named: list[tuple[str, str]], deep: str) -> list[str]:

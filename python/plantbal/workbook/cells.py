@@ -490,9 +490,8 @@ def check_locale(locale: str) -> str:
     try:
         return str(Locale.parse(locale.replace("-", "_")))
     except (ValueError, UnknownLocaleError):
-        raise Fault(
-            f"there is no locale {locale!r}", text=locale, remedy="use de, en_GB, fr or another"
-        ) from None
+        remedy = "use de, en_GB, fr or another"
+        raise Fault(f"there is no locale {locale!r}", text=locale, remedy=remedy) from None
 
 
 def rounded_down(number: Fraction, places: int) -> str:
