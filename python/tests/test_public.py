@@ -122,6 +122,8 @@ def is_same(one: Any, other: Any) -> bool:
 def values_of(found: Any) -> list[Any]:
     """What an object holds, by the names of that."""
     held = dict(getattr(found, "__dict__", {}))
+    if isinstance(found, State):  # it hands on no session of the library
+        held = found.__getstate__()
     for kind in type(found).__mro__:
         slots = getattr(kind, "__slots__", ())
         held |= {
