@@ -55,7 +55,7 @@ _LEAST_SHARE = 1e-6
 # A stream whose variance is this many times the least one is strong.
 _STRONG = 1e6
 # A standard deviation below this part of the meters' own is what rounding leaves of 0.
-_NOTHING = 1e-9
+_NOTHING = 1e-10
 _NAN = float("nan")
 # The columns of the table to be read that hold words.
 _WORDS = ("period", "stream", "class", "rests on")
