@@ -290,9 +290,7 @@ def tell_times() -> None:
         assert len(output.streams) == 2000 and len(output.tests) == 2000
         assert len(output.nodes) == 1001 and len(output.blocks) == 1
 
-    print(
-        *seconds(lambda: pandas.read_csv(io.BytesIO(data), header=None, names=range(16)), tables)
-    )
+    print(*seconds(lambda: pandas.read_csv(io.BytesIO(data), header=None, names=range(16)), tables))
 
 
 def test_reading_is_quick() -> None:
