@@ -127,9 +127,10 @@ def _rows(prefix: str, folder: Path) -> list[_Row]:
     found: list[_Row] = []
     for entry in sorted(os.scandir(folder), key=lambda entry: entry.name):
         state = entry.stat()
-        if state.st_size > packed.PACKED_BYTES:
+        with open(entry.path, "rb") as file:
+            data = file.read(packed.PACKED_BYTES + 1)
+        if len(data) > packed.PACKED_BYTES:
             return []
-        data = Path(entry.path).read_bytes()
         row = f"{prefix}{entry.name}", state.st_mode, int(state.st_mtime), len(data)
         found.append((*row, packed.deflated(data)))
     return found
