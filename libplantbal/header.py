@@ -206,7 +206,7 @@ def status_numbers() -> list[tuple[str, str, str]]:
 
 def statuses() -> str:
     """Return the enumeration of the statuses."""
-    lines = ["/* How a call ended. The numbers to 6 are those with which the program exits. */"]
+    lines = ["/* How a call ended. The numbers up to 6 are the exit statuses of the program. */"]
     lines.append("enum plantbal_status {")
     for comment, name, number in status_numbers():
         lines.append(block(comment, "    "))
@@ -231,9 +231,9 @@ def causes() -> str:
 
 
 HEAD = """\
-/* plantbal.h: plant mass balance, in process. Made by packaging/derived write. What each call promises is proved; what the caller owes stands in
-   plantbal(3): true pointers and lengths, none of them null, buffers that don't overlap, one call
-   at a time for each session, and no copy of a session's words. */
+/* plantbal.h: plant mass balance, in process. Made by packaging/derived write. What each call promises
+   is proved. plantbal(3) says what the caller owes: true pointers and lengths, none of them null, buffers
+   that don't overlap, one call at a time for each session, and no copy of a session's words. */
 #ifndef PLANTBAL_H
 #define PLANTBAL_H
 
@@ -262,7 +262,7 @@ typedef struct plantbal_study_handle {
 
 SESSION = f"""\
 /* What a caller holds of a session. It begins as PLANTBAL_SESSION, and the caller never reads or
-   writes its words. As an array it is passed by its place, and can't be assigned. */
+   writes its words. As an array it is passed by reference, and can't be assigned. */
 {HELD}#define PLANTBAL_SESSION {{{{0, false}}}}
 
 /* The same of a study, which begins as PLANTBAL_STUDY. */

@@ -1,6 +1,6 @@
-/* plantbal.h: plant mass balance, in process. Made by packaging/derived write. What each call promises is proved; what the caller owes stands in
-   plantbal(3): true pointers and lengths, none of them null, buffers that don't overlap, one call
-   at a time for each session, and no copy of a session's words. */
+/* plantbal.h: plant mass balance, in process. Made by packaging/derived write. What each call promises
+   is proved. plantbal(3) says what the caller owes: true pointers and lengths, none of them null, buffers
+   that don't overlap, one call at a time for each session, and no copy of a session's words. */
 #ifndef PLANTBAL_H
 #define PLANTBAL_H
 
@@ -12,7 +12,7 @@
 extern "C" {
 #endif
 
-/* How a call ended. The numbers to 6 are those with which the program exits. */
+/* How a call ended. The numbers up to 6 are the exit statuses of the program. */
 enum plantbal_status {
     /* Everything was done; of a run or a check, nothing is wrong. */
     PLANTBAL_DONE = 0,
@@ -69,7 +69,7 @@ enum plantbal_cause {
 };
 
 /* What a caller holds of a session. It begins as PLANTBAL_SESSION, and the caller never reads or
-   writes its words. As an array it is passed by its place, and can't be assigned. */
+   writes its words. As an array it is passed by reference, and can't be assigned. */
 typedef struct plantbal_handle {
     void *at;
     bool live;
@@ -196,7 +196,7 @@ typedef struct plantbal_studied {
     /* How many measurements were taken out, one between each stage and the next. */
     uint64_t taken;
     /* Why the elimination stopped: 0 if none was asked for, 1 if the global test accepts, 2 if
-       it is undecided, 3 for want of a critical value, 4 if there is nothing to test, 5 if no
+       it is undecided, 3 if there is no critical value, 4 if there is nothing to test, 5 if no
        measurement is a suspect, 6 if all rounds are done. */
     uint8_t stop;
 } plantbal_studied;
@@ -223,7 +223,7 @@ typedef struct plantbal_edit {
     /* The grams that a fact has from then on, or the level of a dip in millimetres; 0 for a
        period and a fact that is struck. */
     int64_t amount;
-    /* The density of a dip in grams per cubic metre, and else 0. */
+    /* The density of a dip in grams per cubic metre, otherwise 0. */
     int64_t density;
     /* The variance in squared grams; 0 for a period and a fact that is struck. */
     plantbal_wide variance;
@@ -245,7 +245,7 @@ typedef struct plantbal_fact {
     int32_t last;
     /* Grams, or the level of a dip in millimetres. */
     int64_t amount;
-    /* The density of a dip in grams per cubic metre, and else 0. */
+    /* The density of a dip in grams per cubic metre, otherwise 0. */
     int64_t density;
     /* The variance in squared grams. */
     plantbal_wide variance;
@@ -280,10 +280,10 @@ typedef struct plantbal_measured_stream {
     uint32_t to;
     /* Whether it is measured. */
     bool measured;
-    /* The measured grams, at most 10^15 either way. Without a meaning if it isn't measured. */
+    /* The measured grams, at most 10^15 either way. Meaningless if it isn't measured. */
     int64_t value;
-    /* The variance of the measurement in squared grams, from 1 to 10^22. Without a meaning if it
-       isn't measured. */
+    /* The variance of the measurement in squared grams, from 1 to 10^22. Meaningless if it isn't
+       measured. */
     plantbal_wide variance;
 } plantbal_measured_stream;
 
@@ -295,10 +295,10 @@ typedef struct plantbal_stage {
     bool has_high;
     /* Whether there are tests. */
     bool tested;
-    /* Whether there is a critical value of the global test. */
+    /* Whether there is a critical value of the global test. Without tests there is none. */
     bool has_critical;
     /* What the global test says: 0 reject, 1 accept, 2 undecided, 3 no critical value, 4 nothing
-       to test. */
+       to test. 4 without tests. */
     uint8_t verdict;
     /* The sweeps that were done. */
     uint32_t sweeps;
@@ -400,7 +400,7 @@ typedef struct plantbal_measure_test {
    is no room for another code, and writes how many records it took to taken. PLANTBAL_USAGE: the
    places of the next record aren't in order, or lie beyond the text; PLANTBAL_NO_MEMORY,
    PLANTBAL_TOO_LARGE: with these too the records that were taken stay taken, and the next one
-   wasn't. PLANTBAL_BAD_HANDLE: the handle holds no session. */
+   wasn't. PLANTBAL_BAD_HANDLE: the handle holds no session; taken is 0. */
 uint8_t plantbal_session_records(
     plantbal_session session,
     const void *text,
@@ -414,11 +414,11 @@ uint8_t plantbal_session_records(
     size_t *taken);
 
 /* Takes the records of the bytes in order, after as many as skip says, and writes a code for
-   each: 0 if the record is accepted, and else the number of the cause for which it is refused.
+   each: 0 if the record is accepted, otherwise the number of the cause for which it is refused.
    It stops when there is no room for another code, and writes how many records it took to taken:
    so the next call skips these too. PLANTBAL_NO_MEMORY, PLANTBAL_TOO_LARGE: the records that
    were taken stay taken, and the next one wasn't. PLANTBAL_BAD_HANDLE: the handle holds no
-   session. */
+   session; taken is 0. */
 uint8_t plantbal_session_rows(
     plantbal_session session,
     const void *bytes,
@@ -429,10 +429,10 @@ uint8_t plantbal_session_rows(
     size_t *taken);
 
 /* Takes one record, whose fields lie one after another in text: each ends at the place that ends
-   gives, counted in bytes from the beginning. Writes to code 0 if the record is accepted, and
-   else the number of the cause for which it is refused. PLANTBAL_USAGE: the places aren't in
-   order, or lie beyond the text. PLANTBAL_BAD_HANDLE: the handle holds no session. If the status
-   isn't PLANTBAL_DONE, the session is as it was. */
+   gives, counted in bytes from the beginning. Writes to code 0 if the record is accepted,
+   otherwise the number of the cause for which it is refused. PLANTBAL_USAGE: the places aren't
+   in order, or lie beyond the text. PLANTBAL_BAD_HANDLE: the handle holds no session. If the
+   status isn't PLANTBAL_DONE, the session is as it was. */
 uint8_t plantbal_session_row(
     plantbal_session session,
     const void *text,
@@ -446,7 +446,7 @@ uint8_t plantbal_session_row(
    are. PLANTBAL_SMALL_BUFFER: there is no room for the streams; size says how many there are.
    PLANTBAL_BAD_STREAM: what is measured of the stream at the place over is above the limits, so
    there is no graph. PLANTBAL_NOT_THERE: there are no more than period periods.
-   PLANTBAL_BAD_HANDLE: the handle holds no session. */
+   PLANTBAL_BAD_HANDLE: the handle holds no session; all of size is 0. */
 uint8_t plantbal_session_period_graph(
     plantbal_session session,
     uint32_t period,
@@ -457,7 +457,7 @@ uint8_t plantbal_session_period_graph(
 /* Writes the names of the nodes and of the streams of the graph of the period at a place, in the
    order of the graph, and how many there are. PLANTBAL_SMALL_BUFFER: there is no room for all of
    them. PLANTBAL_NOT_THERE: there are no more than period periods. PLANTBAL_BAD_HANDLE: the
-   handle holds no session. */
+   handle holds no session; both counts are 0. */
 uint8_t plantbal_session_period_names(
     plantbal_session session,
     uint32_t period,
@@ -471,7 +471,7 @@ uint8_t plantbal_session_period_names(
 /* Writes the class of each stream of the plant in the order of declaration, before any reading,
    as the rows of a design say it: 0 observable, 1 unobservable, 2 redundant, 3 nonredundant; and
    to count how many there are. PLANTBAL_SMALL_BUFFER: there is no room for all of them.
-   PLANTBAL_BAD_HANDLE: the handle holds no session. */
+   PLANTBAL_BAD_HANDLE: the handle holds no session; count is 0. */
 uint8_t plantbal_session_classes(
     plantbal_session session,
     void *classes,
@@ -479,7 +479,7 @@ uint8_t plantbal_session_classes(
     size_t *count);
 
 /* Writes how much there is of everything in the book. PLANTBAL_BAD_HANDLE: the handle holds no
-   session. */
+   session; all of counts is 0. */
 uint8_t plantbal_session_counts(plantbal_session session, plantbal_counts *counts);
 
 /* Writes the node at a place, counted from 0, which is the environment. PLANTBAL_NOT_THERE:
@@ -526,7 +526,7 @@ uint8_t plantbal_session_edit_touches(
     bool *touches);
 
 /* Writes the place of the node of a name, 0 for the environment and for a boundary.
-   PLANTBAL_NOT_THERE: there is none, or the bytes are no name, and nothing is written.
+   PLANTBAL_NOT_THERE: there is none, or the bytes aren't a name, and nothing is written.
    PLANTBAL_BAD_HANDLE: the handle holds no session. */
 uint8_t plantbal_session_node_named(
     plantbal_session session,
@@ -535,7 +535,7 @@ uint8_t plantbal_session_node_named(
     uint32_t *place);
 
 /* Writes the place of the stream or the tank of a name. PLANTBAL_NOT_THERE: there is none, or
-   the bytes are no name, and nothing is written. PLANTBAL_BAD_HANDLE: the handle holds no
+   the bytes aren't a name, and nothing is written. PLANTBAL_BAD_HANDLE: the handle holds no
    session. */
 uint8_t plantbal_session_stream_named(
     plantbal_session session,
@@ -543,8 +543,8 @@ uint8_t plantbal_session_stream_named(
     size_t name_length,
     uint32_t *place);
 
-/* Writes the place of the period of a name. PLANTBAL_NOT_THERE: there is none, or the bytes are
-   no name, and nothing is written. PLANTBAL_BAD_HANDLE: the handle holds no session. */
+/* Writes the place of the period of a name. PLANTBAL_NOT_THERE: there is none, or the bytes
+   aren't a name, and nothing is written. PLANTBAL_BAD_HANDLE: the handle holds no session. */
 uint8_t plantbal_session_period_named(
     plantbal_session session,
     const void *name,
@@ -552,7 +552,7 @@ uint8_t plantbal_session_period_named(
     uint32_t *place);
 
 /* Writes the place of the live fact that has this id. PLANTBAL_NOT_THERE: there is none, or the
-   bytes are no name, and nothing is written. PLANTBAL_BAD_HANDLE: the handle holds no session. */
+   bytes aren't a name, and nothing is written. PLANTBAL_BAD_HANDLE: the handle holds no session. */
 uint8_t plantbal_session_fact_named(
     plantbal_session session,
     const void *name,
@@ -609,7 +609,7 @@ uint8_t plantbal_session_output(
 void plantbal_session_free(plantbal_session session);
 
 /* Writes how many stages there are, how many measurements were taken out between them, and why
-   the elimination stopped. PLANTBAL_BAD_HANDLE: the handle holds no study. */
+   the elimination stopped. PLANTBAL_BAD_HANDLE: the handle holds no study; all of counts is 0. */
 uint8_t plantbal_study_counts(plantbal_study study, plantbal_studied *counts);
 
 /* Writes the stage at a place. PLANTBAL_NOT_THERE: there is none, and nothing is written.

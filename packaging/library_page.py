@@ -20,8 +20,8 @@ the session is as it was after the last record that was taken, and the caller ma
 """
 
 OWED = """\
-The caller owes what no proof can see: pointers that aren't null and point to as many bytes as the
-length says, buffers that don't overlap what is read, a
+The caller must ensure what no proof can see: pointers that aren't null and point to as many bytes as
+the length says, buffers that don't overlap what is read, a
 .B plantbal_session
 that began as
 .B PLANTBAL_SESSION
@@ -29,13 +29,13 @@ and whose words nobody copies, reads or writes, and one call at a time for each 
 share nothing, so any number of threads may call, each with sessions of its own; a session may move
 from one thread to another. A thread needs 128 KB of stack. No call may be made from a signal
 handler, or in the forked child of a process with several threads. malloc, realloc and free must be
-those of one allocator.
+from the same allocator.
 .PP
 A session that is freed may be freed again, or used for another one: a call on a handle that holds
 nothing returns
 .BR PLANTBAL_BAD_HANDLE .
-A call can't be stopped, and a long report gives no sign of life: who wants a limit of time, or
-memory of its own, runs the program.
+A call can't be stopped, and a long report gives no sign of life: to have a limit of time or memory,
+run the program.
 """
 
 
@@ -61,7 +61,7 @@ def page() -> str:
     lines = pages.head("plantbal", 3, "Library functions", "plant mass balance, in process")
     lines += [".SH LIBRARY", "libplantbal (\\-lplantbal)", ".SH SYNOPSIS"]
     lines += [*_synopsis(), ".SH DESCRIPTION", ABOUT.strip(), ".SS Functions", *_functions()]
-    lines += [".SH RETURN VALUE", "The numbers to 6 are those with which the program exits."]
+    lines += [".SH RETURN VALUE", "The numbers up to 6 are the exit statuses of the program."]
     for comment, name, number in header.status_numbers():
         lines += [".TP", f".B PLANTBAL_{name} \\fR({number})", comment]
     lines += [".SH NOTES", OWED.strip(), ".SH EXAMPLES"]

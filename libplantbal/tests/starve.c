@@ -1,5 +1,6 @@
-// Each allocation of a run and of a session is refused in turn. A run then says so and leaves nothing; a session goes on with the next
-// record, and gives the same output in the end. Nothing is left allocated.
+// Each allocation of a run, a session, a study and the look-ups that need memory is refused in turn. A call then says so and leaves
+// nothing, and the same call with memory says what it says anyway; a session goes on with the next record, and gives the same output in
+// the end. Nothing is left allocated.
 #include "plantbal.h"
 #include <dlfcn.h>
 #include <stdio.h>
@@ -43,23 +44,30 @@ static int fail(const char *what, long at) {
     return 1;
 }
 
-// Refuses each allocation of a run in turn.
+// Refuses each allocation of a run in turn, and makes the same call again.
 static int starve_run(const plantbal_options *options) {
+    plantbal_session answer = PLANTBAL_SESSION;
+    const int anyway = plantbal_run(options, input, length, answer);
+    if (plantbal_session_output(answer, wanted, sizeof wanted, &count)) return fail("no output", 0);
+    plantbal_session_free(answer);
     for (long at = 1;; at++) {
-        plantbal_session answer = PLANTBAL_SESSION;
         long before = live;
+        size_t size;
         left = at;
         int status = plantbal_run(options, input, length, answer);
         int was_refused = left == 0;
         left = -1;
         if (was_refused && status != PLANTBAL_NO_MEMORY) return fail("another status", at);
+        if (live != before && was_refused) return fail("blocks are left", at);
+        if (was_refused) status = plantbal_run(options, input, length, answer);
+        if (status != anyway) return fail("another status with memory", at);
+        if (plantbal_session_output(answer, got, sizeof got, &size) || size != count || memcmp(got, wanted, size)) return fail("another output with memory", at);
+        plantbal_session_free(answer);
+        if (live != before) return fail("blocks are left with memory", at);
         if (!was_refused) {
-            if (plantbal_session_output(answer, wanted, sizeof wanted, &count)) return fail("no output", at);
-            plantbal_session_free(answer);
             printf("starve: %ld allocations of a run\n", at - 1);
+            return 0;
         }
-        if (live != before) return fail("blocks are left", at);
-        if (!was_refused) return 0;
     }
 }
 
@@ -99,11 +107,16 @@ static int starve_study(void) {
         {0, 1, true, 500, {1, 0}}, {0, 1, true, 500, {1, 0}}, {1, 2, true, 2000, {1, 0}}, {2, 0, true, 1000, {1, 0}}, {1, 2, false, 0, {0, 0}}};
     static const plantbal_critical_row limits[] = {{1, 6635}, {2, 9210}};
     plantbal_study_options options = PLANTBAL_STUDY_OPTIONS;
+    plantbal_study study = PLANTBAL_STUDY;
+    plantbal_result anyway;
+    size_t wrong;
     options.eliminate = 2;
+    if (plantbal_study_new(&options, limits, 2, 3, streams, 5, study, &wrong)) return fail("no study", 0);
+    if (plantbal_study_stream(study, 0, 4, &anyway)) return fail("no stream of a study", 0);
+    plantbal_study_free(study);
     for (long at = 1;; at++) {
-        plantbal_study study = PLANTBAL_STUDY;
         plantbal_studied counts;
-        size_t wrong;
+        plantbal_result result;
         long before = live;
         left = at;
         int status = plantbal_study_new(&options, limits, 2, 3, streams, 5, study, &wrong);
@@ -111,6 +124,8 @@ static int starve_study(void) {
         left = -1;
         if (status != (was_refused ? PLANTBAL_NO_MEMORY : PLANTBAL_DONE)) return fail("another status of a study", at);
         if (was_refused && plantbal_study_counts(study, &counts) != PLANTBAL_BAD_HANDLE) return fail("a study is held", at);
+        if (was_refused && plantbal_study_new(&options, limits, 2, 3, streams, 5, study, &wrong)) return fail("no study with memory", at);
+        if (plantbal_study_stream(study, 0, 4, &result) || result.flow.low != anyway.flow.low) return fail("another study", at);
         plantbal_study_free(study);
         plantbal_study_free(study);
         if (live != before) return fail("blocks of a study are left", at);
@@ -130,6 +145,7 @@ static int starve_look(plantbal_session session, int (*look)(plantbal_session)) 
         int was_refused = left == 0;
         left = -1;
         if (status != (was_refused ? PLANTBAL_NO_MEMORY : PLANTBAL_DONE)) return fail("another status of a look-up", at);
+        if (was_refused && look(session)) return fail("another status of a look-up with memory", at);
         if (live != before) return fail("blocks of a look-up are left", at);
         if (!was_refused) return 0;
     }

@@ -24,9 +24,36 @@ static void empty_handles(void) {
     is("a row without a session", plantbal_session_row(none, "unitA", 5, ends, 2, &code), PLANTBAL_BAD_HANDLE);
     is("records without a session", plantbal_session_records(none, "unitA", 5, ends, 2, &two, 1, codes, 4, &count), PLANTBAL_BAD_HANDLE);
     is("no record is taken", (long)count, 0);
+    count = 7;
     is("output without a session", plantbal_session_output(none, codes, 4, &count), PLANTBAL_BAD_HANDLE);
+    is("no byte", (long)count, 0);
     plantbal_session_free(none);
     plantbal_session_free(none);
+}
+
+// How much there is of what a handle doesn't hold.
+static void counts_of_nothing(void) {
+    plantbal_session none = PLANTBAL_SESSION;
+    plantbal_study no_study = PLANTBAL_STUDY;
+    plantbal_counts counts;
+    plantbal_studied studied;
+    plantbal_graph_size size = {7, 7, 7};
+    plantbal_measured_stream streams[1];
+    plantbal_name names[1];
+    unsigned char classes[1];
+    size_t count = 7, node_count = 7, stream_count = 7;
+    memset(&counts, 7, sizeof counts);
+    memset(&studied, 7, sizeof studied);
+    is("counts without a session", plantbal_session_counts(none, &counts), PLANTBAL_BAD_HANDLE);
+    is("none of anything", counts.version | counts.nodes | counts.streams | counts.periods | counts.facts | counts.assays | (counts.edits != 0), 0);
+    is("counts without a study", plantbal_study_counts(no_study, &studied), PLANTBAL_BAD_HANDLE);
+    is("no stage", studied.stages || studied.taken || studied.stop, 0);
+    is("a graph without a session", plantbal_session_period_graph(none, 0, streams, 1, &size), PLANTBAL_BAD_HANDLE);
+    is("no size", size.nodes | size.over | (size.streams != 0), 0);
+    is("names without a session", plantbal_session_period_names(none, 0, names, 1, names, 1, &node_count, &stream_count), PLANTBAL_BAD_HANDLE);
+    is("no name", (long)(node_count + stream_count), 0);
+    is("classes without a session", plantbal_session_classes(none, classes, 1, &count), PLANTBAL_BAD_HANDLE);
+    is("no class", (long)count, 0);
 }
 
 static void one_session(void) {
@@ -129,6 +156,7 @@ static void limits(void) {
 
 int main(void) {
     empty_handles();
+    counts_of_nothing();
     one_session();
     records();
     limits();

@@ -71,6 +71,13 @@ is_at rows i row rest is =
 pub none_left : (rows : List Record) (i : ℕ) → drop i rows ≡ [] → length rows ≤ i
 none_left rows i is = omega (arith, ap (λ (l : List Record). length l) is, length-drop i rows)
 
+-- if one is left, not all were taken
+pub one_left : (rows : List Record) (i : ℕ) → (drop i rows ≡ [] → ⊥) → i < length rows
+one_left [] zero not = absurd (not refl)
+one_left [] (suc i) not = absurd (not refl)
+one_left (x ∷ rows) zero not = omega arith
+one_left (x ∷ rows) (suc i) not = omega (arith, one_left rows i not)
+
 -- and none is left after more
 pub none_after : (rows : List Record) (i n : ℕ) → drop i rows ≡ [] → i ≤ n → drop n rows ≡ []
 none_after rows i n is le = drop_all n rows (omega (arith, none_left rows i is, le))

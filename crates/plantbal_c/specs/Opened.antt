@@ -1,10 +1,8 @@
 -- Statement. A session that C holds.
-use Rattle.std.specs.Prelude.{◌≡◌, ℕ, Bool, List, []}
+use Rattle.std.specs.Prelude.{◌≡◌, ℕ, List, []}
 use Rattle.pb_study.specs.declared.results.Options.{Options}
 use Rattle.pb_report.specs.declared.form.Form.{Form}
 use Rattle.pb_session.specs.Session.{SessionState, new_session}
-use Rattle.pb_words.specs.declared.command.Command.TheVariants.{Check, Run}
-use Rattle.pb_cli.specs.Run.{IsWhole}
 use Rattle.plantbal_c.specs.declared.options.PlantbalOptions.{PlantbalOptions}
 use Rattle.plantbal_c.specs.Asked.{IsAsked}
 
@@ -22,18 +20,3 @@ pub record IsOpened (given : PlantbalOptions) (new : Opened) : Type 0 where
   pub state : new.state ≡ new_session options form
   pub taken : new.taken ≡ 0
   pub text : new.text ≡ []
-
--- A session of these options that has taken no record; its output is the whole output of a run of these options over this input.
-pub record Answers (wrong : Bool) (given : PlantbalOptions) (input : List ℕ) (new : Opened) : Type 0 where
-  pub options : Options
-  pub form : Form
-  pub asked : IsAsked given options form
-  pub state : new.state ≡ new_session options form
-  pub taken : new.taken ≡ 0
-  pub whole : IsWhole wrong (Run options form) input new.text
-
--- A session that has taken no record; its output is the whole judgement of this input.
-pub record Judges (wrong : Bool) (input : List ℕ) (new : Opened) : Type 0 where
-  pub rows : new.state.rows ≡ []
-  pub taken : new.taken ≡ 0
-  pub whole : IsWhole wrong Check input new.text

@@ -1,9 +1,9 @@
 // A session takes a block of records whose fields are already apart.
-ghost use Rattle.std.specs.Prelude.{◌≡◌, ◌≢◌, ◌≤◌, ◌<◌, true, false, length, min, IfOk, IfErr, OnErr};
+ghost use Rattle.std.specs.Prelude.{◌≡◌, ◌≢◌, ◌≤◌, ◌<◌, ◌⊎◌, true, false, length, min, IfOk, IfErr, OnErr};
 ghost use Rattle.plantbal_c.specs.Block.{TakesFirst, most_records};
 ghost use Rattle.plantbal_c.specs.Fields.{AreRecordEnds, records_between};
 ghost use Rattle.plantbal_c.specs.Next.{AnswersApart};
-ghost use Rattle.plantbal_c.specs.Status.{bad_handle, done, too_large, usage};
+ghost use Rattle.plantbal_c.specs.Status.{bad_handle, done, no_memory, too_large, usage};
 
 use crate::fields::fill_between;
 use crate::handle::SessionHandle;
@@ -18,7 +18,7 @@ use std::mem::replace;
 /// each record: how many fields there are up to its end, those of the records before it too. It stops when there is no room for
 /// another code, and writes how many records it took to `taken`. `PLANTBAL_USAGE`: the places of the next record aren't in order, or
 /// lie beyond the text; `PLANTBAL_NO_MEMORY`, `PLANTBAL_TOO_LARGE`: with these too the records that were taken stay taken, and the next
-/// one wasn't. `PLANTBAL_BAD_HANDLE`: the handle holds no session.
+/// one wasn't. `PLANTBAL_BAD_HANDLE`: the handle holds no session; `taken` is 0.
 #[unsafe(no_mangle)]
 pub extern "C" fn plantbal_session_records(
     alloc: Global,
@@ -34,9 +34,14 @@ pub extern "C" fn plantbal_session_records(
     ensures none { session.old.live ≡ false → result ≡ bad_handle }
     ensures takes { session.old.live ≡ true → TakesFirst session.old.value session.new.value
         (records_between text.now ends.now 0 0 counts.now) taken.new codes.new }
+    ensures nothing { session.old.live ≡ false → taken.new ≡ 0 }
     ensures whole { result ≡ done → taken.new ≡ min (length counts.now) (length codes.old) }
+    ensures fewer { result ≢ done → session.old.live ≡ true
+        → taken.new < min (length counts.now) (length codes.old) }
     ensures not_apart { result ≡ usage → AreRecordEnds text.now ends.now 0 0 counts.now → ⊥ }
     ensures many { result ≡ too_large → session.new.value.taken ≡ most_records }
+    ensures answers { (result ≡ done) ⊎ (result ≡ usage) ⊎ (result ≡ too_large)
+        ⊎ (result ≡ no_memory) ⊎ (result ≡ bad_handle) }
 {
     match replace(session, SessionHandle::none(alloc)).into_box() {
         Some(mut held) => {
@@ -64,9 +69,11 @@ fn take_apart(
     ensures takes { TakesFirst session.old session.new
         (records_between text.now ends.now 0 0 counts.now) result.0 codes.new }
     ensures whole { result.1 ≡ done → result.0 ≡ min (length counts.now) (length codes.old) }
+    ensures fewer { result.1 ≢ done → result.0 < min (length counts.now) (length codes.old) }
     ensures not_apart { result.1 ≡ usage → AreRecordEnds text.now ends.now 0 0 counts.now → ⊥ }
     ensures many { result.1 ≡ too_large → session.new.taken ≡ most_records }
-    ensures some { result.1 ≢ bad_handle }
+    ensures answers { (result.1 ≡ done) ⊎ (result.1 ≡ usage) ⊎ (result.1 ≡ too_large)
+        ⊎ (result.1 ≡ no_memory) }
 {
     let mut row = Row::new(alloc);
     let mut from = 0;

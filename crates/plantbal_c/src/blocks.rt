@@ -1,5 +1,5 @@
 // A session takes a block of records as bytes.
-ghost use Rattle.std.specs.Prelude.{◌≡◌, ◌≢◌, ◌≤◌, ◌<◌, true, false, length, take, drop, min, IfOk, IfErr, OnOk, OnErr};
+ghost use Rattle.std.specs.Prelude.{◌≡◌, ◌≢◌, ◌≤◌, ◌<◌, ◌⊎◌, [], true, false, length, take, drop, min, IfOk, IfErr, OnOk, OnErr};
 ghost use Rattle.pb_rows.specs.Records.{records_of};
 ghost use Rattle.plantbal_c.specs.Block.{TakesFirst, most_records};
 ghost use Rattle.plantbal_c.specs.Next.{AnswersNext};
@@ -12,10 +12,10 @@ use pb_rows::{Records, Row};
 use std::alloc::{AllocError, Global};
 use std::mem::replace;
 
-/// Takes the records of the bytes in order, after as many as `skip` says, and writes a code for each: 0 if the record is accepted, and
-/// else the number of the cause for which it is refused. It stops when there is no room for another code, and writes how many records
+/// Takes the records of the bytes in order, after as many as `skip` says, and writes a code for each: 0 if the record is accepted,
+/// otherwise the number of the cause for which it is refused. It stops when there is no room for another code, and writes how many records
 /// it took to `taken`: so the next call skips these too. `PLANTBAL_NO_MEMORY`, `PLANTBAL_TOO_LARGE`: the records that were taken stay
-/// taken, and the next one wasn't. `PLANTBAL_BAD_HANDLE`: the handle holds no session.
+/// taken, and the next one wasn't. `PLANTBAL_BAD_HANDLE`: the handle holds no session; `taken` is 0.
 #[unsafe(no_mangle)]
 pub extern "C" fn plantbal_session_rows(
     alloc: Global,
@@ -30,9 +30,15 @@ pub extern "C" fn plantbal_session_rows(
     ensures none { session.old.live ≡ false → result ≡ bad_handle }
     ensures takes { session.old.live ≡ true → TakesFirst session.old.value session.new.value
         (drop skip (records_of bytes.now)) taken.new codes.new }
+    ensures nothing { session.old.live ≡ false → taken.new ≡ 0 }
     ensures whole { result ≡ done
         → taken.new ≡ min (length (drop skip (records_of bytes.now))) (length codes.old) }
     ensures many { result ≡ too_large → session.new.value.taken ≡ most_records }
+    ensures fewer { result ≡ too_large
+        → taken.new < min (length (drop skip (records_of bytes.now))) (length codes.old) }
+    ensures room { result ≡ no_memory → (taken.new ≡ 0) ⊎ (taken.new < length codes.old) }
+    ensures answers { (result ≡ done) ⊎ (result ≡ too_large) ⊎ (result ≡ no_memory)
+        ⊎ (result ≡ bad_handle) }
 {
     match replace(session, SessionHandle::none(alloc)).into_box() {
         Some(mut held) => {
@@ -61,7 +67,10 @@ fn take_rows(
     ensures whole { result.1 ≡ done
         → result.0 ≡ min (length (drop skip (records_of bytes.now))) (length codes.old) }
     ensures many { result.1 ≡ too_large → session.new.taken ≡ most_records }
-    ensures some { result.1 ≢ bad_handle }
+    ensures fewer { result.1 ≡ too_large
+        → result.0 < min (length (drop skip (records_of bytes.now))) (length codes.old) }
+    ensures room { result.1 ≡ no_memory → (result.0 ≡ 0) ⊎ (result.0 < length codes.old) }
+    ensures answers { (result.1 ≡ done) ⊎ (result.1 ≡ too_large) ⊎ (result.1 ≡ no_memory) }
 {
     let mut fields = Row::new(alloc);
     let mut records = Records::of(alloc, bytes);
@@ -96,7 +105,10 @@ fn take_block(
     ensures whole { result.1 ≡ done
         → result.0 ≡ min (length records.old.left) (length codes.old) }
     ensures many { result.1 ≡ too_large → session.new.taken ≡ most_records }
-    ensures some { result.1 ≢ bad_handle }
+    ensures fewer { result.1 ≡ too_large
+        → result.0 < min (length records.old.left) (length codes.old) }
+    ensures room { result.1 ≡ no_memory → result.0 < length codes.old }
+    ensures answers { (result.1 ≡ done) ⊎ (result.1 ≡ too_large) ⊎ (result.1 ≡ no_memory) }
 {
     let mut count = 0;
     'turns: while count < codes.len() {
@@ -123,6 +135,7 @@ fn take_next(
     ensures err { OnErr result (session.new ≡ session.old) }
     ensures many { IfErr result
         (λ why. why ≡ NotTaken.TooMany → session.new.taken ≡ most_records) }
+    ensures left { IfErr result (λ why. why ≡ NotTaken.TooMany → records.old.left ≢ []) }
 {
     if !records.fill(fields)? {
         return Ok(None);

@@ -1,8 +1,8 @@
 // A session takes a record whose fields are already apart.
-ghost use Rattle.std.specs.Prelude.{◌≡◌, ◌≢◌, ◌≤◌, ◌<◌, true, false, length, IfOk, IsNone, IfSome};
+ghost use Rattle.std.specs.Prelude.{◌≡◌, ◌≢◌, ◌≤◌, ◌<◌, ◌⊎◌, true, false, length, IfOk, IsNone, IfSome};
 ghost use Rattle.plantbal_c.specs.Block.{TakesOne, most_records};
 ghost use Rattle.plantbal_c.specs.Fields.{AreFieldEnds, fields_between, last_end};
-ghost use Rattle.plantbal_c.specs.Status.{bad_handle, done, too_large, usage};
+ghost use Rattle.plantbal_c.specs.Status.{bad_handle, done, no_memory, too_large, usage};
 
 use crate::handle::SessionHandle;
 use crate::opened::{NotTaken, OpenSession};
@@ -12,7 +12,7 @@ use std::alloc::{AllocError, Global};
 use std::mem::replace;
 
 /// Takes one record, whose fields lie one after another in `text`: each ends at the place that `ends` gives, counted in bytes from
-/// the beginning. Writes to `code` 0 if the record is accepted, and else the number of the cause for which it is refused.
+/// the beginning. Writes to `code` 0 if the record is accepted, otherwise the number of the cause for which it is refused.
 /// `PLANTBAL_USAGE`: the places aren't in order, or lie beyond the text. `PLANTBAL_BAD_HANDLE`: the handle holds no session. If the
 /// status isn't `PLANTBAL_DONE`, the session is as it was.
 #[unsafe(no_mangle)]
@@ -32,6 +32,8 @@ pub extern "C" fn plantbal_session_row(
         → session.new.value ≡ session.old.value }
     ensures not_apart { result ≡ usage → AreFieldEnds text.now 0 ends.now → ⊥ }
     ensures many { result ≡ too_large → session.old.value.taken ≡ most_records }
+    ensures answers { (result ≡ done) ⊎ (result ≡ usage) ⊎ (result ≡ too_large)
+        ⊎ (result ≡ no_memory) ⊎ (result ≡ bad_handle) }
 {
     match replace(session, SessionHandle::none(alloc)).into_box() {
         Some(mut held) => {
@@ -56,7 +58,8 @@ fn take_fields(
     ensures kept { result ≢ done → session.new ≡ session.old }
     ensures not_apart { result ≡ usage → AreFieldEnds text.now 0 ends.now → ⊥ }
     ensures many { result ≡ too_large → session.old.taken ≡ most_records }
-    ensures some { result ≢ bad_handle }
+    ensures answers { (result ≡ done) ⊎ (result ≡ usage) ⊎ (result ≡ too_large)
+        ⊎ (result ≡ no_memory) }
 {
     match row_between(alloc, text, ends) {
         Ok(Some(row)) => take_row(session, &row, code),
@@ -70,8 +73,7 @@ fn take_row(session: &mut OpenSession, row: &Row, code: &mut u8) -> u8
     ensures takes { result ≡ done → TakesOne session.old session.new row.now code.new }
     ensures kept { result ≢ done → session.new ≡ session.old }
     ensures many { result ≡ too_large → session.old.taken ≡ most_records }
-    ensures some { result ≢ bad_handle }
-    ensures apart { result ≢ usage }
+    ensures answers { (result ≡ done) ⊎ (result ≡ too_large) ⊎ (result ≡ no_memory) }
 {
     match session.take(row) {
         Ok(answer) => {

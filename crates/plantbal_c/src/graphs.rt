@@ -1,12 +1,12 @@
 // The graph of a period with its names, and the classes of the plant.
-ghost use Rattle.std.specs.Prelude.{◌≡◌, ◌≢◌, ◌≤◌, ◌<◌, ◌⊎◌, Err, Ok, true, false, length, take, slice_get, IfOk, IsSomeAnd};
+ghost use Rattle.std.specs.Prelude.{◌≡◌, ◌≢◌, ◌≤◌, ◌<◌, ◌⊎◌, Err, Ok, true, false, length, take, slice_get, IfOk, IsOkAnd, IsSomeAnd};
 ghost use Rattle.pb_arrays.specs.Given.{given_graph};
 ghost use Rattle.pb_book.specs.Rows.{periods_of};
 ghost use Rattle.pb_period.specs.Days.{days_of};
 ghost use Rattle.pb_period.specs.PeriodGraph.{assembly_of, design_graph, period_names};
 ghost use Rattle.pb_period.specs.declared.graph.Assembly.TheVariants.{Over};
-ghost use Rattle.plantbal_c.specs.Graphs.{AreClasses, ShowsNames};
-ghost use Rattle.plantbal_c.specs.Status.{bad_handle, bad_stream, done, not_there, small_buffer};
+ghost use Rattle.plantbal_c.specs.Graphs.{AreClasses, CountsNames, IsSizeOf, ShowsNames, no_size};
+ghost use Rattle.plantbal_c.specs.Status.{bad_handle, bad_stream, done, no_memory, not_there, small_buffer};
 
 use crate::handle::SessionHandle;
 use crate::status::{BAD_HANDLE, BAD_STREAM, DONE, NO_MEMORY, NOT_THERE, SMALL_BUFFER};
@@ -33,7 +33,8 @@ pub struct PlantbalGraphSize {
 /// Writes the graph of the period at a place, from the facts that are live, as a report studies it: its streams in order, with what was
 /// measured, and to `size` how many nodes and streams there are. `PLANTBAL_SMALL_BUFFER`: there is no room for the streams; `size` says
 /// how many there are. `PLANTBAL_BAD_STREAM`: what is measured of the stream at the place `over` is above the limits, so there is no
-/// graph. `PLANTBAL_NOT_THERE`: there are no more than `period` periods. `PLANTBAL_BAD_HANDLE`: the handle holds no session.
+/// graph. `PLANTBAL_NOT_THERE`: there are no more than `period` periods. `PLANTBAL_BAD_HANDLE`: the handle holds no session; all of
+/// `size` is 0.
 #[unsafe(no_mangle)]
 pub extern "C" fn plantbal_session_period_graph(
     alloc: Global,
@@ -55,12 +56,15 @@ pub extern "C" fn plantbal_session_period_graph(
         (λ days. assembly_of session.old.value.state.rows (days_of days)
         ≡ Err (Over size.new.over)) }
     ensures small { result ≡ small_buffer → length streams.old < size.new.streams }
-    ensures size { result ≡ small_buffer → IsSomeAnd
+    ensures size { (result ≡ done) ⊎ (result ≡ small_buffer) → IsSomeAnd
         (slice_get (periods_of session.old.value.state.rows) period)
-        (λ days. IfOk (assembly_of session.old.value.state.rows (days_of days))
-        (λ graph. size.new.streams ≡ length graph.streams)) }
+        (λ days. IsOkAnd (assembly_of session.old.value.state.rows (days_of days))
+        (λ graph. IsSizeOf graph size.new)) }
+    ensures nothing { session.old.live ≡ false → size.new ≡ no_size }
     ensures not_there { result ≡ not_there
         → length (periods_of session.old.value.state.rows) ≤ period }
+    ensures answers { (result ≡ done) ⊎ (result ≡ bad_stream) ⊎ (result ≡ small_buffer)
+        ⊎ (result ≡ not_there) ⊎ (result ≡ no_memory) ⊎ (result ≡ bad_handle) }
 {
     match replace(session, SessionHandle::none(alloc)).into_box() {
         Some(held) => {
@@ -68,7 +72,14 @@ pub extern "C" fn plantbal_session_period_graph(
             *session = SessionHandle::of(held);
             status
         }
-        None => BAD_HANDLE,
+        None => {
+            *size = PlantbalGraphSize {
+                nodes: 0,
+                over: 0,
+                streams: 0,
+            };
+            BAD_HANDLE
+        }
     }
 }
 
@@ -86,11 +97,13 @@ fn write_graph(
     ensures over { result ≡ bad_stream → IsSomeAnd (slice_get (periods_of book.now) period)
         (λ days. assembly_of book.now (days_of days) ≡ Err (Over size.new.over)) }
     ensures small { result ≡ small_buffer → length streams.old < size.new.streams }
-    ensures size { result ≡ small_buffer → IsSomeAnd (slice_get (periods_of book.now) period)
-        (λ days. IfOk (assembly_of book.now (days_of days))
-        (λ graph. size.new.streams ≡ length graph.streams)) }
+    ensures size { (result ≡ done) ⊎ (result ≡ small_buffer)
+        → IsSomeAnd (slice_get (periods_of book.now) period)
+        (λ days. IsOkAnd (assembly_of book.now (days_of days))
+        (λ graph. IsSizeOf graph size.new)) }
     ensures not_there { result ≡ not_there → length (periods_of book.now) ≤ period }
-    ensures some { result ≢ bad_handle }
+    ensures answers { (result ≡ done) ⊎ (result ≡ bad_stream) ⊎ (result ≡ small_buffer)
+        ⊎ (result ≡ not_there) ⊎ (result ≡ no_memory) }
 {
     if book.periods() <= period {
         return NOT_THERE;
@@ -115,7 +128,7 @@ fn write_graph(
 
 /// Writes the names of the nodes and of the streams of the graph of the period at a place, in the order of the graph, and how many
 /// there are. `PLANTBAL_SMALL_BUFFER`: there is no room for all of them. `PLANTBAL_NOT_THERE`: there are no more than `period` periods.
-/// `PLANTBAL_BAD_HANDLE`: the handle holds no session.
+/// `PLANTBAL_BAD_HANDLE`: the handle holds no session; both counts are 0.
 #[unsafe(no_mangle)]
 pub extern "C" fn plantbal_session_period_names(
     alloc: Global,
@@ -134,10 +147,18 @@ pub extern "C" fn plantbal_session_period_names(
         (slice_get (periods_of session.old.value.state.rows) period)
         (λ days. ShowsNames (period_names session.old.value.state.rows (days_of days))
         (take node_count.new nodes.new) (take stream_count.new streams.new)) }
+    ensures counts { (result ≡ done) ⊎ (result ≡ small_buffer) → IsSomeAnd
+        (slice_get (periods_of session.old.value.state.rows) period)
+        (λ days. CountsNames (period_names session.old.value.state.rows (days_of days))
+        node_count.new stream_count.new) }
     ensures small { result ≡ small_buffer → (length nodes.old < node_count.new)
         ⊎ (length streams.old < stream_count.new) }
+    ensures no_node { session.old.live ≡ false → node_count.new ≡ 0 }
+    ensures no_stream { session.old.live ≡ false → stream_count.new ≡ 0 }
     ensures not_there { result ≡ not_there
         → length (periods_of session.old.value.state.rows) ≤ period }
+    ensures answers { (result ≡ done) ⊎ (result ≡ small_buffer) ⊎ (result ≡ not_there)
+        ⊎ (result ≡ no_memory) ⊎ (result ≡ bad_handle) }
 {
     match replace(session, SessionHandle::none(alloc)).into_box() {
         Some(held) => {
@@ -153,7 +174,11 @@ pub extern "C" fn plantbal_session_period_names(
             *session = SessionHandle::of(held);
             status
         }
-        None => BAD_HANDLE,
+        None => {
+            *node_count = 0;
+            *stream_count = 0;
+            BAD_HANDLE
+        }
     }
 }
 
@@ -170,10 +195,15 @@ fn write_both(
     ensures names { result ≡ done → IsSomeAnd (slice_get (periods_of book.now) period)
         (λ days. ShowsNames (period_names book.now (days_of days))
         (take node_count.new nodes.new) (take stream_count.new streams.new)) }
+    ensures counts { (result ≡ done) ⊎ (result ≡ small_buffer)
+        → IsSomeAnd (slice_get (periods_of book.now) period)
+        (λ days. CountsNames (period_names book.now (days_of days))
+        node_count.new stream_count.new) }
     ensures small { result ≡ small_buffer → (length nodes.old < node_count.new)
         ⊎ (length streams.old < stream_count.new) }
     ensures not_there { result ≡ not_there → length (periods_of book.now) ≤ period }
-    ensures some { result ≢ bad_handle }
+    ensures answers { (result ≡ done) ⊎ (result ≡ small_buffer) ⊎ (result ≡ not_there)
+        ⊎ (result ≡ no_memory) }
 {
     if book.periods() <= period {
         return NOT_THERE;
@@ -194,7 +224,7 @@ fn write_both(
 
 /// Writes the class of each stream of the plant in the order of declaration, before any reading, as the rows of a design say it:
 /// 0 observable, 1 unobservable, 2 redundant, 3 nonredundant; and to `count` how many there are. `PLANTBAL_SMALL_BUFFER`: there is no
-/// room for all of them. `PLANTBAL_BAD_HANDLE`: the handle holds no session.
+/// room for all of them. `PLANTBAL_BAD_HANDLE`: the handle holds no session; `count` is 0.
 #[unsafe(no_mangle)]
 pub extern "C" fn plantbal_session_classes(
     alloc: Global,
@@ -208,7 +238,12 @@ pub extern "C" fn plantbal_session_classes(
     ensures none { session.old.live ≡ false → result ≡ bad_handle }
     ensures classes { result ≡ done → AreClasses (design_graph session.old.value.state.rows)
         (take count.new classes.new) }
+    ensures count { (result ≡ done) ⊎ (result ≡ small_buffer)
+        → count.new ≡ length (design_graph session.old.value.state.rows).streams }
     ensures small { result ≡ small_buffer → length classes.old < count.new }
+    ensures nothing { session.old.live ≡ false → count.new ≡ 0 }
+    ensures answers { (result ≡ done) ⊎ (result ≡ small_buffer) ⊎ (result ≡ no_memory)
+        ⊎ (result ≡ bad_handle) }
 {
     match replace(session, SessionHandle::none(alloc)).into_box() {
         Some(held) => {
@@ -216,7 +251,10 @@ pub extern "C" fn plantbal_session_classes(
             *session = SessionHandle::of(held);
             status
         }
-        None => BAD_HANDLE,
+        None => {
+            *count = 0;
+            BAD_HANDLE
+        }
     }
 }
 
@@ -224,8 +262,10 @@ pub extern "C" fn plantbal_session_classes(
 fn write_plant(alloc: Global, book: &Book, classes: &mut [u8], count: &mut usize) -> u8
     ensures classes { result ≡ done
         → AreClasses (design_graph book.now) (take count.new classes.new) }
+    ensures count { (result ≡ done) ⊎ (result ≡ small_buffer)
+        → count.new ≡ length (design_graph book.now).streams }
     ensures small { result ≡ small_buffer → length classes.old < count.new }
-    ensures some { result ≢ bad_handle }
+    ensures answers { (result ≡ done) ⊎ (result ≡ small_buffer) ⊎ (result ≡ no_memory) }
 {
     match plant_classes(alloc, book, classes) {
         Ok(many) => {
@@ -242,7 +282,8 @@ fn write_plant(alloc: Global, book: &Book, classes: &mut [u8], count: &mut usize
 
 // Writes the classes of the plant, if there is room for all. Returns how many there are.
 fn plant_classes(alloc: Global, book: &Book, room: &mut [u8]) -> Result<usize, AllocError>
-    ensures { IfOk result (λ many. many ≤ length room.old
+    ensures count { IfOk result (λ many. many ≡ length (design_graph book.now).streams) }
+    ensures classes { IfOk result (λ many. many ≤ length room.old
         → AreClasses (design_graph book.now) (take many room.new)) }
 {
     let plant = design(alloc, book)?;

@@ -12,7 +12,7 @@ use std::alloc::Global;
 use std::marker::Model;
 use std::ptr::null_mut;
 
-/// What C holds of a session. While it is live, it owns what a `Box<OpenSession>` owns, and else nothing; so a handle that was freed
+/// What C holds of a session. While it is live, it owns what a `Box<OpenSession>` owns, otherwise nothing; so a handle that was freed
 /// holds nothing, and may be freed again.
 #[repr(C)]
 pub struct SessionHandle {

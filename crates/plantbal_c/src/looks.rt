@@ -11,6 +11,7 @@ ghost use Rattle.pb_shown.specs.Edits.{ShowsEdit};
 ghost use Rattle.pb_shown.specs.Facts.{ShowsKept};
 ghost use Rattle.pb_shown.specs.Periods.{ShowsPeriod};
 ghost use Rattle.pb_shown.specs.Plant.{ShowsNode, ShowsStream};
+ghost use Rattle.plantbal_c.specs.Counts.{no_counts};
 ghost use Rattle.plantbal_c.specs.Status.{bad_handle, done, not_there};
 
 use crate::handle::SessionHandle;
@@ -23,7 +24,7 @@ use pb_shown::{
 use std::alloc::Global;
 use std::mem::replace;
 
-/// Writes how much there is of everything in the book. `PLANTBAL_BAD_HANDLE`: the handle holds no session.
+/// Writes how much there is of everything in the book. `PLANTBAL_BAD_HANDLE`: the handle holds no session; all of `counts` is 0.
 #[unsafe(no_mangle)]
 pub extern "C" fn plantbal_session_counts(
     alloc: Global,
@@ -36,6 +37,8 @@ pub extern "C" fn plantbal_session_counts(
     ensures none { session.old.live ≡ false → result ≡ bad_handle }
     ensures counts { result ≡ done → IsCountOf session.old.value.state.rows counts.new }
     ensures done { session.old.live ≡ true → result ≡ done }
+    ensures nothing { session.old.live ≡ false → counts.new ≡ no_counts }
+    ensures answers { (result ≡ done) ⊎ (result ≡ bad_handle) }
 {
     match replace(session, SessionHandle::none(alloc)).into_box() {
         Some(held) => {
@@ -44,7 +47,18 @@ pub extern "C" fn plantbal_session_counts(
             *counts = shown;
             DONE
         }
-        None => BAD_HANDLE,
+        None => {
+            *counts = PlantbalCounts {
+                version: 0,
+                nodes: 0,
+                streams: 0,
+                periods: 0,
+                facts: 0,
+                assays: 0,
+                edits: 0,
+            };
+            BAD_HANDLE
+        }
     }
 }
 
@@ -70,6 +84,7 @@ pub extern "C" fn plantbal_session_node(
         → place < length (node_names (declared_of session.old.value.state.rows))
         → result ≡ done }
     ensures unwritten { result ≢ done → node.new ≡ node.old }
+    ensures answers { (result ≡ done) ⊎ (result ≡ not_there) ⊎ (result ≡ bad_handle) }
 {
     match replace(session, SessionHandle::none(alloc)).into_box() {
         Some(held) => {
@@ -99,7 +114,11 @@ pub extern "C" fn plantbal_session_stream(
         (λ arc. ShowsStream arc stream.new) }
     ensures not_there { result ≡ not_there
         → length (arcs_of (declared_of session.old.value.state.rows)) ≤ place }
+    ensures there { session.old.live ≡ true
+        → place < length (arcs_of (declared_of session.old.value.state.rows))
+        → result ≡ done }
     ensures unwritten { result ≢ done → stream.new ≡ stream.old }
+    ensures answers { (result ≡ done) ⊎ (result ≡ not_there) ⊎ (result ≡ bad_handle) }
 {
     match replace(session, SessionHandle::none(alloc)).into_box() {
         Some(held) => {
@@ -133,6 +152,7 @@ pub extern "C" fn plantbal_session_period(
         → place < length (periods_of session.old.value.state.rows)
         → result ≡ done }
     ensures unwritten { result ≢ done → period.new ≡ period.old }
+    ensures answers { (result ≡ done) ⊎ (result ≡ not_there) ⊎ (result ≡ bad_handle) }
 {
     match replace(session, SessionHandle::none(alloc)).into_box() {
         Some(held) => {
@@ -166,6 +186,7 @@ pub extern "C" fn plantbal_session_fact(
         → place < length (facts_of session.old.value.state.rows)
         → result ≡ done }
     ensures unwritten { result ≢ done → fact.new ≡ fact.old }
+    ensures answers { (result ≡ done) ⊎ (result ≡ not_there) ⊎ (result ≡ bad_handle) }
 {
     match replace(session, SessionHandle::none(alloc)).into_box() {
         Some(held) => {
@@ -199,6 +220,7 @@ pub extern "C" fn plantbal_session_edit(
         → place < length (edits_of session.old.value.state.rows)
         → result ≡ done }
     ensures unwritten { result ≢ done → edit.new ≡ edit.old }
+    ensures answers { (result ≡ done) ⊎ (result ≡ not_there) ⊎ (result ≡ bad_handle) }
 {
     match replace(session, SessionHandle::none(alloc)).into_box() {
         Some(held) => {
@@ -236,6 +258,7 @@ pub extern "C" fn plantbal_session_fact_touches(
         → fact < length (facts_of session.old.value.state.rows)
         → period < length (periods_of session.old.value.state.rows) → result ≡ done }
     ensures unwritten { result ≢ done → touches.new ≡ touches.old }
+    ensures answers { (result ≡ done) ⊎ (result ≡ not_there) ⊎ (result ≡ bad_handle) }
 {
     match replace(session, SessionHandle::none(alloc)).into_box() {
         Some(held) => {
@@ -270,6 +293,7 @@ pub extern "C" fn plantbal_session_edit_touches(
         → edit < length (edits_of session.old.value.state.rows)
         → period < length (periods_of session.old.value.state.rows) → result ≡ done }
     ensures unwritten { result ≢ done → touches.new ≡ touches.old }
+    ensures answers { (result ≡ done) ⊎ (result ≡ not_there) ⊎ (result ≡ bad_handle) }
 {
     match replace(session, SessionHandle::none(alloc)).into_box() {
         Some(held) => {
@@ -282,7 +306,7 @@ pub extern "C" fn plantbal_session_edit_touches(
 }
 
 /// Writes the place of the node of a name, 0 for the environment and for a boundary. `PLANTBAL_NOT_THERE`: there is none, or the
-/// bytes are no name, and nothing is written. `PLANTBAL_BAD_HANDLE`: the handle holds no session.
+/// bytes aren't a name, and nothing is written. `PLANTBAL_BAD_HANDLE`: the handle holds no session.
 #[unsafe(no_mangle)]
 pub extern "C" fn plantbal_session_node_named(
     alloc: Global,
@@ -302,6 +326,7 @@ pub extern "C" fn plantbal_session_node_named(
         → is_name name.now ≡ true
         → node_of (declared_of session.old.value.state.rows) name.now ≢ None → result ≡ done }
     ensures unwritten { result ≢ done → place.new ≡ place.old }
+    ensures answers { (result ≡ done) ⊎ (result ≡ not_there) ⊎ (result ≡ bad_handle) }
 {
     match replace(session, SessionHandle::none(alloc)).into_box() {
         Some(held) => {
@@ -313,7 +338,7 @@ pub extern "C" fn plantbal_session_node_named(
     }
 }
 
-/// Writes the place of the stream or the tank of a name. `PLANTBAL_NOT_THERE`: there is none, or the bytes are no name, and
+/// Writes the place of the stream or the tank of a name. `PLANTBAL_NOT_THERE`: there is none, or the bytes aren't a name, and
 /// nothing is written. `PLANTBAL_BAD_HANDLE`: the handle holds no session.
 #[unsafe(no_mangle)]
 pub extern "C" fn plantbal_session_stream_named(
@@ -332,7 +357,12 @@ pub extern "C" fn plantbal_session_stream_named(
     ensures not_there { result ≡ not_there → is_name name.now ≡ true
         → position (same_name name.now)
         (arc_names (declared_of session.old.value.state.rows)) ≡ None }
+    ensures there { session.old.live ≡ true
+        → is_name name.now ≡ true
+        → position (same_name name.now)
+        (arc_names (declared_of session.old.value.state.rows)) ≢ None → result ≡ done }
     ensures unwritten { result ≢ done → place.new ≡ place.old }
+    ensures answers { (result ≡ done) ⊎ (result ≡ not_there) ⊎ (result ≡ bad_handle) }
 {
     match replace(session, SessionHandle::none(alloc)).into_box() {
         Some(held) => {
@@ -344,7 +374,7 @@ pub extern "C" fn plantbal_session_stream_named(
     }
 }
 
-/// Writes the place of the period of a name. `PLANTBAL_NOT_THERE`: there is none, or the bytes are no name, and nothing is
+/// Writes the place of the period of a name. `PLANTBAL_NOT_THERE`: there is none, or the bytes aren't a name, and nothing is
 /// written. `PLANTBAL_BAD_HANDLE`: the handle holds no session.
 #[unsafe(no_mangle)]
 pub extern "C" fn plantbal_session_period_named(
@@ -365,6 +395,7 @@ pub extern "C" fn plantbal_session_period_named(
         → is_name name.now ≡ true
         → period_place session.old.value.state.rows name.now ≢ None → result ≡ done }
     ensures unwritten { result ≢ done → place.new ≡ place.old }
+    ensures answers { (result ≡ done) ⊎ (result ≡ not_there) ⊎ (result ≡ bad_handle) }
 {
     match replace(session, SessionHandle::none(alloc)).into_box() {
         Some(held) => {
@@ -376,7 +407,7 @@ pub extern "C" fn plantbal_session_period_named(
     }
 }
 
-/// Writes the place of the live fact that has this id. `PLANTBAL_NOT_THERE`: there is none, or the bytes are no name, and nothing
+/// Writes the place of the live fact that has this id. `PLANTBAL_NOT_THERE`: there is none, or the bytes aren't a name, and nothing
 /// is written. `PLANTBAL_BAD_HANDLE`: the handle holds no session.
 #[unsafe(no_mangle)]
 pub extern "C" fn plantbal_session_fact_named(
@@ -397,6 +428,7 @@ pub extern "C" fn plantbal_session_fact_named(
         → is_name name.now ≡ true
         → live_place_of name.now (facts_of session.old.value.state.rows) ≢ None → result ≡ done }
     ensures unwritten { result ≢ done → place.new ≡ place.old }
+    ensures answers { (result ≡ done) ⊎ (result ≡ not_there) ⊎ (result ≡ bad_handle) }
 {
     match replace(session, SessionHandle::none(alloc)).into_box() {
         Some(held) => {

@@ -1,9 +1,9 @@
 // A session made from a number, and its summary.
-ghost use Rattle.std.specs.Prelude.{◌≡◌, ◌≢◌, ◌<◌, ◌≤◌, ◌==◌, [], not, true, false, IfOk};
+ghost use Rattle.std.specs.Prelude.{◌≡◌, ◌≢◌, ◌<◌, ◌≤◌, ◌⊎◌, ◌==◌, not, true, false, IfOk};
 ghost use Rattle.pb_words.specs.Command.{IsMakeInRange};
 ghost use Rattle.pb_cli.specs.Run.{IsMade};
 ghost use Rattle.plantbal_c.specs.Made.{Makes};
-ghost use Rattle.plantbal_c.specs.Status.{bad_handle, done, usage};
+ghost use Rattle.plantbal_c.specs.Status.{bad_handle, done, no_memory, usage};
 
 use crate::handle::SessionHandle;
 use crate::opened::OpenSession;
@@ -39,6 +39,8 @@ pub extern "C" fn plantbal_make(
     ensures handle { result ≡ bad_handle → session.old.live ≡ true }
     ensures kept { result ≡ bad_handle → session.new.value ≡ session.old.value }
     ensures same { result ≢ done → session.new.live ≡ session.old.live }
+    ensures answers { (result ≡ done) ⊎ (result ≡ usage) ⊎ (result ≡ no_memory)
+        ⊎ (result ≡ bad_handle) }
 {
     match replace(session, SessionHandle::none(alloc)).into_box() {
         Some(held) => {
@@ -64,7 +66,7 @@ fn make_into(
     ensures live { result ≡ done → session.new.live ≡ true }
     ensures range { result ≡ usage → ¬ IsMakeInRange number streams gap sweeps }
     ensures same { result ≢ done → session.new.live ≡ false }
-    ensures some { result ≢ bad_handle }
+    ensures answers { (result ≡ done) ⊎ (result ≡ usage) ⊎ (result ≡ no_memory) }
 {
     let within = LEAST_STREAMS <= streams
         && streams <= MOST_MADE_STREAMS

@@ -84,7 +84,7 @@ impl OpenSession {
         }
     }
 
-    /// Takes a record. Returns the number of the cause if it is refused, and else 0. After an `Err` the session is as it was.
+    /// Takes a record. Returns the number of the cause if it is refused, otherwise 0. After an `Err` the session is as it was.
     pub(crate) fn take(&mut self, row: &Row) -> Result<u8, NotTaken>
         ensures ok { IfOk result (λ code. TakesOne self.old self.new row.now code) }
         ensures err { OnErr result (self.new ≡ self.old) }

@@ -1,7 +1,7 @@
 // The options of a run, as C passes them.
 ghost use Rattle.std.specs.Prelude.{◌≡◌, IfSome, IsNone};
 ghost use Rattle.pb_study.specs.Options.{AreOptions};
-ghost use Rattle.plantbal_c.specs.Asked.{IsAsked, IsNotAsked};
+ghost use Rattle.plantbal_c.specs.Asked.{IsAsked, IsNotAsked, usual_options};
 
 use pb_limits::{DEFAULT_GAP, DEFAULT_SWEEPS, MOST_GAP, MOST_ROUNDS, MOST_SWEEPS};
 use pb_report::Form;
@@ -52,7 +52,8 @@ pub(crate) fn asked(options: &PlantbalOptions) -> Option<(Options, Form)>
 
 /// The options that a run has if its words ask for nothing else.
 pub(crate) fn usual() -> Options
-    ensures { AreOptions result }
+    ensures value { result ≡ usual_options }
+    ensures within { AreOptions result }
 {
     Options {
         gap: DEFAULT_GAP,

@@ -1,13 +1,14 @@
 // A run and a check in one call.
-ghost use Rattle.std.specs.Prelude.{◌≡◌, ◌≢◌, ◌<◌, ◌≤◌, [], true, false, length, IfOk};
+ghost use Rattle.std.specs.Prelude.{◌≡◌, ◌≢◌, ◌<◌, ◌≤◌, ◌⊎◌, true, false, length, IfOk};
 ghost use Rattle.pb_limits.specs.Limits.{most_bytes};
 ghost use Rattle.pb_study.specs.Options.{AreOptions};
+ghost use Rattle.pb_report.specs.declared.form.Form.TheVariants.{Csv};
 ghost use Rattle.pb_words.specs.declared.command.Command.TheVariants.{Check, Run};
 ghost use Rattle.pb_session.specs.Session.{new_session};
 ghost use Rattle.pb_cli.specs.Run.{IsWhole};
-ghost use Rattle.plantbal_c.specs.Asked.{IsNotAsked};
-ghost use Rattle.plantbal_c.specs.Opened.{Answers, Judges};
-ghost use Rattle.plantbal_c.specs.Status.{bad_handle, done, done_refused, too_large, usage};
+ghost use Rattle.plantbal_c.specs.Asked.{IsNotAsked, usual_options};
+ghost use Rattle.plantbal_c.specs.Status.{bad_handle, done, done_refused, no_memory, too_large, usage};
+ghost use Rattle.plantbal_c.specs.Whole.{Answers, Judges};
 
 use crate::handle::SessionHandle;
 use crate::opened::OpenSession;
@@ -42,6 +43,8 @@ pub extern "C" fn plantbal_run(
     ensures handle { result ≡ bad_handle → session.old.live ≡ true }
     ensures kept { result ≡ bad_handle → session.new.value ≡ session.old.value }
     ensures same { done_refused < result → session.new.live ≡ session.old.live }
+    ensures answers { (result ≡ done) ⊎ (result ≡ done_refused) ⊎ (result ≡ usage)
+        ⊎ (result ≡ too_large) ⊎ (result ≡ no_memory) ⊎ (result ≡ bad_handle) }
 {
     match replace(session, SessionHandle::none(alloc)).into_box() {
         Some(held) => {
@@ -75,8 +78,8 @@ fn run_into(
     ensures live { result ≤ done_refused → session.new.live ≡ true }
     ensures long { result ≡ too_large → most_bytes < length input.now }
     ensures same { done_refused < result → session.new.live ≡ false }
-    ensures some { result ≢ bad_handle }
-    ensures options { result ≢ usage }
+    ensures answers { (result ≡ done) ⊎ (result ≡ done_refused) ⊎ (result ≡ too_large)
+        ⊎ (result ≡ no_memory) }
 {
     if input.len() > MOST_BYTES {
         return TOO_LARGE;
@@ -127,6 +130,8 @@ pub extern "C" fn plantbal_check(alloc: Global, input: &[u8], session: &mut Sess
     ensures handle { result ≡ bad_handle → session.old.live ≡ true }
     ensures kept { result ≡ bad_handle → session.new.value ≡ session.old.value }
     ensures same { done_refused < result → session.new.live ≡ session.old.live }
+    ensures answers { (result ≡ done) ⊎ (result ≡ done_refused) ⊎ (result ≡ too_large)
+        ⊎ (result ≡ no_memory) ⊎ (result ≡ bad_handle) }
 {
     match replace(session, SessionHandle::none(alloc)).into_box() {
         Some(held) => {
@@ -143,12 +148,14 @@ fn check_into(alloc: Global, input: &[u8], session: &mut SessionHandle) -> u8
     ensures done { result ≡ done → IsWhole false Check input.now session.new.value.text }
     ensures done_refused { result ≡ done_refused
         → IsWhole true Check input.now session.new.value.text }
-    ensures rows { result ≤ done_refused → session.new.value.state.rows ≡ [] }
+    ensures state { result ≤ done_refused
+        → session.new.value.state ≡ new_session usual_options Csv }
     ensures taken { result ≤ done_refused → session.new.value.taken ≡ 0 }
     ensures live { result ≤ done_refused → session.new.live ≡ true }
     ensures long { result ≡ too_large → most_bytes < length input.now }
     ensures same { done_refused < result → session.new.live ≡ false }
-    ensures some { result ≢ bad_handle }
+    ensures answers { (result ≡ done) ⊎ (result ≡ done_refused) ⊎ (result ≡ too_large)
+        ⊎ (result ≡ no_memory) }
 {
     if input.len() > MOST_BYTES {
         return TOO_LARGE;
@@ -166,7 +173,7 @@ fn check_into(alloc: Global, input: &[u8], session: &mut SessionHandle) -> u8
 fn judged(alloc: Global, input: &[u8]) -> Result<(bool, Box<OpenSession>), AllocError>
     requires { length input.now ≤ most_bytes }
     ensures text { IfOk result (λ told. IsWhole told.0 Check input.now told.1.value.text) }
-    ensures rows { IfOk result (λ told. told.1.value.state.rows ≡ []) }
+    ensures state { IfOk result (λ told. told.1.value.state ≡ new_session usual_options Csv) }
     ensures taken { IfOk result (λ told. told.1.value.taken ≡ 0) }
 {
     let (wrong, text) = judgement(alloc, input)?;

@@ -1,8 +1,8 @@
 // A session is made, hands over its output, and is freed.
-ghost use Rattle.std.specs.Prelude.{◌≡◌, ◌≢◌, ◌≤◌, ◌<◌, [], true, false, length, take};
+ghost use Rattle.std.specs.Prelude.{◌≡◌, ◌≢◌, ◌≤◌, ◌<◌, ◌⊎◌, [], true, false, length, take};
 ghost use Rattle.plantbal_c.specs.Asked.{IsNotAsked};
 ghost use Rattle.plantbal_c.specs.Opened.{IsOpened};
-ghost use Rattle.plantbal_c.specs.Status.{bad_handle, done, small_buffer, usage};
+ghost use Rattle.plantbal_c.specs.Status.{bad_handle, done, no_memory, small_buffer, usage};
 
 use crate::handle::SessionHandle;
 use crate::opened::OpenSession;
@@ -26,6 +26,8 @@ pub extern "C" fn plantbal_session_new(
     ensures kept { result ≡ bad_handle → session.new.value ≡ session.old.value }
     ensures same { result ≢ done → session.new.live ≡ session.old.live }
     ensures handle { result ≡ bad_handle → session.old.live ≡ true }
+    ensures answers { (result ≡ done) ⊎ (result ≡ usage) ⊎ (result ≡ no_memory)
+        ⊎ (result ≡ bad_handle) }
 {
     match replace(session, SessionHandle::none(alloc)).into_box() {
         Some(held) => {
@@ -66,8 +68,10 @@ pub extern "C" fn plantbal_session_output(
     ensures taken { session.old.live ≡ true
         → session.new.value.taken ≡ session.old.value.taken }
     ensures count { session.old.live ≡ true → count.new ≡ length session.old.value.text }
+    ensures nothing { session.old.live ≡ false → count.new ≡ 0 }
     ensures small { result ≡ small_buffer → session.new.value ≡ session.old.value }
     ensures smaller { result ≡ small_buffer → length buffer.old < count.new }
+    ensures answers { (result ≡ done) ⊎ (result ≡ small_buffer) ⊎ (result ≡ bad_handle) }
 {
     match replace(session, SessionHandle::none(alloc)).into_box() {
         Some(mut held) => {
@@ -91,7 +95,7 @@ fn hand_over(held: &mut OpenSession, buffer: &mut [u8], count: &mut usize) -> u8
     ensures count { count.new ≡ length held.old.text }
     ensures small { result ≡ small_buffer → held.new ≡ held.old }
     ensures smaller { result ≡ small_buffer → length buffer.old < count.new }
-    ensures some { result ≢ bad_handle }
+    ensures answers { (result ≡ done) ⊎ (result ≡ small_buffer) }
 {
     *count = copy_whole(held.text(), buffer);
     if *count > buffer.len() {

@@ -1,4 +1,4 @@
--- Statement. The study of a graph that is handed over in arrays.
+-- Statement. The study of a graph that is handed over in arrays, and how much there is of it if there is none.
 use Rattle.std.specs.Prelude.{◌≤◌, ℕ, List, All, length}
 use Rattle.pb_limits.specs.Limits.{most_nodes, most_streams}
 use Rattle.pb_study.specs.declared.results.Study.{Study}
@@ -14,6 +14,7 @@ use Rattle.pb_arrays.specs.GivenOptions.{given_options}
 use Rattle.pb_arrays.specs.declared.asked.PlantbalStudyOptions.{PlantbalStudyOptions}
 use Rattle.pb_arrays.specs.declared.criticals.PlantbalCriticalRow.{PlantbalCriticalRow}
 use Rattle.pb_arrays.specs.declared.graphs.PlantbalMeasuredStream.{PlantbalMeasuredStream}
+use Rattle.pb_arrays.specs.declared.stages.PlantbalStudied.{PlantbalStudied}
 
 -- A study of the graph of these streams, by these options and critical values; each of its stages is certified.
 pub record Studies (given : PlantbalStudyOptions) (limits : List PlantbalCriticalRow) (nodes : ℕ)
@@ -30,3 +31,7 @@ abbrev pub IsNotStudied : PlantbalStudyOptions → List PlantbalCriticalRow → 
 IsNotStudied given limits nodes streams =
     AreOptions (given_options given) → AreCritical (given_critical given limits) → 1 ≤ nodes → nodes ≤ most_nodes
     → length streams ≤ most_streams → ⊥
+
+-- there is none of anything
+abbrev pub no_studied : PlantbalStudied
+no_studied = record { stages = 0; taken = 0; stop = 0 }

@@ -9,6 +9,10 @@ study_done = 0
 abbrev pub study_usage : ℕ
 study_usage = 2
 
+-- memory ran out
+abbrev pub study_no_memory : ℕ
+study_no_memory = 6
+
 -- the handle holds no study or, for the call that makes one, it already holds one; nothing was done
 abbrev pub study_bad_handle : ℕ
 study_bad_handle = 7

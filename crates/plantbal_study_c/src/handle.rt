@@ -12,7 +12,7 @@ use std::alloc::Global;
 use std::marker::Model;
 use std::ptr::null_mut;
 
-/// What C holds of a study. While it is live, it owns what a `Box<OpenStudy>` owns, and else nothing; so a handle that was freed
+/// What C holds of a study. While it is live, it owns what a `Box<OpenStudy>` owns, otherwise nothing; so a handle that was freed
 /// holds nothing, and may be freed again.
 #[repr(C)]
 pub struct StudyHandle {

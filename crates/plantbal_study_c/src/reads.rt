@@ -1,9 +1,10 @@
 // What a study says, read by places.
-ghost use Rattle.std.specs.Prelude.{◌≡◌, ◌≢◌, None, Some, true, false, slice_get, IfSome, IsSomeAnd};
+ghost use Rattle.std.specs.Prelude.{◌≡◌, ◌≢◌, ◌⊎◌, None, Some, true, false, slice_get, IfSome, IsSomeAnd};
 ghost use Rattle.pb_arrays.specs.Found.{measure_in, nodal_in, price_in_stage, result_in, stage_in};
 ghost use Rattle.pb_arrays.specs.ShownStage.{ShowsStage, ShowsStudy, ShowsTaken};
 ghost use Rattle.pb_arrays.specs.ShownStream.{ShowsResult, member_in, side_in};
 ghost use Rattle.pb_arrays.specs.ShownTests.{ShowsMeasure, ShowsNodal};
+ghost use Rattle.plantbal_study_c.specs.Studied.{no_studied};
 ghost use Rattle.plantbal_study_c.specs.StudyStatus.{study_bad_handle, study_done, study_not_there};
 ghost use Rattle.pb_arrays.specs.Wide.{wide_value};
 
@@ -18,7 +19,7 @@ use std::alloc::Global;
 use std::mem::replace;
 
 /// Writes how many stages there are, how many measurements were taken out between them, and why the elimination stopped.
-/// `PLANTBAL_BAD_HANDLE`: the handle holds no study.
+/// `PLANTBAL_BAD_HANDLE`: the handle holds no study; all of `counts` is 0.
 #[unsafe(no_mangle)]
 pub extern "C" fn plantbal_study_counts(
     alloc: Global,
@@ -31,6 +32,8 @@ pub extern "C" fn plantbal_study_counts(
     ensures none { study.old.live ≡ false → result ≡ study_bad_handle }
     ensures counts { result ≡ study_done → ShowsStudy study.old.value counts.new }
     ensures done { study.old.live ≡ true → result ≡ study_done }
+    ensures nothing { study.old.live ≡ false → counts.new ≡ no_studied }
+    ensures answers { (result ≡ study_done) ⊎ (result ≡ study_bad_handle) }
 {
     match replace(study, StudyHandle::none(alloc)).into_box() {
         Some(held) => {
@@ -39,7 +42,14 @@ pub extern "C" fn plantbal_study_counts(
             *counts = shown;
             DONE
         }
-        None => BAD_HANDLE,
+        None => {
+            *counts = PlantbalStudied {
+                stages: 0,
+                taken: 0,
+                stop: 0,
+            };
+            BAD_HANDLE
+        }
     }
 }
 
@@ -61,6 +71,8 @@ pub extern "C" fn plantbal_study_stage(
     ensures there { study.old.live ≡ true → stage_in study.old.value stage ≢ None
         → result ≡ study_done }
     ensures unwritten { result ≢ study_done → shown_stage.new ≡ shown_stage.old }
+    ensures answers { (result ≡ study_done) ⊎ (result ≡ study_not_there)
+        ⊎ (result ≡ study_bad_handle) }
 {
     match replace(study, StudyHandle::none(alloc)).into_box() {
         Some(held) => {
@@ -91,6 +103,8 @@ pub extern "C" fn plantbal_study_taken(
     ensures there { study.old.live ≡ true → slice_get study.old.value.taken stage ≢ None
         → result ≡ study_done }
     ensures unwritten { result ≢ study_done → taken.new ≡ taken.old }
+    ensures answers { (result ≡ study_done) ⊎ (result ≡ study_not_there)
+        ⊎ (result ≡ study_bad_handle) }
 {
     match replace(study, StudyHandle::none(alloc)).into_box() {
         Some(held) => {
@@ -122,6 +136,8 @@ pub extern "C" fn plantbal_study_stream(
     ensures there { study.old.live ≡ true → result_in study.old.value stage stream ≢ None
         → result ≡ study_done }
     ensures unwritten { result ≢ study_done → shown_result.new ≡ shown_result.old }
+    ensures answers { (result ≡ study_done) ⊎ (result ≡ study_not_there)
+        ⊎ (result ≡ study_bad_handle) }
 {
     match replace(study, StudyHandle::none(alloc)).into_box() {
         Some(held) => {
@@ -154,6 +170,8 @@ pub extern "C" fn plantbal_study_member(
     ensures there { study.old.live ≡ true → member_in study.old.value stage stream place ≢ None
         → result ≡ study_done }
     ensures unwritten { result ≢ study_done → member.new ≡ member.old }
+    ensures answers { (result ≡ study_done) ⊎ (result ≡ study_not_there)
+        ⊎ (result ≡ study_bad_handle) }
 {
     match replace(study, StudyHandle::none(alloc)).into_box() {
         Some(held) => {
@@ -186,6 +204,8 @@ pub extern "C" fn plantbal_study_inside(
     ensures there { study.old.live ≡ true → side_in study.old.value stage stream node ≢ None
         → result ≡ study_done }
     ensures unwritten { result ≢ study_done → inside.new ≡ inside.old }
+    ensures answers { (result ≡ study_done) ⊎ (result ≡ study_not_there)
+        ⊎ (result ≡ study_bad_handle) }
 {
     match replace(study, StudyHandle::none(alloc)).into_box() {
         Some(held) => {
@@ -217,6 +237,8 @@ pub extern "C" fn plantbal_study_price(
     ensures there { study.old.live ≡ true → price_in_stage study.old.value stage node ≢ None
         → result ≡ study_done }
     ensures unwritten { result ≢ study_done → price.new ≡ price.old }
+    ensures answers { (result ≡ study_done) ⊎ (result ≡ study_not_there)
+        ⊎ (result ≡ study_bad_handle) }
 {
     match replace(study, StudyHandle::none(alloc)).into_box() {
         Some(held) => {
@@ -248,6 +270,8 @@ pub extern "C" fn plantbal_study_nodal(
     ensures there { study.old.live ≡ true → nodal_in study.old.value stage place ≢ None
         → result ≡ study_done }
     ensures unwritten { result ≢ study_done → test.new ≡ test.old }
+    ensures answers { (result ≡ study_done) ⊎ (result ≡ study_not_there)
+        ⊎ (result ≡ study_bad_handle) }
 {
     match replace(study, StudyHandle::none(alloc)).into_box() {
         Some(held) => {
@@ -279,6 +303,8 @@ pub extern "C" fn plantbal_study_measure(
     ensures there { study.old.live ≡ true → measure_in study.old.value stage place ≢ None
         → result ≡ study_done }
     ensures unwritten { result ≢ study_done → test.new ≡ test.old }
+    ensures answers { (result ≡ study_done) ⊎ (result ≡ study_not_there)
+        ⊎ (result ≡ study_bad_handle) }
 {
     match replace(study, StudyHandle::none(alloc)).into_box() {
         Some(held) => {

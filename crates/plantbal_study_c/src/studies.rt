@@ -1,5 +1,5 @@
 // A study is made and freed.
-ghost use Rattle.std.specs.Prelude.{◌≡◌, ◌≢◌, true, false, slice_get, All, IfErr, IfOk, IsSomeAnd};
+ghost use Rattle.std.specs.Prelude.{◌≡◌, ◌≢◌, ◌⊎◌, true, false, slice_get, All, IfErr, IfOk, IsSomeAnd};
 ghost use Rattle.pb_study.specs.Criticals.{AreCritical};
 ghost use Rattle.pb_study.specs.Options.{AreOptions};
 ghost use Rattle.pb_study.specs.WellFormed.{IsWellFormedStudy};
@@ -7,7 +7,7 @@ ghost use Rattle.pb_stage.specs.Certified.{HasLeastThroughout, IsCertifiedStage,
 ghost use Rattle.pb_elim.specs.Decided.{AreMeasuresRight};
 ghost use Rattle.pb_elim.specs.Study.{IsStudyOf};
 ghost use Rattle.pb_arrays.specs.Given.{IsNoStream};
-ghost use Rattle.plantbal_study_c.specs.StudyStatus.{study_bad_handle, study_bad_stream, study_done, study_usage};
+ghost use Rattle.plantbal_study_c.specs.StudyStatus.{study_bad_handle, study_bad_stream, study_done, study_no_memory, study_usage};
 ghost use Rattle.plantbal_study_c.specs.Reason.{IsReason};
 ghost use Rattle.plantbal_study_c.specs.Studied.{IsNotStudied, Studies};
 
@@ -51,6 +51,9 @@ pub extern "C" fn plantbal_study_new(
     ensures handle { result ≡ study_bad_handle → study.old.live ≡ true }
     ensures kept { result ≡ study_bad_handle → study.new.value ≡ study.old.value }
     ensures same { result ≢ study_done → study.new.live ≡ study.old.live }
+    ensures answers { (result ≡ study_done) ⊎ (result ≡ study_usage)
+        ⊎ (result ≡ study_bad_stream) ⊎ (result ≡ study_no_memory)
+        ⊎ (result ≡ study_bad_handle) }
 {
     match replace(study, StudyHandle::none(alloc)).into_box() {
         Some(held) => {

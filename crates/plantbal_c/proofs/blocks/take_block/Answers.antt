@@ -1,6 +1,6 @@
-use Rattle.std.proofs.Common.{◌∙◌, arith, refl}
+use Rattle.std.proofs.Common.{◌∙◌, ◌<◌, arith, length, refl, sym}
 use Rattle.std.proofs.lemmas.List.{length-set}
-use Rattle.plantbal_c.proofs.BlockLemmas.{all_taken, is_at, none_left, room_taken, takes_more, takes_none, takes_still}
+use Rattle.plantbal_c.proofs.BlockLemmas.{all_taken, is_at, none_left, one_left, room_taken, takes_more, takes_none, takes_still}
 use Rattle.plantbal_c.proofs.blocks.take_block.Goals as goal
 
 pub turns-init : goal.turns-init
@@ -51,3 +51,10 @@ returns-clause-takes c = c.turns.invariant.so_far
 pub returns-clause-whole : goal.returns-clause-whole
 returns-clause-whole c =
     λ _. room_taken c.turns.count _ _ c.turns.invariant.so_far.within (omega (arith, c.turns-test.false, c.turns.auto.codes)) (omega (arith, c.turns.invariant.room, c.turns.auto.codes))
+
+-- one is left, and there is room for its code
+pub returns-in-Err-TooMany-clause-fewer : goal.returns-in-Err-TooMany-clause-fewer
+returns-in-Err-TooMany-clause-fewer c =
+    let left : c.turns.count < length c.args.records.now.left =
+        one_left c.args.records.now.left c.turns.count (λ none. c.in-Err-TooMany.ensures.left c.in-Err-TooMany.field-0-is (sym c.turns.invariant.left ∙ none)) in
+    λ _. omega (arith, left, c.turns-test.true, c.turns.auto.codes)
