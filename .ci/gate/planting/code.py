@@ -18,11 +18,10 @@ from gate.planting.tree import Tree
 # An import of definitions or lemmas: its path, and the names or the name for the module.
 IMPORT = re.compile(r"(?m)^ *(?:pub )?(?:ghost )?use (Rattle\.[\w.]+?)(?:\.\{(.*)\}| as (\w+))?;?$")
 WORD = re.compile(r"[^\W\d]\w*")
-_FUNCTION = re.compile(r"(?m)^ *(?:pub(?:\([a-z]+\))? )?(?:const )?fn (\w+)")
-_NAMED = re.compile(
-    r"(?:pub(?:\([a-z]+\))? )?(?:const )?"
-    r"(?:fn|struct|enum|trait|type|const|static|macro_rules!) (\w+)"
-)
+# What stands before `fn`: who sees a function, and whether constants or C call it.
+QUALIFIERS = r"(?:pub(?:\([a-z]+\))? )?(?:const )?(?:unsafe )?(?:extern \"C\" )?"
+_FUNCTION = re.compile(rf"(?m)^ *{QUALIFIERS}fn (\w+)")
+_NAMED = re.compile(rf"{QUALIFIERS}(?:fn|struct|enum|trait|type|const|static|macro_rules!) (\w+)")
 _IMPL = re.compile(r"impl(?:<.*?>)? (?:.*\bfor )?(\w+)")
 _USE_OR_MODULE = re.compile(r"(?:pub(?:\([a-z]+\))? )?(?:ghost )?(?:use|mod)\b")
 _RUST_USE = re.compile(r"(?m)^(?:pub(?:\([a-z]+\))? )?use ([^;]*);")

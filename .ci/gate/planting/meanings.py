@@ -15,13 +15,14 @@ from functools import cache
 from pathlib import Path
 
 from gate.planting.code import IMPORT
+from gate.planting.tokens import tokens_of
 from gate.planting.tree import Tree
 
 # A definition or lemma that an attribute of the code cites by its path.
 _CITED = re.compile(r"\b(\w+)::((?:specs|proofs)(?:::\w+)*)::(\w+)")
 # A definition's first line, its head if it has no patterns, an argument, and the constructors.
 _STATED = re.compile(r"(?:(?:abbrev|unfoldable|pub|record|data) )*([^\s(){}\[\]:;,]+)")
-_EQUATION = re.compile(r"[^\s(){}\[\]:;,]+((?: [^\W\dA-Z]\w*)+) =\s")
+_EQUATION = re.compile(r"[^\s(){}\[\]:;,]+((?:(?:\n)? +[^\W\dA-Z]\w*)+)(?:\n)? +=\s")
 _ARGUMENT = re.compile(r"(?<![\w.-])[^\W\d]\w*(?![\w-])")
 _DATA = re.compile(r"(?:pub )?data ")
 _CONSTRUCTOR = re.compile(r"(?m)^ +(?:pub )?([^\s(){}\[\]:;,.]+) :")
@@ -49,9 +50,9 @@ class Meaning:
     declared: frozenset[str] = frozenset()
 
 
-def digest_of(text: str) -> str:
-    """Return the digest of a text, wherever it stands."""
-    return hashlib.sha256(_PLACE.sub("", text).encode()).hexdigest()[:32]
+def digest_of(text: str, is_code: bool) -> str:
+    """Return the digest of the tokens of a text of code or of definitions, wherever it stands."""
+    return hashlib.sha256(tokens_of(text, is_code, _PLACE).encode()).hexdigest()[:32]
 
 
 class Meanings:
@@ -88,8 +89,7 @@ class Meanings:
                 return token[0]
             return self._read_as(path, scope, token[0], declared)
 
-        text = re.sub(r"\n\s*(?=\n)", "", _TOKEN.sub(read_as, text))
-        return Meaning(text, frozenset(declared))
+        return Meaning(_TOKEN.sub(read_as, text), frozenset(declared))
 
     def _cited(self, path: Path, cited: re.Match[str], declared: set[str]) -> str:
         crate = self.tree.crate_of(path) if cited[1] == "crate" else cited[1]
@@ -135,7 +135,7 @@ class Meanings:
             said = list(dict.fromkeys(said))
             return Meaning(".".join(said), frozenset(said[:1]))
         found = self._within(path, name)
-        whole = f"#{digest_of(self.tree.plain(path))}.{of_type}.{name}"
+        whole = f"#{digest_of(self.tree.plain(path), is_code=False)}.{of_type}.{name}"
         return found or Meaning(whole)
 
     def _file_of(self, module: str) -> tuple[Path | None, str]:
@@ -166,7 +166,7 @@ class Meanings:
         made = self.meaning_in(path, "".join(self._without_arguments(path, it) for it in equations))
         self._reading.pop()
         nameless = re.sub(rf"(?<![\w.#-]){re.escape(name)}(?![\w-])", "it", made.text)
-        return Meaning(f"#{digest_of(nameless)}", made.declared)
+        return Meaning(f"#{digest_of(nameless, is_code=False)}", made.declared)
 
     def _without_arguments(self, path: Path, equation: str) -> str:
         """Return an equation with numbers for the names of its arguments, if it has no patterns."""

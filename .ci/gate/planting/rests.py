@@ -77,13 +77,15 @@ class Sums:
             anything else.
         """
         reach = _Reach(self, crate)
-        reach.digests.update(digest_of(each) for each in (self.logic, *self._asked(crate)))
+        reach.digests.update(
+            digest_of(each, is_code=True) for each in (self.logic, *self._asked(crate))
+        )
         folder = self.tree.crate(crate)
         for each in replaced:
             if each.file.endswith(".rt"):
                 reach.take_body(folder / each.file, f"{each.old}\n{each.new}")
             else:
-                reach.digests.add(digest_of(f"{each.old}\n{each.new}"))
+                reach.digests.add(digest_of(f"{each.old}\n{each.new}", is_code=False))
         own = list(functions)
         for file, name in own:
             for item in self.code.items_of(folder / file):
@@ -114,7 +116,7 @@ class Sums:
         is_code = path.suffix == ".rt"
         things = self.code.things_in(path, text) if is_code else frozenset[str]()
         words = frozenset(WORD.findall(text)) if is_code else frozenset[str]()
-        return digest_of(meaning.text), things | meaning.declared, words
+        return digest_of(meaning.text, is_code), things | meaning.declared, words
 
 
 class _Reach:

@@ -1,14 +1,12 @@
-"""The files of a checkout: its crates, with what each stands on, and the texts of their files."""
+"""The files of a checkout: its crates, with what each depends on, and the texts of their files."""
 
 from __future__ import annotations
 
-import re
 from functools import cache
 from pathlib import Path
 
 from gate.checkout import CRATES, crates_in
-
-_COMMENTED = re.compile(r"(?m)^\s*(?:(?:--|//).*)?\n")
+from gate.planting.tokens import without_comments
 
 
 class Tree:
@@ -59,5 +57,5 @@ class Tree:
 
     @cache
     def plain(self, path: Path) -> str:
-        """Return a file's text without its lines of comment and its blank lines."""
-        return _COMMENTED.sub("", self.read(path))
+        """Return a source file's text without its comments and its blank lines."""
+        return without_comments(self.read(path), path.suffix == ".rt")

@@ -34,7 +34,7 @@ from types import ModuleType
 from typing import Any
 
 from gate.checkout import TOP
-from gate.planting.code import without_body
+from gate.planting.code import QUALIFIERS, without_body
 from gate.planting.rests import Replaced, Sums
 from gate.planting.tree import Tree
 
@@ -49,7 +49,7 @@ NAMES = re.compile(r"has no field|is not in scope|has no `|was not admitted")
 UNTRIED = "untried"
 # The most edits of a part, which one worker tries.
 PART = 32
-FUNCTION = re.compile(r"^\s*(?:pub(?:\([a-z]+\))? )?(?:const )?fn ([A-Za-z_0-9]+)", re.M)
+FUNCTION = re.compile(rf"^\s*{QUALIFIERS}fn ([A-Za-z_0-9]+)", re.M)
 ITEM = re.compile(r"(?:pub )?(?:const|static|enum|struct|use|type|trait)\b")
 
 

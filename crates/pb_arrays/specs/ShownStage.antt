@@ -1,5 +1,5 @@
 -- Statement. A study and its stages as C has them.
-use Rattle.std.specs.Prelude.{◌≡◌, ℕ, ℤ, Bool, true, false, Option, Some, None, length}
+use Rattle.std.specs.Prelude.{◌≡◌, ℕ, ℤ, pos, Bool, true, false, Option, Some, None, length}
 use Rattle.pb_study.specs.declared.results.Solved.{Solved}
 use Rattle.pb_study.specs.declared.results.Solved.TheVariants.{Converged, Unconverged}
 use Rattle.pb_study.specs.declared.results.Stage.{Stage}
@@ -34,28 +34,30 @@ verdict_number verdicts.Undecided = 2
 verdict_number verdicts.NoCritical = 3
 verdict_number verdicts.NoTest = 4
 
--- a number, if there is one
+-- a number, if there is one, otherwise 0
 abbrev pub ShowsIf : Option ℤ → Bool → PlantbalWide → Type 0
 ShowsIf (Some value) there shown = (there ≡ true) × (wide_value shown ≡ value)
-ShowsIf None there shown = there ≡ false
+ShowsIf None there shown = (there ≡ false) × (wide_value shown ≡ pos 0)
 
--- a critical value, if there is one
+-- a critical value, if there is one, otherwise 0
 abbrev pub ShowsCritical : Option ℤ → Bool → ℤ → Type 0
 ShowsCritical (Some value) there shown = (there ≡ true) × (shown ≡ value)
-ShowsCritical None there shown = there ≡ false
+ShowsCritical None there shown = (there ≡ false) × (shown ≡ pos 0)
 
 -- how many sweeps were done, and whether the gap was met
 abbrev pub ShowsSolved : Solved → Bool → ℕ → Type 0
 ShowsSolved (Converged sweeps) converged shown = (converged ≡ true) × (shown ≡ sweeps)
 ShowsSolved (Unconverged sweeps) converged shown = (converged ≡ false) × (shown ≡ sweeps)
 
--- the tests of a stage, if there are any
+-- the tests of a stage, if there are any; without tests there is nothing to test, and no critical value
 abbrev pub ShowsTests : Option Tests → PlantbalStage → Type 0
 ShowsTests (Some tests) shown =
     (shown.tested ≡ true) × ShowsCritical tests.global.critical shown.has_critical shown.critical
     × (shown.verdict ≡ verdict_number tests.global.verdict)
     × (shown.nodal ≡ length tests.nodal) × (shown.measure ≡ length tests.measure)
-ShowsTests None shown = (shown.tested ≡ false) × (shown.nodal ≡ 0) × (shown.measure ≡ 0)
+ShowsTests None shown =
+    (shown.tested ≡ false) × ShowsCritical None shown.has_critical shown.critical
+    × (shown.verdict ≡ verdict_number verdicts.NoTest) × (shown.nodal ≡ 0) × (shown.measure ≡ 0)
 
 -- the struct says what the stage is
 pub record ShowsStage (stage : Stage) (shown : PlantbalStage) : Type 0 where

@@ -28,10 +28,10 @@ class_number classes.Nonredundant = 3
 abbrev pub class_numbers : List Classified → List ℕ
 class_numbers classes = map (λ (c : Classified). class_number c.class) classes
 
--- both ends of bounds, if there are any
+-- both ends of bounds, if there are any, otherwise 0
 abbrev pub ShowsBounds : Option Bounds → Bool → PlantbalWide → PlantbalWide → Type 0
 ShowsBounds (Some bounds) there lo hi = (there ≡ true) × (wide_value lo ≡ bounds.lo) × (wide_value hi ≡ bounds.hi)
-ShowsBounds None there lo hi = there ≡ false
+ShowsBounds None there lo hi = (there ≡ false) × (wide_value lo ≡ pos 0) × (wide_value hi ≡ pos 0)
 
 -- whether a certificate is a cycle or a cut, and how many streams it has
 abbrev pub ShowsWitness : Witness → Bool → ℕ → Type 0

@@ -1,5 +1,6 @@
 // A process graph as an array of streams.
-ghost use Rattle.std.specs.Prelude.{◌≡◌, ◌≤◌, length, map, take, All, IfErr, IfOk};
+ghost use Rattle.std.specs.Prelude.{◌≡◌, ◌≤◌, ◌<◌, length, map, take, All, IfErr, IfOk};
+ghost use Rattle.pb_limits.specs.Limits.{most_nodes, most_streams};
 ghost use Rattle.pb_graph.specs.ProcessGraph.{IsWithinLimits};
 ghost use Rattle.pb_arrays.specs.Given.{IsNoGraph, given_graph, given_measurement, given_stream};
 
@@ -18,9 +19,9 @@ pub struct PlantbalMeasuredStream {
     pub to: u32,
     /// Whether it is measured.
     pub measured: bool,
-    /// The measured grams, at most 10^15 either way. Without a meaning if it isn't measured.
+    /// The measured grams, at most 10^15 either way. Meaningless if it isn't measured.
     pub value: i64,
-    /// The variance of the measurement in squared grams, from 1 to 10^22. Without a meaning if it isn't measured.
+    /// The variance of the measurement in squared grams, from 1 to 10^22. Meaningless if it isn't measured.
     pub variance: PlantbalWide,
 }
 
@@ -53,6 +54,9 @@ pub fn graph_of(
     streams: &[PlantbalMeasuredStream],
 ) -> Result<Graph, NoGraph>
     ensures graph { IfOk result (λ graph. graph ≡ given_graph nodes streams.now) }
+    ensures some_node { IfOk result (λ _. 1 ≤ nodes) }
+    ensures nodes { IfOk result (λ _. nodes ≤ most_nodes) }
+    ensures streams { IfOk result (λ _. length streams.now ≤ most_streams) }
     ensures none { IfErr result (IsNoGraph nodes streams.now) }
 {
     if nodes == 0 || nodes > MOST_NODES {
@@ -101,6 +105,7 @@ pub fn write_streams(graph: &Graph, room: &mut [PlantbalMeasuredStream]) -> usiz
     ensures count { result ≡ length graph.now.streams }
     ensures streams { result ≤ length room.old
         → given_graph graph.now.nodes (take result room.new) ≡ graph.now }
+    ensures full { length room.old < result → room.new ≡ room.old }
 {
     let streams = graph.streams();
     if streams.len() <= room.len() {

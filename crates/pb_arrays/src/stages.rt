@@ -16,7 +16,7 @@ pub struct PlantbalStudied {
     pub stages: u64,
     /// How many measurements were taken out, one between each stage and the next.
     pub taken: u64,
-    /// Why the elimination stopped: 0 if none was asked for, 1 if the global test accepts, 2 if it is undecided, 3 for want of a critical
+    /// Why the elimination stopped: 0 if none was asked for, 1 if the global test accepts, 2 if it is undecided, 3 if there is no critical
     /// value, 4 if there is nothing to test, 5 if no measurement is a suspect, 6 if all rounds are done.
     pub stop: u8,
 }
@@ -31,9 +31,9 @@ pub struct PlantbalStage {
     pub has_high: bool,
     /// Whether there are tests.
     pub tested: bool,
-    /// Whether there is a critical value of the global test.
+    /// Whether there is a critical value of the global test. Without tests there is none.
     pub has_critical: bool,
-    /// What the global test says: 0 reject, 1 accept, 2 undecided, 3 no critical value, 4 nothing to test.
+    /// What the global test says: 0 reject, 1 accept, 2 undecided, 3 no critical value, 4 nothing to test. 4 without tests.
     pub verdict: u8,
     /// The sweeps that were done.
     pub sweeps: u32,

@@ -1,5 +1,5 @@
 // The results of streams, with their certificates.
-ghost use Rattle.std.specs.Prelude.{◌≡◌, ◌≤◌, None, Some, length, take, IfSome, IsSomeAnd};
+ghost use Rattle.std.specs.Prelude.{◌≡◌, ◌≤◌, ◌<◌, None, Some, length, take, IfSome, IsSomeAnd};
 ghost use Rattle.std.specs.Option.{option_map};
 ghost use Rattle.pb_arrays.specs.Found.{result_in};
 ghost use Rattle.pb_arrays.specs.ShownStream.{ShowsBounds, ShowsResult, ShowsWitness, certificate_member, class_number, class_numbers, member_in, member_shown, side_in, side_of, step_shown};
@@ -189,6 +189,7 @@ fn class_number(class: Class) -> u8
 pub fn write_classes(classes: &[Classified], room: &mut [u8]) -> usize
     ensures count { result ≡ length classes.now }
     ensures numbers { result ≤ length room.old → take result room.new ≡ class_numbers classes.now }
+    ensures full { length room.old < result → room.new ≡ room.old }
 {
     if classes.len() <= room.len() {
         copy_classes(classes, room);

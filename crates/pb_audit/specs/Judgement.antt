@@ -41,7 +41,7 @@ Finds at records (failed block test place stated found) behind =
 Finds at records (unreadable number fault) behind =
     ((left : List (List (List ℕ))) × IsNext at records (Refused number fault left)) × (behind ≡ [])
 
--- there is nothing more to be found: no block, and each record can be passed over
+-- there is nothing more to be found: no block, and each record can be skipped
 abbrev pub FindsNothing : ℕ → List (List (List ℕ)) → Type 0
 FindsNothing at records = IsNext at records NoBlock
 

@@ -8,7 +8,7 @@ use pb_form::FormFault;
 /// The faults of a row, in the order in which they are reported.
 #[derive(Clone, Copy, PartialEq, Eq, Debug)]
 pub enum RowFault {
-    /// A row of this kind may not stand here.
+    /// A row of this kind may not be here.
     Kind,
     /// It has more or fewer fields than its kind has, or, for a stream, than the first stream of its block.
     Fields,

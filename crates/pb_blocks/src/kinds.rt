@@ -68,14 +68,14 @@ fn has_word_of(kind: OutputKind, fields: &Fields) -> bool
     }
 }
 
-/// Whether a record is passed over between blocks: it is a row of a session's output but not a row of a report.
+/// Whether a record is skipped between blocks: it is a row of a session's output but not a row of a report.
 pub fn is_passed_over(row: &Row) -> bool
     ensures { result ≡ is_passed_over row.now }
 {
     has_word_among(passed_kinds(), &Fields::all(row))
 }
 
-// The kinds of the rows that are passed over.
+// The kinds of the rows that are skipped.
 fn passed_kinds() -> &'static [OutputKind]
     ensures { result.now ≡ passed_kinds }
 {

@@ -1,4 +1,4 @@
--- Statement. Which facts stand, according to the rows that change and strike them.
+-- Statement. Which facts are live, according to the rows that change and strike them.
 use Rattle.std.specs.Prelude.{◌≡◌, ℕ, Bool, false, List, filter_map, Option, Some, None, if◌then◌else◌}
 use Rattle.std.specs.List.{fold, list_any}
 use Rattle.pb_rows.specs.Name.{same_name}

@@ -1,4 +1,4 @@
--- Statement. The stored rows of a book: what they declare, which periods there are, and which facts stand.
+-- Statement. The stored rows of a book: what they declare, which periods there are, and which facts are live.
 use Rattle.std.specs.Prelude.{ℕ, ℤ, false, List, [], ◌∷◌, ◌++◌, map, filter_map, position, Option, Some, None}
 use Rattle.std.specs.List.{fold}
 use Rattle.pb_site.specs.declared.declared.Declared.{Declared}

@@ -1,4 +1,4 @@
--- Statement. The dual of weighted least squares under the balances, which has a price for each node in place of its balance
+-- Statement. The dual of weighted least squares under the balances, which has a price for each node, half the multiplier of its balance
 -- (Rockafellar, Network Flows and Monotropic Optimization).
 use Rattle.std.specs.Prelude.{◌+◌, ◌*◌, ◌^◌, ℕ, ℤ, pos, neg_ℤ, ◌+ℤ◌, ◌*ℤ◌, List, map, Option, Some, None}
 use Rattle.pb_limits.specs.Limits.{most_value}
@@ -11,7 +11,8 @@ use Rattle.pb_graph.specs.Prices.{most_adjustment, rise_of}
 abbrev pub scale : ℤ
 scale = pos (2 ^ 56)
 
--- the dual flow of a measurement along which the price rises by d: its value plus its variance times the rise
+-- the dual flow of a measurement along which the price rises by d: its value plus its variance times the rise;
+-- 0 if there is no measurement
 abbrev pub flow_at : Option Meas → ℤ → ℤ
 flow_at None d = pos 0
 flow_at (Some m) d = (scale *ℤ m.value) +ℤ (m.variance *ℤ d)

@@ -10,7 +10,7 @@ use Rattle.pb_dual.specs.Candidates.{best_price}
 abbrev pub stepped : List ℕ → List Stream → (ℕ → ℤ) → ℕ → ℕ → ℤ
 stepped group ss price k = if is_free_group group ss k then with_price group price k (best_price group price k ss) else price
 
--- the prices after each of the first n groups, in order, has been given its best price against the prices as they then stand
+-- the prices after each of the first n groups, in order, has been given its best price against the prices as they then are
 abbrev pub swept : List ℕ → List Stream → (ℕ → ℤ) → ℕ → ℕ → ℤ
 swept group ss price zero = price
 swept group ss price (suc n) = stepped group ss (swept group ss price n) n

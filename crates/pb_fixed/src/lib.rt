@@ -4,7 +4,7 @@
 //! A bound is only as good as the direction of its roundings: a lower end goes down, an upper end
 //! goes up, and a printed value goes to the nearest.
 //!
-//! Laws of signed whole numbers that the kit lacks (their ring, their order, and sums over lists) are the contracts of empty functions.
+//! Laws of signed whole numbers that the kit doesn't have (their ring, their order, and sums over lists) are the contracts of empty functions.
 #![tactic(auto)]
 
 mod blocks;

@@ -5,7 +5,7 @@
 -- record is read by a schema to one value for each column, or to its first fault in one order (Reading). A record writes values if it
 -- reads as them (Writing), and no two records write the same values (Laws). If the values fit, the record consists of their texts
 -- (Texts, TextLaws). Rows of pairs or more have a tail, whose columns are repeated. Columns that may be missing at the end of a row
--- make a second schema. The kinds stand in two tables, SessionRows and OutputRows; what a row means beyond its form isn't said here.
+-- make a second schema. The kinds are in two tables, SessionRows and OutputRows; what a row means beyond its form isn't said here.
 use Prim.Native.String.{String}
 use Rattle.std.specs.Prelude.{ℕ, Bool, true, false, List, [], ◌∷◌, codes}
 use Rattle.pb_form.specs.Holds.{Holds, Word}

@@ -17,7 +17,7 @@ word_at words place = slice_index_or words place []
 abbrev pub IsTold : Bool → List ℕ → Type 0
 IsTold optional text = (optional && (length text == 0)) ≡ false
 
--- the word at a place stands at no earlier place
+-- the word at a place is at no earlier place
 abbrev pub IsFirst : List (List ℕ) → ℕ → Type 0
 IsFirst words place = position (bytes_eq (word_at words place)) words ≡ Some place
 

@@ -41,6 +41,7 @@ variance_sum ss members =
     sum_over (λ (m : Member). option_map_or (λ (s : Stream). variance_of s.meas) (slice_get ss m.stream) (pos 0)) members
 
 -- The half width of the bounds of a signed sum: the gap times the standard deviation of the sum, rounded up; 0 if there is no stream.
+-- The root is rounded down, so 1 is added to it.
 abbrev pub half_width_in : List Stream → Gap → List Member → ℤ
 half_width_in ss gap [] = pos 0
 half_width_in ss gap (m ∷ ms) = half_width_of (scaled_root_of (variance_sum ss (m ∷ ms)) +ℤ pos 1) gap.g gap.h

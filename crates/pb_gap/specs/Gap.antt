@@ -19,7 +19,7 @@ abbrev pub standard_deviations_of : List Stream → List ℤ
 standard_deviations_of streams = map (λ s. standard_deviation_of s.meas) streams
 
 -- how far the flow p of a measurement along which the price rises by d is from its dual flow, in standard deviations, in units of
--- 2^-20, rounded up; 0 if there is no measurement
+-- 2^-20, rounded up; 0 if there is no measurement. A flow has 2^56 units a gram and a root 2^20, so 2^16 more makes 2^-20 of it.
 abbrev pub deviation_at : Option Meas → ℤ → ℤ → ℤ
 deviation_at None d p = pos 0
 deviation_at (Some m) d p = ceil_div (pos (unsigned_abs ((p *ℤ scale) -ℤ flow_at (Some m) d))) (scaled_root_of m.variance *ℤ pos (2 ^ 16))

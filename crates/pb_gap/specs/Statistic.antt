@@ -11,7 +11,7 @@ use Rattle.pb_graph.specs.declared.records.Stream.{Stream}
 use Rattle.pb_graph.specs.Squares.{by_stream}
 use Rattle.pb_gap.specs.Gap.{Gap, gap_size}
 
--- how far the flow p of a measurement is from its value, in units of 2^-40
+-- how far the flow p of a measurement is from its value, in units of 2^-40 gram
 abbrev pub adjustment_at : Meas → ℤ → ℤ
 adjustment_at m p = pos (unsigned_abs (p -ℤ m.value)) *ℤ pos (2 ^ 40)
 

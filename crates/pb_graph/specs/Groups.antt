@@ -14,7 +14,8 @@ abbrev pub CrossesGroup : List Stream → ℕ → Stream → Type 0
 CrossesGroup streams node stream =
     (SameGroup streams node stream.from × (SameGroup streams node stream.to → ⊥)) ⊎ ((SameGroup streams node stream.from → ⊥) × SameGroup streams node stream.to)
 
--- The group of a node is free if it isn't the group of the environment, node 0, and some stream has exactly one end in it.
+-- The group of a node is free if it isn't the group of the environment, node 0, and some stream has exactly one end in it. (A free
+-- stream, IsFree, is something else.)
 pub record IsFreeGroup (graph : ProcessGraph) (node : ℕ) : Type 0 where
   pub apart : SameGroup graph.streams 0 node → ⊥
   pub crossed : Any (CrossesGroup graph.streams node) graph.streams

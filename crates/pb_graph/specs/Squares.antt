@@ -26,7 +26,8 @@ abbrev pub variance_product : List Stream → ℤ
 variance_product [] = pos 1
 variance_product (s ∷ streams) = option_map_or (λ (m : Meas). m.variance) s.meas (pos 1) *ℤ variance_product streams
 
--- the product of two errors of a measurement over its variance, in units of 1 / product; 0 if there is no measurement
+-- the product of two errors of a measurement over its variance, in units of 1 / product, of which the variance is a
+-- factor; 0 if there is no measurement
 abbrev pub weighted_product : ℤ → Option Meas → ℤ → ℤ → ℤ
 weighted_product product None a b = pos 0
 weighted_product product (Some m) a b = int_div_euclid product m.variance *ℤ (a *ℤ b)

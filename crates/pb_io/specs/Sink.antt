@@ -13,7 +13,7 @@ pub record SinkSeen : Type 0 where
   pub faults : ℕ
   pub after_fault : ℕ
 
--- these bytes were put: they stand after the bytes that were held, if these are shown, and the count went up by their number
+-- these bytes were put: they come after the bytes that were held, if these are shown, and the count went up by their number
 pub record Puts (old new : SinkSeen) (bytes : List ℕ) : Type 0 where
   pub behind : Appends old.contents new.contents bytes
   pub count : new.written ≡ counted old.written (length bytes)

@@ -12,7 +12,7 @@ pub record SourceSeen : Type 0 where
   pub idle : ℕ
   pub faults : ℕ
 
--- these bytes were taken: they stood before the bytes that remain, if these are shown, and the count went up by their number
+-- these bytes were taken: they came before the bytes that remain, if these are shown, and the count went up by their number
 pub record Takes (old new : SourceSeen) (bytes : List ℕ) : Type 0 where
   pub front : Consumes old.remaining new.remaining bytes
   pub count : new.taken ≡ counted old.taken (length bytes)

@@ -34,7 +34,7 @@ name_there values place = unwrap_or (value_at name_in values place) []
 abbrev pub day_there : List Value → ℕ → ℤ
 day_there values place = unwrap_or (value_at day_in values place) (pos 0)
 
--- a service whose first day stands at a place, and its last day at the next
+-- a service whose first day is at a place, and its last day at the next
 abbrev pub service_from : List Value → ℕ → Service
 service_from values at = record { since = day_there values at; until = day_there values (at + 1) }
 

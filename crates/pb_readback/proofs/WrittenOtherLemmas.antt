@@ -1,4 +1,4 @@
--- Rows of the kinds that are passed over between blocks are passed over.
+-- Rows of the kinds that are skipped between blocks are skipped.
 use Rattle.std.specs.List.{list_all, position_or_len}
 use Rattle.std.specs.Prelude.{find, slice_get}
 use Rattle.std.proofs.Common.{◌≡◌, ◌∙◌, ℕ, All, Bool, true, false, List, [], ◌∷◌, Some, drop, get_or, map, refl, sym}
@@ -58,7 +58,7 @@ others_passed (row ∷ rows) all =
 
 -- ---- which rows are of such kinds
 
--- a row whose kind is found among those that are passed over
+-- a row whose kind is found among those that are skipped
 pub one_passed : (row : OutputRow) → find (λ kind. agrees (output_columns kind) (fields_of (row_of row.kind []))) passed_kinds ≡ Some row.kind → HasKindWord row → IsPassedRow row
 one_passed row found word =
     let test : OutputKind → Bool = λ kind. agrees (output_columns kind) (fields_of (row_of row.kind [])) in

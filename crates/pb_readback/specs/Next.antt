@@ -24,7 +24,7 @@ pub data Next : Type 0 where
   Found : Block → List (List (List ℕ)) → Next
   Refused : ℕ → RowFault → List (List (List ℕ)) → Next
 
--- rows that are passed over
+-- rows that are skipped
 abbrev pub ArePassedOver : List (List (List ℕ)) → Type 0
 ArePassedOver rows = list_all is_passed_over rows ≡ true
 
@@ -49,7 +49,7 @@ IsFault draft rows rest number fault left =
     ⊎ ((first_unknown draft ≡ None) × (draft.last ≢ End)
     × (option_map_or (fault_behind draft) (slice_get rest 0) (Some Ended) ≡ Some fault) × (number ≡ rows + 2) × (left ≡ drop 1 rest))
 
--- a block comes next, after rows that are passed over: a row that opens it, and the rows after it up to the end; these records come
+-- a block comes next, after rows that are skipped: a row that opens it, and the rows after it up to the end; these records come
 -- after the block
 pub record IsFound (records : List (List (List ℕ))) (block : Block) (rest : List (List (List ℕ))) : Type 0 where
   pub passed : List (List (List ℕ))
@@ -63,7 +63,7 @@ pub record IsFound (records : List (List (List ℕ))) (block : Block) (rest : Li
   pub ends : (with_rows (opened_draft first) rows).last ≡ End
   pub value : block ≡ block_of (with_rows (opened_draft first) rows)
 
--- A first row that isn't passed over doesn't begin a block with the records after it: it doesn't open a block, or a row after it
+-- A first row that isn't skipped doesn't begin a block with the records after it: it doesn't open a block, or a row after it
 -- can't be read. This is the number of the first row that has a fault, counted from the first row, and these records are left.
 abbrev pub IsNoBlock : List (List ℕ) → List (List (List ℕ)) → ℕ → RowFault → List (List (List ℕ)) → Type 0
 IsNoBlock first behind number fault left =
@@ -71,7 +71,7 @@ IsNoBlock first behind number fault left =
     ⊎ ((opening_fault first ≡ None) × (rows : List (List (List ℕ))) × (rest : List (List (List ℕ))) × (behind ≡ rows ++ rest)
     × AreSound (opened_draft first) rows × IsFault (with_rows (opened_draft first) rows) (length rows) rest number fault left)
 
--- after rows that are passed over comes another row, and no block begins with it
+-- after rows that are skipped comes another row, and no block begins with it
 pub record IsRefused (at : ℕ) (records : List (List (List ℕ))) (number : ℕ) (fault : RowFault) (left : List (List (List ℕ))) : Type 0 where
   pub passed : List (List (List ℕ))
   pub first : List (List ℕ)
@@ -89,7 +89,7 @@ IsNext at records NoBlock = ArePassedOver records
 IsNext at records (Found block rest) = IsFound records block rest
 IsNext at records (Refused number fault left) = IsRefused at records number fault left
 
--- The records are these blocks in order, and rows that are passed over between, before and after them.
+-- The records are these blocks in order, and rows that are skipped between, before and after them.
 abbrev pub AreBlocks : List (List (List ℕ)) → List Block → Type 0
 AreBlocks records [] = ArePassedOver records
 AreBlocks records (block ∷ blocks) = (rest : List (List (List ℕ))) × IsFound records block rest × AreBlocks rest blocks

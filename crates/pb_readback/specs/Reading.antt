@@ -126,7 +126,7 @@ pub record IsBlock (first : List (List ℕ)) (rows : List (List (List ℕ))) (bl
   pub ends : (with_rows (opened_draft first) rows).last ≡ End
   pub value : block ≡ block_of (with_rows (opened_draft first) rows)
 
--- after rows that are passed over comes another row, or none
+-- after rows that are skipped comes another row, or none
 abbrev pub Skips : List (List (List ℕ)) → List (List (List ℕ)) → Option (List (List ℕ)) → Type 0
 Skips all rest None = ArePassedOver all × (rest ≡ [])
 Skips all rest (Some row) =

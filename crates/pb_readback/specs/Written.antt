@@ -1,4 +1,4 @@
--- Statement. The rows of a study read back as its stages, and the other rows of a session are passed over.
+-- Statement. The rows of a study read back as its stages, and the other rows of a session are skipped.
 use Rattle.std.specs.Prelude.{◌≡◌, ℕ, ◌+◌, ◌≤◌, List, [], ◌∷◌, map, length, All, AllPairs, Contains, None, Some, slice_get, slice_index_or, true, false, codes}
 use Rattle.std.specs.List.{list_all}
 use Rattle.pb_limits.specs.Limits.{most_gap, most_rounds, most_sweeps}
@@ -84,12 +84,12 @@ StudyRowsLaw =
 abbrev pub HasKindWord : OutputRow → Type 0
 HasKindWord row = slice_get row.values 0 ≡ Some (Word 0)
 
--- a row of a kind that is passed over between blocks, with the kind's word
+-- a row of a kind that is skipped between blocks, with the kind's word
 pub record IsPassedRow (row : OutputRow) : Type 0 where
   pub kind : Contains passed_kinds row.kind
   pub word : HasKindWord row
 
--- All rows of the kinds that are passed over between blocks are passed over, whatever their other values are.
+-- All rows of the kinds that are skipped between blocks are skipped, whatever their other values are.
 abbrev pub PassedRowsLaw : Type 0
 PassedRowsLaw = (rows : List OutputRow) → All IsPassedRow rows → AreBlocks (records_in rows) []
 

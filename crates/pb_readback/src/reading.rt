@@ -35,7 +35,7 @@ impl From<AllocError> for ReadRefused {
     }
 }
 
-/// Reads the next block. `Ok(None)` exactly when none follows and each record left is one that is passed over; `At` exactly at the
+/// Reads the next block. `Ok(None)` exactly when none follows and each record left is one that is skipped; `At` exactly at the
 /// first record that can't be read, with the lowest of its faults. After `At` that record was taken and none after it; but if the
 /// fault is a name in a stream's parts, the records of all streams of the block were taken, and none after them. After `NoMemory`
 /// every record that counts as taken was given.
@@ -53,7 +53,7 @@ pub fn read(alloc: Global, records: &mut Records) -> Result<Option<Block>, ReadR
     Ok(Some(block_from(alloc, &row, records)?))
 }
 
-// Takes the rows that are passed over, and the first row that isn't.
+// Takes the rows that are skipped, and the first row that isn't.
 fn first_row(records: &mut Records) -> Result<Option<Row>, AllocError>
     ensures skips { IfOk result (Skips records.old.left records.new.left) }
     ensures counted { OnOk result (AreCounted records.old records.new) }

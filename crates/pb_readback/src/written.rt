@@ -1,4 +1,4 @@
-// Laws about rows that are written: that reports read back, and that other rows are passed over.
+// Laws about rows that are written: that reports read back, and that other rows are skipped.
 
 ghost use Rattle.pb_readback.specs.Written.{PassedRowsLaw, RowTextLaw, RowWordsLaw, StudyRowsLaw, StudyTextLaw};
 
@@ -16,7 +16,7 @@ pub fn study_rows_law()
     number_text_law();
 }
 
-/// The law that rows of the kinds that are passed over between blocks are passed over, whatever their values are.
+/// The law that rows of the kinds that are skipped between blocks are skipped, whatever their values are.
 pub fn passed_rows_law()
     ensures { PassedRowsLaw }
 {}

@@ -1,4 +1,4 @@
--- Statement. The row that stands in place of a report if a stream's total in the period is too great to be studied.
+-- Statement. The row in place of a report if a stream's total in the period is too great to be studied.
 use Rattle.std.specs.Prelude.{ℕ, List, [], ◌∷◌}
 use Rattle.pb_form.specs.Value.{Name}
 use Rattle.pb_form.specs.declared.output.OutputKind.TheVariants as kind

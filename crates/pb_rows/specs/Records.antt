@@ -2,7 +2,7 @@
 use Rattle.std.specs.Prelude.{ℕ, List, [], ◌∷◌, length, ◌==◌, ◌&&◌, if◌then◌else◌}
 use Rattle.csv.specs.Reading.{default_config, records, strip_bom}
 
--- the records that `csv` reads in a text, as `csv` defines them: after a byte order mark, if one stands at the front
+-- the records that `csv` reads in a text, as `csv` defines them: after a byte order mark, if one is at the front
 abbrev pub records_of : List ℕ → List (List (List ℕ))
 records_of bytes = records default_config (strip_bom bytes)
 

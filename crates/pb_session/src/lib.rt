@@ -1,7 +1,7 @@
 //! A session: records in, one at a time, and the rows that each record adds to the output.
 //!
 //! The book accepts or refuses each record. A `design` row writes the class of each stream of the declared plant, an `advise` row
-//! its cheapest metering, a `report` row the report of a period as it stands, a `window` row that of several periods at once, a
+//! its cheapest metering, a `report` row the report of a period as it is now, a `window` row that of several periods at once, a
 //! `component` row the balance of a component in a period, and a `history` row the edits that touch a period. A refused record
 //! writes its cause, and the session goes on after it.
 #![tactic(auto)]

@@ -173,7 +173,7 @@ impl Session {
         }
     }
 
-    /// The first stage of the study of a period as it stands, by the options of the session. `Over` names the first stream whose
+    /// The first stage of the study of a period as it is now, by the options of the session. `Over` names the first stream whose
     /// value or variance is above the limits of a graph.
     pub fn first_stage(&self, period: u32) -> Result<Stage, Assembly>
         requires { period < length (periods_of self.now.state.rows) }

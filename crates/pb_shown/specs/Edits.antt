@@ -1,5 +1,5 @@
 -- Statement. An edit of the book as C has it.
-use Rattle.std.specs.Prelude.{◌≡◌, ℤ, ⊤, pos}
+use Rattle.std.specs.Prelude.{◌≡◌, ℤ, [], ⊤, pos}
 use Rattle.pb_facts.specs.declared.fact.Change.{Change}
 use Rattle.pb_facts.specs.declared.fact.Change.TheVariants.{Amount, Level}
 use Rattle.pb_facts.specs.declared.fact.Fact.{Fact}
@@ -30,11 +30,17 @@ ShowsChange (Level mm new_density new_variance) amount density variance =
 abbrev pub ShowsNone : PlantbalEdit → Type 0
 ShowsNone shown = (shown.amount ≡ pos 0) × (shown.density ≡ pos 0) × (value_of shown.variance ≡ pos 0)
 
+-- no reason
+abbrev pub ShowsNoReason : PlantbalEdit → Type 0
+ShowsNoReason shown = shown.reason ≡ padded_reason []
+
 -- the struct says what an edit does; what isn't an edit has no place among them
 abbrev pub ShowsEffect : Effect → PlantbalEdit → Type 0
-ShowsEffect (Closes name) shown = (shown.kind ≡ 0) × (shown.id ≡ padded_name name) × ShowsNone shown
+ShowsEffect (Closes name) shown =
+    (shown.kind ≡ 0) × (shown.id ≡ padded_name name) × ShowsNoReason shown × ShowsNone shown
 ShowsEffect (Books fact late) shown =
-    (shown.kind ≡ 1) × (shown.id ≡ padded_name (id_of fact)) × ShowsFactValues fact shown.amount shown.density shown.variance
+    (shown.kind ≡ 1) × (shown.id ≡ padded_name (id_of fact)) × ShowsNoReason shown
+    × ShowsFactValues fact shown.amount shown.density shown.variance
 ShowsEffect (Edits id (edits.Change change) reason) shown =
     (shown.kind ≡ 2) × (shown.id ≡ padded_name id) × (shown.reason ≡ padded_reason reason)
     × ShowsChange change shown.amount shown.density shown.variance

@@ -32,7 +32,7 @@ booked_amount (Reading id stream day grams variance) = grams
 booked_amount (Transfer id stream first last grams variance) = grams
 booked_amount (Dip id tank day mm density variance) = mm
 
--- the density of a dip, and else 0
+-- the density of a dip, otherwise 0
 abbrev pub booked_density : Fact → ℤ
 booked_density (Reading id stream day grams variance) = pos 0
 booked_density (Transfer id stream first last grams variance) = pos 0

@@ -1,5 +1,5 @@
 -- Statement. The nodes and the streams of a plant as C has them.
-use Rattle.std.specs.Prelude.{◌≡◌, ℕ, ℤ, List, Bool, true, false, Option, Some, None}
+use Rattle.std.specs.Prelude.{◌≡◌, ℕ, ℤ, pos, List, Bool, true, false, Option, Some, None}
 use Rattle.pb_site.specs.declared.declared.Arc.{Arc}
 use Rattle.pb_site.specs.declared.declared.ArcKind.{ArcKind}
 use Rattle.pb_site.specs.declared.declared.ArcKind.TheVariants.{Metered, Batch, Plain, Tank}
@@ -23,10 +23,10 @@ pub record ShowsNode (declared : List Declared) (name : List ℕ) (shown : Plant
   pub name_shown : shown.name ≡ padded_name name
   pub tank : shown.tank ≡ is_tank declared name
 
--- the days of service, if there are any
+-- the days of service, if there are any, otherwise 0
 abbrev pub ShowsService : Option Service → Bool → ℤ → ℤ → Type 0
 ShowsService (Some service) served since until = (served ≡ true) × (since ≡ service.since) × (until ≡ service.until)
-ShowsService None served since until = served ≡ false
+ShowsService None served since until = (served ≡ false) × (since ≡ pos 0) × (until ≡ pos 0)
 
 -- the struct says what the stream is
 pub record ShowsStream (arc : Arc) (shown : PlantbalStream) : Type 0 where

@@ -24,7 +24,7 @@ pub struct PlantbalEdit {
     pub record: u32,
     /// The grams that a fact has from then on, or the level of a dip in millimetres; 0 for a period and a fact that is struck.
     pub amount: i64,
-    /// The density of a dip in grams per cubic metre, and else 0.
+    /// The density of a dip in grams per cubic metre, otherwise 0.
     pub density: i64,
     /// The variance in squared grams; 0 for a period and a fact that is struck.
     pub variance: PlantbalWide,

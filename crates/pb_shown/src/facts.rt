@@ -29,7 +29,7 @@ pub struct PlantbalFact {
     pub last: i32,
     /// Grams, or the level of a dip in millimetres.
     pub amount: i64,
-    /// The density of a dip in grams per cubic metre, and else 0.
+    /// The density of a dip in grams per cubic metre, otherwise 0.
     pub density: i64,
     /// The variance in squared grams.
     pub variance: PlantbalWide,

@@ -1,5 +1,5 @@
 // Names in an array.
-ghost use Rattle.std.specs.Prelude.{◌≡◌, ◌≤◌, length, take};
+ghost use Rattle.std.specs.Prelude.{◌≡◌, ◌≤◌, ◌<◌, length, take};
 ghost use Rattle.pb_shown.specs.Texts.{name_shown, names_shown};
 
 use crate::texts::padded_name;
@@ -17,6 +17,7 @@ pub struct PlantbalName {
 pub fn write_names(names: &NameList, room: &mut [PlantbalName]) -> usize
     ensures count { result ≡ length names.now }
     ensures names { result ≤ length room.old → take result room.new ≡ names_shown names.now }
+    ensures full { length room.old < result → room.new ≡ room.old }
 {
     if names.len() <= room.len() {
         copy_names(names.as_slice(), room);

@@ -135,7 +135,7 @@ pub record IsCertifiedStage (stage : Stage) : Type 0 where
   -- in least flows, each measured and each observable stream is within its least bounds, if the stage has any
   pub hypercircle : HasLeastBounds stage → (x : Fractional) → IsLeast stage.graph x
       → EachStream stage (λ j r. IsEnclosed x j r.classified.class r.least)
-  -- the printed flows are at most the printed gap away from a least vector
+  -- the printed flows are at most the printed gap away from each least vector
   pub near : (x : Fractional) → IsLeast stage.graph x
       → AreWithinGap stage.graph (printed_gap stage) (whole_flows (printed_flows stage)) x
   -- no balanced flows have weighted squares below the low end of the statistic

@@ -11,7 +11,7 @@ use Rattle.std.specs.declared.vec.IntoIter.{IntoIter}
 use Rattle.pb_words.specs.declared.command.WordsRefused.{WordsRefused}
 use Rattle.pb_words.specs.declared.command.WordsRefused.TheVariants.{Usage, NoMemory}
 
--- why there are no words if the system doesn't give the arguments: it ran out of memory, or else one of them isn't text
+-- why there are no words if the system doesn't give the arguments: it ran out of memory, otherwise one of them isn't text
 abbrev pub refused_by : ErrorKind → WordsRefused
 refused_by kind.OutOfMemory = NoMemory
 refused_by _ = Usage
