@@ -83,7 +83,7 @@ class Roof:
             return self.mass
         if self.zone is None:
             what = VolumeCause.IN_CRITICAL_ZONE(level=level, rests=self.rests, floats=self.floats)
-            remedy = "take the dip where the roof floats, or stands; or give the tank a zone error"
+            remedy = "take the dip where the roof floats, or rests on its legs; or give the tank a zone error"
             raise CausedFault(what, text=str(level), remedy=remedy)
         part = (level - self.rests) / (self.floats - self.rests)
         sd = (part**2 * self.mass.sd**2 + self.zone**2).sqrt()

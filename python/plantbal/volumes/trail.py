@@ -74,7 +74,7 @@ class Trail:
         return Decimal(self.figures.get(head) or 0)
 
 
-def text_of(trails: Iterable[Trail], *, heads: bool = True) -> str:
+def trails_text(trails: Iterable[Trail], *, heads: bool = True) -> str:
     """Return trails as a CSV file."""
     out = io.StringIO()
     writer = csv.writer(out, lineterminator="\n")
@@ -95,10 +95,10 @@ def read_trails(text: str) -> list[Trail]:
 
 def of_tank(fact: str, of: Gauging, found: Content, booked: tuple[int, int], source: str) -> Trail:
     """Return the trail of a dip; what is booked are its grams and its variance."""
-    figures = _measured("level", of.depth.level) | {"volume": plain(of.depth.volume)}
+    figures = _measured("level", of.depth.level) | {"volume": trail_number(of.depth.volume)}
     if of.water is not None:
         figures |= _measured("water", of.water.level)
-        figures["water_volume"] = plain(of.water.volume)
+        figures["water_volume"] = trail_number(of.water.volume)
     if of.roof is not None:
         figures |= _measured("roof", found.roof)
     figures |= _of_liquid(of.liquid, found.weight, found.standard)
@@ -114,11 +114,11 @@ def of_batch(
     source: str,
 ) -> Trail:
     """Return the trail of a volume; what is booked are its grams and its variance."""
-    figures = {"volume": plain(volume)} | _of_liquid(of, found.weight, found.standard)
+    figures = {"volume": trail_number(volume)} | _of_liquid(of, found.weight, found.standard)
     return Trail(fact, figures | _ends(found.grams, booked, source))
 
 
-def plain(number: Decimal) -> str:
+def trail_number(number: Decimal) -> str:
     """Return a number without an exponent, with at most twelve decimals, and no zeros after it."""
     with localcontext(CONTEXT):
         if number.as_tuple().exponent < -12:  # type: ignore[operator]  # no figure is infinite
@@ -128,23 +128,23 @@ def plain(number: Decimal) -> str:
 
 
 def _measured(head: str, of: MeasuredFigure) -> dict[str, str]:
-    return {head: plain(of.value), f"{head}_sd": plain(of.sd)}
+    return {head: trail_number(of.value), f"{head}_sd": trail_number(of.sd)}
 
 
 def _of_liquid(of: Liquid, weight: Weight, standard: Decimal) -> dict[str, str]:
     sample = of.sample
     figures = _measured("density", sample.density)
     if sample.at is not None:
-        figures |= {"density_at": plain(sample.at)}
+        figures |= {"density_at": trail_number(sample.at)}
         figures["density_by"] = sample.by.value if sample.by else ""
     if of.temperature is not None:
         figures |= _measured("temperature", of.temperature)
     # The density and the factor have all their digits, so that the mass can be calculated again.
     figures |= {"density_15": f"{weight.density.value:f}", "density_table": weight.density_by}
     figures |= {"factor": f"{weight.factor.value:f}", "factor_table": weight.factor.source}
-    return figures | {"standard_volume": plain(standard)}
+    return figures | {"standard_volume": trail_number(standard)}
 
 
 def _ends(grams: Decimal, booked: tuple[int, int], source: str) -> dict[str, str]:
-    said = {"grams": plain(grams), "booked": str(booked[0]), "variance": str(booked[1])}
+    said = {"grams": trail_number(grams), "booked": str(booked[0]), "variance": str(booked[1])}
     return said | {"source": source}

@@ -10,7 +10,7 @@ from plantbal.workbook.tables import SheetRow
 from plantbal.workbook.units import AMOUNTS
 
 
-def amount_of(
+def grams_of_row(
     reader: Reader, row: SheetRow, stream: StreamRow
 ) -> tuple[Fraction | None, int, bool]:
     """Return the density of a row, or of its stream, its grams, and whether they are wet."""

@@ -5,6 +5,7 @@ from __future__ import annotations
 import math
 from fractions import Fraction
 
+from plantbal.sentence import Sentence
 from plantbal.workbook.causes import SheetCause
 from plantbal.workbook.plant import PlantReader
 from plantbal.workbook.sheets import Cell
@@ -72,8 +73,11 @@ class Assays:
         if 4 * abs(exact - ppm) > deviation or variance > 2 * deviation * deviation:
             sd, error = math.isqrt(variance), row.text("error")
             what = SheetCause.GRADE_TOO_FINE(text=grade, error=error, ppm=ppm, sd=sd)
-            remedy = f"book a thousand times the grade, as of a component {component}_mg: what its "
-            remedy += "balance calls grams are milligrams then; or write both in whole ppm"
+            remedy = Sentence(
+                "book a thousand times the grade, as of a component {component}_mg: what its "
+                "balance calls grams are milligrams then; or write both in whole ppm",
+                component=component,
+            )
             raise self.reader.fault(row["grade"], what, remedy, "grade")
         return self.reader.whole(row["grade"], exact), variance
 

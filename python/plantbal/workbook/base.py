@@ -57,6 +57,6 @@ def error_said(variance: int) -> str:
     return f"{round(root, places):,f} t"
 
 
-def days_of(first: datetime.date, last: datetime.date) -> list[datetime.date]:
+def days_between(first: datetime.date, last: datetime.date) -> list[datetime.date]:
     """Return the days from the first to the last."""
     return [first + datetime.timedelta(at) for at in range((last - first).days + 1)]

@@ -5,6 +5,7 @@ from __future__ import annotations
 import datetime
 
 from plantbal.estimates import estimate_id
+from plantbal.sentence import Sentence
 from plantbal.session import period_days
 from plantbal.workbook.base import MOST_VARIANCE, PeriodDays, share_at, error_said
 from plantbal.workbook.causes import SheetCause
@@ -66,8 +67,10 @@ class Bookings:
         is_wet: bool = False,
         guessed: int = 0,
         applied: Applied | None = None,
-    ) -> None:
+    ) -> str:
         """Give a reading to the session, or a day of a guess for so many; a wet one as it is dry.
+
+        Returns the id of the fact, which is empty if it is refused.
 
         The days of a guess have one error in common, so the standard deviation of their sum is the
         sum of theirs. Each has that many times its variance: these add up to the square.
@@ -91,6 +94,7 @@ class Bookings:
         is_put = self.tables.put(["reading", *fields, str(variance)], {"grams": cell})
         if is_put and applied is not None:
             self.measuring.keep(name, applied, figure.grams, variance)
+        return name if is_put else ""
 
     def _born(self, stream: StreamRow, day: datetime.date) -> int:
         """Return what a day bears of a systematic error that is wider than a row."""
@@ -121,15 +125,21 @@ class Bookings:
                     what = SheetCause.BASE_OF_TWO_PERIODS(
                         text=cell.text, first=ends[0], last=ends[1]
                     )
-                    remedy = f"write at most {error_said(MOST_VARIANCE)}, or ask for one of the two"
+                    remedy = Sentence(
+                        "write at most {most}, or ask for one of the two",
+                        most=error_said(MOST_VARIANCE),
+                    )
                     self.tables.fault(cell, what, remedy, "base")
                     break
             else:
-                note = f"{str(cell.place()).rstrip(':')}: a base of {cell.text} is wider than the "
-                note += f"{error_said(MOST_VARIANCE)} of a row: the readings of each period bear "
-                self.tables.notes.append(
-                    note + "the rest, and the variance of the period is the same"
+                note = Sentence(
+                    "{place} a base of {text} is wider than the {most} of a row: the readings of "
+                    "each period bear the rest, and the variance of the period is the same",
+                    place=cell.place(),
+                    text=cell.text,
+                    most=error_said(MOST_VARIANCE),
                 )
+                self.tables.notes.append(note)
 
 
 def _ordinal(day: datetime.date) -> int:

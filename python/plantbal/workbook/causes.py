@@ -14,6 +14,7 @@ class SheetCause(Causes):
     # cells of figures
     NO_VALUE = "its formula has no value"
     PERCENTAGE = "{text} is a percentage"
+    SHOWN_IN_THOUSANDS = "{text} is in this cell, which shows {shown}"
     DATE_FOR_FIGURE = "{text} is a date"
     NO_FIGURE = "{text!r} isn't a number"
     FORMULA_FAILS = "{text}: the formula of this cell fails"

@@ -6,16 +6,17 @@ import datetime
 import math
 import re
 from dataclasses import dataclass, field
-from decimal import ROUND_HALF_EVEN, Context, Decimal, Inexact
+from decimal import Context, Decimal, Inexact
 from fractions import Fraction
 from functools import lru_cache
 
-from plantbal import limits
 from plantbal.causes import Case, CausedFault
 from plantbal.faults import Fault
+from plantbal.sentence import Sentence
 from plantbal.workbook.causes import SheetCause
+from plantbal.workbook.figures import plain_number, without_spaces
 from plantbal.workbook.remedies import CellRemedy
-from plantbal.workbook.sheets import Cell, NoValue, Percent
+from plantbal.workbook.sheets import Cell, InThousands, NoValue, Percent, Shown
 from plantbal.workbook.units import (
     AMOUNTS,
     DENSITIES,
@@ -32,9 +33,7 @@ MISSING = frozenset(
     "- -- --- – — . n/a na #n/a #n/a! #nv nv nan null none nil missing fehlt fehlend k.a. ? bad "
     "no_data nodata".split()
 ) | {"no data", "bad input", "i/o timeout", "pt created", "not available", "#n/a n/a"}
-# Between a figure's thousands nothing else can be meant by these.
-_SPACES = " \u00a0\u2009\u202f'\u2019"
-_SPACED = re.compile(rf"[+-]?[0-9]{{1,3}}(?:[{_SPACES}][0-9]{{3}})+(?:[.,][0-9]*)?")
+_DIGIT = re.compile("[0-9]")
 _EXPONENT = re.compile(r"(.*[0-9.,])[eE]([+-]?[0-9]{1,3})")
 _EITHER = re.compile(r"[+-]?[1-9][0-9]{0,2}[.,][0-9]{3}")
 _DAY = re.compile(r"([0-9]{1,4})([./-])\s?([0-9]{1,2})\2\s?([0-9]{1,4})\.?")
@@ -87,19 +86,6 @@ def month_names(locale: str) -> dict[str, int]:
     return found
 
 
-def plain_number(text: str, mark: str, group: str) -> Decimal | None:
-    """Return the number of a text with this decimal mark and these thousands, or None."""
-    if len(text) > limits.DIGITS or not _form_of(mark, group).fullmatch(text):
-        return None
-    return Decimal(text.replace(group, "").replace(mark, ".") if group else text.replace(mark, "."))
-
-
-@lru_cache
-def _form_of(mark: str, group: str) -> re.Pattern[str]:
-    mark, group = re.escape(mark), re.escape(group)
-    return re.compile(rf"[+-]?(?:[0-9]+|[0-9]{{1,3}}(?:{group}[0-9]{{3}})+)(?:{mark}[0-9]+)?")
-
-
 @dataclass(frozen=True, slots=True)
 class Error:
     """The standard deviation of a figure: the greatest of its parts.
@@ -147,27 +133,38 @@ class Reader:
         What errors are divided by: 2 if they are limits that hold 95 times in 100.
     rounded : dict
         Of each sheet how many figures were rounded, the first of them, and the most by which.
+    passed : dict
+        Of each sheet and word with digits that stands for nothing the first cell that has it.
     """
 
     locale: str = ""
     missing: frozenset[str] = MISSING
     divisor: int = 1
     rounded: dict[str, tuple[int, Cell, Fraction]] = field(default_factory=dict)
+    passed: dict[tuple[str, str], Cell] = field(default_factory=dict)
 
     def fault(self, cell: Cell, what: Case, remedy: str | Case = "", head: str = "") -> CausedFault:
         """Return a fault at a cell."""
-        return CausedFault(what, place=cell.place(head), text=cell.text, remedy=str(remedy))
+        do = remedy.sentence if isinstance(remedy, Case) else remedy
+        return CausedFault(what, place=cell.place(head), text=cell.text, remedy=do)
 
     def is_missing(self, cell: Cell) -> bool:
         """Say whether nothing stands in a cell, or a word for nothing."""
-        return cell.value is None or cell.text.casefold() in self.missing
+        if cell.value is None:
+            return True
+        word = cell.text.casefold()
+        if word not in self.missing:
+            return False
+        if word not in MISSING and _DIGIT.search(word):
+            self.passed.setdefault((cell.sheet.name, word), cell)
+        return True
 
     # ---- numbers
 
     def number(self, cell: Cell, head: str = "") -> Decimal:
         """Return the number of a cell."""
         value = cell.value
-        if isinstance(value, Decimal):
+        if isinstance(value, Decimal) and not isinstance(value, InThousands):
             return value
         if not isinstance(value, str):
             raise self.fault(cell, *self._no_number(cell), head)
@@ -178,6 +175,12 @@ class Reader:
             return SheetCause.NO_VALUE(), "open the workbook in a spreadsheet, and save it"
         if isinstance(cell.value, Percent):
             return SheetCause.PERCENTAGE(text=cell.text), "write a figure"
+        if isinstance(cell.value, InThousands):
+            shown = f"{cell.value.shown.normalize():f}"
+            remedy = (
+                "give the cell a form that shows the whole figure, and look whether it is right"
+            )
+            return SheetCause.SHOWN_IN_THOUSANDS(text=cell.text, shown=shown), remedy
         if isinstance(cell.value, datetime.datetime | datetime.time):
             remedy = "give the cell the form of a number, and look whether its figure is right"
             return SheetCause.DATE_FOR_FIGURE(text=cell.text), remedy
@@ -185,17 +188,16 @@ class Reader:
 
     def number_of(self, cell: Cell, text: str, head: str = "") -> Decimal:
         """Return the number of a text in a cell."""
-        plain = text.strip().replace("\u2212", "-")
-        if _SPACED.fullmatch(plain):
-            plain = re.sub(f"[{_SPACES}]", "", plain)
+        plain = without_spaces(text.strip().replace("\u2212", "-"))
         exponent = _EXPONENT.fullmatch(plain)
         if exponent:
             plain = exponent.group(1)
-        number = plain_number(plain, *self.marks_of(cell))
+        mark, group = self.marks_of(cell)
+        number = plain_number(plain, mark, "" if exponent else group)
         if number is None or (
             not self.locale_of(cell) and not exponent and _EITHER.fullmatch(plain)
         ):
-            raise self.fault(cell, *self._why_not(cell, text, plain), head)
+            raise self.fault(cell, *self._why_not(cell, text, plain, bool(exponent)), head)
         return number.scaleb(int(exponent.group(2)), EXACT) if exponent else number
 
     def locale_of(self, cell: Cell) -> str:
@@ -207,7 +209,7 @@ class Reader:
         locale = self.locale_of(cell)
         return symbols(locale) if locale else (".", "")
 
-    def _why_not(self, cell: Cell, text: str, plain: str) -> tuple[Case, str | Case]:
+    def _why_not(self, cell: Cell, text: str, plain: str, powers: bool) -> tuple[Case, str | Case]:
         """Return what is wrong with a text that is no number, and what to do."""
         own_locale = self.locale_of(cell)
         if not own_locale and _EITHER.fullmatch(plain):
@@ -216,7 +218,8 @@ class Reader:
                 "use --locale en, --locale de or another",
             )
         for locale, mark in MARKS.items():
-            if plain_number(plain, *symbols(locale)) is not None:
+            point, group = symbols(locale)
+            if plain_number(plain, point, "" if powers else group) is not None:
                 own = OWN_LOCALE.format(locale=own_locale) if own_locale else ""
                 what = SheetCause.MARK_OF_OTHER_LOCALE(text=text, mark=mark, locale=own)
                 return what, CellRemedy.USE_LOCALE(locale=locale)
@@ -238,7 +241,7 @@ class Reader:
             found, time = value.date(), value.time()
         elif isinstance(value, Decimal):
             found = self._serial(cell, value)
-            time = None if value == int(value) else f"{value % 1:f} of a day"
+            time = None if value == int(value) else Sentence("{value:f} of a day", value=value % 1)
         elif isinstance(value, str):
             split = _TIME.fullmatch(value)
             time = split.group(2) if split else None
@@ -334,7 +337,13 @@ class Reader:
             parted = re.fullmatch(r"(.*?[0-9.,])\s*([^\W\d_][\w³]*(?:/[\w³]+)?)", cell.value)
             if parted and unit_of(parted.group(2)) in kinds:
                 return self.number_of(cell, parted.group(1), head), unit_of(parted.group(2))
-        return self.number(cell, head), ""
+        number = self.number(cell, head)
+        if not isinstance(number, Shown):
+            return number, ""
+        if unit_of(number.unit) not in kinds:
+            text = f"{number:f} {number.unit}"
+            raise self.fault(cell, SheetCause.NO_FIGURE(text=text), CellRemedy.WRITE_FIGURE(), head)
+        return Decimal(number), unit_of(number.unit)
 
     def grams(self, cell: Cell, unit: str, density: Fraction | None, head: str = "") -> int:
         """Return an amount in whole grams; a volume is multiplied by its density in g/m3."""
@@ -460,7 +469,7 @@ class Reader:
             if parted is None or unit not in units:
                 such = "`3 mm` or `8 t`" if level else "`1.5 %`, `0.2 t`, or `1.5 % or 0.2 t`"
                 what = SheetCause.NOT_AN_ERROR(text=cell.text)
-                raise self.fault(cell, what, f"write {such}", head)
+                raise self.fault(cell, what, Sentence("write {such}", such=such), head)
             number = Fraction(self.number_of(cell, parted.group(1), head)) / self.divisor
             if number < 0:
                 what = SheetCause.BELOW_0(text=cell.text)
@@ -491,10 +500,6 @@ def check_locale(locale: str) -> str:
         return str(Locale.parse(locale.replace("-", "_")))
     except (ValueError, UnknownLocaleError):
         remedy = "use de, en_GB, fr or another"
-        raise Fault(f"there is no locale {locale!r}", text=locale, remedy=remedy) from None
-
-
-def rounded_down(number: Fraction, places: int) -> str:
-    """Return a number with some decimals, to say how much was rounded."""
-    scaled = Decimal(number.numerator) / Decimal(number.denominator)
-    return f"{scaled.quantize(Decimal(1).scaleb(-places), rounding=ROUND_HALF_EVEN):f}"
+        raise Fault(
+            Sentence("there is no locale {locale!r}", locale=locale), text=locale, remedy=remedy
+        ) from None

@@ -8,14 +8,16 @@ from plantbal.accounts.reading import read_accounts
 from plantbal.accounts.sheet import Accounts
 from plantbal.causes import CausedFault
 from plantbal.faults import Fault, Place
+from plantbal.sentence import Sentence
 from plantbal.session import Session
 from plantbal.workbook.assays import Assays
 from plantbal.workbook.bookings import Bookings
 from plantbal.workbook.causes import SheetCause
-from plantbal.workbook.cells import Reader, rounded_down
+from plantbal.workbook.cells import Reader
 from plantbal.workbook.dips import Dips
 from plantbal.workbook.drying import MoistureReader
 from plantbal.workbook.estimates import Estimates
+from plantbal.workbook.figures import rounded_down
 from plantbal.workbook.measuresheets import MeasureReader, Measures
 from plantbal.workbook.measuring import Measuring
 from plantbal.workbook.missing import Missing
@@ -131,11 +133,20 @@ class Converter:
         Missing(self.tables, self.plant, self.bookings, self.tickets, self.dips).say()
 
     def say_rounded(self) -> None:
-        """Say what was rounded."""
+        """Say what was rounded, and which figures are taken for missing ones."""
+        for cell in self.tables.reader.passed.values():
+            word = f"cells with {cell.text!r} are taken for missing figures, as --missing has it"
+            self.notes.append(f"{cell.place()} {word}: this is the first")
         for sheet, (count, cell, most) in self.tables.reader.rounded.items():
             where = str(cell.place()).rstrip(":")
             figures = "figure was" if count == 1 else "figures were"
             self.notes.append(
-                f"{sheet}: {count} {figures} rounded to whole grams or other whole units, "
-                f"by at most {rounded_down(most, 3)} of one, the first in {where}"
+                Sentence(
+                    "{sheet}: {count} {figures} rounded to whole grams or other whole units, by at most {most} of one, the first in {where}",
+                    sheet=sheet,
+                    count=count,
+                    figures=figures,
+                    most=rounded_down(most, 3),
+                    where=where,
+                )
             )

@@ -13,6 +13,7 @@ from collections.abc import Iterable, Iterator, Mapping
 from dataclasses import dataclass, field, replace
 
 from plantbal.faults import InputFault
+from plantbal.sentence import Sentence
 from plantbal.workbook.causes import SheetCause
 from plantbal.workbook.cells import Reader
 from plantbal.workbook.hours import (
@@ -23,14 +24,15 @@ from plantbal.workbook.hours import (
     Starts,
     are_instants,
     clock_of,
-    counted,
+    counter_days,
     has_times,
     stamp_of,
-    summed,
+    summed_days,
 )
 from plantbal.workbook.settings import Settings
-from plantbal.workbook.sheets import Cell, Sheet
+from plantbal.workbook.sheets import Cell, Sheet, Value
 
+_MOST_STAMPS = 100_000
 _BY_HOUR = re.compile(r"[\[(]?([^\W\d_][\w³]*)/(?:h|hr|hour)[\])]?", re.IGNORECASE)
 
 
@@ -158,13 +160,20 @@ class LongRows:
         self.series: dict[str, array[int]] = {}
         self.others: list[int] = []
         self.first: dict[datetime.datetime, int] = {}
+        self._stamps: dict[Value, datetime.datetime | None] = {}  # of values that are there often
         for place in range(begin, len(sheet.lines)):
             stamp = self.stamp(place)
             if stamp is None:
                 self.others.append(place)
                 continue
-            self.series.setdefault(self._cell(place, at["tag"]).text, array("q")).append(place)
+            tag = self._value(place, at["tag"])
+            text = tag if isinstance(tag, str) else self._cell(place, at["tag"]).text
+            self.series.setdefault(text, array("q")).append(place)
             self.first.setdefault(stamp, place)
+
+    def _value(self, place: int, column: int) -> Value:
+        values = self.sheet.lines[place][1]
+        return values[column] if column < len(values) else None
 
     def _cell(self, place: int, column: int) -> Cell:
         line, values = self.sheet.lines[place]
@@ -172,7 +181,14 @@ class LongRows:
 
     def stamp(self, place: int) -> datetime.datetime | None:
         """Return the stamp of a row."""
-        return stamp_of(self.reader, self._cell(place, self.at["day"]))
+        value = self._value(place, self.at["day"])
+        try:
+            return self._stamps[value]
+        except KeyError:
+            found = stamp_of(self.reader, self._cell(place, self.at["day"]))
+        if len(self._stamps) < _MOST_STAMPS:
+            self._stamps[value] = found
+        return found
 
     def figures(self, places: Iterable[int]) -> list[SeriesFigure]:
         """Return the figures of rows in the order of their stamps; of one clock time as they are."""
@@ -237,7 +253,7 @@ def long_by_day(
         days = _days_of(reader, clock, name, names[name], figures, timed, Starts(clock))
         found.take(days)
         own = {sheet.lines[place][0]: place for place in places}
-        unit = _one_unit(reader, [sheet.row(own[each.stamp.line]) for each in figures], at)
+        unit = _one_unit(reader, (sheet.row(own[each.stamp.line]) for each in figures), at)
         for each in days.found:
             row = _as_day(sheet.row(own[each.stamp.line]), column, each.day)
             row[at["value"]] = each.cell
@@ -266,9 +282,9 @@ def _days_of(
     modulus = clock.settings.counters.get(name)
     if modulus is not None:
         figures = figures if timed else _at_begins(reader, clock, figures)
-        return counted(reader, clock, said, modulus, figures)
+        return counter_days(reader, clock, said, modulus, figures)
     if timed:
-        return summed(reader, clock, said, figures, starts)
+        return summed_days(reader, clock, said, figures, starts)
     plain = [each for each in figures if not reader.is_missing(each.cell)]
     return SeriesDays([DayFigure(each.at.date(), each.stamp, each.cell, 1) for each in plain])
 
@@ -298,11 +314,11 @@ def _one_unit(reader: Reader, rows: Iterable[list[Cell]], at: Mapping[str, int])
     """
     if "unit" not in at:
         return -1
-    column, rows = at["unit"], list(rows)
-    first = _at(rows[0], column)
+    column, first = at["unit"], None
     for cells in rows:
-        if _at(cells, column).text != first.text:
-            cell = _at(cells, column)
+        cell = _at(cells, column)
+        first = first or cell
+        if cell.text != first.text:
             both = first.text or "no unit", cell.text or "none"
             what = SheetCause.UNITS_OF_TAG_DIFFER(first=both[0], other=both[1])
             raise reader.fault(cell, what, "write the same unit for all")
@@ -352,20 +368,45 @@ def _without_rates(cells: list[Cell], columns: list[int]) -> list[Cell]:
 def _say(found: Daily, heads: list[Cell], clock: Clock, counters: list[str], hourly: bool) -> None:
     """Say what was recognised."""
     place = heads[0].sheet.place(heads[0].line)
-    zone = f" in {clock.settings.zone}" if clock.settings.zone else ""
+    zone = Sentence(" in {zone}", zone=clock.settings.zone) if clock.settings.zone else ""
     if hourly:
         counts = {hours: len(days) for hours, days in sorted(found.by_hours.items())}
-        days = ", ".join(f"{count} of {hours} hours" for hours, count in counts.items())
+        days = ", ".join(
+            Sentence("{count} of {hours} hours", count=count, hours=hours)
+            for hours, count in counts.items()
+        )
         end = "end" if clock.ends else "begin"
         found.notes.append(
-            f"{place} figures of hours are added up by day{zone}, days: {days}; a stamp is the "
-            f"{end} of its hour, and a figure in t/h counts for one hour"
+            Sentence(
+                "{place} figures of hours are added up by day{zone}, days: {days}; a stamp is the {end} of its hour, and a figure in t/h counts for one hour",
+                place=place,
+                zone=zone,
+                days=days,
+                end=end,
+            )
         )
     elif found.by_hours and clock.is_daily:
         end = "end" if clock.ends else "begin"
-        found.notes.append(f"{place} each stamp is the {end} of a day{zone}")
+        found.notes.append(
+            Sentence(
+                "{place} each stamp is the {end} of a day{zone}", place=place, end=end, zone=zone
+            )
+        )
     if found.filled:
-        found.notes.append(f"{place} {found.filled:,} hours without a figure are taken for 0")
+        found.notes.append(
+            Sentence(
+                "{place} {filled:,} hours without a figure are taken for 0",
+                place=place,
+                filled=found.filled,
+            )
+        )
     if counters:
         names = ", ".join(counters)
-        found.notes.append(f"{place} figures of the counters {names} are subtracted by day{zone}")
+        found.notes.append(
+            Sentence(
+                "{place} figures of the counters {names} are subtracted by day{zone}",
+                place=place,
+                names=names,
+                zone=zone,
+            )
+        )

@@ -6,6 +6,7 @@ import datetime
 import difflib
 from fractions import Fraction
 
+from plantbal.sentence import Sentence
 from plantbal.workbook.causes import SheetCause
 from plantbal.workbook.cells import Error
 from plantbal.workbook.measuring import Measuring
@@ -53,7 +54,11 @@ class Dips:
         tank = self.plant.tanks.get(name)
         if tank is None:
             near = difflib.get_close_matches(name, self.plant.tanks, n=1)
-            remedy = f"did you mean {near[0]}?" if near else "write it into the sheet tanks"
+            remedy = (
+                Sentence("did you mean {near}?", near=near[0])
+                if near
+                else "write it into the sheet tanks"
+            )
             raise self.reader.fault(row["tank"], SheetCause.NO_TANK(name=name), remedy, "tank")
         top = tank.points[-1][0] if tank.points else None
         mm = self.reader.level(row["level"], unit=row["unit"], top=top)

@@ -7,6 +7,7 @@ from dataclasses import dataclass
 from fractions import Fraction
 
 from plantbal.causes import CausedFault
+from plantbal.sentence import Sentence
 from plantbal.workbook.causes import SheetCause
 from plantbal.workbook.cells import Error
 from plantbal.workbook.moisture import WHOLE, Moisture, Moistures
@@ -132,7 +133,7 @@ class MoistureReader:
         """Return the dry figure of a day."""
         moisture = self.found.on(stream.name, day)
         if moisture is None:
-            raise self.no_moisture(stream, cell, f"on {day}")
+            raise self.no_moisture(stream, cell, Sentence("on {day}", day=day))
         spans = [
             each
             for each in self.periods.spans_at(day)

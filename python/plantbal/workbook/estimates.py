@@ -4,8 +4,9 @@ from __future__ import annotations
 
 import datetime
 
-from plantbal.workbook.amounts import amount_of
-from plantbal.workbook.base import PeriodDays, days_of
+from plantbal.sentence import Sentence
+from plantbal.workbook.amounts import grams_of_row
+from plantbal.workbook.base import PeriodDays, days_between
 from plantbal.workbook.bookings import Bookings
 from plantbal.workbook.causes import SheetCause
 from plantbal.workbook.plant import PlantReader
@@ -44,7 +45,7 @@ class Estimates:
             if stream is None:
                 continue
             with self.tables.kept():
-                density, grams, is_wet = amount_of(self.reader, row, stream)
+                density, grams, is_wet = grams_of_row(self.reader, row, stream)
                 error = self.reader.error(row["error"], density)
                 if day is None or last is None:
                     continue
@@ -66,9 +67,12 @@ class Estimates:
         """
         if not first <= last <= first + datetime.timedelta(MOST_GUESSED):
             what = SheetCause.GUESS_TOO_LONG(first=first, last=last)
-            remedy = f"write a last day up to {MOST_GUESSED} days after the first"
+            remedy = Sentence(
+                "write a last day up to {most_guessed} days after the first",
+                most_guessed=MOST_GUESSED,
+            )
             raise self.reader.fault(row["last"], what, remedy, "last")
         found: dict[tuple[PeriodDays, ...], list[datetime.date]] = {}
-        for day in days_of(first, last):
+        for day in days_between(first, last):
             found.setdefault(tuple(self.bookings.periods.spans_at(day)), []).append(day)
         return list(found.values())

@@ -15,6 +15,7 @@ from dataclasses import dataclass, field
 
 from plantbal.causes import CausedFault
 from plantbal.faults import Fault, InputFault, Place
+from plantbal.sentence import Sentence, phrase
 from plantbal.workbook.causes import SheetCause
 from plantbal.workbook.cells import Reader
 from plantbal.workbook.sheets import Cell, NoValue, Sheet
@@ -104,12 +105,16 @@ class Fates:
     def put_faults(self, faults: Iterable[Fault]) -> None:
         """Mark the rows that faults name; of a fault of a whole sheet those not accounted for."""
         names = {(sheet.file, "" if sheet.is_csv else sheet.name): sheet for sheet in self.sheets}
+        lines: dict[int, set[int]] = {}
         for fault in faults:
             sheet = names.get((fault.place.file, fault.place.sheet))
             if sheet is None:
                 continue
-            fates, line = self.fates[self._places[id(sheet)]], _line_of(fault.place)
-            if any(line == each for each, _ in sheet.lines):
+            place, line = self._places[id(sheet)], _line_of(fault.place)
+            fates = self.fates[place]
+            if place not in lines:
+                lines[place] = {number for number, _ in sheet.lines}
+            if line in lines[place]:
                 fates[line] = Fate.FAULT
             elif line == 0:
                 self.put_sheet(Fate.FAULT, sheet)
@@ -173,20 +178,33 @@ def unread_column(
         The cells below it.
     """
     cells = [cell for cell in below if not reader.is_missing(cell)]
-    name = f"the column {head.text!r}" if head.text else "this column without a head"
+    name = (
+        Sentence("the column {text!r}", text=head.text)
+        if head.text
+        else Sentence("this column without a head")
+    )
     units = [cell for cell in cells if is_unit(cell)]
     figures = [cell for cell in cells if is_figure(reader, cell)]
-    what = "units" if len(units) >= len(figures) else "figures"
-    first = next(iter(units if what == "units" else figures), head)
+    what = Sentence("units" if len(units) >= len(figures) else "figures")
+    first = next(iter(units if len(units) >= len(figures) else figures), head)
     if 2 * (len(units) + len(figures)) > len(cells) and head.text.casefold() not in _REMARKS:
-        remedy = f"use --skip {head.text!r} to leave the column out" if head.text else ""
+        remedy = (
+            Sentence("use --skip {text!r} to leave the column out", text=head.text)
+            if head.text
+            else ""
+        )
         other = "give it the head of a column that is read"
-        remedy = f"{other}, or {remedy}" if remedy else f"{other}, or empty it"
+        remedy = (
+            Sentence("{other}, or {remedy}", other=phrase(other), remedy=phrase(remedy))
+            if remedy
+            else Sentence("{other}, or empty it", other=phrase(other))
+        )
         case = SheetCause.COLUMN_NOT_READ(column=name, content=what)
         return CausedFault(case, place=first.place(head.text), text=first.text, remedy=remedy), ""
     if not cells:
         return None, ""
-    return None, f"{(head if head.text else cells[0]).place()} {name} isn't read"
+    at = (head if head.text else cells[0]).place()
+    return None, Sentence("{place} {column} isn't read", place=at, column=name)
 
 
 def unread_rows(reader: Reader, rows: Sequence[Sequence[Cell]]) -> Iterator[InputFault | str]:
@@ -208,7 +226,12 @@ def unread_rows(reader: Reader, rows: Sequence[Sequence[Cell]]) -> Iterator[Inpu
         else:
             others.append(cells[0])
     if others:
-        lines = [str(cell.line) for cell in others[:_SAID]]
-        more = f" and {len(others) - _SAID:,} more" if len(others) > _SAID else ""
-        what = "the row is" if len(others) == 1 else f"the rows {', '.join(lines)}{more} are"
-        yield f"{others[0].sheet.place(others[0].line)} {what} skipped"
+        place = others[0].sheet.place(others[0].line)
+        lines = ", ".join(str(cell.line) for cell in others[:_SAID])
+        if len(others) == 1:
+            yield Sentence("{place} the row is skipped", place=place)
+        elif len(others) <= _SAID:
+            yield Sentence("{place} the rows {lines} are skipped", place=place, lines=lines)
+        else:
+            what = "{place} the rows {lines} and {count:,} more are skipped"
+            yield Sentence(what, place=place, lines=lines, count=len(others) - _SAID)

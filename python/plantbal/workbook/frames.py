@@ -49,7 +49,7 @@ def _sheet(name: str, frame: pandas.DataFrame, held: Held) -> Sheet:
             for column, value in enumerate(given, 1)
         ]
         if any(value is not None for value in values):
-            held.take(sheet.place(line), values)
+            held.take(sheet, line, values)
             sheet.lines.append((line, without_end(values)))
     return sheet
 

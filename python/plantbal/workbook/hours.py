@@ -23,10 +23,12 @@ from functools import lru_cache
 from zoneinfo import ZoneInfo
 
 from plantbal.faults import InputFault
+from plantbal.sentence import Sentence
 from plantbal.workbook.causes import SheetCause
 from plantbal.workbook.cells import EXACT, Reader
 from plantbal.workbook.settings import Settings
 from plantbal.workbook.sheets import Cell
+from plantbal.workbook.summed import DayCells, SummedBy, SummedCell, cells_text
 
 _HOUR = datetime.timedelta(hours=1)
 _DAY = datetime.timedelta(days=1)
@@ -191,7 +193,9 @@ class Clock:
             if seen[at] and instant == self._instant(at):
                 remedy = "leave one of the two out"
                 if not self.settings.zone:
-                    remedy += ", or write the plant's zone into a sheet settings"
+                    remedy = (
+                        "leave one of the two out, or write the plant's zone into a sheet settings"
+                    )
                 raise reader.fault(figure.stamp, SheetCause.STAMP_TWICE(at=at), remedy)
             seen[at] += 1
             yield instant
@@ -231,7 +235,9 @@ def clock_of(
     times = {clock.local(_aware(clock, each.at)).time() for each in every}
     if len(times) == 1 and not clock.is_daily and len(figures) > 1:
         time = f"{times.pop():%H:%M}"
-        remedy = f"write day begins and {time} into a sheet settings if it is so"
+        remedy = Sentence(
+            "write day begins and {time} into a sheet settings if it is so", time=time
+        )
         what = SheetCause.DAY_BEGINS_UNTOLD(text=first.stamp.text, time=time)
         raise reader.fault(first.stamp, what, remedy)
     if settings.stamps or clock.is_daily:
@@ -310,7 +316,7 @@ class Starts:
         return self._hours[day]
 
 
-def summed(
+def summed_days(
     reader: Reader, clock: Clock, name: str, figures: Sequence[SeriesFigure], starts: Starts
 ) -> SeriesDays:
     """Return the days of a series of hourly figures, or of one figure a day."""
@@ -362,21 +368,27 @@ def _sum_day(
     lacks = [at for at in wanted if at not in there]
     if lacks and not clock.settings.fill:
         times = [f"{clock.local(at):%H:%M}" for at in lacks]
-        more = f" and {len(lacks) - _SAID} more" if len(lacks) > _SAID else ""
+        more = Sentence(" and {count} more", count=len(lacks) - _SAID) if len(lacks) > _SAID else ""
         said, counts = f"{', '.join(times[:_SAID])}{more}", (len(lacks), len(wanted))
         what = SheetCause.HOURS_LACK(
             name=name, lacks=counts[0], hours=counts[1], day=day, times=said
         )
-        remedy = "write them, or empty all of the day and estimate it; missing hours and 0 in a "
-        raise reader.fault(first.cell, what, f"{remedy}sheet settings take such hours for 0")
+        remedy = (
+            "write them, or empty all of the day and estimate it; missing hours and 0 in a sheet "
+            "settings take such hours for 0"
+        )
+        raise reader.fault(first.cell, what, remedy)
     days.filled += len(lacks)
     with localcontext(EXACT):
         total = sum((reader.number(each.cell, name) for each in there.values()), Decimal(0))
-    cell = Cell(first.cell.sheet, first.cell.line, first.cell.column, total)
+    own = cells_text([each.cell for each in there.values()])
+    zeros = tuple(f"{clock.local(at):%H:%M}" for at in lacks)
+    of = DayCells(SummedBy.HOURS, own, len(there), len(wanted), zeros)
+    cell = SummedCell(first.cell.sheet, first.cell.line, first.cell.column, total, of)
     days.found.append(DayFigure(day, first.stamp, cell, len(wanted)))
 
 
-def counted(
+def counter_days(
     reader: Reader, clock: Clock, name: str, modulus: Decimal, figures: Sequence[SeriesFigure]
 ) -> SeriesDays:
     """Return the days of a counter: what it went on from the begin of each to that of the next."""
@@ -395,9 +407,11 @@ def counted(
     for day in dict.fromkeys(map(clock.day, instants)):
         begin, end = at.get(clock.begin(day)), at.get(clock.begin(day + _DAY))
         if begin is not None and end is not None:
-            total = sum(went[begin:end], Fraction(0))
-            cell = _with(there[begin].cell, total)
-            days.found.append(DayFigure(day, there[begin].stamp, cell, len(clock.hours(day))))
+            total, hours = sum(went[begin:end], Fraction(0)), len(clock.hours(day))
+            own = cells_text([each.cell for each in there[begin : end + 1]])
+            of = DayCells(SummedBy.COUNTER, own, end + 1 - begin, hours)
+            cell = _with(there[begin].cell, total, of)
+            days.found.append(DayFigure(day, there[begin].stamp, cell, hours))
         elif (begin is None) != (end is None) or instants[-1] >= clock.begin(day + _DAY):
             _lack_ends(reader, clock, name, day, begin is None, instants, there, days)
     return days
@@ -449,11 +463,11 @@ def _went(
     return went
 
 
-def _with(cell: Cell, total: Fraction) -> Cell:
+def _with(cell: Cell, total: Fraction, of: DayCells) -> SummedCell:
     """Return a cell with a sum of decimal numbers in place of its own figure."""
     places = 0
     while total.denominator != 1:
         total, places = total * 10, places + 1
     digits = tuple(map(int, str(abs(total.numerator))))
     number = Decimal((int(total < 0), digits, -places))
-    return Cell(cell.sheet, cell.line, cell.column, number)
+    return SummedCell(cell.sheet, cell.line, cell.column, number, of)

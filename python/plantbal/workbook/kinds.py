@@ -10,6 +10,7 @@ from collections.abc import Iterable
 from dataclasses import dataclass, field
 from itertools import islice
 
+from plantbal.sentence import Sentence
 from plantbal.workbook.shapeparts import HEADS_WITHIN, split_head
 from plantbal.workbook.sheets import Sheet
 
@@ -48,11 +49,22 @@ class KindEvidence:
     def notes(self) -> list[str]:
         """Return what was taken for a batch, and for metered without a tag."""
         return [
-            f"streams: {_few(names)} {'is' if len(names) == 1 else 'are'} taken for {kind}, since "
-            f"no kind is written, and there are {what}"
-            for names, kind, what in (
-                (self.batches, "batch", "tickets"),
-                (self.metered, "metered", "readings"),
+            _taken(names, one if len(names) == 1 else several)
+            for names, one, several in (
+                (
+                    self.batches,
+                    "streams: {names} is taken for batch, since no kind is written, and there are "
+                    "tickets",
+                    "streams: {names} are taken for batch, since no kind is written, and there are "
+                    "tickets",
+                ),
+                (
+                    self.metered,
+                    "streams: {names} is taken for metered, since no kind is written, and there "
+                    "are readings",
+                    "streams: {names} are taken for metered, since no kind is written, and there "
+                    "are readings",
+                ),
             )
             if names
         ]
@@ -79,6 +91,10 @@ def _streams_in(sheet: Sheet) -> set[str]:
     return set()
 
 
-def _few(names: list[str]) -> str:
-    more = f" and {len(names) - _SAID:,} more" if len(names) > _SAID else ""
-    return ", ".join(names[:_SAID]) + more
+def _taken(names: list[str], form: str) -> Sentence:
+    """Return what was taken for what."""
+    first = ", ".join(names[:_SAID])
+    if len(names) <= _SAID:
+        return Sentence(form, names=first)
+    more = Sentence("{names} and {count:,} more", names=first, count=len(names) - _SAID)
+    return Sentence(form, names=more)

@@ -72,7 +72,7 @@ KEPT = (
     ),
     SheetKind(
         "gauges",
-        "what tanks and streams have beside their own rows: product, errors, floating roof",
+        "what tanks and streams have in addition to their own rows: product, errors, floating roof",
         (
             SheetColumn("name", "a tank, a stream or its tag", True),
             replace(_PRODUCT, needed=False),

@@ -11,6 +11,7 @@ from enum import Enum
 from fractions import Fraction
 from typing import TypeVar
 
+from plantbal.sentence import Sentence
 from plantbal.volumes.factor import CONTEXT, FactorTable, Rounding
 from plantbal.volumes.groups import Group
 from plantbal.volumes.liquid import MeasuredFigure, Product, Sample
@@ -250,7 +251,7 @@ class MeasureReader:
                 dated = Dated(figure(row), cell, *self._days(row))
                 if not self.reader.is_missing(row["id"]):
                     same = into.of_tickets.setdefault(row.text("id"), dated)
-                    name = f"the ticket {row.text('id')}"
+                    name: str = Sentence("the ticket {id}", id=row.text("id"))
                 else:
                     own = self._named(row, products=products)
                     if own is None:
@@ -277,7 +278,7 @@ class MeasureReader:
             raise self.reader.fault(row["error"], what, remedy, "error")
         at = None if self.reader.is_missing(row["at"]) else self._temperature(row, "at")
         by = self._word(row, "by", DensityInstrument)
-        measured = MeasuredFigure(decimal_of(density / 1000), sd)
+        measured = MeasuredFigure(decimal_of_fraction(density / 1000), sd)
         return Sample(measured, at, by, str(row["density"].place()).rstrip(":"))
 
     def _measured(self, row: SheetRow) -> MeasuredFigure:
@@ -344,7 +345,9 @@ class MeasureReader:
                 return word
         there = ", ".join(word.value for word in words)
         what = SheetCause.NO_SUCH_WORD(text=row.text(head), head=head)
-        raise self.reader.fault(row[head], what, f"write one of {there}", head)
+        raise self.reader.fault(
+            row[head], what, Sentence("write one of {there}", there=there), head
+        )
 
     def _number(self, row: SheetRow, head: str) -> Decimal | None:
         """Return a number of 0 or more; None if the cell is empty."""
@@ -369,7 +372,9 @@ class MeasureReader:
         if number < 0:
             what = SheetCause.BELOW_0(text=row.text("error"))
             raise self.reader.fault(row["error"], what, "look at it", "error")
-        return self._divided(decimal_of(Fraction(number) * DENSITIES[unit or "kg/m3"] / 1000))
+        return self._divided(
+            decimal_of_fraction(Fraction(number) * DENSITIES[unit or "kg/m3"] / 1000)
+        )
 
     def _divided(self, sd: Decimal) -> Decimal:
         """Return a standard deviation, if errors are limits of twice that."""
@@ -391,7 +396,7 @@ class MeasureReader:
         if number < 0:
             what = SheetCause.BELOW_0(text=row.text(head))
             raise self.reader.fault(row[head], what, "look at it", head)
-        return decimal_of(Fraction(number) * GRAMS[unit or "t"] / 1000)
+        return decimal_of_fraction(Fraction(number) * GRAMS[unit or "t"] / 1000)
 
 
 def temperature_of(tables: Tables, cell: Cell, head: str = "temperature") -> Decimal:
@@ -409,12 +414,14 @@ def temperature_of(tables: Tables, cell: Cell, head: str = "temperature") -> Dec
     else:
         found = reader.number(cell, head)
     if not _COLDEST <= found <= _HOTTEST:
-        remedy = f"write degrees Celsius, from {_COLDEST} to {_HOTTEST}"
+        remedy = Sentence(
+            "write degrees Celsius, from {coldest} to {hottest}", coldest=_COLDEST, hottest=_HOTTEST
+        )
         raise reader.fault(cell, SheetCause.NOT_A_TEMPERATURE(text=cell.text), remedy, head)
     return found
 
 
-def decimal_of(number: Fraction) -> Decimal:
+def decimal_of_fraction(number: Fraction) -> Decimal:
     """Return a fraction as a decimal number of 40 figures."""
     with localcontext(CONTEXT):
         return Decimal(number.numerator) / Decimal(number.denominator)

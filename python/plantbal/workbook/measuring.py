@@ -19,6 +19,7 @@ from typing import TypeVar
 from plantbal.causes import CausedFault
 from plantbal.faults import Place
 from plantbal.schema import schema
+from plantbal.sentence import Sentence
 from plantbal.volumes.batch import Batch, batch
 from plantbal.volumes.liquid import Liquid, MeasuredFigure, Sample
 from plantbal.volumes.tank import Content, Depth, Gauging
@@ -26,7 +27,7 @@ from plantbal.volumes.trail import Trail, of_batch, of_tank
 from plantbal.workbook.causes import SheetCause
 from plantbal.workbook.cells import Error
 from plantbal.workbook.dated import Dated
-from plantbal.workbook.measuresheets import Measures, decimal_of, temperature_of
+from plantbal.workbook.measuresheets import Measures, decimal_of_fraction, temperature_of
 from plantbal.workbook.periods import PeriodSheet
 from plantbal.workbook.plant import StreamRow, TankRow
 from plantbal.workbook.sheets import Cell
@@ -174,7 +175,7 @@ class Measuring:
             raise reader.fault(
                 cell, SheetCause.BELOW_0(text=cell.text), "an error is 0 or more", head
             )
-        return decimal_of(sd)
+        return decimal_of_fraction(sd)
 
     def _applied(
         self,
@@ -197,14 +198,14 @@ class Measuring:
             return None
         known = own or stream.density
         if sample is None and known is not None:
-            sample = Sample(MeasuredFigure(decimal_of(known / 1000)))
+            sample = Sample(MeasuredFigure(decimal_of_fraction(known / 1000)))
         if sample is None:
             remedy = "write one into the sheet densities, or into the row of its stream"
             what = SheetCause.NO_DENSITY_OF_VOLUME(text=cell.text, unit=unit)
             raise self.tables.reader.fault(cell, what, remedy)
         product = self.found.product_of(stream.name)
         liquid = Liquid(sample, product, temperature.value if temperature else None)
-        volume = decimal_of(Fraction(number) * VOLUMES[unit])
+        volume = decimal_of_fraction(Fraction(number) * VOLUMES[unit])
         with self._at(cell):
             weighed = batch(volume, liquid)
         return Applied(volume, liquid, weighed, density, temperature, cell)
@@ -257,10 +258,10 @@ class Measuring:
             raise reader.fault(row["density"], what, remedy, "density")
         if sample is None:
             assert known is not None
-            sample = Sample(MeasuredFigure(decimal_of(known / 1000)))
+            sample = Sample(MeasuredFigure(decimal_of_fraction(known / 1000)))
         measured = temperature.value if temperature is not None else None
         liquid = Liquid(sample, self.found.product_of(tank.name), measured)
-        depth = self._depth(tank.points, mm, decimal_of(error.mm), row["level"])
+        depth = self._depth(tank.points, mm, decimal_of_fraction(error.mm), row["level"])
         water = self._water(tank, row, error) if has_water else None
         gauging = Gauging(depth, liquid, water, gauge.roof if gauge else None)
         with self._at(row["level"]):
@@ -280,7 +281,7 @@ class Measuring:
         if sd is None:
             sd = gauge.water_sd if gauge is not None else None
         if sd is None:
-            sd = decimal_of(error.mm)
+            sd = decimal_of_fraction(error.mm)
         if not sd:
             what = SheetCause.WATER_WITHOUT_ERROR(name=tank.name)
             remedy = "write it into the column water error of the sheet gauges, in mm"
@@ -295,15 +296,19 @@ class Measuring:
             (below, above) for below, above in zip(points, points[1:]) if below[0] <= mm <= above[0]
         ]
         if not beside:
-            ends = f"{points[0][0]} to {points[-1][0]} mm" if points else "no level"
+            ends = (
+                Sentence("{points} to {points2} mm", points=points[0][0], points2=points[-1][0])
+                if points
+                else "no level"
+            )
             remedy = "look at the level, or write the table as far as it goes"
             what = SheetCause.OUTSIDE_OF_TABLE(ends=ends, mm=mm)
             raise self.tables.reader.fault(cell, what, remedy)
         slopes = [Fraction(high[1] - low[1], high[0] - low[0]) for low, high in beside]
         (at, ml), slope = beside[0][0], slopes[0]
         volume = (ml + slope * (mm - at)) / 10**6
-        steep = decimal_of(max(slopes) / 10**6)
-        return Depth(MeasuredFigure(Decimal(mm), sd), decimal_of(volume), steep)
+        steep = decimal_of_fraction(max(slopes) / 10**6)
+        return Depth(MeasuredFigure(Decimal(mm), sd), decimal_of_fraction(volume), steep)
 
     # ---- what is said
 
@@ -321,14 +326,23 @@ class Measuring:
         """Say what was calculated, and which densities and temperatures change nothing."""
         if self.trails:
             count = len(self.trails)
-            figures = "1 figure is" if count == 1 else f"{count:,} figures are"
-            note = f"{figures} a mass by a density of its days, a temperature, water or a roof"
+            figures = (
+                "1 figure is" if count == 1 else Sentence("{count:,} figures are", count=count)
+            )
+            note = Sentence(
+                "{figures} a mass by a density of its days, a temperature, water or a roof",
+                figures=figures,
+            )
             self.tables.notes.append(note)
         for name, cell in self.found.dated_names():
             of = [each for each, gauge in self.found.gauges.items() if gauge.product == name]
             if not any(each in self._used for each in [name, *of]):
                 place = str(cell.place()).rstrip(":")
-                note = f"{place}: no volume of {name} is here, so this changes nothing"
+                note = Sentence(
+                    "{place}: no volume of {name} is here, so this changes nothing",
+                    place=place,
+                    name=name,
+                )
                 self.tables.notes.append(note)
 
 
@@ -356,4 +370,4 @@ def _millilitres(points: Sequence[tuple[int, int]], mm: int) -> int:
     for (at, low), (above, high) in zip(points, points[1:]):
         if at <= mm <= above:
             return low + (high - low) * (mm - at) // (above - at)
-    raise ValueError(f"{mm} mm are outside the table")
+    raise ValueError(Sentence("{mm} mm are outside the table", mm=mm))

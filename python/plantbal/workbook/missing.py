@@ -1,12 +1,13 @@
-"""What a workbook lacks: days without a reading or a dip, and facts that are in no period."""
+"""What is missing from a workbook: days without a reading or a dip, and facts outside every period."""
 
 from __future__ import annotations
 
 import datetime
 from collections.abc import Iterable
 
+from plantbal.sentence import Day, Joined, Sentence
 from plantbal.session import Service, dip_days, in_service, is_served, period_days
-from plantbal.workbook.base import days_of
+from plantbal.workbook.base import days_between
 from plantbal.workbook.bookings import Bookings
 from plantbal.workbook.dips import Dips
 from plantbal.workbook.plant import PlantReader
@@ -45,19 +46,25 @@ class Missing:
     def say(self) -> None:
         """Say which days are missing, and which facts stand in no period."""
         periods = {period.name: period_days(period) for period in self.session.periods}
-        inside = {day for first, last in periods.values() for day in days_of(first, last)}
+        inside = {day for first, last in periods.values() for day in days_between(first, last)}
         for name, (first, last) in periods.items():
-            self._missing_readings(name, days_of(first, last))
+            self._missing_readings(name, days_between(first, last))
             self._missing_dips(name, periods)
         outside = [
             c for days in self.bookings.days.values() for d, c in days.items() if d not in inside
         ]
         outside += [
-            cell for a, b, cell in self.tickets.found if not any(x in inside for x in days_of(a, b))
+            cell
+            for a, b, cell in self.tickets.found
+            if not any(x in inside for x in days_between(a, b))
         ]
         if outside:
             first_cell = str(outside[0].place()).rstrip(":")
-            what = f"{len(outside)} figures are in no period, the first in {first_cell}"
+            what = Sentence(
+                "{count} figures are in no period, the first in {first_cell}",
+                count=len(outside),
+                first_cell=first_cell,
+            )
             self.tables.notes.append(what)
 
     def _missing_readings(self, period: str, days: list[datetime.date]) -> None:
@@ -69,11 +76,18 @@ class Missing:
             served = [day for day in days if in_service(service, day.toordinal())]
             lacks = [day for day in served if day not in read]
             if lacks and len(lacks) == len(served):
-                self.tables.notes.append(f"{period}: no reading of {stream.said}")
+                self.tables.notes.append(
+                    Sentence("{period}: no reading of {said}", period=period, said=stream.said)
+                )
             elif lacks:
                 self.tables.notes.append(
-                    f"{period}: no reading of {stream.said} on {spans(lacks)}, so its other "
-                    "readings are left aside; an estimate with a wide error keeps them"
+                    Sentence(
+                        "{period}: no reading of {said} on {lacks}, so its other readings are left "
+                        "aside; an estimate with a wide error keeps them",
+                        period=period,
+                        said=stream.said,
+                        lacks=spans(lacks),
+                    )
                 )
 
     def _missing_dips(
@@ -86,11 +100,21 @@ class Missing:
             service, dips = self.session.service(name), self.dips.found.get(name, {})
             lacks = [day for day in tank_days(service, first, last) if day not in dips]
             if lacks:
-                note = f"{period}: no dip of {name} on {spans(lacks)}"
+                note = Sentence(
+                    "{period}: no dip of {name} on {lacks}",
+                    period=period,
+                    name=name,
+                    lacks=spans(lacks),
+                )
                 stays = next_ and tank_days(service, *periods[next_])
                 if stays and last in lacks and not self.tables.sheets["windows"]:
-                    note += f"; if nobody took it, a sheet windows with {period}, {next_} has what "
-                    note += "it held then"
+                    note = Sentence(
+                        "{note}; if nobody took it, a sheet windows with {period}, {after} has what "
+                        "it held then",
+                        note=note,
+                        period=period,
+                        after=next_,
+                    )
                 self.tables.notes.append(note)
 
 
@@ -110,7 +134,10 @@ def spans(days: Iterable[datetime.date]) -> str:
             found[-1].append(day)
         else:
             found.append([day])
-    texts = [
-        f"{span[0]} to {span[-1]}" if len(span) > 2 else ", ".join(map(str, span)) for span in found
-    ]
-    return ", ".join(texts)
+    texts: list[str] = []
+    for span in found:
+        if len(span) > 2:
+            texts.append(Sentence("{first} to {last}", first=span[0], last=span[-1]))
+        else:
+            texts += (Day(day) for day in span)
+    return Joined(", ", texts)

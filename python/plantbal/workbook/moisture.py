@@ -15,6 +15,7 @@ from collections.abc import Iterable, Sequence
 from dataclasses import dataclass, field
 from fractions import Fraction
 
+from plantbal.sentence import Sentence
 from plantbal.workbook.sheets import Cell
 from plantbal.workbook.units import GRADES
 
@@ -121,9 +122,19 @@ class Moistures:
         """Give what was dried, a line a stream."""
         for stream, parts in self.used.items():
             least, most = (f"{float(each * 100):.4g} %" for each in (min(parts), max(parts)))
-            by = f"a moisture of {least}" if least == most else f"moistures of {least} to {most}"
-            count = "1 wet figure is" if len(parts) == 1 else f"{len(parts):,} wet figures are"
-            yield f"{stream}: {count} booked dry, by {by}"
+            by = (
+                Sentence("a moisture of {least}", least=least)
+                if least == most
+                else Sentence("moistures of {least} to {most}", least=least, most=most)
+            )
+            count = (
+                "1 wet figure is"
+                if len(parts) == 1
+                else Sentence("{count:,} wet figures are", count=len(parts))
+            )
+            yield Sentence(
+                "{stream}: {count} booked dry, by {by}", stream=stream, count=count, by=by
+            )
 
 
 def _days(moisture: Moisture) -> float:

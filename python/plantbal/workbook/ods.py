@@ -15,25 +15,25 @@ import zipfile
 from collections.abc import Iterator
 from dataclasses import dataclass, field
 from decimal import Decimal, InvalidOperation
-from typing import TYPE_CHECKING, Any
+from typing import Any
+from xml.etree.ElementTree import Element, iterparse
 
 from plantbal import limits
-from plantbal.faults import InputFault, Place, ToolMissing
+from plantbal.faults import InputFault, Place
+from plantbal.sentence import Sentence
+from plantbal.workbook.cellforms import Form, form_shown
 from plantbal.workbook.packed import check_size, hidden_notes, readable
 from plantbal.workbook.sheets import (
     EPOCH,
     EPOCH_1904,
     Held,
     NoValue,
-    Percent,
     Sheet,
     Value,
     letters,
     without_end,
 )
-
-if TYPE_CHECKING:
-    from xml.etree.ElementTree import Element
+from plantbal.workbook.xmlwalk import check_beginning
 
 _SPACE = {
     "office": "urn:oasis:names:tc:opendocument:xmlns:office:1.0",
@@ -64,6 +64,7 @@ _CHANGES, _STYLE, _NULL_DATE = map(
     _named, ("table:tracked-changes", "style:style", "table:null-date")
 )
 _PARAGRAPH, _SPACES, _BREAK, _TAB = map(_named, ("text:p", "text:s", "text:line-break", "text:tab"))
+_READ_AT_END = frozenset({_ROW, _COLUMN, _TABLE, _STYLE, _NULL_DATE})
 _COLUMNS_REPEATED = _named("table:number-columns-repeated")
 _ROWS_REPEATED = _named("table:number-rows-repeated")
 _VISIBILITY, _STYLE_NAME, _FORMULA = map(
@@ -88,13 +89,7 @@ def ods_of(name: str, data: bytes) -> list[Sheet]:
     ------
     InputFault
         If it can't be read, or holds more than `plantbal.limits` has.
-    ToolMissing
-        If defusedxml isn't installed.
     """
-    try:
-        from defusedxml.ElementTree import iterparse
-    except ImportError as error:
-        raise ToolMissing("defusedxml", "python3-defusedxml") from error
     with readable(name):
         check_size(name, data)
         with zipfile.ZipFile(io.BytesIO(data)) as packed:
@@ -102,8 +97,9 @@ def ods_of(name: str, data: bytes) -> list[Sheet]:
                 what, remedy = "this workbook is protected by a password", "save it without one"
                 raise InputFault(what, place=Place(file=name), remedy=remedy)
             with packed.open("content.xml") as content:
-                events = iterparse(content, events=("start", "end"), forbid_dtd=True)
-                return _OdsReading(name).sheets(events)
+                check_beginning(content)
+            with packed.open("content.xml") as content:
+                return _OdsReading(name).sheets(iterparse(content, events=("start", "end")))
 
 
 @dataclass
@@ -122,6 +118,8 @@ class _Table:
         The columns that have been declared.
     hidden, struck, columns : list
         The rows with values that are hidden, the cells that are struck through, hidden columns.
+    unseen : list of str
+        The cells that show no figure.
     """
 
     sheet: Sheet
@@ -130,6 +128,7 @@ class _Table:
     column: int = 0
     hidden: list[int] = field(default_factory=list)
     struck: list[str] = field(default_factory=list)
+    unseen: list[str] = field(default_factory=list)
     columns: list[int] = field(default_factory=list)
 
     def finished(self) -> Sheet:
@@ -137,7 +136,9 @@ class _Table:
         width = max((len(values) for _, values in self.sheet.lines), default=0)
         some = [letters(column) for column in self.columns if column <= width]
         is_hidden = self.is_hidden and width > 0
-        self.sheet.notes = list(hidden_notes(is_hidden, self.hidden, some, self.struck))
+        self.sheet.notes = list(
+            hidden_notes(is_hidden, self.hidden, some, self.struck, self.unseen)
+        )
         return self.sheet
 
 
@@ -162,30 +163,34 @@ class _OdsReading:
         """Return the sheets; each element is dropped once it has been read."""
         found: list[Sheet] = []
         stack: list[Element] = []
+        within = dict.fromkeys((_CHANGES, _CELL, _ROW), 0)  # how many of them are open
         for event, element in events:
+            tag = element.tag
             if event == "start":
-                if element.tag == _TABLE and self.table is None and not _within(stack, _CHANGES):
+                if tag == _TABLE and self.table is None and not within[_CHANGES]:
                     self.table = self._begin(element)
                 stack.append(element)
+                if tag in within:
+                    within[tag] += 1
                 continue
             stack.pop()
-            if element.tag == _STYLE:
+            if tag in within:
+                within[tag] -= 1
+            if tag not in _READ_AT_END:
+                continue
+            if tag == _STYLE:
                 self._take_style(element)
-            elif element.tag == _NULL_DATE:
+            elif tag == _NULL_DATE:
                 self.epoch = EPOCH_1904 if _is_1904(element) else EPOCH
-            elif self.table is not None and not _within(stack, _CELL):
-                if element.tag == _TABLE:
+            elif self.table is not None and not within[_CELL]:
+                if tag == _TABLE:
                     found.append(self.table.finished())
                     self.table = None
-                elif element.tag == _ROW:
+                elif tag == _ROW:
                     self._take_row(self.table, element)
-                elif element.tag == _COLUMN:
+                elif tag == _COLUMN:
                     self._take_column(self.table, element)
-            if (
-                stack
-                and not _within(stack, _ROW)
-                and element.tag in (_ROW, _COLUMN, _TABLE, _STYLE)
-            ):
+            if stack and not within[_ROW] and tag != _NULL_DATE:
                 stack[-1].remove(element)
         for sheet in found:
             sheet.epoch = self.epoch
@@ -218,9 +223,11 @@ class _OdsReading:
         values = self._values(table, element)
         if values:
             if table.line + count > limits.ROWS:
-                raise self._fault(table, f"there is a cell in row {table.line + count:,}")
+                raise self._fault(
+                    table, Sentence("there is a cell in row {line:,}", line=table.line + count)
+                )
             for line in range(table.line + 1, table.line + count + 1):
-                self.held.take(table.sheet.place(line), values)
+                self.held.take(table.sheet, line, values)
                 table.sheet.lines.append((line, list(values)))
                 if element.get(_VISIBILITY, "visible") != "visible":
                     table.hidden.append(line)
@@ -228,7 +235,11 @@ class _OdsReading:
 
     def _fault(self, table: _Table, what: str) -> InputFault:
         place = Place(file=self.file, sheet=table.sheet.name)
-        remedy = f"a sheet has {limits.ROWS:,} rows and {limits.COLUMNS:,} columns"
+        remedy = Sentence(
+            "a sheet has {rows:,} rows and {columns:,} columns",
+            rows=limits.ROWS,
+            columns=limits.COLUMNS,
+        )
         return InputFault(what, place=place, remedy=remedy)
 
     def _values(self, table: _Table, element: Element) -> list[Value]:
@@ -244,17 +255,18 @@ class _OdsReading:
                 empty += count
                 continue
             if len(row) + empty + count > limits.COLUMNS:
-                raise self._fault(table, f"there is a cell in column {len(row) + empty + count:,}")
+                raise self._fault(
+                    table,
+                    Sentence("there is a cell in column {count:,}", count=len(row) + empty + count),
+                )
             row += [None] * empty
             empty = 0
             if cell.get(_STYLE_NAME, "") in self.struck_styles:
                 table.struck.append(f"{letters(len(row) + 1)}{table.line + 1}")
+            if isinstance(value, Decimal) and value and _form(cell, value).is_blank:
+                table.unseen.append(f"{letters(len(row) + 1)}{table.line + 1}")
             row += [value] * count
         return without_end(row)
-
-
-def _within(stack: list[Element], tag: str) -> bool:
-    return any(element.tag == tag for element in stack)
 
 
 def _is_1904(element: Element) -> bool:
@@ -265,8 +277,13 @@ def _count(element: Element, name: str, most: int) -> int:
     """Return how often something is there; a count that is none is a fault of the file."""
     count = int(element.get(name, "1"))
     if not 1 <= count <= most:
-        raise ValueError(f"something is repeated {count:,} times")
+        raise ValueError(Sentence("something is repeated {count:,} times", count=count))
     return count
+
+
+def _form(cell: Element, number: Decimal) -> Form:
+    """Return how a cell shows its number."""
+    return form_shown("\n".join(_texts(cell)), number)
 
 
 def _value(cell: Element) -> Value:
@@ -274,7 +291,7 @@ def _value(cell: Element) -> Value:
     kind = cell.get(_VALUE_TYPE, "")
     if kind in ("float", "currency", "percentage"):
         number = _number(cell.get(_VALUE, ""))
-        return Percent((number * 100).normalize()) if kind == "percentage" else number
+        return (Form(True, "") if kind == "percentage" else _form(cell, number)).value(number)
     if kind == "date":
         return _date(cell.get(_DATE_VALUE, ""))
     if kind == "time":
@@ -294,9 +311,9 @@ def _number(text: str) -> Decimal:
     try:
         number = Decimal(text)
     except InvalidOperation:
-        raise ValueError(f"{text[:40]!r} is stored as a number") from None
+        raise ValueError(Sentence("{text!r} is stored as a number", text=text[:40])) from None
     if not number.is_finite() or len(text) > limits.DIGITS or abs(number.adjusted()) > 400:
-        raise ValueError(f"{text[:40]!r} is stored as a number")
+        raise ValueError(Sentence("{text!r} is stored as a number", text=text[:40]))
     return number
 
 

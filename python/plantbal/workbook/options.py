@@ -5,7 +5,7 @@ from __future__ import annotations
 from dataclasses import dataclass, replace
 
 from plantbal.workbook.cells import MISSING, Reader, check_locale
-from plantbal.workbook.mapping.applying import applied, mapping_of
+from plantbal.workbook.mapping.applying import applied, sheet_mapping
 from plantbal.workbook.mapping.form import WorkbookMapping
 from plantbal.workbook.sheets import Sheet
 
@@ -72,7 +72,7 @@ class ReadingOptions:
 
     def names(self, sheet: Sheet) -> bool:
         """Say whether the mapping has a sheet of this name."""
-        return self.mapping is not None and mapping_of(self.mapping, sheet) is not None
+        return self.mapping is not None and sheet_mapping(self.mapping, sheet) is not None
 
     @property
     def reader(self) -> Reader:

@@ -9,6 +9,7 @@ from contextlib import contextmanager
 
 from plantbal import limits
 from plantbal.faults import InputFault, Place
+from plantbal.sentence import Sentence
 
 _SAID = 5  # rows, columns or cells of a kind that a note names
 
@@ -22,7 +23,10 @@ def readable(name: str) -> Iterator[None]:
         raise
     except Exception as error:  # a reader raises whatever its parts raise
         raise InputFault(
-            f"this workbook can't be read ({str(error)[:200] or type(error).__name__})",
+            Sentence(
+                "this workbook can't be read ({error})",
+                error=str(error)[:200] or type(error).__name__,
+            ),
             place=Place(file=name),
             remedy="open it and save it again",
         ) from error
@@ -34,32 +38,61 @@ def check_size(name: str, data: bytes) -> None:
         size = sum(entry.file_size for entry in packed.infolist())
     if size > limits.UNPACKED_BYTES:
         raise InputFault(
-            f"this workbook has {size:,} bytes once it is unpacked, and at most "
-            f"{limits.UNPACKED_BYTES:,} are read",
+            Sentence(
+                "this workbook has {size:,} bytes once it is unpacked, and at most "
+                "{unpacked_bytes:,} are read",
+                size=size,
+                unpacked_bytes=limits.UNPACKED_BYTES,
+            ),
             place=Place(file=name),
             remedy="take out sheets and pictures that aren't the plant's",
         )
 
 
-def listed(what: str, names: Iterable[str]) -> str:
-    """Return several rows, columns or cells as the beginning of a sentence."""
-    every = list(names)
-    if len(every) == 1:
-        return f"{what} {every[0]} is"
-    more = f" and {len(every) - _SAID:,} more" if len(every) > _SAID else ""
-    return f"{what}s {', '.join(every[:_SAID])}{more} are"
+# What is said of what a reader of the workbook doesn't see, or sees struck: of one, of a few, of many.
+_UNSEEN = {
+    "row": (
+        "row {names} is hidden, and read",
+        "rows {names} are hidden, and read",
+        "rows {names} and {count:,} more are hidden, and read",
+    ),
+    "column": (
+        "column {names} is hidden, and read",
+        "columns {names} are hidden, and read",
+        "columns {names} and {count:,} more are hidden, and read",
+    ),
+    "cell": (
+        "cell {names} is struck through, and read",
+        "cells {names} are struck through, and read",
+        "cells {names} and {count:,} more are struck through, and read",
+    ),
+    "unseen": (
+        "cell {names} is shown without its figure, and read",
+        "cells {names} are shown without their figures, and read",
+        "cells {names} and {count:,} more are shown without their figures, and read",
+    ),
+}
 
 
 def hidden_notes(
-    is_hidden: bool, rows: Iterable[int], columns: Iterable[str], struck: Iterable[str]
+    is_hidden: bool,
+    rows: Iterable[int],
+    columns: Iterable[str],
+    struck: Iterable[str],
+    unseen: Iterable[str] = (),
 ) -> Iterator[str]:
     """Give what is to be said of what a reader of the workbook doesn't see, or sees struck."""
     if is_hidden:
         yield "the sheet is hidden, and is read"
-    for what, names, are in (
-        ("row", [str(row) for row in rows], "hidden"),
-        ("column", list(columns), "hidden"),
-        ("cell", list(struck), "struck through"),
+    for what, some in (
+        ("row", map(str, rows)),
+        ("column", columns),
+        ("cell", struck),
+        ("unseen", unseen),
     ):
+        names = list(some)
         if names:
-            yield f"{listed(what, names)} {are}, and read"
+            one, few, many = _UNSEEN[what]
+            form = one if len(names) == 1 else few if len(names) <= _SAID else many
+            shown = ", ".join(names[:_SAID])
+            yield Sentence(form, names=shown, count=len(names) - _SAID)

@@ -9,13 +9,14 @@ from dataclasses import dataclass, field
 from fractions import Fraction
 
 from plantbal.schema import schema
+from plantbal.sentence import Sentence
 from plantbal.session import ENV, dates_of_service, most_streams
 from plantbal.study.critical import values_of
 from plantbal.workbook.base import MOST_VARIANCE, error_said
 from plantbal.workbook.causes import SheetCause
 from plantbal.workbook.cells import Error
 from plantbal.workbook.kinds import KindEvidence, evidence_of
-from plantbal.workbook.settings import Settings, settings_of
+from plantbal.workbook.settings import read_settings, Settings
 from plantbal.workbook.sheets import Cell
 from plantbal.workbook.tables import SheetRow, Tables
 from plantbal.workbook.units import AMOUNTS, VOLUMES
@@ -247,8 +248,9 @@ class PlantReader:
         variance = max(1, base.variance(0)) if base else 1
         if variance > MOST_VARIANCE and kind != "metered":
             has = SheetCause.BASE_TOO_WIDE(kind=kind, most=error_said(MOST_VARIANCE))
-            remedy = "write the rest into the column error of its "
-            remedy += "tickets" if kind == "batch stream" else "dips"
+            remedy = "write the rest into the column error of its dips"
+            if kind == "batch stream":
+                remedy = "write the rest into the column error of its tickets"
             raise self.reader.fault(cell, has, remedy, "base")
         return min(variance, MOST_VARIANCE)
 
@@ -361,7 +363,11 @@ class PlantReader:
         base = 0
         with self.tables.kept():
             wide = self._base(row["base"], stream.density)
-            kind = "metered" if stream.kind == "metered" else f"{stream.kind} stream"
+            kind = (
+                "metered"
+                if stream.kind == "metered"
+                else Sentence("{kind} stream", kind=stream.kind)
+            )
             base = self._base_variance(row["base"], wide, kind) if stream.kind != "plain" else 0
             if wide and wide.variance(0) > MOST_VARIANCE:
                 stream.base = wide
@@ -395,9 +401,9 @@ class PlantReader:
             near = difflib.get_close_matches(name, others, n=1, cutoff=0.75)
             remedy = "write `env`, the world outside, or name it in a sheet boundaries"
             if near:
-                remedy = f"did you mean {near[0]}?"
+                remedy = Sentence("did you mean {near}?", near=near[0])
             if cell is None:
-                self.tables.notes.append(f"the unit {name} is in no stream")
+                self.tables.notes.append(Sentence("the unit {name} is in no stream", name=name))
             else:
                 self.tables.fault(cell, SheetCause.DEAD_END(name=name, lacks=lacks), remedy)
 
@@ -405,7 +411,7 @@ class PlantReader:
         """Read what holds for all figures."""
         self.setting_rows = list(self.tables.rows("settings"))
         rows = [(row["setting"], row["value"], row["for"]) for row in self.setting_rows]
-        self.settings, faults = settings_of(rows, self.reader)
+        self.settings, faults = read_settings(rows, self.reader)
         self.tables.faults += faults
 
     def _make_critical(self) -> None:
@@ -421,9 +427,12 @@ class PlantReader:
             if row[:-1] not in there and self.tables.put(row, {"value": cell})
         ]
         if made:
-            note = f"{str(cell.place()).rstrip(':')}: {len(made):,} critical values are made for "
-            note += (
-                f"the level {level:g}; for tests of many nodes and streams by Šidák's correction"
+            note = Sentence(
+                "{place} {count:,} critical values are made for the level {level:g}; for tests of "
+                "many nodes and streams by Šidák's correction",
+                place=cell.place(),
+                count=len(made),
+                level=level,
             )
             self.tables.notes.append(note)
 
@@ -448,7 +457,9 @@ class PlantReader:
                     freedom = [f"{self.reader.number(row['dof'], 'dof'):f}"]
                 if number > 100 + 10 * Fraction(freedom[0] if freedom else 1):
                     what = SheetCause.NOT_A_CRITICAL_VALUE(text=row.text("value"))
-                    remedy = f"is it in thousandths? Then write {float(number / 1000):g}"
+                    remedy = Sentence(
+                        "is it in thousandths? Then write {number:g}", number=float(number / 1000)
+                    )
                     raise self.reader.fault(row["value"], what, remedy, "value")
                 value = str(self.reader.whole(row["value"], number * 1000))
                 cells = {"value": row["value"], "dof": row["dof"]}
@@ -463,7 +474,11 @@ class PlantReader:
             names = [*self.tags, *self.streams]
             near = [name for name in names if name.casefold() == cell.text.casefold()]
             near += difflib.get_close_matches(cell.text, names, n=1)
-            remedy = f"did you mean {near[0]}?" if near else "write it into the sheet streams"
+            remedy = (
+                Sentence("did you mean {near}?", near=near[0])
+                if near
+                else "write it into the sheet streams"
+            )
             what = SheetCause.TAG_UNKNOWN(text=cell.text) if cell.text else SheetCause.NO_TAG()
             self.tables.fault(cell, what, remedy, head)
         return found

@@ -1,4 +1,4 @@
-"""The readings of a workbook, in whatever form they stand: days down, days across, or long."""
+"""The readings of a workbook, in whatever form they are: days down, days across, or long."""
 
 from __future__ import annotations
 
@@ -8,6 +8,7 @@ from itertools import islice
 
 from plantbal.causes import CausedFault
 from plantbal.faults import Fault
+from plantbal.sentence import Sentence, phrase
 from plantbal.workbook.bookings import Bookings
 from plantbal.workbook.causes import SheetCause
 from plantbal.workbook.cells import Error, Reader, day_order
@@ -16,6 +17,7 @@ from plantbal.workbook.fates import Fate, is_unit
 from plantbal.workbook.plant import PlantReader, StreamRow
 from plantbal.workbook.shapeparts import HEADS_WITHIN
 from plantbal.workbook.sheets import Cell, Sheet
+from plantbal.workbook.summed import SummedCell, SummedFact, summed_fact
 from plantbal.workbook.tables import TOTALS, Tables
 from plantbal.workbook.units import AMOUNTS, is_rate, unit_of
 
@@ -47,6 +49,8 @@ class Readings:
         The streams that have a column or a row, with figures or without.
     whole : bool
         Whether each meter of the plant has to have a column.
+    summed : list of SummedFact
+        The readings that are made of hours or of a counter.
     """
 
     def __init__(self, tables: Tables, plant: PlantReader, bookings: Bookings) -> None:
@@ -56,6 +60,7 @@ class Readings:
         self.bookings = bookings
         self.listed: set[str] = set()
         self.whole = True
+        self.summed: list[SummedFact] = []
 
     def reading(self, stream: StreamRow, cell: Cell, day: datetime.date | None, unit: str) -> None:
         """Take a reading."""
@@ -78,7 +83,9 @@ class Readings:
                 what = SheetCause.ZERO_WITHOUT_ERROR()
                 raise self.reader.fault(cell, what, remedy, stream.tag)
             is_wet = self.reader.is_wet(cell, own)
-            self.bookings.book(stream, day, grams, error, cell, is_wet, applied=applied)
+            fact = self.bookings.book(stream, day, grams, error, cell, is_wet, applied=applied)
+            if fact and isinstance(cell, SummedCell):
+                self.summed.append(summed_fact(fact, cell, own))
 
     def read(self) -> None:
         """Read the readings, in whatever form they stand."""
@@ -206,8 +213,12 @@ class Readings:
             stream = self.plant.named(cell, "")
             if stream is None:
                 if not known and cell.text not in self.plant.bad:
-                    skip = f", or use --skip {cell.text!r} to leave the column out"
-                    self.tables.faults[-1].remedy += skip
+                    fault = self.tables.faults[-1]
+                    fault.remedy = Sentence(
+                        "{remedy}, or use --skip {text!r} to leave the column out",
+                        remedy=phrase(fault.remedy),
+                        text=cell.text,
+                    )
             elif stream.name in first:
                 other = str(first[stream.name].place()).rstrip(":")
                 self.tables.fault(cell, SheetCause.COLUMN_TWICE(stream=stream.said, other=other))
@@ -289,7 +300,10 @@ class Readings:
                 self.reading(columns[column], cell, day, units.get(column, ""))
         if not seen:
             self.tables.notes.append(
-                f"{heads[0].sheet.place(heads[0].line)} there is no day below this row"
+                Sentence(
+                    "{place} there is no day below this row",
+                    place=heads[0].sheet.place(heads[0].line),
+                )
             )
         names = {stream.name for stream in columns.values()}
         self.listed |= names
@@ -337,7 +351,11 @@ class Readings:
                     read.add(column)
         for cell in heads[first:]:
             if cell.text.casefold() in TOTALS:
-                self.tables.notes.append(f"{cell.place()} the column {cell.text!r} is skipped")
+                self.tables.notes.append(
+                    Sentence(
+                        "{place} the column {text!r} is skipped", place=cell.place(), text=cell.text
+                    )
+                )
         self.tables.say_columns(heads, lines, read)
 
     def _check_order(self) -> None:
@@ -360,7 +378,11 @@ class Readings:
         if _run(turned) and not _run(own):
             own_locale = self.reader.locale
             what = SheetCause.DAYS_OUT_OF_ORDER(locale=own_locale, text=texts[0].text)
-            self.tables.fault(texts[0], what, f"read as {other} they do: use --locale {other}")
+            self.tables.fault(
+                texts[0],
+                what,
+                Sentence("read as {other} they do: use --locale {other}", other=other),
+            )
 
 
 def _long_columns(heads: list[Cell]) -> dict[str, int]:

@@ -10,6 +10,7 @@ from decimal import Decimal
 from zoneinfo import ZoneInfo, ZoneInfoNotFoundError
 
 from plantbal.faults import InputFault
+from plantbal.sentence import Sentence
 from plantbal.workbook.causes import SheetCause
 from plantbal.workbook.cells import Reader
 from plantbal.workbook.sheets import Cell, Percent
@@ -84,7 +85,7 @@ class Settings:
         else:
             known = ", ".join((TESTS, ZONE, BEGINS, STAMPS, MISSING_HOURS, COUNTER))
             what = SheetCause.NO_SETTING(text=name.text)
-            raise reader.fault(name, what, f"write one of {known}")
+            raise reader.fault(name, what, Sentence("write one of {known}", known=known))
 
 
 def _level(reader: Reader, cell: Cell) -> float:
@@ -124,7 +125,7 @@ def _modulus(reader: Reader, value: Cell, of: Cell) -> Decimal:
     return number
 
 
-def settings_of(
+def read_settings(
     rows: Iterable[tuple[Cell, Cell, Cell]], reader: Reader
 ) -> tuple[Settings, list[InputFault]]:
     """Return the settings that rows of names, values and tags say, and what is wrong with others."""

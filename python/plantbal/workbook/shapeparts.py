@@ -12,6 +12,7 @@ from decimal import Decimal
 from fractions import Fraction
 
 from plantbal.causes import CausedFault
+from plantbal.sentence import Sentence
 from plantbal.workbook.causes import SheetCause
 from plantbal.workbook.cells import Reader
 from plantbal.workbook.sheets import Cell, letters
@@ -164,7 +165,7 @@ def column_of(
     raise CausedFault(
         cause(what=what, names=said),
         place=heads[0].sheet.place(heads[0].line),
-        remedy=f"call one column {head}",
+        remedy=Sentence("call one column {head}", head=head),
     )
 
 
@@ -179,12 +180,19 @@ def wide_note(
     """Say that a sheet has a column for each tank."""
     names = [heads[column].text for column in columns]
     said = f"{', '.join(names[:3])}{' ..' if len(names) > 3 else ''}"
-    note = f"there is a column of {what} for each of {len(names)} tanks ({said}), beside column "
-    note += f"{letters(beside + 1)}, since the heads are names of tanks"
     others = sorted({units[column] for column in [beside, *columns] if column in units})
-    return noted(heads, f"{note}; units: {', '.join(others) or 'none is given'}")
+    note = Sentence(
+        "there is a column of {what} for each of {count} tanks ({said}), beside column {column}, "
+        "since the heads are names of tanks; units: {units}",
+        what=Sentence(what),
+        count=len(names),
+        said=said,
+        column=letters(beside + 1),
+        units=", ".join(others) or Sentence("none is given"),
+    )
+    return noted(heads, note)
 
 
 def noted(cells: list[Cell], what: str) -> str:
     """Return a note on a row."""
-    return f"{cells[0].sheet.place(cells[0].line)} {what}"
+    return Sentence("{place} {what}", place=cells[0].sheet.place(cells[0].line), what=what)

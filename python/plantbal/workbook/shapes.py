@@ -15,6 +15,7 @@ from decimal import Decimal
 from itertools import pairwise
 
 from plantbal.causes import CausedFault
+from plantbal.sentence import Sentence
 from plantbal.workbook.causes import SheetCause
 from plantbal.workbook.cells import Reader
 from plantbal.workbook.shapeparts import (
@@ -135,8 +136,12 @@ def _long(lines: list[list[Cell]], at: int, needed: Sequence[str], reader: Reade
                 )
         shape.tables.append(table)
     if len(starts) > 1:
-        what = f"{len(starts)} tables are side by side: the heads {', '.join(needed)} are "
-        shape.notes.append(noted(heads, f"{what}there {len(starts)} times"))
+        what = Sentence(
+            "{count} tables are side by side: the heads {needed} are there {count} times",
+            count=len(starts),
+            needed=", ".join(needed),
+        )
+        shape.notes.append(noted(heads, what))
     return shape
 
 
@@ -235,8 +240,12 @@ def _pairs(lines: list[list[Cell]], at: int, columns: list[int], reader: Reader)
                 table.lines.append([as_row(names[column], cells), *pair])
     shape.tables = [table]
     shape.read = {each for pair in pairs.values() for each in pair} | set(columns)
-    what = f"there is a pair of columns for each of {len(pairs)} tanks, levels and volumes, since "
-    shape.notes.append(noted(names, f"{what}their names are over pairs of such heads"))
+    what = Sentence(
+        "there is a pair of columns for each of {count} tanks, levels and volumes, since their "
+        "names are over pairs of such heads",
+        count=len(pairs),
+    )
+    shape.notes.append(noted(names, what))
     return shape
 
 

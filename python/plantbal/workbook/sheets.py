@@ -18,6 +18,7 @@ from typing import Any, BinaryIO
 
 from plantbal import limits
 from plantbal.faults import InputFault, Place, read_bytes, too_large, unread
+from plantbal.sentence import Sentence
 
 # How the letters of columns begin: Z is the 26th.
 _LETTERS = 26
@@ -43,6 +44,42 @@ class Percent:
     """
 
     number: Decimal
+
+
+class Shown(Decimal):
+    """A number that its cell shows with a unit after it, by the cell's form.
+
+    Attributes
+    ----------
+    unit : str
+        What is after the number, such as `kg`.
+    """
+
+    unit: str
+
+    def __new__(cls, number: Decimal, unit: str) -> Shown:
+        """Return a number with what is shown after it."""
+        made = super().__new__(cls, number)
+        made.unit = unit
+        return made
+
+
+class InThousands(Decimal):
+    """A number of which its cell shows the thousands or the millions, by its form.
+
+    Attributes
+    ----------
+    shown : Decimal
+        The number that is shown, before it is rounded.
+    """
+
+    shown: Decimal
+
+    def __new__(cls, number: Decimal, powers: int) -> InThousands:
+        """Return a number of which so many powers of a thousand are shown."""
+        made = super().__new__(cls, number)
+        made.shown = number.scaleb(-3 * powers)
+        return made
 
 
 @dataclass(frozen=True, slots=True)
@@ -201,7 +238,7 @@ def _packed_of(name: str, data: bytes) -> list[Sheet]:
 def _read_open(file: BinaryIO) -> list[Sheet]:
     """Return the sheets of an open xlsx or ods file."""
     if not hasattr(file, "read"):
-        what = f"a {type(file).__name__} isn't a workbook"
+        what = Sentence("a {name} isn't a workbook", name=type(file).__name__)
         raise InputFault(what, remedy="give a path, an open xlsx file, or DataFrames by sheets")
     name = str(getattr(file, "name", "the workbook"))
     data = file.read(limits.WORKBOOK_BYTES + 1)
@@ -220,7 +257,10 @@ def _read_folder(folder: Path) -> list[Sheet]:
         entries.append(entry)
         if len(entries) > limits.FOLDER_FILES:
             raise InputFault(
-                f"this folder has more than {limits.FOLDER_FILES:,} files",
+                Sentence(
+                    "this folder has more than {folder_files:,} files",
+                    folder_files=limits.FOLDER_FILES,
+                ),
                 place=Place(file=str(folder)),
                 remedy="name a folder with the files of one workbook",
             )
@@ -257,8 +297,8 @@ class Held:
     def __init__(self) -> None:
         self.cells = 0
 
-    def take(self, place: Place, values: Sequence[Value]) -> None:
-        """Count the cells of a row.
+    def take(self, sheet: Sheet, line: int, values: Sequence[Value]) -> None:
+        """Count the cells of a row of a sheet.
 
         Raises
         ------
@@ -266,7 +306,10 @@ class Held:
             If it has too many columns, the workbook too many cells, or a cell too long a text.
         """
         self.cells += len(values)
-        longest = max((len(value) for value in values if isinstance(value, str)), default=0)
+        longest = 0
+        for value in values:
+            if isinstance(value, str) and len(value) > longest:
+                longest = len(value)
         for count, most, what in (
             (len(values), limits.COLUMNS, "columns in a row"),
             (self.cells, limits.CELLS, "cells in the workbook"),
@@ -274,8 +317,8 @@ class Held:
         ):
             if count > most:
                 raise InputFault(
-                    f"there are more than {most:,} {what}",
-                    place=place,
+                    Sentence("there are more than {most:,} {what}", most=most, what=Sentence(what)),
+                    place=sheet.place(line),
                     remedy="give the plant's workbook, of which no sheet has as many",
                 )
 
@@ -291,11 +334,23 @@ def read_csv(path: Path) -> Sheet:
     InputFault
         If it can't be read, or a double quote in it isn't closed.
     """
-    name, text, notes = _text_of(path)
+    name, data = read_bytes(path, limits.WORKBOOK_BYTES)
+    return csv_sheet(name, path.stem, data)
+
+
+def csv_sheet(name: str, word: str, data: bytes) -> Sheet:
+    """Return the bytes of a CSV file as a sheet of a name, as `read_csv`; `name` is the file's.
+
+    Raises
+    ------
+    InputFault
+        If they are no text, or a double quote in it isn't closed.
+    """
+    text, notes = _decoded(name, data)
     first, _, rest = text[:_MARK].partition("\n")
     marked = re.fullmatch(r"sep=(.)\r?", first.lower())
     part = marked.group(1) if marked else _parting(text)
-    sheet = Sheet(name, path.stem, [], is_csv=True, notes=notes)
+    sheet = Sheet(name, word, [], is_csv=True, notes=notes)
     held, same = Held(), Same()
     if marked:
         text = rest + text[_MARK:]
@@ -305,15 +360,9 @@ def read_csv(path: Path) -> Sheet:
         ]
         if any(value is not None for value in values):
             sheet.lines.append((row.first, without_end(values)))
-            held.take(sheet.place(row.first), values)
+            held.take(sheet, row.first, values)
             _say_lines(sheet, row, part)
     return sheet
-
-
-def _text_of(path: Path) -> tuple[str, str, list[str]]:
-    """Return the name of a file, its text, and what is to be said of its encoding."""
-    name, data = read_bytes(path, limits.WORKBOOK_BYTES)
-    return name, *_decoded(name, data)
 
 
 class Same:
@@ -379,11 +428,20 @@ def _say_lines(sheet: Sheet, row: CsvRow, part: str) -> None:
         inner = re.split(r"\r\n|\r|\n", text)[1:]
         if any(line.count(part) + 1 >= max(2, fields) for line in inner):
             raise InputFault(
-                f"a field within double quotes goes to line {row.last}, with rows in it",
+                Sentence(
+                    "a field within double quotes goes to line {last}, with rows in it",
+                    last=row.last,
+                ),
                 place=sheet.place(row.first),
                 remedy="take the double quote out, or write it twice within double quotes",
             )
-    sheet.notes.append(f"line {row.first}: a field within double quotes goes to line {row.last}")
+    sheet.notes.append(
+        Sentence(
+            "line {first}: a field within double quotes goes to line {last}",
+            first=row.first,
+            last=row.last,
+        )
+    )
 
 
 def _decoded(name: str, data: bytes) -> tuple[str, list[str]]:

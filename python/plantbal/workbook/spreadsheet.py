@@ -104,7 +104,7 @@ def session_rows(
     return rows + [["report", month] for month in months]
 
 
-def lacking(tags: list[Tag], days: TagDays) -> list[str]:
+def missing_days_said(tags: list[Tag], days: TagDays) -> list[str]:
     """Return what is missing, a sentence each: one missing day leaves a stream without a value."""
     said = []
     for tag in tags:
@@ -191,7 +191,7 @@ def run(options: argparse.Namespace) -> int:
     days = ReadingSheet(CsvTable(options.readings), by_tag, choices).days()
     before, declared = read_before(options.before) if options.before else ([], set())
     rows = session_rows(tags, days, before, declared)
-    for line in lacking(tags, days):
+    for line in missing_days_said(tags, days):
         print(f"{options.prog}: {line}", file=sys.stderr)
     out = io.StringIO()
     csv.writer(out, lineterminator="\n").writerows(rows)

@@ -15,6 +15,7 @@ from decimal import Decimal
 
 from plantbal.causes import Case, CausedFault
 from plantbal.faults import Fault, InputFault, Refusal
+from plantbal.sentence import Sentence, phrase
 from plantbal.session import Session
 from plantbal.workbook.causes import SheetCause
 from plantbal.workbook.fates import Fate, Fates, is_figure, unread_column, unread_rows
@@ -113,7 +114,7 @@ class Tables:
                 continue
             near = difflib.get_close_matches(word, SHEETS, n=1, cutoff=0.8)
             if near:
-                remedy = f"call it {near[0]}"
+                remedy = Sentence("call it {near}", near=near[0])
                 what = SheetCause.NO_SHEET_OF_NAME(name=sheet.name)
                 self.faults.append(CausedFault(what, place=sheet.place(), remedy=remedy))
             else:
@@ -134,9 +135,11 @@ class Tables:
         kind = kind_of_heads(sheet)
         if kind and len(sheet.lines) > 1:
             what = SheetCause.SHEET_NOT_READ(kind=kind)
-            self.faults.append(CausedFault(what, place=sheet.place(), remedy=f"call it {kind}"))
+            self.faults.append(
+                CausedFault(what, place=sheet.place(), remedy=Sentence("call it {kind}", kind=kind))
+            )
         else:
-            self.notes.append(f"{sheet.place()} the sheet is skipped")
+            self.notes.append(Sentence("{place} the sheet is skipped", place=sheet.place()))
 
     @contextmanager
     def kept(self) -> Iterator[None]:
@@ -252,11 +255,15 @@ class Tables:
         for head in needed:
             if head not in heads:
                 like = self._near_head(lines[at], head)
-                remedy = f"the columns are {', '.join(needed)}"
+                remedy = Sentence("the columns are {needed}", needed=", ".join(needed))
                 if others:
-                    remedy += f", and, where they apply, {', '.join(others)}"
+                    remedy = Sentence(
+                        "the columns are {needed}, and, where they apply, {others}",
+                        needed=", ".join(needed),
+                        others=", ".join(others),
+                    )
                 if like:
-                    remedy = f"{like} is nearly its name"
+                    remedy = Sentence("{like} is nearly its name", like=like)
                 place = sheet.place(lines[at][0].line)
                 raise CausedFault(SheetCause.NO_COLUMN(head=head), place=place, remedy=remedy)
         return at, heads
@@ -276,7 +283,7 @@ class Tables:
             near = difflib.get_close_matches(cell.text.casefold(), others, n=1, cutoff=0.75)
             if near and near[0] not in heads:
                 what = SheetCause.NO_COLUMN_HERE(head=cell.text)
-                self.fault(cell, what, f"did you mean {near[0]}?")
+                self.fault(cell, what, Sentence("did you mean {near}?", near=near[0]))
                 wrong.add(column)
         return wrong
 
@@ -308,7 +315,7 @@ class Tables:
     def pass_row(self, cells: list[Cell], first: Cell) -> None:
         """Pass over a row, and say so by its first cell with a value."""
         self.fates.put(Fate.PASSED, cells)
-        note = f"{first.place()} the row {first.text!r} is skipped"
+        note = Sentence("{place} the row {text!r} is skipped", place=first.place(), text=first.text)
         if note not in self.notes:  # a row may be of several tables
             self.notes.append(note)
 
@@ -317,7 +324,9 @@ class Tables:
     def pass_sheet(self, sheet: Sheet, why: str) -> None:
         """Pass over a sheet, and say why."""
         self.fates.put_sheet(Fate.PASSED, sheet)
-        self.notes.append(f"{sheet.place()} the sheet is skipped: {why}")
+        self.notes.append(
+            Sentence("{place} the sheet is skipped: {why}", place=sheet.place(), why=phrase(why))
+        )
 
     def say_columns(self, heads: list[Cell], lines: list[list[Cell]], read: set[int]) -> None:
         """Say which columns aren't read; one of figures or units is a fault.

@@ -6,8 +6,9 @@ import datetime
 from dataclasses import dataclass
 from fractions import Fraction
 
-from plantbal.workbook.amounts import amount_of
-from plantbal.workbook.base import days_of
+from plantbal.sentence import Sentence
+from plantbal.workbook.amounts import grams_of_row
+from plantbal.workbook.base import days_between
 from plantbal.workbook.causes import SheetCause
 from plantbal.workbook.cells import Error
 from plantbal.workbook.drying import Dry, MoistureReader
@@ -75,14 +76,14 @@ class Tickets:
             if stream is None:
                 continue
             with self.tables.kept():
-                days = days_of(first, last) if first and last else []
+                days = days_between(first, last) if first and last else []
                 applied = self.measuring.of_ticket(stream, row, days)
                 density: Fraction | None
                 if applied is not None:
                     density = Fraction(applied.batch.weight.kilograms) * 1000
                     grams, is_wet = self.measuring.grams(applied), False
                 else:
-                    density, grams, is_wet = amount_of(self.reader, row, stream)
+                    density, grams, is_wet = grams_of_row(self.reader, row, stream)
                 error = self._error(row, stream, density)
                 if first is None or last is None:
                     continue
@@ -122,10 +123,10 @@ class Tickets:
     def _moisture_of(self, ticket: Ticket) -> Moisture:
         """Return the moisture of a wet ticket: its own, or that of its days."""
         found = self.moistures.found.of_tickets.get(ticket.row.text("id"))
-        days = days_of(ticket.first, ticket.last)
+        days = days_between(ticket.first, ticket.last)
         found = found or self.moistures.found.of_days(ticket.stream.name, days)
         if found is None:
-            name = f"in the ticket {ticket.row.text('id')}"
+            name = Sentence("in the ticket {value}", value=ticket.row.text("id"))
             raise self.moistures.no_moisture(ticket.stream, ticket.row["amount"], name)
         return found
 

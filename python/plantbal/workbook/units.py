@@ -75,6 +75,8 @@ OTHER_WORDS = {
 }
 _RATE = re.compile(r"[\[(]?([^\W\d_][\w³]*)/(?:hr?|hours?|d|day|min|s)[\])]?", re.IGNORECASE)
 UNITS = frozenset({*AMOUNTS, *DENSITIES, *LENGTHS, *GRADES, *TEMPERATURES})
+# Millilitres in capital letters, or a million litres.
+MEGALITRES = "ML"
 _KNOWN = {
     name.casefold(): name for name in (*AMOUNTS, *DENSITIES, *LENGTHS, *GRADES, *TEMPERATURES)
 }
@@ -84,7 +86,7 @@ def unit_of(text: str) -> str:
     """Return a unit as it is written here."""
     plain = text.strip().strip("[]()").strip()
     plain = OTHER_WORDS.get(plain.casefold(), plain)
-    return _KNOWN.get(plain.casefold(), plain)
+    return plain if plain == MEGALITRES else _KNOWN.get(plain.casefold(), plain)
 
 
 def is_rate(text: str) -> bool:
@@ -97,4 +99,4 @@ def of_rate(text: str) -> str:
     match = _RATE.fullmatch(text)
     if match is None:
         return ""
-    return str(CellRemedy.NOT_A_RATE(unit=match.group(1)))
+    return CellRemedy.NOT_A_RATE(unit=match.group(1)).sentence

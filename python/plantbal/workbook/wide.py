@@ -11,6 +11,7 @@ import datetime
 import re
 from collections.abc import Collection, Mapping, Sequence
 
+from plantbal.sentence import Sentence
 from plantbal.workbook.cells import Reader
 from plantbal.workbook.mapping.months import month_of
 from plantbal.workbook.shapeparts import (
@@ -171,8 +172,12 @@ def _months_across(
                 unit = units.get(column, own_unit)
                 table.lines.append([when, with_unit(figure, unit, reader), *rest])
     shape.tables, shape.read = [table], {*months, *beside.values()}
-    ends = f"{min(months.values())} to {max(months.values())}"
-    shape.notes.append(noted(heads, f"there is a column of densities for each month, {ends}"))
+    ends = Sentence(
+        "{months} to {months2}", months=min(months.values()), months2=max(months.values())
+    )
+    shape.notes.append(
+        noted(heads, Sentence("there is a column of densities for each month, {ends}", ends=ends))
+    )
     return shape
 
 
@@ -195,7 +200,10 @@ def _names_across(
                 table.lines.append([as_row(heads[column], cells), figure, *rest])
     shape.tables, shape.read = [table], {*names, *beside.values()}
     shape.notes.append(
-        noted(heads, f"there is a column of densities for each of {len(names)} names")
+        noted(
+            heads,
+            Sentence("there is a column of densities for each of {count} names", count=len(names)),
+        )
     )
     return shape
 

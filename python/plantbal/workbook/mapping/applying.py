@@ -16,6 +16,7 @@ from dataclasses import replace
 from decimal import Decimal
 
 from plantbal.faults import InputFault
+from plantbal.sentence import Sentence, phrase
 from plantbal.workbook.cells import symbols
 from plantbal.workbook.mapping.form import (
     DAY_OF_MONTH,
@@ -34,7 +35,9 @@ from plantbal.workbook.mapping.months import (
     short_year_of,
     year_of,
 )
+from plantbal.workbook.mapping.parts import sheet_parts, without_empty
 from plantbal.workbook.mapping.times import time_of, with_time
+from plantbal.workbook.mapping.profile import is_day_number
 from plantbal.workbook.mapping.vocabulary import is_total, plain_word
 from plantbal.workbook.sheetkinds import PASSED, SHEETS
 from plantbal.workbook.sheets import Sheet, Value, letters
@@ -58,17 +61,22 @@ def applied(mapping: WorkbookMapping, sheets: Sequence[Sheet]) -> list[Sheet]:
     """
     found, counters = [], dict[str, str]()
     for sheet in sheets:
-        own = mapping_of(mapping, sheet)
+        own = sheet_mapping(mapping, sheet)
         if own is None:
             found.append(_unmapped(sheet))
         elif not own.kind or (own.plant and own.plant != mapping.plant):
-            why = "as the mapping says" if not own.kind else f"it is of the plant {own.plant}"
-            sheet.notes.append(f"the sheet is skipped: {why}")
+            why = (
+                "as the mapping says"
+                if not own.kind
+                else Sentence("it is of the plant {plant}", plant=own.plant)
+            )
+            sheet.notes.append(Sentence("the sheet is skipped: {why}", why=phrase(why)))
             found.append(replace(sheet, word="about"))
         else:
-            applying = Applying(mapping, own, sheet)
-            found.append(applying.sheet())
-            counters |= applying.counters
+            parts = [Applying(mapping, part, sheet) for part in sheet_parts(own)]
+            for each in parts:
+                found.append(each.sheet() if len(parts) == 1 else without_empty(each.sheet()))
+                counters |= each.counters
     return [*found, *_settings(mapping, counters, sheets)]
 
 
@@ -85,7 +93,7 @@ def _settings(
     return [Sheet(sheets[0].file, "settings of the mapping", lines, word="settings")]
 
 
-def mapping_of(mapping: WorkbookMapping, sheet: Sheet) -> SheetMapping | None:
+def sheet_mapping(mapping: WorkbookMapping, sheet: Sheet) -> SheetMapping | None:
     """Return what a mapping says of a sheet: by its whole name, or by the first pattern."""
     name = sheet.name.strip().casefold()
     whole = [each for each in mapping.sheets if each.name.strip().casefold() == name]
@@ -105,8 +113,10 @@ def _unmapped(sheet: Sheet) -> Sheet:
         raise InputFault(
             "the mapping has no sheet of this name",
             place=sheet.place(),
-            remedy=f'write name = "{sheet.name}" and its kind under [[sheet]], or kind = "" '
-            "to skip it",
+            remedy=Sentence(
+                'write name = "{name}" and its kind under [[sheet]], or kind = "" to skip it',
+                name=sheet.name,
+            ),
         )
     return sheet
 
@@ -199,7 +209,9 @@ class Applying:
                 return at if self.own.heads else self._first_heads()
         shown = ", ".join(list(self.own.columns)[:5])
         raise InputFault(
-            f"no row has the heads of the mapping: {shown}" if shown else "no row has the heads",
+            Sentence("no row has the heads of the mapping: {shown}", shown=shown)
+            if shown
+            else "no row has the heads",
             place=self.given.place(),
             remedy="see what they are called here, and correct the mapping",
         )
@@ -265,7 +277,9 @@ class Applying:
             unit = unit_of(value)
             told = self.units.get(column)
             if told is not None and unit_of(told) != unit:
-                what = f"{value} is here, but the mapping has {told}"
+                what = Sentence(
+                    "{value} is here, but the mapping has {told}", value=value, told=told
+                )
                 raise self.fault(line, column, what, "correct one of the two")
             self.units[column] = unit
 
@@ -288,7 +302,9 @@ class Applying:
         for column in range(max([len(heads), *(n + 1 for n in columns)])):
             head = heads[column] if column < len(heads) else None
             to = columns.get(column)
-            if to is None:
+            if to is None and self.own.month and is_day_number(head):
+                row.append(self._day(line, column, head))  # the days of a month are across
+            elif to is None:
                 row.append(self._month(line, column, head) or self._named(head))
             else:
                 row.append(None if to in ("", TIME, HOUR, SITE) else self._head_of(to))
@@ -321,8 +337,13 @@ class Applying:
         said = {NAME: year_of(self.given.name), HEAD: short}
         year = said.get(self.own.year, self.own.year)
         if short and short != year:
-            what = f"{head!r} may be of {short}, and the mapping has the year {year}"
-            remedy = f'write year = "{HEAD}" if the two digits are the year'
+            what = Sentence(
+                "{head!r} may be of {short}, and the mapping has the year {year}",
+                head=head,
+                short=short,
+                year=year,
+            )
+            remedy = Sentence('write year = "{head}" if the two digits are the year', head=HEAD)
             raise self.fault(line, column, what, remedy)
         found = month_of(f"{month_word(head)} {year}") if year else None
         return f"{found[0]}-{found[1]:02}" if found else ""
@@ -350,7 +371,9 @@ class Applying:
             if self._is_total(values):
                 self.taken[line] = False
                 shown = next(str(value) for value in values if value is not None)
-                self.notes.append(f"line {line}: the row {shown!r} is skipped")
+                self.notes.append(
+                    Sentence("line {line}: the row {shown!r} is skipped", line=line, shown=shown)
+                )
                 continue
             if not self._is_here(line, values, columns):
                 self.taken[line] = False
@@ -358,7 +381,9 @@ class Applying:
                 continue
             yield line, self._row(line, values, columns, above)
         if others:
-            self.notes.append(f"{others:,} rows of other plants are skipped")
+            self.notes.append(
+                Sentence("{others:,} rows of other plants are skipped", others=others)
+            )
 
     def _is_total(self, values: list[Value]) -> bool:
         first = next((value for value in values if value is not None), None)
@@ -444,7 +469,12 @@ class Applying:
         try:
             return datetime.datetime(*month, int(value) if value == int(value) else 0)
         except ValueError as error:
-            what = f"{value} isn't a day of {month[0]}-{month[1]:02}"
+            what = Sentence(
+                "{value} isn't a day of {month}-{month2:02}",
+                value=value,
+                month=month[0],
+                month2=month[1],
+            )
             raise self.fault(line, column, what, "correct it, or the mapping's month") from error
 
     def _put_time(
@@ -459,7 +489,7 @@ class Applying:
                 continue
             time = time_of(value)
             if time is None:
-                what = f"{value} isn't a time of the day"
+                what = Sentence("{value} isn't a time of the day", value=value)
                 raise self.fault(line, column, what, "write it as 13:00")
             row[day] = with_time(row[day], time)
 

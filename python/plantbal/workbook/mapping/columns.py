@@ -1,4 +1,4 @@
-"""What the columns of a sheet are: by the words of their heads, and by what stands below them."""
+"""What the columns of a sheet are: by the words of their heads, and by what is below them."""
 
 from __future__ import annotations
 
@@ -7,6 +7,7 @@ from collections.abc import Collection
 from dataclasses import dataclass, field, replace
 from decimal import Decimal
 
+from plantbal.workbook.mapping.counting import maybe_counters
 from plantbal.workbook.mapping.dating import month_said, year_said
 from plantbal.workbook.mapping.form import DAY_OF_MONTH, HOUR, OPEN, SITE, TIME, SheetMapping
 from plantbal.workbook.mapping.known import KnownPlant, tag_in, without_name
@@ -16,19 +17,18 @@ from plantbal.workbook.mapping.profile import (
     SheetProfile,
     is_running,
     tank_pairs,
-    rises,
     split_unit,
 )
 from plantbal.workbook.mapping.vocabulary import (
     Meaning,
     column_meanings,
-    is_counter,
     is_remark,
     is_total,
     is_weak,
     plain_word,
 )
 from plantbal.workbook.sheetforms import SheetKind
+from plantbal.workbook.sheetkinds import SHEETS
 from plantbal.workbook.units import (
     AMOUNTS,
     DENSITIES,
@@ -324,20 +324,9 @@ class Columns:
 
     def _counters(self, columns: dict[str, str]) -> dict[str, str]:
         """Ask whether figures that only rise are those of a counter, which are subtracted."""
-        found = {}
-        texts = [self.profile.sheet.name, *self.profile.titles]
-        for column in self.profile.columns:
-            if not self._tag(column) or columns.get(column.key) in ("", OPEN):
-                continue
-            said = next((text for text in [column.head, *texts] if is_counter(text)), "")
-            if rises(column.decimals, noisy=not said):
-                found[column.key] = OPEN
-                why = f"{said[:60]!r} says counter" if said else "its figures only rise"
-                self.evidence["counters", column.key] = (
-                    f"{why}: the figure at which it begins again, such as 1000000, "
-                    'or "" if each figure is an amount'
-                )
-        return found
+        found = maybe_counters(self.profile, self.known, columns)
+        self.evidence |= {("counters", key): why for key, why in found.items()}
+        return dict.fromkeys(found, OPEN)
 
     def _take_other(self, column: ColumnProfile, columns: dict[str, str]) -> None:
         """Take a column that is none of the kind's: of a tag, a tank, remarks or sums."""
@@ -353,7 +342,7 @@ class Columns:
             return
         if self.kind.word == "densities" and month_of_head(column.head):
             return
-        if not column.there:
+        if not column.there or (wide and self._take_beside(column, columns)):
             return
         path = "columns", column.key
         if is_total(column.title):
@@ -368,6 +357,24 @@ class Columns:
                 columns[column.key] = OPEN
                 what = "a tag of the plant" if wide else f"one of {', '.join(self.heads)}"
                 self.evidence[path] = f'it has figures: {what}, or "" if it isn\'t to be read'
+
+    def _take_beside(self, column: ColumnProfile, columns: dict[str, str]) -> bool:
+        """Take a column of a sheet of readings that has what a tank holds, or the days of these."""
+        tank = tag_in(column.head, self.known.tanks) or tag_in(column.above, self.known.tanks)
+        own, path = Columns(self.profile, SHEETS["dips"], self.known), ("columns", column.key)
+        if tank and column.has_figures:
+            of, said = own._of_tank(column, tank)
+            is_level = of == "level" and column.unit in LENGTHS
+            if not is_level and (of in ("level", OPEN) or column.unit in LENGTHS):
+                return False
+            columns[column.key] = f"{tank} {of}"
+            self.evidence[path] = f"{tank} is in its head or over it; {said}"
+            return True
+        after = self.profile.columns[self.profile.columns.index(column) + 1 :][:1]
+        if not column.has_days or not any(map(own._tank, after)):
+            return False
+        columns[column.key], self.evidence[path] = "day", "the days of the tanks after it"
+        return True
 
     def _take_tank(self, column: ColumnProfile, tank: str, columns: dict[str, str]) -> None:
         """Take a column of a tank for its level, or for what else it has of it."""
@@ -387,6 +394,9 @@ class Columns:
         of = (to or "").rpartition(" ")[2]
         is_wide = self._is_wide(column)
         if to in ("", OPEN) or to is None and not is_wide:
+            return
+        if not self.kind.columns and of in OF_TANKS and column.unit in _UNITS_OF[of]:
+            units[column.key], self.evidence[path] = column.unit, column.unit_said
             return
         allowed = _UNITS_OF.get(to or "")
         if to == "error" and self.kind.word in ("densities", "temperatures"):

@@ -1,4 +1,4 @@
-"""Proposes how a plant's workbook is read, as a small file that a person looks at and changes."""
+"""Proposes how to read a plant's workbook, as a small file that a person checks and changes."""
 
 from __future__ import annotations
 
@@ -7,7 +7,7 @@ import sys
 from pathlib import Path
 
 from plantbal.book.meters import read_meters
-from plantbal.book.store import METERS, Store
+from plantbal.book.store import Store
 from plantbal.book.years import Years
 from plantbal.files import write_text
 from plantbal.workbook.mapping.form import mapping_text
@@ -21,8 +21,8 @@ mapping says which sheet is what, which column, whose numbers and days, which un
 tanks are called in the book. It is guessed from words in English, German, Spanish and French, and
 from the shape of the data; the reason for each guess is beside it.
 
-A "?" is a question: what is there can be read in two ways, and no workbook is read by a mapping
-that has one. The status is 1 then. `convert`, `book new` and `book add` take the mapping by
+A "?" is a question: the workbook can be read in two ways there, and isn't read by a mapping that
+still has one. The status is 1 then. `convert`, `book new` and `book add` take the mapping with
 --mapping FILE; a book keeps it, and reads every later workbook by it.
 
 examples:
@@ -36,7 +36,7 @@ def add_arguments(parser: argparse.ArgumentParser) -> None:
     """Add the words of the command."""
     parser.add_argument("workbook", metavar="WORKBOOK")
     parser.add_argument("--out", metavar="FILE", default="-", help="the mapping")
-    plant = "which plant is read, if the workbook has several"
+    plant = "which plant to read, if the workbook has several"
     parser.add_argument("--plant", metavar="NAME", default="", help=plant)
     book = "a book whose tags, streams and tanks are looked for"
     parser.add_argument("--book", metavar="FOLDER", help=book)
@@ -44,9 +44,9 @@ def add_arguments(parser: argparse.ArgumentParser) -> None:
 
 def run(options: argparse.Namespace) -> int:
     """Write the mapping, and say which questions are open."""
-    known = known_of(options.book) if options.book else KnownPlant()
+    known = known_in_folder(options.book) if options.book else KnownPlant()
     found = propose(read_workbook(options.workbook), known, options.plant)
-    write_text(options.out, text_of(found, options.workbook))
+    write_text(options.out, proposal_text(found, options.workbook))
     questions = found.open()
     for line in questions:
         print(f"{options.prog}: ? {line}", file=sys.stderr)
@@ -57,7 +57,7 @@ def run(options: argparse.Namespace) -> int:
     return 1 if questions else 0
 
 
-def text_of(found: MappingProposal, workbook: str | Path) -> str:
+def proposal_text(found: MappingProposal, workbook: str | Path) -> str:
     """Return the file of a proposal."""
     head = (
         f"How {Path(workbook).name} is read, as plantbal-desk map proposes it. Look at each line.\n"
@@ -68,12 +68,12 @@ def text_of(found: MappingProposal, workbook: str | Path) -> str:
     return mapping_text(found.mapping, found.evidence, head)
 
 
-def known_of(folder: str | Path) -> KnownPlant:
+def known_in_folder(folder: str | Path) -> KnownPlant:
     """Return the tags, streams and tanks of a book."""
     store = Store(folder)
     with store.opened(reading=True):
         last = Years(store, lambda _: None).last
-        meters = read_meters(store.path(METERS))
+        meters = read_meters(store)
     tags = tuple(meter.tag for meter in meters.values() if meter.tag)
     tanks = tuple(row[1] for row in last.plant if row[0] == "tank")
     streams = tuple(row[1] for row in last.plant if row[0] == "stream")

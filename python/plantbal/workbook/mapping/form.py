@@ -333,20 +333,20 @@ def _table(
     if values:
         yield f"[{name}]" if path[0] == "sheet" else f"\n[{name}]"
     for key, value in values.items():
-        yield _line(quoted(key), value, evidence.get((*path, key), ""))
+        yield _line(toml_text(key), value, evidence.get((*path, key), ""))
 
 
 def _line(key: str, value: Any, said: str) -> str:
     if isinstance(value, bool):
         text = "true" if value else "false"
     elif isinstance(value, tuple):
-        text = f"[{', '.join(map(quoted, value))}]"
+        text = f"[{', '.join(map(toml_text, value))}]"
     else:
-        text = quoted(value) if isinstance(value, str) else str(value)
+        text = toml_text(value) if isinstance(value, str) else str(value)
     return f"{key} = {text}" + (f"  # {_plain(said)}" if said else "")
 
 
-def quoted(text: str) -> str:
+def toml_text(text: str) -> str:
     """Return a text as TOML has it."""
     return json.dumps(text, ensure_ascii=False).replace("\x7f", "\\u007f")
 

@@ -11,13 +11,21 @@ from plantbal.workbook.mapping.columns import Columns
 from plantbal.workbook.mapping.form import OPEN
 from plantbal.workbook.mapping.known import KnownPlant, tag_in
 from plantbal.workbook.mapping.months import month_of_head
-from plantbal.workbook.mapping.profile import ColumnProfile, SheetProfile, tank_pairs
+from plantbal.workbook.mapping.profile import (
+    FIGURES,
+    ColumnProfile,
+    SheetProfile,
+    days_across,
+    sort_of,
+    tank_pairs,
+)
 from plantbal.workbook.mapping.vocabulary import (
     column_meanings,
     cover_meaning,
     sheet_meanings,
 )
 from plantbal.workbook.sheetkinds import PASSED, SHEETS
+from plantbal.workbook.sheets import Sheet
 from plantbal.workbook.units import LENGTHS
 
 # The kinds that are known by their heads, those that say most first.
@@ -35,6 +43,9 @@ BY_HEADS = (
     "settings",
     "periods",
 )
+
+
+_BEFORE_DAYS = 5  # columns in which tags may be before the days
 
 
 @dataclass(frozen=True)
@@ -69,6 +80,8 @@ class KindsOfSheets:
         by_name = plain if plain in SHEETS else meaning.of if meaning else ""
         by_name = by_name if by_name in SHEETS else ""
         said = f"its name is {plain}" if plain in SHEETS else meaning.said() if meaning else ""
+        if by_name == "gauges" and any(column.has_days for column in profile.columns):
+            by_name, said = "dips", f"{said}, but it has days, and so levels"
         by_shape, shape_said = self._by_shape(profile, by_name)
         if by_shape:
             return by_shape, shape_said
@@ -86,11 +99,25 @@ class KindsOfSheets:
             return by_name, f"{said}; its heads don't tell more"
         if by_name == "readings" or plain in SHEETS:
             return by_name, said
+        if profile.at is None and self._has_tags_beside(profile.sheet):
+            return "readings", "tags of the plant are beside the days of a month, by their numbers"
+        if profile.at is None and _has_rows_of_figures(profile.sheet):
+            return OPEN, f"there are rows of figures in it, and no heads: {_kinds_said()}"
         if profile.at is None or not any(c.numbers or c.mixed for c in profile.columns):
             return "", "there is no figure below heads in it"
         return (
             OPEN,
             f"there are figures in it, and neither name nor heads say what: {_kinds_said()}",
+        )
+
+    def _has_tags_beside(self, sheet: Sheet) -> bool:
+        """Say whether a sheet has the days of a month across, and rows with tags below them."""
+        at = days_across(sheet)
+        below = sheet.lines[at + 1 :] if at is not None else []
+        return any(
+            isinstance(value, str) and value in (*self.known.tags, *self.known.streams)
+            for _, values in below
+            for value in values[:_BEFORE_DAYS]
         )
 
     def _is_dated(self, profile: SheetProfile) -> bool:
@@ -168,6 +195,12 @@ class KindsOfSheets:
         if any("level" in meant_by(column.name) for column in profile.columns):
             return "straps", f"{count}, beside a column of levels"
         return "", ""
+
+
+def _has_rows_of_figures(sheet: Sheet) -> bool:
+    """Say whether several rows of a sheet have figures next to each other, as those of tables do."""
+    counts = (sum(sort_of(value) in FIGURES for value in values) for _, values in sheet.lines)
+    return sum(count > 2 for count in counts) > 1
 
 
 def _densities_said(profile: SheetProfile, months: list[ColumnProfile], by_name: str) -> str:

@@ -18,7 +18,7 @@ def is_name(text: str) -> bool:
     return _NAME.fullmatch(text) is not None
 
 
-def name_of(text: str, taken: Iterable[str] = ()) -> str:
+def unused_name(text: str, taken: Iterable[str] = ()) -> str:
     """Return a name for a text, another than those that are taken.
 
     Raises

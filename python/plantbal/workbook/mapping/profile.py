@@ -1,4 +1,4 @@
-"""What a sheet looks like: the row of its heads, and what stands below each of them."""
+"""What a sheet looks like: the row of its heads, and what is below each of them."""
 
 from __future__ import annotations
 
@@ -18,9 +18,11 @@ from plantbal.workbook.units import LENGTHS, UNITS, VOLUMES, is_rate, unit_of
 
 HEADS_WITHIN = 40
 _MANY = 20  # steps by which figures rise that aren't called a counter's
+_DAYS_OF_MONTH = 28  # and up to 31
 _SAMPLE = 400  # rows below the heads that are looked at
 _DATE = re.compile(
-    r"[0-9]{1,4}\s?[./-]\s?[0-9]{1,2}\s?[./-]\s?[0-9]{1,4}\.?([ T].*)?|[0-9]{1,2}\.?[ -][^\W\d]+\.?[ -][0-9]{4}"
+    r"[0-9]{1,4}\s?[./-]\s?[0-9]{1,2}\s?[./-]\s?[0-9]{1,4}\.?([ T].*)?"
+    r"|[0-9]{1,2}\.?[ -][^\W\d]+\.?[ -][0-9]{4}(?:[ T]+[0-9].*)?"
 )
 _NUMBER = re.compile("[-+(\u2212]?[0-9][0-9.,' \u00a0\u2009\u202f\u2019]*(?:[eE][-+]?[0-9]+)?[)-]?")
 _WITH_UNIT = re.compile(
@@ -245,6 +247,23 @@ def _head_row(sheet: Sheet, known: set[str]) -> int | None:
     return place
 
 
+def days_across(sheet: Sheet) -> int | None:
+    """Return the place of a row that has the days of a month by their numbers, above others."""
+    for at, (_, values) in enumerate(sheet.lines[:HEADS_WITHIN]):
+        numbers = [int(str(value).rstrip(".")) for value in values if is_day_number(value)]
+        is_whole = _DAYS_OF_MONTH <= len(numbers) <= 31
+        if is_whole and numbers == list(range(1, len(numbers) + 1)) and at + 1 < len(sheet.lines):
+            return at
+    return None
+
+
+def is_day_number(value: Value) -> bool:
+    """Say whether a value is the number of a day of a month."""
+    if isinstance(value, str):
+        return re.fullmatch(r"(?:[12]?[0-9]|3[01])\.?", value) is not None
+    return isinstance(value, Decimal) and value in range(1, 32)
+
+
 def _names_in(sheet: Sheet, at: int, known: set[str]) -> int:
     """Return how many known names are in a row that has nothing but texts."""
     row = sheet.lines[at][1] if at < len(sheet.lines) else []
@@ -352,6 +371,7 @@ class CellSort(enum.Enum):
     BLANK = "blanks"
 
 
+FIGURES = (CellSort.NUMBER, CellSort.MIXED)
 # The sorts of which a text says how figures and days are written.
 _WRITTEN = (CellSort.DAY, CellSort.NUMBER, CellSort.MIXED)
 

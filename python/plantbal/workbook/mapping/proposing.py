@@ -15,12 +15,13 @@ from dataclasses import dataclass, field, replace
 from decimal import Decimal
 
 from plantbal.workbook.mapping.columns import Columns
+from plantbal.workbook.mapping.dating import month_said
 from plantbal.workbook.mapping.form import OPEN, SITE, Path_, SheetMapping, WorkbookMapping
 from plantbal.workbook.mapping.kinds import BY_HEADS, KindsOfSheets, meant_by
 from plantbal.workbook.mapping.known import KnownPlant
 from plantbal.workbook.mapping.months import pattern_of
-from plantbal.workbook.mapping.names import is_name, name_of
-from plantbal.workbook.mapping.profile import SheetProfile, profile_of
+from plantbal.workbook.mapping.names import is_name, unused_name
+from plantbal.workbook.mapping.profile import SheetProfile, days_across, profile_of
 from plantbal.workbook.mapping.vocabulary import plain_word, sheet_meanings, value_meaning
 from plantbal.workbook.mapping.words import LANGUAGES
 from plantbal.workbook.mapping.written import Written
@@ -184,6 +185,8 @@ class _Proposing:
             self.evidence[(*path, "name")] = f"{self.sheets[at].name!r} names a month"
         if kind in ("", OPEN):
             return SheetMapping(name, kind)
+        if kind == "readings" and self.profiles[at].at is None:
+            return self._across(at, name)
         columns = Columns(
             self.profiles[at], SHEETS[kind], self.known, self._streams_have_units(), self._gauged()
         )
@@ -194,6 +197,17 @@ class _Proposing:
         self.of_sheets[at] = columns.languages
         self._take_names(self.profiles[at], found)
         return found
+
+    def _across(self, at: int, name: str) -> SheetMapping:
+        """Return what is proposed for a sheet with the days of a month across, by their numbers."""
+        sheet = self.sheets[at]
+        place = days_across(sheet)
+        if place is None:
+            return SheetMapping(name, "readings")
+        titles = [v for _, values in sheet.lines[:place] for v in values if isinstance(v, str)]
+        month, why = month_said(SheetProfile(sheet, titles=titles))
+        self.evidence["sheet", at, "month"] = why
+        return SheetMapping(name, "readings", heads=sheet.lines[place][0], month=month)
 
     def _streams_have_units(self) -> bool:
         """Say whether the sheet of streams has a column of units."""
@@ -243,7 +257,7 @@ class _Proposing:
                 self.evidence[("names", text)] = meaning.said()
         elif not is_name(text) and text not in self.names:
             taken = {*self.names.values(), *filter(is_name, self.known.names)}
-            self.names[text] = name_of(text, taken)
+            self.names[text] = unused_name(text, taken)
             self.evidence[("names", text)] = "a name has letters, digits, _, - and . alone"
 
     # ---- forms

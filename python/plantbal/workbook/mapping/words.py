@@ -33,10 +33,10 @@ SHEET_WORDS: Words = {
         "fr": "unités; installations; nœuds",
     },
     "tanks": {
-        "en": "tank; tanks; tankage; tank list; stockpiles; vessels",
-        "de": "tankliste; behälter; lagerbehälter; halden; tanklager",
-        "es": "tanques; depósitos; lista de tanques",
-        "fr": "réservoirs; bacs; cuves; liste des bacs",
+        "en": "tank; tanks; tankage; tank list; stockpiles; vessels; silos; bins; bunkers",
+        "de": "tankliste; behälter; lagerbehälter; halden; tanklager; bunker; silos",
+        "es": "tanques; depósitos; lista de tanques; estanques; silos; tolvas; acopios",
+        "fr": "réservoirs; bacs; cuves; liste des bacs; silos; trémies",
     },
     "straps": {
         "en": "strap; straps; strapping; strapping tables; calibration; calibration tables; gauge "
@@ -213,10 +213,11 @@ COLUMN_WORDS: Words = {
         "fr": "jusqu'au; jusqu'à; en service jusqu'au; valable jusqu'au",
     },
     "tank": {
-        "en": "tank; tank no; vessel; stockpile; tk; name",
-        "de": "tank; behälter; tank-nr; tank nr; behälter-nr; lagertank; halde; name; bezeichnung",
-        "es": "tanque; depósito; tk; nombre",
-        "fr": "bac; réservoir; cuve; nom",
+        "en": "tank; tank no; vessel; stockpile; tk; name; silo; bin; bunker",
+        "de": "tank; behälter; tank-nr; tank nr; behälter-nr; lagertank; halde; name; bezeichnung; "
+        "bunker; silo",
+        "es": "tanque; depósito; tk; nombre; estanque; silo; tolva; acopio",
+        "fr": "bac; réservoir; cuve; nom; silo; trémie",
     },
     "level": {
         "en": "level; dip; innage; gauge; height; liquid level; reading",
