@@ -1,4 +1,4 @@
-"""What lacks an account, or an owner that others have: by the accounts' sheet, beside a session."""
+"""What has no account, or no owner where others have one: by the accounts' sheet, beside a session."""
 
 from __future__ import annotations
 

@@ -42,7 +42,7 @@ def add_arguments(parser: argparse.ArgumentParser) -> None:
     """Add the words of the command."""
     parser.add_argument("session", metavar="SESSION", nargs="?", default="-")
     parser.add_argument("--json", action="store_true", help="a list of objects in place of lines")
-    book = "the accounts of a book, accounts.csv: what is in none is a finding too"
+    book = "the accounts of a book, accounts.csv: what is in no account is a finding too"
     parser.add_argument("--accounts", metavar="FILE", help=book)
     parser.add_argument("--strict", action="store_true", help="status 1 on warnings too")
     parser.add_argument(
@@ -57,7 +57,7 @@ def add_arguments(parser: argparse.ArgumentParser) -> None:
     parser.add_argument(
         "--timeout", metavar="SECONDS", type=seconds_of, default=LINT_SECONDS, help=timeout
     )
-    book = "the book that the session is from: what it has quieted is counted, and not listed"
+    book = "the book that the session is from: what it has quieted is counted, but not listed"
     parser.add_argument("--book", metavar="FOLDER", help=book)
 
 

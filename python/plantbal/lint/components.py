@@ -51,11 +51,8 @@ def assays(ledger: Ledger) -> Iterator[Finding]:
 def unused_assays(ledger: Ledger) -> Iterator[Finding]:
     """Give the assays that a balance leaves out, since nothing determines the flow."""
     for (component, period), balanced in ledger.balanced.items():
-        names = [
-            name
-            for (of, name, when), assay in ledger.state.assays.items()
-            if (of, when) == (component, period) and assay.line < balanced.line
-        ]
+        there = ledger.state.grades.get((component, period), {})
+        names = [name for name, assay in there.items() if assay.line < balanced.line]
         measured = ledger.measured(balanced)
         if measured.issuperset(names):
             continue

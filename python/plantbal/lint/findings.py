@@ -13,6 +13,7 @@ from plantbal.kinds import Severity
 from plantbal.model.facts import Fact
 from plantbal.model.forms import day_text
 from plantbal.model.ledger import Ledger
+from plantbal.sentence import Day, Figure, Joined, Sentence
 
 SEVERITIES = ("error", "warning", "note")
 
@@ -142,19 +143,20 @@ class Finding:
         }
 
 
-def days_said(days: Sequence[int]) -> str:
+def span_said(days: Sequence[int]) -> str:
     """Return days in words: one by one, or from the first to the last."""
-    texts = [day_text(day) for day in days]
+    texts = [Day(day_text(day)) for day in days]
     if len(days) > 2 and days[-1] - days[0] == len(days) - 1:
-        return f"{texts[0]} to {texts[-1]}"
+        return Sentence("{first} to {last}", first=texts[0], last=texts[-1])
     return some_of(texts)
 
 
 def some_of(items: Sequence[str], most: int = 4) -> str:
     """Return items with commas between, and how many more there are."""
     if len(items) <= most:
-        return ", ".join(items)
-    return f"{', '.join(items[: most - 1])} and {len(items) - most + 1} more"
+        return Joined(", ", items)
+    first, count = Joined(", ", items[: most - 1]), len(items) - most + 1
+    return Sentence("{names} and {count} more", names=first, count=count)
 
 
 def one_line(text: str, most: int = 160) -> str:
@@ -165,12 +167,13 @@ def one_line(text: str, most: int = 160) -> str:
 
 def tonnes_said(grams: int) -> str:
     """Return grams in tonnes, or as they are if they are few."""
-    return f"{grams:,} g" if 0 < abs(grams) < 1_000_000 else f"{tonnes_text(grams)} t"
+    few = 0 < abs(grams) < 1_000_000
+    return Figure(f"{grams:,} g" if few else f"{tonnes_text(grams)} t")
 
 
 def called(fact: Fact) -> str:
     """Return what a fact is called."""
-    return f"{fact.kind} {fact.id} of {fact.of}"
+    return Sentence("{kind} {id} of {of}", kind=Sentence(fact.kind), id=fact.id, of=fact.of)
 
 
 def place_in(ledger: Ledger, line: int | None) -> Place:
@@ -204,5 +207,6 @@ def of_facts(
         fact, number = min(some, key=lambda one: one[0].line)
         text, remedy = say(fact, number)
         if len(some) > 1:
-            text += f"; so it is with {len(some) - 1} more of {fact.of}"
+            form = "{text}; so it is with {count} more of {of}"
+            text = Sentence(form, text=text, count=len(some) - 1, of=fact.of)
         yield Finding(code, text, remedy, place_in(ledger, fact.line), fact.of)

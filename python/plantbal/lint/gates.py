@@ -4,7 +4,7 @@ from __future__ import annotations
 
 from collections.abc import Iterator
 
-from plantbal.gates import Gate, by_session, remedy_of, said_of
+from plantbal.gates import Gate, by_session, remedy_of_stop, said_of_stop
 from plantbal.lint.findings import Finding, place_in
 from plantbal.model.ledger import Ledger
 
@@ -20,8 +20,8 @@ def gates(ledger: Ledger) -> Iterator[Finding]:
             name = stop.names[0] if stop.names else ""
             yield Finding(
                 stop.gate.value,
-                said_of(stop),
-                remedy_of(stop),
+                said_of_stop(stop),
+                remedy_of_stop(stop),
                 place,
                 name,
                 stop.period,

@@ -7,13 +7,14 @@ from collections import defaultdict
 from collections.abc import Iterator, Sequence
 
 from plantbal.faults import Refusal
-from plantbal.lint.findings import Finding, called, days_said, of_facts, one_line, place_in, some_of
+from plantbal.lint.findings import Finding, called, of_facts, one_line, place_in, some_of, span_said
 from plantbal.lint.studies import classes_in
 from plantbal.model.facts import Fact
 from plantbal.model.forms import day_text
 from plantbal.model.ledger import Ledger
 from plantbal.model.periods import Period
 from plantbal.schema import schema
+from plantbal.sentence import Day, Sentence
 
 
 def refused_rows(ledger: Ledger, left_out: Sequence[Refusal]) -> Iterator[Finding]:
@@ -85,16 +86,27 @@ def missing_readings(ledger: Ledger) -> Iterator[Finding]:
         for name, days in reported.view.missing.items():
             count = len(ledger.streams[name].days_in(period))
             if count == 1:
-                lacks = f"no reading on {days_said(days)}"
+                lacks = Sentence("no reading on {days}", days=span_said(days))
             elif len(days) == count:
-                lacks = f"no reading on any of its {count} days"
+                lacks = Sentence("no reading on any of its {count} days", count=count)
             else:
-                lacks = f"no reading on {days_said(days)}, {len(days)} of {count} days"
-            text = f"{name} has no value in {period.name}: {lacks}; {_MEANS[classes[name]]}"
+                form = "no reading on {days}, {lacking} of {count} days"
+                words = {"days": span_said(days), "lacking": len(days), "count": count}
+                lacks = Sentence(form, **words)
+            text = Sentence(
+                "{name} has no value in {period}: {lacks}; {means}",
+                name=name,
+                period=period.name,
+                lacks=lacks,
+                means=Sentence(_MEANS[classes[name]]),
+            )
             remedy = "book the reading, or an estimate with a variance that says how good it is"
             yield Finding(
                 "missing-reading", text, remedy, place_in(ledger, reported.line), name, period.name
             )
+
+
+_SAME_DIP = "book the dip; a tank that stood still has the same dip on both days"
 
 
 def missing_dips(ledger: Ledger) -> Iterator[Finding]:
@@ -102,37 +114,68 @@ def missing_dips(ledger: Ledger) -> Iterator[Finding]:
     for reported in ledger.reported.values():
         for name, days in reported.view.undipped.items():
             period = reported.period
-            what = " and none ".join(_which_dip(ledger, name, period, day) for day in days)
-            text = f"tank {name} has no value in {period.name}: it has no dip {what}"
-            remedy = "book the dip; a tank that stood still has the same dip on both days"
-            remedy += _by_window(ledger, period, days)
+            which = [_which_dip(ledger, name, period, day) for day in days]
+            one = "tank {name} has no value in {period}: it has no dip {which}"
+            two = "tank {name} has no value in {period}: it has no dip {which} and none {last}"
+            words = {"name": name, "period": period.name, "which": which[0], "last": which[-1]}
+            text = Sentence(one if len(which) == 1 else two, **words)
+            remedy = _by_window(ledger, period, days) or _SAME_DIP
             yield Finding(
                 "missing-dip", text, remedy, place_in(ledger, reported.line), name, period.name
             )
 
 
 def _by_window(ledger: Ledger, period: Period, days: Sequence[int]) -> str:
-    """Return which window has what a tank held on a day without a dip, or nothing."""
+    """Return what to do about a day without a dip, if a window has what the tank held then."""
     for other in ledger.state.periods.within(period.first - 1, period.last + 1):
         one, next_ = sorted((period, other), key=lambda each: each.first)
         if one is not next_ and one.last in days and (one.name, next_.name) not in ledger.windows:
-            return f"; if nobody dipped it, `window,{one.name},{next_.name}` has what it held"
+            return Sentence(
+                "book the dip; a tank that stood still has the same dip on both days; if nobody "
+                "dipped it, `window,{one},{after}` has what it held",
+                one=one.name,
+                after=next_.name,
+            )
     return ""
 
 
 def _which_dip(ledger: Ledger, tank: str, period: Period, day: int) -> str:
     """Return which dip is missing: of an end of the period, or of the days in service."""
     opens = day == ledger.streams[tank].ends_of(period)[0]
+    words = {"period": period.name, "day": Day(day_text(day))}
     if day in (period.first - 1, period.last):
-        which = f"the day before {period.name}" if opens else f"the last day of {period.name}"
+        opening, closing = (
+            "of the day before {period}, {day}",
+            "of the last day of {period}, {day}",
+        )
     else:
-        which = "the day before its first in service" if opens else "its last day in service"
-    return f"of {which}, {day_text(day)}"
+        opening, closing = (
+            "of the day before its first in service, {day}",
+            "of its last day in service, {day}",
+        )
+    return Sentence(opening if opens else closing, **words)
+
+
+def _in_none(ledger: Ledger) -> list[Fact]:
+    """Return the facts that lie in no period: their days are asked once."""
+    periods = ledger.state.periods
+    none = {span for span in ledger.spans if periods.sharing(*span) is None}
+    if not none and not ledger.dips:
+        return []
+    return [
+        fact
+        for fact in ledger.live
+        if (
+            not ledger.state.periods_of(fact)
+            if fact.kind == "dip"
+            else (fact.first, fact.last) in none
+        )
+    ]
 
 
 def in_no_period(ledger: Ledger) -> Iterator[Finding]:
     """Yield the facts that lie in no period."""
-    lost = [fact for fact in ledger.live if not ledger.state.periods_of(fact)]
+    lost = _in_none(ledger)
     if lost and not ledger.periods:
         text = f"no period is declared, and {len(lost)} facts count nowhere"
         line = min(fact.line for fact in lost)
@@ -187,10 +230,14 @@ def after_report(ledger: Ledger) -> Iterator[Finding]:
     for fact in ledger.state.facts:
         if fact.changed <= first:
             continue
-        for period in ledger.state.periods_of(fact):
-            reported = ledger.reported.get(period.name)
-            if reported is not None and fact.changed > reported.line:
-                late[period.name].append(fact)
+        if fact.kind == "dip":
+            found = (ledger.reported.get(each.name) for each in ledger.state.periods_of(fact))
+            seen = [each for each in found if each is not None]
+        else:
+            seen = ledger.reported_on((fact.first, fact.last))
+        for each in seen:
+            if fact.changed > each.line:
+                late[each.period.name].append(fact)
     for name, facts in late.items():
         line = min(fact.changed for fact in facts)
         one = len(facts) == 1
@@ -204,9 +251,10 @@ def after_report(ledger: Ledger) -> Iterator[Finding]:
 def no_transfers(ledger: Ledger) -> Iterator[Finding]:
     """Yield the batch streams without a transfer in a period."""
     of: dict[str, set[str]] = defaultdict(set)
-    for fact in ledger.live:
-        if fact.kind == "transfer":
-            of[fact.of] |= {period.name for period in ledger.state.periods_of(fact)}
+    for stream, facts in ledger.amounts.items() if ledger.reported else ():
+        if ledger.streams[stream].kind == "batch":
+            for span in {(fact.first, fact.last) for fact in facts}:
+                of[stream] |= {seen.period.name for seen in ledger.reported_on(span)}
     for reported in ledger.reported.values():
         name = reported.period.name
         for stream, declared in ledger.streams.items():
@@ -228,10 +276,14 @@ def not_reported(ledger: Ledger) -> Iterator[Finding]:
     if "report" not in ledger.asked:
         return
     within = {each.name for pair in ledger.windows for each in ledger.window_of(*pair)}
-    count: dict[str, int] = defaultdict(int)
-    for fact in ledger.live:
-        for period in ledger.state.periods_of(fact):
-            count[period.name] += fact.kind != "dip" or fact.first == period.last
+    count: dict[str, int]
+    if not ledger.dips:
+        count = ledger.state.periods.spread(ledger.spans)
+    else:
+        count = defaultdict(int)
+        for fact in ledger.live:
+            for period in ledger.state.periods_of(fact):
+                count[period.name] += fact.kind != "dip" or fact.first == period.last
     for name, facts in count.items():
         if facts and name not in ledger.reported and name not in within:
             some = "1 fact" if facts == 1 else f"{facts} facts"

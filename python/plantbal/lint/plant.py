@@ -4,18 +4,23 @@ from __future__ import annotations
 
 import difflib
 import re
+from bisect import bisect_right
 from collections import defaultdict
 from collections.abc import Iterator, Sequence
+from itertools import islice
 
 from plantbal.lint.findings import Finding, place_in, some_of
 from plantbal.model.forms import LIMITS, day_text
 from plantbal.model.ledger import Ledger
 from plantbal.model.plant import ENV, most_streams
+from plantbal.sentence import Sentence
 
 # A letter is mistyped in a word of this many; shorter ones are marks, such as HP and LP.
 LONG_WORD = 4
 # Close names are looked for at this many units.
 MOST_GUESSES = 20
+# Pairs of names that are said of nodes, of streams and of components.
+MOST_PAIRS = 100
 FULL_PERCENT = 80
 
 
@@ -110,11 +115,12 @@ def _in_word(name: str, place: int) -> bool:
     )
 
 
-def near_pairs(names: Sequence[str]) -> list[tuple[str, str]]:
-    """Return the pairs of names that are one letter apart, in order."""
+def near_pairs(names: Sequence[str]) -> Iterator[tuple[str, str]]:
+    """Give the pairs of names that are one letter apart, in order."""
     # Two names that differ in one letter, or in two exchanged ones, share a name with one letter
     # less.
     shared: dict[str, list[int]] = defaultdict(list)
+    keys: list[set[str]] = []
     for number, name in enumerate(names):
         plain = _plain(name)
         places = (
@@ -123,16 +129,15 @@ def near_pairs(names: Sequence[str]) -> list[tuple[str, str]]:
             if word.end() - word.start() >= LONG_WORD
             for place in range(word.start(), word.end())
         )
-        for key in {plain, *(plain[:place] + plain[place + 1 :] for place in places)}:
+        keys.append({plain, *(plain[:place] + plain[place + 1 :] for place in places)})
+        for key in keys[-1]:
             shared[key].append(number)
-    pairs = {
-        (one, other) for some in shared.values() for one in some for other in some if one < other
-    }
-    return [
-        (names[one], names[other])
-        for one, other in sorted(pairs)
-        if one_letter_apart(names[one], names[other])
-    ]
+    for one, name in enumerate(names):
+        some = (shared[key] for key in keys[one])
+        near = {other for numbers in some for other in numbers[bisect_right(numbers, one) :]}
+        for other in sorted(near):
+            if one_letter_apart(name, names[other]):
+                yield name, names[other]
 
 
 def near_names(ledger: Ledger) -> Iterator[Finding]:
@@ -147,9 +152,10 @@ def near_names(ledger: Ledger) -> Iterator[Finding]:
         ("streams", streams, ledger.state.plant.lines),
         ("components", list(graded), graded),
     ):
-        for one, other in near_pairs(names):
+        for one, other in islice(near_pairs(names), MOST_PAIRS):
             first, second = sorted((one, other), key=lambda name: lines[name])
-            text = f"the {what} {first} and {second} have nearly the same name"
+            form = "the {what} {first} and {second} have nearly the same name"
+            text = Sentence(form, what=Sentence(what), first=first, second=second)
             remedy = "correct one of them if they are the same; if not, choose names less alike"
             place = place_in(ledger, lines[second])
             yield Finding("near-names", text, remedy, place, second, names=(first, second))

@@ -20,8 +20,8 @@ from plantbal.lint.lacking import (
 )
 from plantbal.lint.plant import nearly_full, near_names, never_served, one_sided
 from plantbal.lint.silent import exchanged, kinks, scatter
-from plantbal.lint.studies import costs, critical_values, worse_classes
-from plantbal.lint.values import densities, deviations, magnitudes
+from plantbal.lint.studies import costs, untested_reports, worse_classes
+from plantbal.lint.values import densities, magnitudes, odd_deviations
 from plantbal.model.ledger import Ledger
 
 _FINDERS: tuple[Callable[[Ledger], Iterator[Finding]], ...] = (
@@ -36,13 +36,13 @@ _FINDERS: tuple[Callable[[Ledger], Iterator[Finding]], ...] = (
     never_served,
     near_names,
     magnitudes,
-    deviations,
+    odd_deviations,
     densities,
     exchanged,
     kinks,
     scatter,
     worse_classes,
-    critical_values,
+    untested_reports,
     gates,
     assays,
     unused_assays,

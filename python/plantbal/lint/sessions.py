@@ -12,6 +12,7 @@ from plantbal.faults import too_large
 from plantbal.forms import other_form
 from plantbal.lint.findings import SEVERITIES, Finding
 from plantbal.lint.rules import find
+from plantbal.memory import uncollected
 from plantbal.model.ledger import Ledger
 from plantbal.runs import session_bytes
 from plantbal.session import Session
@@ -35,20 +36,21 @@ def lint_session(
         The accounts of a book: what is in none is a finding too.
     """
     source, data, left_out = session_bytes(session)
-    ledger = _ledger(source, data)
-    kept_out = session.refused if isinstance(session, Session) and left_out else ()
-    found = list(find(ledger, kept_out))
-    if accounts is not None:
-        from plantbal.lint.accounts import lacking
+    with uncollected():
+        ledger = _ledger(source, data)
+        kept_out = session.refused if isinstance(session, Session) and left_out else ()
+        found = list(find(ledger, kept_out))
+        if accounts is not None:
+            from plantbal.lint.accounts import lacking
 
-        found += lacking(ledger, accounts)
+            found += lacking(ledger, accounts)
     unwanted = set(ignore)
     kept = [each for each in found if each.code not in unwanted]
     return sorted(kept, key=lambda each: (SEVERITIES.index(each.severity), each.place.line or 0))
 
 
 def _ledger(source: str, data: bytes) -> Ledger:
-    """Return a session with the first of its refused rows.
+    """Return a session with the first of its refused rows: only of this one the sentence is said.
 
     Raises
     ------
@@ -60,7 +62,7 @@ def _ledger(source: str, data: bytes) -> Ledger:
     fault = other_form(source, data)
     if fault is not None:
         raise fault
-    return Ledger(source, data, kept=limits.REFUSED_KEPT)
+    return Ledger(source, data, kept=1)
 
 
 def summary(findings: Sequence[Finding]) -> str:

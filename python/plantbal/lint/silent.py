@@ -40,8 +40,11 @@ TIMES, MOST_OF_IT = 10.0, 0.9
 
 def exchanged(ledger: Ledger) -> Iterator[Finding]:
     """Yield the pairs of meters of which each reads in a period what the other one read before."""
+    earlier = _Earlier(ledger)
+    in_order = sorted(ledger.reported.values(), key=lambda seen: seen.period.first)
+    medians = {seen.period.name: _medians(earlier, seen) for seen in in_order}
     for seen in ledger.reported.values():
-        now, before = _medians(ledger, seen)
+        now, before = medians[seen.period.name]
         moved = [name for name in now if not _alike(now[name], before[name], OTHER)]
         for one, other in combinations(moved, 2):
             if _alike(now[one], before[other], ALIKE) and _alike(now[other], before[one], ALIKE):
@@ -57,19 +60,44 @@ def exchanged(ledger: Ledger) -> Iterator[Finding]:
                 yield Finding("exchanged", text, remedy, place, one, period, (one, other))
 
 
-def _medians(ledger: Ledger, seen: Seen) -> tuple[dict[str, float], dict[str, float]]:
+class _Earlier:
+    """What meters read before a day, of days in their order: no reading is gone through twice."""
+
+    def __init__(self, ledger: Ledger) -> None:
+        self._amounts = ledger.amounts
+        self._left: dict[str, list[Fact]] = {}
+        self._sizes: dict[str, list[int]] = {}
+
+    def sizes(self, name: str, day: int) -> list[int]:
+        """Return the sizes of the readings of a meter before a day, in the order of sizes."""
+        if name not in self._left:
+            facts = self._amounts.get(name, ())
+            self._left[name] = sorted(facts, key=lambda fact: fact.first, reverse=True)
+            self._sizes[name] = []
+        left, sizes = self._left[name], self._sizes[name]
+        new = []
+        while left and left[-1].first < day:
+            new.append(left.pop())
+        if new:
+            sizes += _sizes(new)
+            sizes.sort()
+        return sizes
+
+
+def _medians(earlier: _Earlier, seen: Seen) -> tuple[dict[str, float], dict[str, float]]:
     """Return what meters usually read in a period, and before it, of those with enough of both."""
     now: dict[str, float] = {}
     before: dict[str, float] = {}
     for stream in seen.view.streams:
         name = stream.arc.name
-        if stream.kind != "metered":
+        facts = seen.view.facts[name] if stream.kind == "metered" else ()
+        if len(facts) < FEWEST:
             continue
-        first = seen.period.first
-        earlier = [fact for fact in ledger.amounts.get(name, ()) if fact.first < first]
-        some = _sizes(seen.view.facts[name]), _sizes(earlier)
+        some = _sizes(facts), earlier.sizes(name, seen.period.first)
         if min(map(len, some)) >= FEWEST:
-            now[name], before[name] = float(median(some[0])), float(median(some[1]))
+            now[name] = float(median(some[0]))
+            low, high = some[1][(len(some[1]) - 1) // 2], some[1][len(some[1]) // 2]
+            before[name] = float((low + high) / 2 if len(some[1]) % 2 == 0 else high)
     return now, before
 
 
@@ -133,28 +161,27 @@ def scatter(ledger: Ledger) -> Iterator[Finding]:
     for seen in ledger.reported.values():
         found = measured_in(ledger.state, seen.view).values()
         balances = Balances.of_measured(seen.view.nodes, found)
-        facts = {
-            each.arc.name: {fact.first: fact for fact in seen.view.facts[each.arc.name]}
-            for each in seen.view.streams
-            if each.kind == "metered"
-        }
+        metered = {each.arc.name for each in seen.view.streams if each.kind == "metered"}
         for balance in balances.open:
-            if all(each.name in facts for each in balance.through):
-                yield from _scatter_of(ledger, seen, balance, facts)
+            if all(each.name in metered for each in balance.through):
+                yield from _scatter_of(ledger, seen, balance)
 
 
-def _scatter_of(
-    ledger: Ledger, seen: Seen, balance: Balance, facts: Mapping[str, Mapping[int, Fact]]
-) -> Iterator[Finding]:
+def _scatter_of(ledger: Ledger, seen: Seen, balance: Balance) -> Iterator[Finding]:
     names = [each.name for each in balance.through]
-    days = set.intersection(*(set(facts[name]) for name in names)) if names else set()
-    running = [day for day in sorted(days) if all(facts[name][day].grams for name in names)]
+    amounts = [{fact.first: fact.grams for fact in seen.view.facts[name]} for name in names]
+    running = _running(amounts)
     if len(names) < 2 or len(running) < FEWEST:
         return
-    into = {each.name: 1 if each.arc.to in balance.nodes else -1 for each in balance.through}
-    rests = [sum(into[name] * facts[name][day].grams for name in names) for day in running]
+    rests = [0] * len(running)
+    for each, grams in zip(balance.through, amounts):
+        sign = 1 if each.arc.to in balance.nodes else -1
+        rests = [rest + sign * grams[day] for rest, day in zip(rests, running)]
+    on = set(running)
     variances = {
-        name: sum(facts[name][day].variance for day in running) / len(running) for name in names
+        name: sum(fact.variance for fact in seen.view.facts[name] if fact.first in on)
+        / len(running)
+        for name in names
     }
     total, seen_scatter = sum(variances.values()), stdev(rests)
     widest = max(names, key=lambda name: variances[name])
@@ -178,5 +205,17 @@ def _scatter_of(
     remedy = (
         "compare the errors of these meters with their certificates: a digit, or percent of what?"
     )
-    line = facts[some[0]][running[0]].line
+    facts = seen.view.facts[some[0]]
+    line = next(fact.line for fact in facts if fact.first == running[0])
     yield Finding("scatter", text, remedy, place_in(ledger, line), some[0], seen.period.name, some)
+
+
+def _running(amounts: Sequence[Mapping[int, int]]) -> list[int]:
+    """Return the days on which all of some meters read another amount than 0, in order."""
+    if not amounts:
+        return []
+    days = set(amounts[0]).intersection(*amounts[1:])
+    for each in amounts:
+        if 0 in each.values():
+            days -= {day for day, grams in each.items() if not grams}
+    return sorted(days)

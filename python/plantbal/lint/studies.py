@@ -55,7 +55,7 @@ def worse_classes(ledger: Ledger) -> Iterator[Finding]:
             )
 
 
-def critical_values(ledger: Ledger) -> Iterator[Finding]:
+def untested_reports(ledger: Ledger) -> Iterator[Finding]:
     """Yield the reports without a critical value for their tests."""
     if not ledger.reported:
         return

@@ -157,7 +157,7 @@ class BooksFact(Effect):
 
     def store(self, state: State, at: At) -> None:
         line = at.line
-        fact = self.fact._replace(booked=line, line=line, changed=line)
+        fact = Fact(*self.fact[:9], line, line, line)
         state.facts.book(fact)
         if self.late:
             state.edits.append(Edit(at, "late", None, fact))
@@ -260,15 +260,8 @@ class Amends(Effect):
     def store(self, state: State, at: At) -> None:
         before = state.facts.find(self.id)
         assert before is not None
-        grams, mm, density = self.values
-        after = before._replace(
-            grams=grams,
-            mm=mm,
-            density=density,
-            variance=self.variance,
-            line=at.line,
-            changed=at.line,
-        )
+        line = at.line
+        after = Fact(*before[:5], *self.values, self.variance, before.booked, line, line)
         state.facts.change(after)
         state.edits.append(Edit(at, "amend", before, after, self.reason))
 
@@ -379,7 +372,8 @@ class BooksAssay(Effect):
 
     def store(self, state: State, at: At) -> None:
         key = self.component, self.stream, self.period
-        state.assays[key] = Assay(self.ppm, self.variance, at.line)
+        assay = state.assays[key] = Assay(self.ppm, self.variance, at.line)
+        state.grades.setdefault((self.component, self.period), {})[self.stream] = assay
 
 
 # ---- rules of several kinds

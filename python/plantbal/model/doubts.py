@@ -1,19 +1,26 @@
-"""Which readings of a run have to be judged by themselves: all others are accepted as they stand.
+"""Which readings of a run have to be judged by themselves: all others are accepted as they are.
 
 The forms are those of the columns of a row, and the rules those of one fact (`FACT_RULES`): each is
 asked once for each stream, each day, or each pair of them, so that a run costs little more than its
 columns. A reading is in doubt if one of them refuses it, or if its id or its day is there twice.
+
+If nobody asks why readings are refused, `codes_of` answers a run with its codes alone, by the same
+rules in their order.
 """
 
 from __future__ import annotations
 
 from collections.abc import Callable, Sequence, Set
+from dataclasses import dataclass
+from itertools import compress, count, repeat
 from typing import TYPE_CHECKING, TypeVar
 
 from plantbal.model.booking import FACT_RULES, BooksFact, FactRule, LooksAt
+from plantbal.model.causes import Cause, Refused
 from plantbal.model.facts import Fact
-from plantbal.model.forms import LIMITS, NAMES, all_match, are_within, fault_of
+from plantbal.model.forms import LIMITS, NAMES, all_match, are_within, fault_of, row_of
 from plantbal.model.readings import ReadingRun
+from plantbal.records import without_empty_end
 from plantbal.schema import schema
 
 if TYPE_CHECKING:
@@ -21,6 +28,8 @@ if TYPE_CHECKING:
 
 T = TypeVar("T", str, int)
 _ROW = schema().row("reading")
+# The turns of the rules about ids and days that are taken, one after the other.
+_KEYS = [turn for turn, rule in enumerate(FACT_RULES) if rule.looks is LooksAt.KEYS]
 
 
 def doubtful(state: State, run: ReadingRun) -> set[int]:
@@ -35,12 +44,17 @@ def doubtful(state: State, run: ReadingRun) -> set[int]:
     """
     if len(state.facts) + len(run) > LIMITS["most_facts"]:
         return set(range(len(run)))
-    return unformed(run) | _refused(state, run)
+    return unformed(run) | _by_rules(state, run).places(run)
 
 
 def unformed(run: ReadingRun) -> set[int]:
     """Return the places of readings that have a field without the form of its column."""
-    found: set[int] = set()
+    return set(_forms_refused(run))
+
+
+def _forms_refused(run: ReadingRun) -> dict[int, int]:
+    """Return the places of these readings, and the code of each."""
+    found: dict[int, int] = {}
     kinds, *columns = run.rows.columns
     numbers = {"grams": run.grams, "variance": run.variances}
     for column, texts in zip(_ROW.columns, columns):
@@ -51,63 +65,153 @@ def unformed(run: ReadingRun) -> set[int]:
             good = column.name == "id" and all_match(NAMES, texts)
         if not good:
             # each text once: streams and days are few
-            wrong = {text for text in set(texts) if fault_of(column, text) is not None}
-            found |= _places_of(texts, wrong)
+            reasons = {text: fault_of(column, text) for text in set(texts)}
+            wrong = {text: int(each.cause) for text, each in reasons.items() if each is not None}
+            for place in _places_of(texts, wrong.keys()):
+                code = wrong[texts[place]]
+                found[place] = min(code, found.get(place, code))
     return found
 
 
-def _refused(state: State, run: ReadingRun) -> set[int]:
-    """Return the places of readings that a rule refuses for its stream or its day."""
-    streams = _refused_streams(state, run)
-    days = {-1} & run.distinct_days
-    for rule in FACT_RULES:
-        if rule.looks is LooksAt.DAY:
-            days |= _asked(rule, state, run.distinct_days - days, lambda day: _reading("", day))
-    found = _places_of(run.streams, streams) | _places_of(run.days, days)
-    for rule in FACT_RULES:
-        if rule.looks is LooksAt.STREAM_AND_DAY:
-            found |= _of_pairs(rule, state, run, run.distinct_streams - streams, days)
-    return found
+@dataclass(frozen=True, slots=True)
+class _ByRules:
+    """What the rules of one fact refuse of a run: each with the turn of the first rule that does,
+    and its code."""
+
+    of_stream: dict[str, tuple[int, int]]
+    of_day: dict[int, tuple[int, int]]
+    of_place: dict[int, tuple[int, int]]
+
+    def places(self, run: ReadingRun) -> set[int]:
+        """Return the places of what is refused."""
+        days = self.of_day.keys() | {-1}
+        return (
+            _places_of(run.streams, self.of_stream.keys())
+            | _places_of(run.days, days & run.distinct_days)
+            | self.of_place.keys()
+        )
+
+    def codes(self, run: ReadingRun, turns: range) -> Sequence[int]:
+        """Return for each reading the code of the first of some rules that refuses it, or 0."""
+        of_stream = {name: each for name, each in self.of_stream.items() if each[0] in turns}
+        if not self.of_day and not self.of_place:
+            codes = {name: code for name, (_, code) in of_stream.items()}
+            return list(map(codes.get, run.streams, repeat(0))) if codes else bytes(len(run))
+        none = len(FACT_RULES), 0
+        found = [of_stream.get(name, none) for name in run.streams]
+        of_day = {day: each for day, each in self.of_day.items() if each[0] in turns}
+        if of_day:
+            found = [min(each, of_day.get(day, none)) for each, day in zip(found, run.days)]
+        for place, each in self.of_place.items():
+            if each[0] in turns:
+                found[place] = min(each, found[place])
+        return [code for _, code in found]
 
 
-def _refused_streams(state: State, run: ReadingRun) -> set[str]:
-    """Return the streams of a run of which a rule refuses each reading."""
-    found: set[str] = set()
-    for rule in FACT_RULES:
+def _by_rules(state: State, run: ReadingRun, looks: Set[LooksAt] = frozenset(LooksAt)) -> _ByRules:
+    """Ask the rules of one fact in their order, each of what no earlier one refuses."""
+    found = _ByRules({}, {}, {})
+    days = run.distinct_days - {-1} if LooksAt.DAY in looks else set()
+    for turn, rule in enumerate(FACT_RULES):
+        if rule.looks not in looks:
+            continue
         if rule.looks is LooksAt.STREAM:
-            found |= _asked(rule, state, run.distinct_streams - found, lambda of: _reading(of, 1))
+            names = run.distinct_streams - found.of_stream.keys()
+            refused = _asked(rule, state, names, lambda of: _reading(of, 1))
+            found.of_stream.update({name: (turn, code) for name, code in refused.items()})
+        elif rule.looks is LooksAt.DAY:
+            left = days - found.of_day.keys()
+            refused_days = _asked(rule, state, left, lambda day: _reading("", day))
+            found.of_day.update({day: (turn, code) for day, code in refused_days.items()})
+        elif rule.looks is LooksAt.STREAM_AND_DAY:
+            pairs = _of_pairs(rule, state, run, found)
+            found.of_place.update({place: (turn, code) for place, code in pairs.items()})
     return found
+
+
+def codes_of(state: State, run: ReadingRun) -> bytes:
+    """Return the code that each reading of a run is refused with, 0 if it is accepted.
+
+    Parameters
+    ----------
+    state : State
+        The session before the run, which isn't changed.
+    run : ReadingRun
+        The run.
+    """
+    odd = run.rows.odd
+    if not odd:
+        return _codes(state, run)
+    found = bytearray(len(run))
+    for place in odd:
+        answer = row_of(without_empty_end(tuple(run.rows[place])), state.version, state.stored)
+        assert isinstance(answer, Refused), "no row of readings has as many fields"
+        found[place] = answer.cause
+    whole = [place not in odd for place in range(len(run))]
+    if any(whole):
+        rest = _codes(state, ReadingRun(run.rows.only(whole), list(compress(run.lines, whole))))
+        for place, code in zip(compress(count(), whole), rest):
+            found[place] = code
+    return bytes(found)
+
+
+def _codes(state: State, run: ReadingRun) -> bytes:
+    """Return the codes of readings that all have six fields."""
+    forms, rules = _forms_refused(run), _by_rules(state, run)
+    first = bytearray(rules.codes(run, range(_KEYS[0])))
+    for place, code in forms.items():
+        first[place] = code
+    later = rules.codes(run, range(_KEYS[-1], len(FACT_RULES)))
+    ids, slots, mine = state.facts.keys_taken(run)
+    left = LIMITS["most_facts"] - len(state.facts)
+    for place, (identity, slot) in enumerate(zip(run.ids, mine)):
+        if first[place]:
+            continue
+        if identity in ids or slot in slots:
+            first[place] = Cause.DUPLICATE
+        elif later[place]:
+            first[place] = later[place]
+        elif left:
+            ids.add(identity)
+            slots.add(slot)
+            left -= 1
+        else:
+            first[place] = Cause.FULL
+    return bytes(first)
 
 
 def unmetered(state: State, run: ReadingRun) -> set[int]:
     """Return the places of readings of what is no metered stream of a session."""
-    return _places_of(run.streams, _refused_streams(state, run))
+    return _places_of(run.streams, _by_rules(state, run, {LooksAt.STREAM}).of_stream.keys())
 
 
 def _asked(
     rule: FactRule, state: State, values: Set[T], reading: Callable[[T], BooksFact]
-) -> set[T]:
-    """Return the values for which a rule refuses a reading; the others aren't asked for again."""
+) -> dict[T, int]:
+    """Return the values for which a rule refuses a reading, with their codes.
+
+    The others aren't asked for again.
+    """
     passed = state.passed[rule]
     left = values - passed
-    wrong = {value for value in left if rule.refused(reading(value), state) is not None}
-    passed |= left - wrong
+    answers = ((value, rule.refused(reading(value), state)) for value in left)
+    wrong = {value: int(answer.cause) for value, answer in answers if answer is not None}
+    passed |= left - wrong.keys()
     return wrong
 
 
-def _of_pairs(
-    rule: FactRule, state: State, run: ReadingRun, streams: Set[str], days: Set[int]
-) -> set[int]:
+def _of_pairs(rule: FactRule, state: State, run: ReadingRun, before: _ByRules) -> dict[int, int]:
     """Return the places of readings that a rule refuses for its stream and its day together."""
+    streams = run.distinct_streams - before.of_stream.keys()
     asked = {name for name in streams if rule.only is None or rule.only(state, name)}
-    if not asked:
-        return set()
-    return {
-        place
-        for place, (name, day) in enumerate(zip(run.streams, run.days))
-        if name in asked and day not in days
-        if rule.refused(_reading(name, day), state) is not None
-    }
+    days = run.distinct_days - before.of_day.keys() - {-1}
+    found: dict[int, int] = {}
+    for place, (name, day) in enumerate(zip(run.streams, run.days)) if asked else ():
+        if name in asked and day in days:
+            answer = rule.refused(_reading(name, day), state)
+            if answer is not None:
+                found[place] = int(answer.cause)
+    return found
 
 
 def _places_of(values: Sequence[T], wrong: Set[T]) -> set[int]:

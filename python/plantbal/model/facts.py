@@ -122,6 +122,11 @@ class TakenKeys(Generic[K]):
         self.waiting.update(keys)
         return len(self.waiting) == wanted
 
+    def taken_of(self, keys: Iterable[K]) -> set[K]:
+        """Return those that are there already."""
+        some = set(keys)
+        return (self.made.keys() & some) | (self.waiting & some)
+
     def places_taken(self, keys: Sequence[K]) -> set[int]:
         """Return the places of those that are there already, or there twice."""
         counts = Counter(keys)
@@ -238,6 +243,11 @@ class Facts:
         """Return the places of the readings whose id or day is taken, or there twice."""
         slots = self._slots_of(run)
         return self._ids.places_taken(run.ids) | self._slots.places_taken(slots)
+
+    def keys_taken(self, run: ReadingRun) -> tuple[set[str], set[int], list[int]]:
+        """Return which ids and slots of a run are taken before it, and the slots of the run."""
+        slots = self._slots_of(run)
+        return self._ids.taken_of(run.ids), self._slots.taken_of(slots), slots
 
     def _slots_of(self, run: ReadingRun) -> list[int]:
         return list(map(add, map(self._of.__getitem__, run.streams), run.days))

@@ -1,7 +1,8 @@
 """The rows of a session's file, with long runs of readings kept together.
 
 A session of a year has mostly readings, one after the other. A run of them is taken as a whole; if
-some of them are refused, or may be, only these are looked at one by one.
+some of them are refused, or may be, only these are looked at one by one, as long as somebody asks
+why they are refused. Once nobody does, the refused ones of a run are told by their codes alone.
 """
 
 from __future__ import annotations
@@ -12,19 +13,20 @@ import re
 import sys
 from collections.abc import Callable, Iterator, Sequence
 from dataclasses import dataclass, replace
-from itertools import islice
+from itertools import compress, islice
 
 from plantbal.model.causes import Cause, Reason, Refused
+from plantbal.model.doubts import codes_of
 from plantbal.model.effects import Effect
 from plantbal.model.facts import At
+from plantbal.model.quick import taken
 from plantbal.model.readings import ReadingRows, ReadingRun
 from plantbal.model.state import Accepted, Answer, State
-from plantbal.records import without_empty_end
 
 # The longest run of readings that is taken as a whole, in characters and in rows, the same of other
 # rows, and the longest run that is taken row by row without a look at its columns.
 _MOST_TEXT = 1 << 18
-_MOST_OTHERS = 1 << 17
+_MOST_OTHERS = 1 << 14
 _MOST_ROWS = 5_000
 _FEW = 8
 # The rows that are in memory at once: a file of two letters a line has millions.
@@ -54,6 +56,19 @@ class Rows:
     lines: Sequence[int]
     run: ReadingRun | None = None
 
+    def at(self, place: int) -> tuple[tuple[str, ...], At]:
+        """Return the fields of the row at a place, and where it stands."""
+        return tuple(self.rows[place]), At(self.record + place, self.lines[place])
+
+    def between(self, begin: int, end: int) -> Iterator[Rows]:
+        """Give the rows from a place up to another one, if there are any."""
+        if begin < end:
+            yield Rows(self.rows[begin:end], self.record + begin, self.lines[begin:end])
+
+    def rest(self, begin: int) -> Rows:
+        """Return the rows from a place on."""
+        return Rows(self.rows[begin:], self.record + begin, self.lines[begin:])
+
     def apart(self, places: set[int]) -> Iterator[Rows]:
         """Give the rows at some places one by one, and the readings between them together."""
         begin = 0
@@ -61,7 +76,7 @@ class Rows:
             if begin < place:
                 rows = self.rows[begin:place]
                 if not isinstance(rows, ReadingRows):
-                    rows = ReadingRows(list(zip(*map(_of_reading, rows))))
+                    rows = ReadingRows.of_rows(rows)
                 yield Rows(rows, self.record + begin, self.lines[begin:place])
             if place < len(self.rows):
                 row = [self.rows[place]]
@@ -93,9 +108,20 @@ class Step:
         return self.answer.effect if isinstance(self.answer, Accepted) else None
 
 
-def _of_reading(row: Sequence[str]) -> tuple[str, ...]:
-    """Return a reading's row without empty fields at its end."""
-    return without_empty_end(tuple(row))
+@dataclass(frozen=True, slots=True)
+class Coded:
+    """Refused readings of a run, of which nothing is asked but their codes.
+
+    Attributes
+    ----------
+    records : list of int
+        The numbers of their records.
+    codes : bytes
+        The code of each.
+    """
+
+    records: list[int]
+    codes: bytes
 
 
 def _always() -> bool:
@@ -103,8 +129,8 @@ def _always() -> bool:
 
 
 def steps(
-    state: State, data: bytes, explained: Callable[[], bool] = _always
-) -> Iterator[Step | Rows]:
+    state: State, data: bytes, explained: Callable[[], bool] = _always, together: bool = False
+) -> Iterator[Step | Rows | Coded]:
     """Fold the rows of a file into a state, and give each after it is judged.
 
     A run of readings that is accepted as a whole is given as one `Rows`.
@@ -116,39 +142,53 @@ def steps(
     data : bytes
         The file.
     explained : callable
-        Whether more is asked of a refused row than its code, when it comes.
+        Whether more is asked of a refused row than its code, when it comes. Once it isn't, the
+        refused ones of a run of readings are given as one `Coded`.
+    together : bool
+        Whether rows that are stored may be given as one `Rows` too: nothing is asked of each.
     """
     for part in rows_of(data):
-        yield from fold(state, part, explained)
+        yield from fold(state, part, explained, together)
 
 
 def fold(
-    state: State, part: Rows, explained: Callable[[], bool] = _always
-) -> Iterator[Step | Rows]:
+    state: State, part: Rows, explained: Callable[[], bool] = _always, together: bool = False
+) -> Iterator[Step | Rows | Coded]:
     """Fold some rows into a state, as `steps` does."""
     if state.core is not None:
-        yield from _answered(state, part, state.core.codes(part.rows), explained)
+        yield from _answered(state, part, state.core.codes(part.rows), explained, together)
     else:
-        yield from _judged(state, part)
+        yield from _judged(state, part, explained, together)
 
 
 def _answered(
-    state: State, part: Rows, codes: bytes, explained: Callable[[], bool]
-) -> Iterator[Step | Rows]:
+    state: State, part: Rows, codes: bytes, explained: Callable[[], bool], together: bool
+) -> Iterator[Step | Rows | Coded]:
     """Fold rows that the core has answered: which ones are refused is known."""
-    if isinstance(part.rows, ReadingRows) and len(codes) > 1:
-        refused = {place for place, code in enumerate(codes) if code} if any(codes) else set()
-        if not refused:
-            yield _accepted(state, part)
-            return
-        for some in part.apart(refused | part.rows.odd):
-            if isinstance(some.rows, ReadingRows):
-                yield _accepted(state, some)
-            else:
-                yield _coded(state, some, 0, codes[some.record - part.record], explained)
+    if not isinstance(part.rows, ReadingRows) or len(codes) <= 1:
+        begin = 0
+        for place, code in enumerate(codes):
+            if together and not code and taken(state, *part.at(place)) is True:
+                continue
+            yield from part.between(begin, place)
+            yield _coded(state, part, place, code, explained)
+            begin = place + 1
+        yield from part.between(begin, len(codes))
         return
-    for place, code in enumerate(codes):
-        yield _coded(state, part, place, code, explained)
+    refused = {place for place, code in enumerate(codes) if code} if any(codes) else set()
+    if not refused:
+        yield _accepted(state, part)
+        return
+    odd = part.rows.odd
+    for some in part.apart(refused | odd):
+        begin = some.record - part.record
+        if not explained() and odd <= refused:
+            yield from _told_apart(state, part.rest(begin), codes[begin:], state.after_accepted)
+            return
+        if isinstance(some.rows, ReadingRows):
+            yield _accepted(state, some)
+        else:
+            yield _coded(state, some, 0, codes[begin], explained)
 
 
 def _accepted(state: State, part: Rows) -> Rows:
@@ -161,34 +201,61 @@ def _accepted(state: State, part: Rows) -> Rows:
 
 def _coded(state: State, part: Rows, place: int, code: int, explained: Callable[[], bool]) -> Step:
     """Take a row that the core has answered with a code."""
-    fields, at = tuple(part.rows[place]), At(part.record + place, part.lines[place])
+    fields, at = part.at(place)
     if code and not explained():
         return Step(fields, at, Refused(Reason.CORE_ALONE, core=Cause(code)))
     return Step(fields, at, state.after_core(code, fields, at))
 
 
-def _judged(state: State, part: Rows) -> Iterator[Step | Rows]:
+def _told_apart(
+    state: State, part: Rows, codes: bytes, take: Callable[[ReadingRun], None]
+) -> Iterator[Rows | Coded]:
+    """Give the readings of a run that are accepted, taken together, and the codes of the others."""
+    assert isinstance(part.rows, ReadingRows)
+    good = [not code for code in codes]
+    if any(good):
+        lines = list(compress(part.lines, good))
+        run = ReadingRun(part.rows.only(good), lines)
+        take(run)
+        yield Rows(run.rows, part.record + good.index(True), lines, run)
+    records = range(part.record, part.record + len(codes))
+    yield Coded(list(compress(records, codes)), bytes(filter(None, codes)))
+
+
+def _judged(
+    state: State, part: Rows, explained: Callable[[], bool], together: bool
+) -> Iterator[Step | Rows | Coded]:
     """Fold rows that the rules of this package answer."""
     rows = part.rows
     if not isinstance(rows, ReadingRows) or len(rows) <= _FEW:
-        for place, (row, line) in enumerate(zip(rows, part.lines)):
-            fields, at = tuple(row), At(part.record + place, line)
-            yield Step(fields, at, state.after(fields, at))
-    elif rows.odd:
-        for some in part.apart(rows.odd):
-            yield from _judged(state, some)
-    else:
-        run = ReadingRun(rows, part.lines)
-        doubtful = state.after_run(run)
-        if not doubtful:
-            yield replace(part, run=run)
-        for some in part.apart(doubtful) if doubtful else ():
-            if isinstance(some.rows, ReadingRows):
-                run = ReadingRun(some.rows, some.lines)
-                state.after_readings(run)
-                yield replace(some, run=run)
-            else:
-                yield from _judged(state, some)
+        begin = 0
+        for place in range(len(rows)):
+            fields, at = part.at(place)
+            found = taken(state, fields, at) if together else False
+            if found is True:
+                continue
+            yield from part.between(begin, place)
+            yield Step(fields, at, found or state.after(fields, at))
+            begin = place + 1
+        yield from part.between(begin, len(rows))
+        return
+    run = ReadingRun(rows, part.lines)
+    if not rows.odd and state.takes_run(run):
+        yield replace(part, run=run)
+        return
+    for some in part.apart(rows.odd or state.apart(run) if explained() else {0}):
+        if not explained():
+            left = part.rest(some.record - part.record)
+            assert isinstance(left.rows, ReadingRows)
+            codes = codes_of(state, ReadingRun(left.rows, left.lines))
+            yield from _told_apart(state, left, codes, state.after_readings)
+            return
+        if not isinstance(some.rows, ReadingRows) or rows.odd:
+            yield from _judged(state, some, explained, together)
+        else:
+            run = ReadingRun(some.rows, some.lines)
+            state.after_readings(run)
+            yield replace(some, run=run)
 
 
 def rows_of(data: bytes) -> Iterator[Rows]:

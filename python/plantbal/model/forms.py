@@ -19,8 +19,17 @@ NAMES = re.compile(rf"(?:{NAME.pattern}(?:\n|\Z))*+")
 _REASON = re.compile(rf"[ -~]{{1,{LIMITS['most_reason']}}}")
 DATE = re.compile(r"[0-9]{4}-[0-9]{2}-[0-9]{2}")
 # A number of more digits is none that a column takes.
-_WHOLE = re.compile(r"0|-?[1-9][0-9]{0,59}")
+_DIGITS = 60
+_WHOLE = re.compile(rf"0|-?[1-9][0-9]{{0,{_DIGITS - 1}}}")
 _WHOLES = re.compile(rf"(?:(?:{_WHOLE.pattern})(?:\n|\Z))*+")
+# What a field of a column may be as far as a pattern says it; words choose the row, and are looked at there.
+_PATTERNS = {
+    "name": NAME.pattern,
+    "reason": _REASON.pattern,
+    "number": f"(?:{_WHOLE.pattern})",
+    "date": DATE.pattern,
+    "word": r"[^\n]*",
+}
 # The rows that ask for output and aren't stored.
 ASKS = ("design", "advise", "report", "history", "window", "component")
 
@@ -192,11 +201,64 @@ def _row_of_version(record: tuple[str, ...], version: int, stored: bool) -> Row 
     return Refused(reason, "kind", word)
 
 
+class _Form:
+    """The form of a row of a fixed number of fields: one pattern of them, ranges and dates."""
+
+    def __init__(self, row: Row) -> None:
+        self.row = row
+        patterns = (_PATTERNS[column.type] for column in row.columns)
+        self._matches = re.compile("\n".join([re.escape(row.kind), *patterns])).fullmatch
+        columns = list(enumerate(row.columns, 1))
+        ends = -(10**_DIGITS), 10**_DIGITS
+        self._ranges = [
+            (
+                at,
+                *(
+                    end if end is not None else most
+                    for end, most in zip((each.low, each.high), ends)
+                ),
+            )
+            for at, each in columns
+            if each.type == "number"
+        ]
+        self._days = [at for at, each in columns if each.type == "date"]
+
+    def fits(self, record: tuple[str, ...]) -> bool:
+        """Say whether a record is of it."""
+        if self._matches("\n".join(record)) is None:
+            return False
+        for at, low, high in self._ranges:
+            if not low <= int(record[at]) <= high:
+                return False
+        for at in self._days:
+            if day_number(record[at]) is None:
+                return False
+        return True
+
+
+# The forms of rows by their identity: the rows of the schema are made once.
+_FORMS_OF: dict[int, _Form] = {}
+
+
+def _form_of(row: Row) -> _Form:
+    found = _FORMS_OF.get(id(row))
+    if found is None:
+        found = _FORMS_OF[id(row)] = _Form(row)
+    return found
+
+
+def form_fits(row: Row, record: tuple[str, ...]) -> bool:
+    """Say whether the fields of a record are of the forms of a row that has no tail."""
+    return _form_of(row).fits(record)
+
+
 def form_refused(row: Row, record: tuple[str, ...]) -> Refused | None:
     """Return why a record is refused whose fields aren't of their forms, or None.
 
     Names come first, then numbers, then dates.
     """
+    if not row.tail and form_fits(row, record):
+        return None
     worst: tuple[Reason, Column, str] | None = None
     columns = row.columns_for(len(record) - 1) if row.tail else row.columns
     for column, text in zip(columns, record[1:]):

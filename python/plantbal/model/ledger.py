@@ -8,9 +8,12 @@ a `View`, which rows share as long as nothing is stored between them.
 from __future__ import annotations
 
 import hashlib
-from collections import defaultdict
+from collections import Counter, defaultdict
+from collections.abc import Callable
 from dataclasses import dataclass, field, replace
-from functools import cached_property
+from functools import cached_property, lru_cache
+from itertools import chain
+from operator import itemgetter
 
 from plantbal.faults import Place
 from plantbal.memory import uncollected
@@ -20,8 +23,8 @@ from plantbal.model.causes import Refused
 from plantbal.model.core import installed_core
 from plantbal.model.effects import Effect
 from plantbal.model.facts import At, Edit, Fact
-from plantbal.model.file import Rows, Step, steps
-from plantbal.model.periods import Period
+from plantbal.model.file import Coded, Rows, Step, steps
+from plantbal.model.periods import Period, Span
 from plantbal.model.plant import ENV, Stream
 from plantbal.model.refusals import Refusals
 from plantbal.model.state import State
@@ -29,6 +32,7 @@ from plantbal.model.topology import Arc
 from plantbal.model.words import refusal_of
 from plantbal.records import without_empty_end
 
+_SPAN: Callable[[Fact], Span] = itemgetter(3, 4)
 # The dips that open and close a tank over a period, if they are there.
 Dips = tuple[Fact | None, Fact | None]
 
@@ -241,7 +245,7 @@ class Ledger:
         self._declared: tuple[list[str], list[Stream]] | None = None
         self._critical: dict[tuple[str, int], int] | None = None
         with uncollected():
-            for step in steps(self.state, data, lambda: not self.refused.is_full):
+            for step in steps(self.state, data, lambda: not self.refused.is_full, together=True):
                 self._take(step)
 
     @classmethod
@@ -253,10 +257,14 @@ class Ledger:
 
     # ---- rows
 
-    def _take(self, step: Step | Rows) -> None:
+    def _take(self, step: Step | Rows | Coded) -> None:
         if isinstance(step, Rows):
             self.rows += len(step.rows)
             self._changed()
+            return
+        if isinstance(step, Coded):
+            self.rows += len(step.records)
+            self.refused.note_all(step.records, step.codes)
             return
         self.rows += 1
         if isinstance(step.answer, Refused):
@@ -309,9 +317,7 @@ class Ledger:
         return Seen(at, views, self._critical, self.refused.total, last)
 
     def _grades(self, component: str, period: str) -> dict[str, Assay]:
-        mine = component, period
-        assays = self.state.assays.items()
-        return {name: assay for (of, name, when), assay in assays if (of, when) == mine}
+        return dict(self.state.grades.get((component, period), {}))
 
     def _view(self, period: Period) -> View:
         """Return what a row sees of a period."""
@@ -379,6 +385,29 @@ class Ledger:
         for fact in self.live:
             if fact.kind != "dip":
                 found[fact.of].append(fact)
+        return found
+
+    @cached_property
+    def dips(self) -> list[Fact]:
+        """The dips that aren't struck."""
+        return [fact for fact in self.live if fact.kind == "dip"] if self.state.plant.tables else []
+
+    @cached_property
+    def spans(self) -> Counter[Span]:
+        """The first and last days of what isn't struck and isn't a dip, and how often each is."""
+        kept = chain.from_iterable(self.amounts.values()) if self.dips else self.live
+        return Counter(map(_SPAN, kept))
+
+    @cached_property
+    def reported_on(self) -> Callable[[Span], list[Seen]]:
+        """What gives the last `report` rows of the periods that share a day with a span."""
+
+        @lru_cache(maxsize=None)
+        def found(span: Span) -> list[Seen]:
+            """Give those of a span."""
+            near = (self.reported.get(period.name) for period in self.state.periods.within(*span))
+            return [seen for seen in near if seen is not None]
+
         return found
 
     def window_of(self, first: str, last: str) -> list[Period]:

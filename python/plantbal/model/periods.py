@@ -3,11 +3,15 @@
 from __future__ import annotations
 
 import datetime
-from bisect import bisect_right, insort
+from bisect import bisect_left, bisect_right, insort
+from collections.abc import Mapping
 from dataclasses import dataclass
+from itertools import accumulate
 
 from plantbal.model.forms import day_of_number
 
+# The first and the last day of a fact, as numbers.
+Span = tuple[int, int]
 # The end of a key that comes after each key of the same days.
 _AFTER = (10**9, "")
 
@@ -81,6 +85,33 @@ class Periods:
             found.append(self.by_name[self._ordered[place][2]])
             place += 1
         return found
+
+    def spread(self, spans: Mapping[Span, int]) -> dict[str, int]:
+        """Return how many of some spans of days each period shares a day with, of those that do.
+
+        Parameters
+        ----------
+        spans : mapping of (int, int) to int
+            The first and the last day of each span, and how often it is there.
+
+        Returns
+        -------
+        dict of str to int
+            By the names of the periods, in the order of the spans.
+        """
+        ends = [last for _, last, _ in self._ordered]
+        begins = [first for first, _, _ in self._ordered]
+        change = [0] * (len(ends) + 1)
+        left, found = list(range(len(ends))), []
+        for (first, last), count in spans.items():
+            begin, end = bisect_left(ends, first), bisect_right(begins, last)
+            change[begin] += count
+            change[max(begin, end)] -= count
+            new = slice(bisect_left(left, begin), bisect_left(left, end))
+            found += left[new]
+            del left[new]
+        counts = list(accumulate(change))
+        return {self._ordered[place][2]: counts[place] for place in found}
 
     def sharing(self, first: int, last: int) -> str | None:
         """Return the name of the last period that has a day from the first to the last, or None."""

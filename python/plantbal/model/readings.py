@@ -7,9 +7,9 @@ asked for.
 
 from __future__ import annotations
 
-from collections.abc import Iterator, Sequence
+from collections.abc import Iterable, Iterator, Sequence
 from functools import cached_property
-from itertools import repeat
+from itertools import compress, repeat
 from typing import overload
 
 from plantbal.faults import ModelFault, Place
@@ -33,12 +33,28 @@ class ReadingRows(Sequence[Sequence[str]]):
     text : str
         The rows as lines without quotes.
     count : int
-        How many lines these are.
+        How many lines these are. Or:
+    rows : sequence of tuple of str, optional
+        The rows one by one.
     """
 
-    def __init__(self, columns: Columns | None = None, *, text: str = "", count: int = 0) -> None:
-        self._columns, self._text = columns, text
+    def __init__(
+        self,
+        columns: Columns | None = None,
+        *,
+        text: str = "",
+        count: int = 0,
+        rows: Sequence[tuple[str, ...]] | None = None,
+    ) -> None:
+        self._columns, self._text, self._rows = columns, text, rows
+        if rows is not None:
+            count = len(rows)
         self._count = count if columns is None else len(columns[0])
+
+    @classmethod
+    def of_rows(cls, rows: Iterable[Sequence[str]]) -> ReadingRows:
+        """Return rows that each have the fields of a reading, but for empty ones at the end."""
+        return cls(rows=[without_empty_end(tuple(row)) for row in rows])
 
     def __len__(self) -> int:
         return self._count
@@ -55,11 +71,19 @@ class ReadingRows(Sequence[Sequence[str]]):
         ...
 
     def __getitem__(self, place: int | slice) -> Sequence[str] | Sequence[Sequence[str]]:
-        if not self.are_columns:
-            return self._apart[place]
         if isinstance(place, slice):
-            return ReadingRows([column[place] for column in self.columns])
-        return tuple(column[place] for column in self.columns)
+            if self.are_columns:
+                return ReadingRows([column[place] for column in self.columns])
+            return ReadingRows(rows=self._apart[place])
+        if self.are_columns:
+            return tuple(column[place] for column in self.columns)
+        return self._apart[place]
+
+    def only(self, wanted: Sequence[bool]) -> ReadingRows:
+        """Return the rows of which it is said that they are wanted; each has six fields."""
+        if self.are_columns:
+            return ReadingRows([list(compress(column, wanted)) for column in self.columns])
+        return ReadingRows.of_rows(compress(self._apart, wanted))
 
     @property
     def are_columns(self) -> bool:
@@ -68,9 +92,10 @@ class ReadingRows(Sequence[Sequence[str]]):
 
     @property
     def odd(self) -> set[int]:
-        """The places of rows that haven't six fields."""
+        """The places of rows that haven't six fields, but for empty ones at the end."""
         if self.are_columns:
-            return set()
+            last = self.columns[-1]
+            return {place for place, text in enumerate(last) if not text} if "" in last else set()
         rows = map(without_empty_end, self._apart)
         return {place for place, row in enumerate(rows) if len(row) != _COLUMNS}
 
@@ -86,6 +111,8 @@ class ReadingRows(Sequence[Sequence[str]]):
         if self._columns is not None:
             return self._columns
         count = self._count
+        if self._rows is not None:
+            return _columns_of(self._rows)
         # each line end is put in front of the first field of its line, where it can be counted
         fields = f"\n{self._text.removesuffix(_END)}".replace(_END, ",\n").split(",")
         kinds = fields[1::_COLUMNS]
@@ -93,12 +120,13 @@ class ReadingRows(Sequence[Sequence[str]]):
             rest = [fields[at::_COLUMNS] for at in range(2, _COLUMNS + 1)]
             self._text = ""
             return [["reading"] * count, *rest]
-        rows = [without_empty_end(row) for row in self._apart]
-        return list(zip(*rows)) if all(len(row) == _COLUMNS for row in rows) else None
+        return _columns_of(self._apart)
 
     @cached_property
-    def _apart(self) -> list[tuple[str, ...]]:
+    def _apart(self) -> Sequence[tuple[str, ...]]:
         """The rows one by one."""
+        if self._rows is not None:
+            return self._rows
         return [tuple(line.split(",")) for line in self._text.removesuffix(_END).split(_END)]
 
     def plain(self) -> str | None:
@@ -110,6 +138,12 @@ class ReadingRows(Sequence[Sequence[str]]):
         wanted = self._count * (_COLUMNS - 1), self._count
         plain = (text.count(","), text.count(_END)) == wanted and not ('"' in text or "\r" in text)
         return text if plain else None
+
+
+def _columns_of(rows: Iterable[tuple[str, ...]]) -> Columns | None:
+    """Return the columns of rows, or None if some row isn't of six fields."""
+    whole = list(map(without_empty_end, rows))
+    return list(zip(*whole)) if all(len(row) == _COLUMNS for row in whole) else None
 
 
 class ReadingRun:

@@ -3,7 +3,7 @@
 from __future__ import annotations
 
 from array import array
-from collections.abc import Iterator
+from collections.abc import Iterator, Sequence
 
 from plantbal.faults import Refusal
 
@@ -47,6 +47,11 @@ class Refusals(list[Refusal]):
         """Take a refused row of which nothing is kept but its number and its code."""
         self.numbers.append(number or 0)
         self.codes.append(code)
+
+    def note_all(self, numbers: Sequence[int], codes: bytes) -> None:
+        """Take refused rows of which nothing is kept but their numbers and their codes."""
+        self.numbers.extend(numbers)
+        self.codes.frombytes(codes)
 
     def take_back(self) -> Refusal:
         """Return the row that was taken last, and forget it; it has to be one that is kept."""

@@ -25,6 +25,7 @@ from plantbal.model.forms import (
 from plantbal.model.meant import day_meant, number_meant
 from plantbal.model.plant import ENV, most_streams
 from plantbal.schema import schema
+from plantbal.sentence import Day, Sentence
 
 if TYPE_CHECKING:
     from plantbal.model.state import State
@@ -124,7 +125,7 @@ def remedy_of(state: State, record: tuple[str, ...], refused: Refused) -> Remedy
     """Return what to do about a refused record, after the rows of a session."""
     reason = refused.reason
     if reason in _DO:
-        return Remedy(_DO[reason].format_map(refused.values))
+        return Remedy(Sentence(_DO[reason], **refused.values))
     if reason in _FORMS:
         return _FORMS[reason](refused)
     return Remedy(_REMEDIES[reason](state, record, refused))
@@ -146,7 +147,7 @@ def kind_near(text: str) -> str:
 def _near(name: str, names: Iterable[str]) -> str:
     """Return `did you mean ..` for a name that is nearly one of these, or nothing."""
     near = nearest(name, names)
-    return f"did you mean {near}?" if near else ""
+    return Sentence("did you mean {near}?", near=near) if near else ""
 
 
 # ---- kinds and words
@@ -155,7 +156,7 @@ def _near(name: str, names: Iterable[str]) -> str:
 def _of_kind(state: State, record: tuple[str, ...], refused: Refused) -> str:
     words = sorted(ROWS_OF[state.version])
     remedy = _no_kind(record[0]) or _near(record[0], words)
-    return remedy or f"a row begins with one of {', '.join(words)}"
+    return remedy or Sentence("a row begins with one of {words}", words=", ".join(words))
 
 
 def _no_kind(first: str) -> str:
@@ -164,7 +165,7 @@ def _no_kind(first: str) -> str:
     if plain.startswith(("#", "//", "%")):
         return "a session has no comments: take the line out"
     if plain != first and plain in ROWS:
-        return f"take the space beside {plain!r} out"
+        return Sentence("take the space beside {plain!r} out", plain=plain)
     if "," in first and first.split(",")[0] in ROWS:
         return "the whole row is in double quotes: take them out"
     if not first:
@@ -180,7 +181,9 @@ def _of_word(state: State, record: tuple[str, ...], refused: Refused) -> str:
     if record[0] == "late" and refused.text in _NEVER_LATE:
         return _NEVER_LATE[refused.text]
     words = list(dict.fromkeys(word_of(row)[0] for row in rows_of_kind(record[0])))
-    return _near(refused.text, words) or f"write {', '.join(words[:-1])} or {words[-1]}"
+    return _near(refused.text, words) or Sentence(
+        "write {words} or {last}", words=", ".join(words[:-1]), last=words[-1]
+    )
 
 
 # ---- forms
@@ -188,11 +191,15 @@ def _of_word(state: State, record: tuple[str, ...], refused: Refused) -> str:
 
 def _form_of_reason(refused: Refused) -> Remedy:
     said = refused.text
-    remedy = f"1 to {LIMITS['most_reason']} plain characters, from the space to ~"
+    form = "1 to {most} plain characters, from the space to ~"
     if len(said) > LIMITS["most_reason"]:
-        remedy += f", and has {len(said)}"
+        form = "1 to {most} plain characters, from the space to ~, and has {count}"
     elif said:
-        remedy += ", without umlauts, accents and line ends"
+        form = (
+            "1 to {most} plain characters, from the space to ~, without umlauts, accents and line "
+            "ends"
+        )
+    remedy = Sentence(form, most=LIMITS["most_reason"], count=len(said))
     return Remedy(remedy, True)
 
 
@@ -209,9 +216,9 @@ def _form_of_name(refused: Refused) -> Remedy:
     if not said.isascii():
         return Remedy(NAME_LETTERS, True)
     if len(said) > LIMITS["most_name"]:
-        return Remedy(NAME_LONG.format(count=len(said)), True)
+        return Remedy(Sentence(NAME_LONG, count=len(said)), True)
     if plain != said and NAME.fullmatch(plain) and plain.strip("_"):
-        return Remedy(NAME_SUCH.format(plain=plain), True)
+        return Remedy(Sentence(NAME_SUCH, plain=plain), True)
     return Remedy(NAME_FORM, True)
 
 
@@ -219,6 +226,11 @@ def _is_beyond(text: str) -> bool:
     """Say whether a text writes a day of a year that no date may have, such as 9999-12-31."""
     years = range(LIMITS["first_year"], LIMITS["last_year"] + 1)
     return DATE.fullmatch(text) is not None and int(text[:4]) not in years
+
+
+def _with(form: str, meant: str) -> str:
+    """Return what a field has to be, and what was probably meant by it."""
+    return Sentence("{form}; {meant}", form=form, meant=meant) if meant else form
 
 
 def _form_of_date(refused: Refused) -> Remedy:
@@ -229,8 +241,12 @@ def _form_of_date(refused: Refused) -> Remedy:
     if meant.writes:
         return Remedy(meant.text)
     first, last = LIMITS["first_year"], LIMITS["last_year"]
-    remedy = f"a day of the calendar, of the years {first} to {last}, such as 2024-03-01"
-    return Remedy(f"{remedy}; {meant.text}" if meant.text else remedy, True)
+    remedy = Sentence(
+        "a day of the calendar, of the years {first} to {last}, such as 2024-03-01",
+        first=first,
+        last=last,
+    )
+    return Remedy(_with(remedy, meant.text), True)
 
 
 # A unit that people think in, how many of the column's own it has, and what these are called.
@@ -259,7 +275,7 @@ def _form_of_number(refused: Refused) -> Remedy:
     name, text = refused.column, refused.text
     low, high = int(refused.values["low"]), int(refused.values["high"])
     if low == high:
-        return Remedy(f"write {low}: a plain stream has no variance")
+        return Remedy(Sentence("write {low}: a plain stream has no variance", low=low))
     found = number_meant(text, low, high, _SCALES.get(name, ()), _UNITS.get(name, {}))
     if found.writes:
         return Remedy(found.text)
@@ -268,8 +284,8 @@ def _form_of_number(refused: Refused) -> Remedy:
         meant = "if there is no figure, leave the row out"
     elif not meant and name == "cost" and re.fullmatch(r"[0-9]+[.,][0-9]+", text):
         meant = "costs may be in any unit, such as cents"
-    range_ = f"a whole number in digits alone, {low:,} to {high:,}"
-    return Remedy(f"{range_}; {meant}" if meant else range_, True)
+    range_ = Sentence("a whole number in digits alone, {low:,} to {high:,}", low=low, high=high)
+    return Remedy(_with(range_, meant), True)
 
 
 _FORMS: dict[Reason, Callable[[Refused], Remedy]] = {
@@ -321,7 +337,7 @@ def _of_period(state: State, record: tuple[str, ...], refused: Refused) -> str:
     if day is not None:
         for period in periods.values():
             if period.first <= day <= period.last:
-                return f"write {period.name}, the period of this day"
+                return Sentence("write {name}, the period of this day", name=period.name)
     return _near(refused.text, periods) or _DECLARE
 
 
@@ -343,7 +359,8 @@ def _of_fact(state: State, record: tuple[str, ...], refused: Refused) -> str:
     if there:
         from plantbal.model.words import a_thing
 
-        return f"{name} is {a_thing(there)}: name a fact by its id"
+        words = {"name": name, "there": a_thing(there)}
+        return Sentence("{name} is {there}: name a fact by its id", **words)
     near = _near(name, state.facts.ids()) if len(state.facts) < _MOST_NEAR else ""
     return near or "correct the id, or book the fact in a row before this one"
 
@@ -353,9 +370,11 @@ def _of_fact(state: State, record: tuple[str, ...], refused: Refused) -> str:
 
 def _of_seal(state: State, record: tuple[str, ...], refused: Refused) -> str:
     after = day_of_number(int(refused.values["after"]))
-    return (
-        "give it dates of service after the closed periods: "
-        f"SINCE {after} or later, and UNTIL {LAST_DAY} if there is no end"
+    return Sentence(
+        "give it dates of service after the closed periods: SINCE {after} or later, and UNTIL "
+        "{last_day} if there is no end",
+        after=after,
+        last_day=LAST_DAY,
     )
 
 
@@ -364,8 +383,9 @@ def _of_stream_kind(state: State, record: tuple[str, ...], refused: Refused) -> 
 
 
 def _of_values(state: State, record: tuple[str, ...], refused: Refused) -> str:
-    has = "a level, a density" if refused.values["there"] == "dip" else "an amount"
-    return f"give it {has} and a variance"
+    if refused.values["there"] == "dip":
+        return "give it a level, a density and a variance"
+    return "give it an amount and a variance"
 
 
 def _of_service(state: State, record: tuple[str, ...], refused: Refused) -> str:
@@ -373,14 +393,17 @@ def _of_service(state: State, record: tuple[str, ...], refused: Refused) -> str:
     since = int(values["since"])
     if values["of"] in state.plant.tables and int(values["day"]) < since:
         eve = day_of_number(since - 1)
-        return f"{_CORRECT_DATE}; the first dip may be of {eve}, the day before"
+        form = (
+            "correct the date, or leave the row out; the first dip may be of {eve}, the day before"
+        )
+        return Sentence(form, eve=Day(eve))
     return _CORRECT_DATE
 
 
 def _of_streams(state: State, record: tuple[str, ...], refused: Refused) -> str:
     if refused.values["version"] == 2:
         return "split the plant into two sessions"
-    return f"write version,2 as the first row: {most_streams(2):,} may be then"
+    return Sentence("write version,2 as the first row: {most:,} may be then", most=most_streams(2))
 
 
 _REMEDIES: dict[Reason, Callable[[State, tuple[str, ...], Refused], str]] = {

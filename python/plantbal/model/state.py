@@ -115,10 +115,15 @@ class State:
         The readings, transfers and dips.
     assays : dict of (str, str, str) to Assay
         The assays by component, stream or tank, and period.
+    grades : dict of (str, str) to dict of str to Assay
+        The same by component and period, and by the stream or tank.
     edits : list of Edit
         The edits and closes, in order.
     passed : dict of FactRule to set
         The streams and the days of which a rule refuses no reading, as far as it was asked.
+    passed_facts : set
+        The kinds with their streams, and the first and last days, of which no rule refuses a reading
+        or a transfer that has its own day and id.
     """
 
     def __init__(self, core: Core | None = None) -> None:
@@ -129,8 +134,10 @@ class State:
         self.periods = Periods()
         self.facts = Facts(self._verify)
         self.assays: dict[tuple[str, str, str], Assay] = {}
+        self.grades: dict[tuple[str, str], dict[str, Assay]] = {}
         self.edits: list[Edit] = []
         self.passed: defaultdict[FactRule, set[Any]] = defaultdict(set)
+        self.passed_facts: set[tuple[object, object]] = set()
 
     def __getstate__(self) -> dict[str, Any]:
         # a session of the library can't be copied; who copies a state asks anew, or has these rules
@@ -210,31 +217,32 @@ class State:
             effect.store(self, at)
             if not isinstance(effect, BooksFact):
                 self.passed.clear()
+                self.passed_facts.clear()
             self.stored = self.stored or not (effect.asks or isinstance(effect, Blank))
         return answer
 
-    def after_run(self, run: ReadingRun) -> set[int]:
-        """Take a run of readings, unless some of them have to be judged by themselves.
+    def takes_run(self, run: ReadingRun) -> bool:
+        """Take a run of readings if each of them is accepted, and say whether it is taken.
 
         Parameters
         ----------
         run : ReadingRun
             The readings.
-
-        Returns
-        -------
-        set of int
-            The places of those: the run is taken if there are none. All others are accepted, and
-            `after_readings` takes them.
         """
-        places = doubtful(self, run)
-        if not places and self.facts.book_run(run):
-            self.stored = True
-            return places
-        return places | self.facts.taken(run)
+        if doubtful(self, run) or not self.facts.book_run(run):
+            return False
+        self.stored = True
+        return True
+
+    def apart(self, run: ReadingRun) -> set[int]:
+        """Return the places of the readings of a run that have to be judged by themselves.
+
+        All others are accepted, and `after_readings` takes them.
+        """
+        return doubtful(self, run) | self.facts.taken(run)
 
     def after_readings(self, run: ReadingRun) -> None:
-        """Take readings of which `after_run` had no doubt, when all before them are taken."""
+        """Take readings of which `apart` had no doubt, when all before them are taken."""
         booked = self.facts.book_run(run)
         assert booked, "its ids and days are nowhere else"
         self.stored = True

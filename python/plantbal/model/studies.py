@@ -7,8 +7,9 @@ has each period's flows, and what the tanks hold between the periods.
 
 from __future__ import annotations
 
-from collections.abc import Iterator
+from collections.abc import Callable, Iterator
 from dataclasses import dataclass, field, replace
+from operator import attrgetter
 
 from plantbal.model.booking import Assay
 from plantbal.model.facts import Fact
@@ -19,10 +20,13 @@ from plantbal.model.state import State
 from plantbal.model.topology import Arc
 
 MOST_VALUE, MOST_VARIANCE = 10**15, 10**22
+_GRAMS: Callable[[Fact], int] = attrgetter("grams")
+_VARIANCE: Callable[[Fact], int] = attrgetter("variance")
+_LINE: Callable[[Fact], int] = attrgetter("line")
 
 
 @dataclass(frozen=True, slots=True)
-class MeasuredStream:
+class StreamMeasurement:
     """What the facts of a period give a stream.
 
     Attributes
@@ -76,7 +80,7 @@ class Study:
 
     seen: Seen
     nodes: list[str]
-    streams: dict[str, MeasuredStream]
+    streams: dict[str, StreamMeasurement]
     places: list[tuple[str, str, str]] = field(default_factory=list)
 
     @property
@@ -153,13 +157,15 @@ def study_of(state: State, seen: Seen) -> Study:
 
 def share(total: int, fact: Fact, period: Period) -> int:
     """Return a period's part of a fact's total, which is spread evenly over the fact's days."""
+    if period.first <= fact.first and fact.last <= period.last:
+        return total
     days = fact.last - fact.first + 1
     before = max(0, period.first - fact.first)
     upto = min(days, period.last - fact.first + 1)
     return total * upto // days - total * before // days
 
 
-def measured_in(state: State, view: View) -> dict[str, MeasuredStream]:
+def measured_in(state: State, view: View) -> dict[str, StreamMeasurement]:
     """Return what the facts of a period give its streams."""
     return {
         each.arc.name: _tank(state, each, view) if each.kind == "tank" else _stream(each, view)
@@ -167,27 +173,30 @@ def measured_in(state: State, view: View) -> dict[str, MeasuredStream]:
     }
 
 
-def _stream(stream: Stream, view: View) -> MeasuredStream:
+def _stream(stream: Stream, view: View) -> StreamMeasurement:
     """Return what its readings or transfers give a stream in a period."""
     period, facts = view.period, view.facts[stream.arc.name]
-    lines = tuple(fact.line for fact in facts)
-    lacks = stream.kind == "metered" and len(facts) < len(stream.days_in(period))
-    if stream.kind == "plain" or lacks:
-        return MeasuredStream(stream.arc, None, None, lines)
-    grams = sum(share(fact.grams, fact, period) for fact in facts)
-    variance = stream.base + sum(share(fact.variance, fact, period) for fact in facts)
-    return MeasuredStream(stream.arc, grams, variance, lines)
+    lines = tuple(map(_LINE, facts))
+    is_metered = stream.kind == "metered"
+    if stream.kind == "plain" or (is_metered and len(facts) < len(stream.days_in(period))):
+        return StreamMeasurement(stream.arc, None, None, lines)
+    if is_metered:  # a reading is of one day
+        grams, variance = sum(map(_GRAMS, facts)), sum(map(_VARIANCE, facts))
+    else:
+        grams = sum(share(fact.grams, fact, period) for fact in facts)
+        variance = sum(share(fact.variance, fact, period) for fact in facts)
+    return StreamMeasurement(stream.arc, grams, stream.base + variance, lines)
 
 
-def _tank(state: State, stream: Stream, view: View) -> MeasuredStream:
+def _tank(state: State, stream: Stream, view: View) -> StreamMeasurement:
     """Return what its dips say that a tank gains in a period."""
     opening, closing = view.dips[stream.arc.name]
     lines = tuple(dip.line for dip in (opening, closing) if dip)
     if opening is None or closing is None:
-        return MeasuredStream(stream.arc, None, None, lines)
+        return StreamMeasurement(stream.arc, None, None, lines)
     grams = state.content(closing) - state.content(opening)
     variance = stream.base + opening.variance + closing.variance
-    return MeasuredStream(stream.arc, grams, variance, lines)
+    return StreamMeasurement(stream.arc, grams, variance, lines)
 
 
 # ---- windows
@@ -197,9 +206,9 @@ Codes = dict[tuple[str, str], str]
 
 def _flows(
     state: State, views: tuple[View, ...], code: Codes
-) -> tuple[dict[str, MeasuredStream], list[tuple[str, str, str]]]:
+) -> tuple[dict[str, StreamMeasurement], list[tuple[str, str, str]]]:
     """Return the flows of a window by their codes, and what each code stands for."""
-    flows: dict[str, MeasuredStream] = {}
+    flows: dict[str, StreamMeasurement] = {}
     places = []
     for turn, view in enumerate(views, 1):
         when, tanks = view.period.name, state.plant.tables
@@ -214,7 +223,7 @@ def _flows(
 
 def _contents(
     state: State, views: tuple[View, ...], code: Codes
-) -> Iterator[tuple[str, str, MeasuredStream]]:
+) -> Iterator[tuple[str, str, StreamMeasurement]]:
     """Give what tanks hold before, between and after the periods: tank, period, content."""
     pairs = list(zip((None, *views), (*views, None)))
     for number, (tank, stream) in enumerate(state.plant.streams.items()):
@@ -227,8 +236,8 @@ def _contents(
             dip = closing if before else opening
             ends = [code[each.period.name, tank] if each else ENV for each in (before, after)]
             arc = Arc(f"c{turn}.{number}", *ends)
-            content = MeasuredStream(arc, None, None)
+            content = StreamMeasurement(arc, None, None)
             if dip is not None:
                 variance = stream.base + dip.variance
-                content = MeasuredStream(arc, state.content(dip), variance, (dip.line,))
+                content = StreamMeasurement(arc, state.content(dip), variance, (dip.line,))
             yield tank, views[max(turn - 1, 0)].period.name, content

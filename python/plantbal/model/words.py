@@ -16,10 +16,13 @@ from plantbal.model.forms import day_text
 from plantbal.model.plant import ENV
 from plantbal.model.remedies import remedy_of
 from plantbal.schema import schema
+from plantbal.sentence import Day, Sentence, counted
 
 if TYPE_CHECKING:
     from plantbal.model.state import State
 
+# Values that are words of rows and kinds, not names.
+_WORDS = ("there", "wanted", "kind", "things")
 # How many fields say which row it is, of kinds that need more than two.
 _FIELDS_OF_HEAD = {"late": 3, "window": 3, "component": 3, "assay": 4}
 
@@ -119,22 +122,32 @@ def said_of(record: tuple[str, ...], refused: Refused) -> str:
     make = _SAYS.get(refused.reason)
     if make is not None:
         return make(record, refused)
-    values = dict(refused.values)
+    values: dict[str, object] = dict(refused.values)
     if "there" in values:
         values["a_there"] = a_thing(str(values["there"]))
+    for name in _WORDS:
+        if name in values:
+            values[name] = Sentence(str(values[name]))
     if "since" in values:
-        days = values["since"], values["until"]
-        values["service"] = " to ".join(day_text(int(day)) for day in days)
-    return _SAID[refused.reason].format(
-        text=refused.text, label=refused.column.upper(), fields=len(record), **values
-    )
+        since, until = (Day(day_text(int(refused.values[end]))) for end in ("since", "until"))
+        values["service"] = Sentence("{since} to {until}", since=since, until=until)
+    values |= {"text": refused.text, "label": refused.column.upper(), "fields": len(record)}
+    return Sentence(_SAID[refused.reason], **values)
 
 
 def a_thing(kind: str) -> str:
     """Return what a name stands for, such as ``a unit``, by `Plant.kind_of`."""
     if kind == ENV:
-        return "the world outside"
-    return f"a {kind} stream" if kind in ("metered", "batch", "plain") else f"a {kind}"
+        return Sentence("the world outside")
+    if kind in _THINGS:
+        return Sentence(_THINGS[kind])
+    return Sentence("a {kind}", kind=kind)
+
+
+_THINGS = {
+    kind: f"a {kind} stream" if kind in ("metered", "batch", "plain") else f"a {kind}"
+    for kind in ("metered", "batch", "plain", "unit", "tank", "boundary", "dip", "reading")
+}
 
 
 # What is said of a field that isn't of its form: of one with a text, and of an empty one.
@@ -144,27 +157,33 @@ FORM_OF_NOTHING = "{label} is empty"
 
 def _of_form(record: tuple[str, ...], refused: Refused) -> str:
     said = FORM_OF_TEXT if refused.text else FORM_OF_NOTHING
-    return said.format(label=refused.values["label"], text=refused.text)
+    return Sentence(said, label=refused.values["label"], text=refused.text)
 
 
 def _of_name(record: tuple[str, ...], refused: Refused) -> str:
-    what = a_thing(str(refused.values["there"]))
-    return f"{refused.text} is {what}" + (" already" if refused.text != ENV else "")
+    form = "{text} is {what}" if refused.text == ENV else "{text} is {what} already"
+    return Sentence(form, text=refused.text, what=a_thing(str(refused.values["there"])))
 
 
 def _of_critical(record: tuple[str, ...], refused: Refused) -> str:
     test, dof = refused.values["test"], refused.values["dof"]
     if test != "global":
-        tests = "nodal tests have" if test == "nodal" else "measurement tests have"
-        return f"{tests} a critical value already"
-    degrees = "1 degree" if dof == 1 else f"{dof} degrees"
-    return f"the global test has a critical value for {degrees} of freedom already"
+        if test == "nodal":
+            return Sentence("nodal tests have a critical value already")
+        return Sentence("measurement tests have a critical value already")
+    return counted(
+        int(dof),
+        "the global test has a critical value for 1 degree of freedom already",
+        "the global test has a critical value for {count} degrees of freedom already",
+    )
 
 
 def _of_id(record: tuple[str, ...], refused: Refused) -> str:
     values = refused.values
-    state = "struck " if values["struck"] else ""
-    return f"the id {refused.text} is that of a {state}{values['kind']} of {values['of']}"
+    form = "the id {text} is that of a {kind} of {of}"
+    if values["struck"]:
+        form = "the id {text} is that of a struck {kind} of {of}"
+    return Sentence(form, text=refused.text, kind=Sentence(str(values["kind"])), of=values["of"])
 
 
 _SAYS: dict[Reason, Callable[[tuple[str, ...], Refused], str]] = {
