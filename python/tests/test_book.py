@@ -21,7 +21,8 @@ from books import (
 )
 from conftest import Desk, text_of
 
-from plantbal.book.meters import decimal, error_text, read_meters
+from plantbal.book.meters import error_text, exact_decimal, read_meters
+from plantbal.book.store import Store
 from plantbal.program import call
 from plantbal.workbook.cells import Error
 
@@ -376,8 +377,9 @@ def test_critical_values_come_alone(book: Type, tmp_path: Path) -> None:
 def test_another_error_of_a_meter(book: Type, tmp_path: Path) -> None:
     streams = [row[:] for row in PLANT["streams"]]
     streams[2][5] = "1.5 t"
-    book("add", folder(tmp_path / "plant", {"streams": streams}))
-    assert read_meters(tmp_path / "mill" / "meters.csv")["PRODUCT"].error == Error(grams=1_500_000)
+    said = book("add", folder(tmp_path / "plant", {"streams": streams}))
+    assert "meters.csv: PRODUCT: error 2 t becomes 1.5 t" in said.out
+    assert read_meters(Store(tmp_path / "mill"))["PRODUCT"].error == Error(grams=1_500_000)
     book("amend", "P-1", "2024-04-02", "1195 t", "--why", "log book")
     assert rows_of(tmp_path)[-1].split(",")[3] == str(1_500_000**2)
 
@@ -492,8 +494,8 @@ def test_what_a_command_has_changed_stays(book: Type, tmp_path: Path) -> None:
     book("strike", "P-1", "2024-04-03", "--why", "frozen")
     before = rows_of(tmp_path)
     said = book("add", tmp_path / "april")
-    assert "F-1_2024-04-02: it stays amended to 1,301 t; april has 1,200 t still" in said.out
-    assert "truck-04: it stays struck; april has 800 t still" in said.out
+    assert "F-1_2024-04-02: it stays amended to 1,301 t; april still has 1,200 t" in said.out
+    assert "truck-04: it stays struck; april still has 800 t" in said.out
     assert rows_of(tmp_path) == before
     sheets = month()
     sheets["readings"][2][1], sheets["readings"][3][2] = "1302", "1191"
@@ -606,7 +608,7 @@ def test_a_book_that_was_changed_by_hand(book: Type, tmp_path: Path) -> None:
 
 def test_errors_as_texts() -> None:
     assert error_text(None) == "" and error_text(Error()) == "0 t"
-    assert decimal(Fraction(-1, 8)) == "-0.125"
+    assert exact_decimal(Fraction(-1, 8)) == "-0.125"
 
 
 # ---- ids that come again

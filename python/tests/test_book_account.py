@@ -210,7 +210,7 @@ def test_reopened_month(refinery: Path, tmp_path: Path, say: Desk) -> None:
     for month in MONTHS[:2]:
         assert typed_("posted", month, "--who", "anna").status == 0
     again = typed_("posted", "2024-01")
-    assert (again.status, "2024-01 is posted already, as 2024-01.1-" in again.err) == (1, True)
+    assert (again.status, "2024-01 is already posted, as 2024-01.1-" in again.err) == (1, True)
     late = folder(tmp_path / "late", {"tickets": LATE})
     assert typed_("add", late, "--locale", "en", "--who", "paul").status == 0
     assert "changed since its report" in typed_("posted", "2024-01").err

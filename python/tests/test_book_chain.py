@@ -12,9 +12,10 @@ from pathlib import Path
 
 import pytest
 from books import Type, files_of, fixture_book, folder, journal_of, month, rows_of
-from conftest import Desk, example, text_of
+from conftest import Desk, text_of
 
-from plantbal.audit.linked import manifest_of
+from plantbal.audit import linked
+from plantbal.audit.linked import bundle_manifest
 from plantbal.book.chain import Chain, checks_of, checks_text
 from plantbal.book.journal import HEAD_TEXT, Act, JournalLine, Kept, chained, read_journal
 from plantbal.book.store import Action, Store
@@ -323,16 +324,74 @@ def test_an_older_copy(mill: Path, book: Type, tmp_path: Path) -> None:
     assert "isn't a head of a book" in book("verify", "--head", "xyz").err
 
 
-def test_files_that_the_journal_does_not_know(mill: Path, book: Type) -> None:
-    """They are noted, and aren't written over."""
-    (mill / "reports" / "2024-05.csv").write_text("mine\n", encoding="utf-8")
-    said = book("verify")
-    assert said.status == 0
-    assert "note: " in said.out and "no action of this book has written it" in said.out
+# What somebody may put into a book's folder, and whether it may be taken as it is.
+PUT = {
+    "mapping.toml": ('form = 1\nlocale = ""\nmissing = ["1200"]\n', True),
+    "accounts.csv": ("name,kind,product\nFEED,loss,WASTE\n", True),
+    "posted/2024-04.1.csv": ("id,period\nx,2024-04\n", False),
+    "reports/2024-05.csv": ("report,2024-05,first\n", False),
+    "rules.toml": ("approvers = 0\n", False),
+}
+
+
+def test_files_that_no_action_has_written(mill: Path, book: Type, tmp_path: Path) -> None:
+    """They aren't used: what reads says so and goes on, what writes stops and says what to do."""
+    before = [book(*words).out for words in (("status",), ("show", "F-1"), ("verify",))]
+    may = folder(tmp_path / "may", month(4, 5))
+    for name, (text, acceptable) in PUT.items():
+        (mill / name).parent.mkdir(exist_ok=True)
+        (mill / name).write_text(text, encoding="utf-8")
+        what = f"{name}: no action of this book has written it, so it isn't used: move it away"
+        what += f"; if it is to stay as it is: plantbal-desk book accept {name} " * acceptable
+        said = [book(*words) for words in (("status",), ("show", "F-1"), ("verify",))]
+        assert [each.status for each in said] == [0, 0, 0], name
+        assert [each.out for each in said[:2]] == before[:2], name
+        assert all(what in each.err + each.out for each in said), name
+        written = [book("add", may), book("report", "2024-04"), book("posted", "2024-04")]
+        assert all(each.status == 1 and what in each.err for each in written), name
+        if not acceptable:
+            assert book("accept", name, "--why", "mine").status == 1, name
+        (mill / name).unlink()
+    (mill / "2025.csv").write_text("version,2\nunit,MILL\n", encoding="utf-8")  # perhaps a workbook
+    assert "2025.csv: no action of this book has written it" in book("verify").out
+    assert book("add", may, "--why", "x").status == 0
+    assert (
+        "2025.csv: no action of this book has written it"
+        in book("next", "2025", "--first", "2024-05-01").err
+    )
+
+
+def test_a_mapping_that_was_put_in_is_taken_for_good(
+    mill: Path, book: Type, tmp_path: Path
+) -> None:
+    """It is in the journal then, what it passes over is said each time, and it is tested."""
+    (mill / "mapping.toml").write_text(PUT["mapping.toml"][0], encoding="utf-8")
+    assert book("accept", "mapping.toml", "--why", "ours").status == 0
+    assert journal_of(mill)[-1][1:3] == ["accept", "mapping.toml"]
+    for _ in range(2):
+        said = book("add", folder(tmp_path / "may", month(4, 5)), "--why", "x")
+        what = "cells with '1200' are taken for missing figures, as --missing has it"
+        assert said.status == 0 and f"readings.csv: line 2, column 2: {what}" in said.out
+    put("mapping.toml", "1200", "1300")(mill)
+    assert "mapping.toml: it isn't what action" in book("status").err
     kept = Store(mill)
-    with kept.opened(), pytest.raises(InputFault, match="it isn't overwritten"):
-        kept.do(Action(Act.REPORT, "2024-05", written={"reports/2024-05.csv": "x\n"}))
-    assert text_of(mill / "reports" / "2024-05.csv") == "mine\n"
+    with pytest.raises(InputFault, match="it isn't overwritten"), kept.opened(tested=False):
+        (mill / "accounts.csv").write_text("mine\n", encoding="utf-8")
+        kept.do(Action(Act.REPORT, "2024-05", written={"accounts.csv": "x\n"}))
+
+
+def test_a_file_that_is_changed_meanwhile_is_not_used(mill: Path) -> None:
+    """What a command reads is what it has tested, and what it writes."""
+    kept = Store(mill)
+    with kept.opened():
+        before = kept.text("2024.csv")
+        kept.do(Action(Act.REPORT, "2024-04", written={"reports/2024-04.csv": "x\n"}))
+        assert (kept.text("2024.csv"), kept.text("reports/2024-04.csv")) == (before, "x\n")
+        put("2024.csv", "02,FEED,2024-04-02,12", "02,FEED,2024-04-02,13")(mill)
+        with pytest.raises(InputFault, match="while this command was at work"):
+            kept.text("2024.csv")
+        with pytest.raises(InputFault, match="while this command was at work"):
+            kept.do(Action(Act.REPORT, "2024-04", seen=["2024.csv"]))
 
 
 def test_what_stood_there(mill: Path, book: Type) -> None:
@@ -473,7 +532,6 @@ def test_rows_stay(mill: Path, tmp_path: Path) -> None:
 def test_bundles_are_a_chain(mill: Path, book: Type, say: Desk, tmp_path: Path) -> None:
     """Each names the head of the book and the bundle before it; an older copy is told by them."""
     session = tmp_path / "plant.csv"
-    session.write_bytes(example("two_meters.csv").read_bytes())
     time_ = ("--time", "2024-05-02T06:00:00Z", "--plant", "mill")
     bundles: list[Path] = []
     for number in range(3):
@@ -483,9 +541,12 @@ def test_bundles_are_a_chain(mill: Path, book: Type, say: Desk, tmp_path: Path) 
         bundles.append(tmp_path / f"{number}.zip")
         before = ("--before", bundles[-2]) if number else ()
         out = ("--out", bundles[-1])
-        assert say("archive", session, *out, "--book", mill, *before, *time_).status == 0
+        session.write_text(text_of(mill / "2024.csv") + "report,2024-04\n", encoding="utf-8")
+        assert say("archive", session, *out, "--book", mill, *before, *time_).status in (0, 1)
     assert book("verify", *bundles).status == 0
-    heads = [(manifest_of(str(path)).book, manifest_of(str(path)).before) for path in bundles]
+    heads = [
+        (bundle_manifest(str(path)).book, bundle_manifest(str(path)).before) for path in bundles
+    ]
     assert [head["number"] for head, _ in heads] == ["6", "7", "8"] and heads[0][1] == {}
     assert [before["head"] for _, before in heads[1:]] == [head["head"] for head, _ in heads[:-1]]
     assert say("audit", "--no-program", bundles[1]).status == 0
@@ -494,10 +555,17 @@ def test_bundles_are_a_chain(mill: Path, book: Type, say: Desk, tmp_path: Path) 
     said = say("book", "verify", *bundles, "--book", tmp_path / "older")
     assert said.status == 1
     assert f"{bundles[2]}: this book doesn't have the head of action 8" in said.out
-    session.write_text(text_of(mill / "2024.csv") + "report,2024-04\n", encoding="utf-8")
-    bundles.append(tmp_path / "own.zip")
-    out = ("--out", bundles[-1], "--before", bundles[0])
-    assert say("archive", session, *out, "--book", mill, *time_).status in (0, 1)
+    for rows in ("amend,F-1_2024-04-01,9000000,1,typed\n", None):  # more rows, and others
+        text = text_of(mill / "2024.csv")
+        text = text.replace(",8000,", ",8001,") if rows is None else text + rows
+        session.write_text(text + "report,2024-04\n", encoding="utf-8")
+        bundles.append(tmp_path / f"{len(bundles)}.zip")
+        out = ("--out", bundles[-1], "--before", bundles[0])
+        said = say("archive", session, *out, "--book", mill, *time_)
+        assert said.status == 1 and "this session isn't one of " in said.err, said
+        with pytest.MonkeyPatch.context() as patch:
+            patch.setattr(linked, "rows_in", lambda *_: "2024.csv")
+            assert say("archive", session, *out, "--book", mill, *time_).status in (0, 1)
     book("amend", "F-1", "2024-04-01", "9 t", "--why", "x")
     for number, words, kind, what in (
         (0, (), "note", "it names the head of a book of action 6 "),
@@ -510,8 +578,9 @@ def test_bundles_are_a_chain(mill: Path, book: Type, say: Desk, tmp_path: Path) 
         ),
         (1, ("--before", bundles[2]), "wrong", f"and {bundles[2]} is "),
         (0, ("--before", bundles[1]), "wrong", "it names no bundle before it"),
-        (0, ("--book", mill), "wrong", "its session doesn't begin with the rows that a year of "),
-        (3, ("--book", mill), "good", "begins with the rows of 2024.csv as they were by then"),
+        (0, ("--book", mill), "good", "its session has the rows of 2024.csv as they were by then"),
+        (3, ("--book", mill), "wrong", "its session doesn't have the rows, and no others, that a"),
+        (4, ("--book", mill), "wrong", "its session doesn't have the rows, and no others, that a"),
         (3, ("--book", tmp_path / "older"), "wrong", "doesn't have the head of action 8"),
     ):
         said = say("audit", "--no-program", bundles[number], *words)
@@ -519,16 +588,20 @@ def test_bundles_are_a_chain(mill: Path, book: Type, say: Desk, tmp_path: Path) 
         assert any(what in line for line in found), (number, words, said.out)
         assert said.status == (1 if kind == "wrong" else 0), (number, words, said.out)
     put("plant.csv", "unit,MILL", "unit,MILK")(mill)
-    said = say("archive", session, "--out", tmp_path / "3.zip", "--book", mill)
+    said = say("archive", session, "--out", tmp_path / "no.zip", "--book", mill)
     assert (
-        said.status == 1 and "plant.csv: line 2" in said.err and not (tmp_path / "3.zip").exists()
+        said.status == 1 and "plant.csv: line 2" in said.err and not (tmp_path / "no.zip").exists()
     )
 
 
-def test_the_statement_names_the_head(mill: Path, book: Type, say: Desk, tmp_path: Path) -> None:
-    page = tmp_path / "page.html"
-    report = example("two_meters.out.csv")
-    assert say("page", report, "--book", mill, "--out", page).status in (0, 1)
+def test_the_statement_names_the_head(book: Type, say: Desk, tmp_path: Path) -> None:
+    mill = tmp_path / "mill"
+    page, session = tmp_path / "page.html", tmp_path / "s.csv"
     head = book("head").out.strip()
+    session.write_text(text_of(mill / "2024.csv") + "unit,X\nreport,2024-04\n", encoding="utf-8")
+    said = say("page", session, "--run", "--book", mill, "--out", page)
+    assert "s.csv isn't of " in said.err and head not in text_of(page)
+    session.write_text(text_of(mill / "2024.csv") + "report,2024-04\n", encoding="utf-8")
+    assert say("page", session, "--run", "--book", mill, "--out", page).status in (0, 1)
     assert "Head of the book" in text_of(page) and head in text_of(page)
     assert book("verify", "--head", head).status == 0

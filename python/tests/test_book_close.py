@@ -9,6 +9,9 @@ import pytest
 from books import Type, fixture_book, folder, journal_of, month
 from conftest import Desk, text_of
 
+from plantbal import Book
+from plantbal.book.posting import NotPosted
+
 __all__ = ["fixture_book"]
 
 REASONS = ("--anyway", "missing=both meters are read from the 4th on")
@@ -118,3 +121,41 @@ def test_where_to_look_is_said_in_the_sales_unit(book: Type, say: Desk, tmp_path
     report, words = tmp_path / "mill/reports/2024-04.csv", ("--session", tmp_path / "s.csv")
     assert found[1] in say("page", report, *words, "--book", tmp_path / "mill").out
     assert " bbl" not in say("page", report, *words).out
+
+
+def test_a_report_that_is_rejected_is_not_posted(book: Type, tmp_path: Path) -> None:
+    whole = month(last=30)
+    whole["tickets"][1][3] = "35544"  # so that the month closes
+    assert book("add", folder(tmp_path / "whole", whole), "--why", "all of it").status == 0
+    closed = book("close", "2024-04")
+    assert closed.status == 0, closed
+    assert book("posted", "2024-04").status == 0
+    assert book("amend", "F-1", "2024-04-02", "9200 t", "--why", "a digit").status == 0
+    assert "changed since its report" in book("posted", "2024-04").err
+    assert book("report", "2024-04").status in (0, 1)
+    for words in ((), ("--anyway",), ("--anyway", "missing=none is")):
+        said = book("posted", "2024-04", *words)
+        assert said.status == 1 and "isn't posted: 2024-04 is rejected by the" in said.err, said
+        words = "plantbal-desk book posted 2024-04 --anyway 'rejected=REASON'"
+        assert said.err.endswith(f"posted all the same: {words}\n"), said
+    with pytest.raises(NotPosted, match="rejected"):
+        Book(tmp_path / "mill").handed("2024-04")
+    said = book("posted", "2024-04", "--anyway", "rejected=the meter is out", "--why", "late")
+    assert said.status == 0, said
+    assert Book(tmp_path / "mill").handed("2024-04").posting
+    line = journal_of(tmp_path / "mill")[-1]
+    assert line[3].endswith(" anyway rejected") and line[4] == "late | the meter is out"
+
+
+def test_what_the_close_has_a_reason_for_is_not_asked_again(book: Type) -> None:
+    assert book("close", "2024-04", *REASONS).status == 0
+    assert book("posted", "2024-04").status == 0
+    assert book("amend", "truck-04", "801 t", "--why", "a digit").status == 0
+    assert book("report", "2024-04").status in (0, 1)
+    said = book("posted", "2024-04")
+    assert said.status == 0, said
+    assert book("strike", "F-1", "2024-04-03", "--why", "out of it").status == 0
+    assert book("amend", "truck-04", "802 t", "--why", "a digit").status == 0
+    assert book("report", "2024-04").status in (0, 1)
+    said = book("posted", "2024-04")  # another day is missing
+    assert said.status == 1 and "--anyway 'missing=REASON'" in said.err, said

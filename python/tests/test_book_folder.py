@@ -360,7 +360,7 @@ def test_reports_never_meet(tmp_path: Path, book: Type) -> None:
             "reports/2024-04.1.csv": "report,2024-04,went out\n",
         }
         kept.do(action)
-    from plantbal.book.reporting import keep
+    from plantbal.book.reporting import write_and_keep
     from plantbal.book.years import Years
 
     for period, closed, text in (
@@ -371,7 +371,7 @@ def test_reports_never_meet(tmp_path: Path, book: Type) -> None:
     ):
         with kept.opened():
             action = Action(Act.REPORT, period)
-            assert keep(kept, action, Years(kept).last, period, text, closed)
+            assert write_and_keep(kept, action, Years(kept).last, period, text, closed)
             kept.do(action)
     reports = {
         str(path.relative_to(mill / "reports")): text_of(path).strip().split(",")[-1]

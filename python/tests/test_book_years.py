@@ -21,7 +21,7 @@ from books import (
 )
 from conftest import Desk, Said
 
-from plantbal.book.contents import contents_of
+from plantbal.book.contents import grams_by_program
 from plantbal.book.ledger import BookFact
 
 __all__ = ["fixture_book", "fixture_two"]
@@ -107,7 +107,7 @@ def test_contents_by_the_program(program: Path, first: tuple[int, int]) -> None:
     day = datetime.date(2024, 4, 30)
     dip = BookFact("dip", "d", "T", day, day, (777, 861_234), 1)
     volume = first[1] + (777 - first[0]) * (99_999_999 - first[1]) // (9999 - first[0])
-    assert contents_of(plant, [dip]) == {"T": volume * 861_234 // 10**6}
+    assert grams_by_program(plant, [dip]) == {"T": volume * 861_234 // 10**6}
 
 
 def test_a_ticket_with_the_id_of_another_year(two: Type, tmp_path: Path) -> None:

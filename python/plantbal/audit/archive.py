@@ -10,7 +10,7 @@ import sys
 from dataclasses import replace
 from pathlib import Path
 
-from plantbal.audit.believed import judge
+from plantbal.audit.believed import require_believed
 from plantbal.audit.bundle import (
     MANIFEST,
     MEASURED,
@@ -59,7 +59,7 @@ SESSION is a file; `-` is standard input. The program is run, and the bundle is 
 The zip ends with a comment that has the digest of all bytes before it.
 
 With --key the bundle is signed, by `ssh-keygen -Y sign` or minisign, and with --stamps a server
-stamps the time of that; both are beside it.
+stamps the time of that; both files are written beside it.
 
 The same session, command line, program and time give the same bytes. The time is that of --time, or else
 that of the variable SOURCE_DATE_EPOCH, or else now. An existing bundle isn't overwritten.
@@ -86,7 +86,7 @@ def program_of(path: Path) -> dict[str, str]:
     }
 
 
-def time_of(text: str | None) -> str:
+def bundle_time(text: str | None) -> str:
     """Return the time of a bundle, in UTC and whole seconds.
 
     Raises
@@ -171,7 +171,7 @@ def add_arguments(parser: argparse.ArgumentParser) -> None:
     parser.add_argument("--time", metavar="TIME", help=time)
     book = "the book that the session is from: the bundle names the head of its chain"
     parser.add_argument("--book", metavar="FOLDER", help=book)
-    before = "the plant's bundle before this one, which it names by its digest"
+    before = "the plant's previous bundle, whose digest this one records"
     parser.add_argument("--before", metavar="BUNDLE", help=before)
     add_signing(parser)
     add_timeout(parser)
@@ -195,7 +195,7 @@ def _write(path: str, data: bytes) -> bool:
     raise Fault(what, place=Place(file=path), remedy="name another file with --out")
 
 
-def plant_of(options: argparse.Namespace) -> str:
+def plant_name(options: argparse.Namespace) -> str:
     """Return what the plant is called: by its word, or by the name of the session's file.
 
     Raises
@@ -233,7 +233,7 @@ def run(options: argparse.Namespace) -> int:
 
     if options.session == "-" and sys.stdin.isatty():
         print("reading standard input, up to Ctrl-D", file=sys.stderr)
-    made, plant = time_of(options.time), plant_of(options)
+    made, plant = bundle_time(options.time), plant_name(options)
     source, session = read_bytes(options.session, SESSION_BYTES)
     words = words_of(
         tests=not options.no_tests,
@@ -241,6 +241,7 @@ def run(options: argparse.Namespace) -> int:
         gap=options.gap,
         sweeps=options.sweeps,
     )
+    book = named_book(options.book, session, source)
     program = find_program(options.program)
     try:
         with Progress(options.prog, session) as progress:
@@ -250,7 +251,7 @@ def run(options: argparse.Namespace) -> int:
     except ProgramFault as fault:
         print(f"{options.prog}: {source}: {fault}", file=sys.stderr)
         return fault.ends
-    judge(written, f"the output of {source}", program)
+    require_believed(written, f"the output of {source}", program)
     output = parse_report(written.decode("utf-8"), f"the output of {source}", status)
     period = period_of(output, options.period)
     stated = Manifest(
@@ -266,7 +267,7 @@ def run(options: argparse.Namespace) -> int:
         reports=[],
         refused=0,
         files={},
-        book=named_book(options.book),
+        book=book,
         before=named_bundle(options.before),
         approvals=named_approvals(options.book, period),
     )

@@ -25,7 +25,7 @@ def places_of(record: Record) -> dict[str, int]:
     return {name: number for number, name in enumerate(names, 1)}
 
 
-def values_of(record: Record | None) -> Values:
+def values_by_column(record: Record | None) -> Values:
     """Return the fields of a row by their columns; an older row has no least bounds."""
     if record is None:
         return {}
@@ -55,7 +55,7 @@ class ReportBlock:
 
     def all_of(self, kind: str) -> list[Values]:
         """Return the rows of a kind by their columns."""
-        return [values_of(record) for record, _ in self.rows if record.fields[0] == kind]
+        return [values_by_column(record) for record, _ in self.rows if record.fields[0] == kind]
 
     @property
     def nodes(self) -> list[str]:
@@ -81,7 +81,7 @@ def asked(block: ReportBlock, verdict: Values) -> str:
         The `no` row of the check.
     """
     code, name = int(verdict["code"]), verdict["name"]
-    stream = values_of(block.find("stream", name)) if name else {}
+    stream = values_by_column(block.find("stream", name)) if name else {}
     if code == 1 and stream:
         return _class(stream)
     if code == 2 and stream:
@@ -174,7 +174,7 @@ def _balance(block: ReportBlock, verdict: Values) -> str:
 
 def _state(block: ReportBlock, verdict: Values) -> str:
     """Return which state the gap and the sweeps ask for."""
-    solved, head = values_of(block.find("solved")), values_of(block.find("report"))
+    solved, head = values_by_column(block.find("solved")), values_by_column(block.find("report"))
     try:
         size = int(solved["g"]) << int(solved["h"])
         met = size * 1000 <= int(head["gap"]) << 20
@@ -200,7 +200,7 @@ def _nodal(block: ReportBlock, verdict: Values) -> str:
         return (
             f"{rows} expected, one for each balance that is measured all round, and {there} there"
         )
-    row, nodes = values_of(block.find("nodal", name, "node")), block.nodes
+    row, nodes = values_by_column(block.find("nodal", name, "node")), block.nodes
     if stated not in (row.get("net"), row.get("variance")) and found.isdecimal():
         wanted = nodes[int(found)] if int(found) < len(nodes) else "another node"
         return f"the row of {wanted} belongs here, in the order of the nodes, and {name} is written"
@@ -211,11 +211,13 @@ def _verdict(block: ReportBlock, name: str) -> str:
     """Return which verdict follows from the numbers of a row."""
     try:
         if not name:
-            solved, whole = values_of(block.find("solved")), values_of(block.find("global"))
+            solved, whole = values_by_column(block.find("solved")), values_by_column(
+                block.find("global")
+            )
             if solved["dof"] == "0":
                 return "there are no degrees of freedom, so the verdict is notest"
             return _by_numbers(solved["low"], solved["high"], whole["critical"])
-        nodal = values_of(block.find("nodal", name, "node"))
+        nodal = values_by_column(block.find("nodal", name, "node"))
         if nodal:
             squared = str(1000 * int(nodal["net"]) ** 2)
             critical = nodal["critical"]
@@ -224,7 +226,7 @@ def _verdict(block: ReportBlock, name: str) -> str:
             if wanted != nodal["verdict"]:
                 said = "the square of NET over VARIANCE, in thousandths,"
                 return f"{said} against CRITICAL has the verdict {wanted}"
-        row = values_of(block.find("measure", name, "stream"))
+        row = values_by_column(block.find("measure", name, "stream"))
         return _by_numbers(row["low"], row["high"], row["critical"])
     except (KeyError, ValueError):
         return "the verdict has to follow from the numbers in its row and the critical value"

@@ -14,7 +14,9 @@ from plantbal.faults import Fault, InputFault, Place, unread
 from plantbal.program import find_program
 
 
-def judge(report: bytes, source: str, program: str | Path | None = None) -> None:
+def require_believed(
+    report: bytes, source: str, program: str | Path | None = None, remedy: str = ""
+) -> None:
     """Refuse a report that doesn't agree with itself.
 
     Parameters
@@ -25,6 +27,8 @@ def judge(report: bytes, source: str, program: str | Path | None = None) -> None
         What it is called in what is said.
     program : str or Path, optional
         The program that wrote it, as `find_program` takes it; it is named in what is said.
+    remedy : str
+        What to do about it, if it isn't known which program wrote it.
 
     Raises
     ------
@@ -43,7 +47,8 @@ def judge(report: bytes, source: str, program: str | Path | None = None) -> None
             what,
             place=Place(file=source),
             text=row[0],
-            remedy=f"nothing of it is kept: {_writer(program)} wrote a report that doesn't pass "
+            remedy=remedy
+            or f"nothing of it is kept: {_writer(program)} wrote a report that doesn't pass "
             "the check; use the plantbal that is installed with this package, and if it is that, "
             "try another machine",
         )

@@ -37,7 +37,7 @@ Without a bundle the command line is that of --words, or else the one that the r
 
 With --no-program the program isn't run and need not be there; the checker in plain Python and the
 comparison with the session remain. A note says what isn't compared then. With --timeout the program
-is stopped after that many seconds; the audit then doesn't hold.
+is stopped after that many seconds, and the audit then fails.
 
 The status is 1 if anything is wrong, and with --strict also if there is a note; otherwise it is 0.
 
@@ -62,9 +62,12 @@ def add_arguments(parser: argparse.ArgumentParser) -> None:
     parser.add_argument("--no-program", action="store_true", help="don't run the program")
     parser.add_argument("--strict", action="store_true", help="status 1 on notes too")
     add_json(parser)
-    book = "the book whose head the bundle names: it has to have it, and the session's rows by then"
+    book = (
+        "the book whose head the bundle names: it has to have that head, and the session's rows up "
+        "to it"
+    )
     parser.add_argument("--book", metavar="FOLDER", help=book)
-    before = "the bundle that this one names as the one before it: it has to be the same"
+    before = "the previous bundle, which has to be the one that this bundle names"
     parser.add_argument("--before", metavar="BUNDLE", help=before)
     add_signers(parser)
     add_timeout(parser)

@@ -12,7 +12,7 @@ from itertools import islice, zip_longest
 from types import SimpleNamespace as Row
 
 from plantbal import checker
-from plantbal.audit.held import Differs, columns_of
+from plantbal.audit.held import Differs, fields_by_column
 from plantbal.model.ledger import Declared, Ledger
 from plantbal.records import Record, read_records
 
@@ -20,7 +20,7 @@ Design = list[Record]  # its `design` row, and its `class` rows
 _KINDS = {"yes": ("redundant", "nonredundant"), "no": ("observable", "unobservable")}
 
 
-def designs_of(output: bytes) -> Iterator[Design]:
+def audited_designs(output: bytes) -> Iterator[Design]:
     """Give the designs of an output, in order."""
     found: Design = []
     for record in read_records(output):
@@ -36,7 +36,7 @@ def designs_of(output: bytes) -> Iterator[Design]:
 
 def designs_differ(output: bytes, ledger: Ledger) -> Iterator[Differs]:
     """Give the places at which the designs of an output aren't those of its session."""
-    for design, declared in zip_longest(designs_of(output), ledger.designs):
+    for design, declared in zip_longest(audited_designs(output), ledger.designs):
         if declared is None:
             yield Differs(design[0].line, "there is a design, and the session asks for none here")
         elif design is None:
@@ -47,7 +47,7 @@ def designs_differ(output: bytes, ledger: Ledger) -> Iterator[Differs]:
 
 def _design_differs(design: Design, declared: Declared) -> Iterator[Differs]:
     """Give the places at which a design isn't that of a plant."""
-    rows = [columns_of(record) for record in design]
+    rows = [fields_by_column(record) for record in design]
     stated = rows[0].get("nodes"), rows[0].get("streams"), len(rows) - 1
     nodes, streams = len(declared.nodes), len(declared.streams)
     if stated != (str(nodes), str(streams), streams):

@@ -3,11 +3,11 @@ says of it."""
 
 from __future__ import annotations
 
-from collections.abc import Iterator, Mapping
+from collections.abc import Iterable, Iterator, Mapping
 from dataclasses import dataclass, field, replace
 
 from plantbal.model.ledger import Ledger
-from plantbal.model.studies import MeasuredStream, Study
+from plantbal.model.studies import StreamMeasurement, Study
 from plantbal.records import Record, read_records
 from plantbal.schema import schema
 
@@ -59,18 +59,23 @@ class AnsweredRow:
         found = {}
         for record in self.blocks[-1] if self.blocks else ():
             if record.fields[0] == "stream":
-                row = columns_of(record)
-                flow = number_of(row.get("flow", "")) or 0
+                row = fields_by_column(record)
+                flow = whole_or_none(row.get("flow", "")) or 0
                 found[row.get("name", "")] = flow, row.get("class") == "unobservable"
         return found
 
 
-def answers_of(data: bytes) -> list[AnsweredRow]:
+def answered_rows(data: bytes) -> list[AnsweredRow]:
     """Return what an output says of each report, window and balance, in order."""
+    return answers_in(read_records(data))
+
+
+def answers_in(records: Iterable[Record]) -> list[AnsweredRow]:
+    """Return what the records of an output say of each report, window and balance, in order."""
     found: list[AnsweredRow] = []
     inside = False
     component, places = "", list[Record]()
-    for record in read_records(data):
+    for record in records:
         fields = (*record.fields, "", "", "", "")
         if fields[0] == "component":
             component = fields[1]
@@ -93,7 +98,7 @@ def answers_of(data: bytes) -> list[AnsweredRow]:
     return found
 
 
-def columns_of(record: Record) -> dict[str, str]:
+def fields_by_column(record: Record) -> dict[str, str]:
     """Return the fields of a row by its columns."""
     row = schema().output[record.fields[0]]
     short = row.without and len(record.fields) == len(row.older) + 1
@@ -121,7 +126,7 @@ def grams(number: int | None) -> str:
     return "none" if number is None else f"{number:,}"
 
 
-def number_of(text: str) -> int | None:
+def whole_or_none(text: str) -> int | None:
     """Return the whole number of a field, or nothing if it is empty or none."""
     try:
         return int(text) if text else None
@@ -129,7 +134,7 @@ def number_of(text: str) -> int | None:
         return None
 
 
-def carried(seen: Study, flows: Mapping[str, tuple[int, bool]]) -> dict[str, MeasuredStream]:
+def carried(seen: Study, flows: Mapping[str, tuple[int, bool]]) -> dict[str, StreamMeasurement]:
     """Return what the streams carry of a component, by the flows of the period's last round.
 
     Parameters
@@ -142,11 +147,11 @@ def carried(seen: Study, flows: Mapping[str, tuple[int, bool]]) -> dict[str, Mea
     found = {}
     for name, mass in seen.streams.items():
         grade, (flow, is_unobservable) = seen.grades.get(name), flows.get(name, (0, True))
-        found[name] = MeasuredStream(mass.arc, None, None)
+        found[name] = StreamMeasurement(mass.arc, None, None)
         if grade is not None and not is_unobservable:
             value = flow * grade.ppm // PPM
             variance = -(-flow * flow * grade.variance // PPM**2) + 1
-            found[name] = MeasuredStream(mass.arc, value, variance, (grade.line,))
+            found[name] = StreamMeasurement(mass.arc, value, variance, (grade.line,))
     return found
 
 
@@ -165,7 +170,7 @@ def block_differs(block: list[Record], seen: Study, taken: list[str]) -> Iterato
     nodes = [record for record in block if record.fields[0] == "node"]
     streams = [record for record in block if record.fields[0] == "stream"]
     for record, name in zip(nodes, seen.nodes):
-        said = columns_of(record).get("name", "")
+        said = fields_by_column(record).get("name", "")
         if said != name:
             yield Differs(record.line, f"found node {said} where the session has {name}")
     if len(nodes) != len(seen.nodes):
@@ -180,10 +185,10 @@ def block_differs(block: list[Record], seen: Study, taken: list[str]) -> Iterato
 
 
 def _stream_differs(
-    record: Record, name: str, measured: MeasuredStream, taken: bool
+    record: Record, name: str, measured: StreamMeasurement, taken: bool
 ) -> Iterator[Differs]:
     """Give the columns of a stream row that aren't those of the session."""
-    row = columns_of(record)
+    row = fields_by_column(record)
     arc = measured.arc
     ends = (row.get("name"), row.get("from"), row.get("to"))
     if ends != (name, arc.from_, arc.to):
@@ -196,7 +201,7 @@ def _stream_differs(
         ("variance", measured.variance, " g2"),
     ):
         found = None if taken else found
-        stated = number_of(row.get(column, ""))
+        stated = whole_or_none(row.get(column, ""))
         if column == "variance" and (row.get("value") == "") != (found is None):
             continue  # the value said it
         if stated != found:
@@ -211,12 +216,12 @@ def _critical_differ(block: list[Record], seen: Study) -> Iterator[Differs]:
     dof = 0
     for record in block:
         kind = record.fields[0]
-        row = columns_of(record) if kind in schema().output else {}
+        row = fields_by_column(record) if kind in schema().output else {}
         if kind == "solved":
-            dof = number_of(row.get("dof", "")) or 0
+            dof = whole_or_none(row.get("dof", "")) or 0
         if kind in ("global", "nodal", "measure"):
             found = seen.critical.get((kind, dof if kind == "global" else 0))
-            stated = number_of(row.get("critical", ""))
+            stated = whole_or_none(row.get("critical", ""))
             if stated != found:
                 of = f"at {dof} degrees of freedom" if kind == "global" else "of these tests"
                 name = row.get("node") or row.get("stream") or ""
@@ -232,7 +237,7 @@ def refused_differ(output: bytes, ledger: Ledger) -> Iterator[Differs]:
     stated = {}
     for record in read_records(output):
         if record.fields[0] == "refused" and len(record.fields) > 2:
-            stated[number_of(record.fields[1])] = (record.line, record.fields[2])
+            stated[whole_or_none(record.fields[1])] = (record.line, record.fields[2])
     found = {each.place.record: each for each in ledger.refused}
     for number, (line, code) in stated.items():
         if number not in found:

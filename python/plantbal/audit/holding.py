@@ -9,9 +9,9 @@ from plantbal import checker
 from plantbal.audit.asks import some
 from plantbal.audit.changed import digest
 from plantbal.audit.designs import designs_differ
-from plantbal.audit.held import Pair, answers_of, pairs_of, refused_differ
+from plantbal.audit.held import Pair, answered_rows, pairs_of, refused_differ
 from plantbal.audit.said import Audit, Audited, SentenceKind, differs_at
-from plantbal.audit.summary import blocks_named, said_of
+from plantbal.audit.summary import block_said, blocks_named
 from plantbal.audit.verdicts import explain_check
 from plantbal.audit.verify import second_verdict
 from plantbal.commands.progress import Progress
@@ -81,7 +81,7 @@ def check_twice(
             audit.add(
                 SentenceKind.GOOD if same else SentenceKind.WRONG, f"{given.report}: {sentence}"
             )
-    if not rows and not any(answer.over for answer in answers_of(given.output)):
+    if not rows and not any(answer.over for answer in answered_rows(given.output)):
         what = "a report has blocks from `report` to `end`" if given.output else "the file is empty"
         audit.add(SentenceKind.WRONG, f"{given.report}: there is no block to check: {what}")
     if any(row[0] != "yes" for row in rows):
@@ -95,7 +95,7 @@ def hold(audit: Audit, given: Audited, verdicts: list[str], checks: str) -> None
     ledger = Ledger(given.session, given.data)
     for each in chain(refused_differ(given.output, ledger), designs_differ(given.output, ledger)):
         audit.add(SentenceKind.WRONG, _at(given, each.line, each.text))
-    answers = answers_of(given.output)
+    answers = answered_rows(given.output)
     if len(ledger.seen) != len(answers):
         count = len(ledger.seen)
         asked = "1 report" if count == 1 else f"{count} reports"
@@ -172,7 +172,7 @@ def _block_holds(audit: Audit, block: Block, named: NamedBlock) -> None:
     if block.component and not named.is_loose:
         by = "those of the assays and of the period's flows"
     what = f"flows balance, and {named.checks}; {values} are {by}"
-    audit.add(SentenceKind.GOOD, f"{named.name}: {what}; {said_of(block)}; {book}")
+    audit.add(SentenceKind.GOOD, f"{named.name}: {what}; {block_said(block)}; {book}")
     if named.last and (block.whole or {}).get("verdict") == "reject":
         what = "the global test rejects: the measurements don't fit together"
         audit.add(SentenceKind.NOTE, f"{named.name}: {what}")

@@ -7,7 +7,7 @@ made anew is told by the one after it, and an older copy of the book by any bund
 from __future__ import annotations
 
 import hashlib
-from collections.abc import Iterator
+from collections.abc import Iterable, Iterator
 from dataclasses import dataclass
 from typing import TYPE_CHECKING
 
@@ -17,10 +17,14 @@ from plantbal.audit.said import SentenceKind
 from plantbal.faults import InputFault, Place, read_bytes
 
 if TYPE_CHECKING:
+    from plantbal.book.journal import JournalLine
     from plantbal.book.store import Store
 
+# The kinds of rows that ask for output, and change nothing.
+_ASKING = frozenset((b"report", b"component", b"history", b"window", b"design", b"advise"))
 
-def manifest_of(path: str) -> Manifest:
+
+def bundle_manifest(path: str) -> Manifest:
     """Return the manifest of a bundle.
 
     Parameters
@@ -41,20 +45,97 @@ def manifest_of(path: str) -> Manifest:
     return Manifest.read(found.files[MANIFEST])
 
 
-def named_book(folder: str | None) -> dict[str, str]:
+def named_book(
+    folder: str | None, session: bytes | None = None, source: str = ""
+) -> dict[str, str]:
     """Return what a manifest says of the book in a folder; nothing without a folder.
+
+    Parameters
+    ----------
+    folder : str or None
+        The folder.
+    session : bytes, optional
+        The session that is to be of the book.
+    source : str
+        What the session is called.
 
     Raises
     ------
     Fault
-        If there is no book, one of its files was changed, or its journal has no digests yet.
+        If there is no book, one of its files was changed, its journal has no digests yet, or the
+        session isn't of the book.
     """
     if folder is None:
         return {}
-    from plantbal.book.verifying import head_of
+    from plantbal.book.store import Store
 
-    head = head_of(folder)
+    book = Store(folder)
+    with book.opened(reading=True):
+        head = book.head
+        if session is not None and not rows_in(book.journal(), session):
+            raise InputFault(
+                f"this session isn't one of {folder}: it hasn't the rows of a year as they are there",
+                place=Place(file=source),
+                remedy="plantbal-desk book report PERIOD --session FILE writes the one that is",
+            )
     return {"number": str(head.number), "head": head.digest}
+
+
+def rows_in(lines: Iterable[JournalLine], session: bytes) -> str:
+    """Return the file of a year whose rows a session has, and none but rows that ask for output.
+
+    Parameters
+    ----------
+    lines : iterable of JournalLine
+        The journal of the book, up to some action.
+    session : bytes
+        The session.
+
+    Returns
+    -------
+    str
+        The file; empty if the session is of no year of the book as it was after that action.
+    """
+    from plantbal.book.chain import state_of
+    from plantbal.book.forms import is_year_file
+
+    for name, kept in state_of(lines).items():
+        if is_year_file(name) and kept.size is not None:
+            begin, asked = session[: kept.size], session[kept.size :]
+            if hashlib.sha256(begin).hexdigest() == kept.digest and only_asks(asked):
+                return name
+    return ""
+
+
+def was_in(folder: str, session: bytes) -> bool:
+    """Say whether a session has the rows of a year of a book as they are, or once were.
+
+    Raises
+    ------
+    Fault
+        If there is no book, or one of its files was changed.
+    """
+    from plantbal.book.forms import is_year_file
+    from plantbal.book.store import Store
+
+    book = Store(folder)
+    with book.opened(reading=True):
+        lines = book.journal()
+    for name in {name for line in lines for name in line.files if is_year_file(name)}:
+        so_far, at, last = hashlib.sha256(), 0, None
+        for kept in filter(None, (line.files.get(name) for line in lines)):
+            if kept.size is not None and at <= kept.size <= len(session):
+                so_far.update(session[at : kept.size])
+                at = kept.size
+                last = at if so_far.hexdigest() == kept.digest else last
+        if last is not None and only_asks(session[last:]):
+            return True
+    return False
+
+
+def only_asks(rows: bytes) -> bool:
+    """Say whether rows only ask for output."""
+    return all(row.split(b",", 1)[0].strip() in _ASKING for row in rows.splitlines() if row)
 
 
 def named_approvals(folder: str | None, period: str) -> dict[str, dict[str, str]]:
@@ -82,7 +163,7 @@ def named_bundle(path: str | None) -> dict[str, str]:
     """
     if path is None:
         return {}
-    book = manifest_of(path).book
+    book = bundle_manifest(path).book
     return {
         "sha256": digest(read_bytes(path)[1]),
         "number": book.get("number", ""),
@@ -135,8 +216,6 @@ class Linked:
 
     def _book(self, folder: str) -> Iterator[tuple[SentenceKind, str]]:
         """Give whether a book has the head, and whether it had the session's rows by then."""
-        from plantbal.book.chain import state_of
-        from plantbal.book.forms import is_year_file
         from plantbal.book.store import Store
         from plantbal.book.verifying import missing_head
 
@@ -146,19 +225,15 @@ class Linked:
             lines = book.journal()[: int(named["number"])] if not wrong else []
         for each in wrong:
             yield SentenceKind.WRONG, each
-        years = [
-            name
-            for name, kept in state_of(lines).items()
-            if is_year_file(name) and self._begins(kept.size, kept.digest)
-        ]
-        if years:
+        year = rows_in(lines, self.session)
+        if year:
             what = f"{folder} has the head of action {named['number']} that it names"
-            rest = f"its session begins with the rows of {years[0]} as they were by then"
+            rest = f"its session has the rows of {year} as they were by then"
             yield SentenceKind.GOOD, f"{self.path}: {what}, and {rest}"
             yield from self._approved(book)
         elif not wrong:
-            what = f"its session doesn't begin with the rows that a year of {folder} had by action"
-            yield SentenceKind.WRONG, f"{self.path}: {what} {named['number']}"
+            what = f"its session doesn't have the rows, and no others, that a year of {folder} had"
+            yield SentenceKind.WRONG, f"{self.path}: {what} by action {named['number']}"
 
     def _approved(self, book: Store) -> Iterator[tuple[SentenceKind, str]]:
         """Give who has submitted, approved and signed the close of its period, by the book."""
@@ -176,10 +251,6 @@ class Linked:
         for each in found:
             if each.number in of:
                 yield each.kind, f"{self.path}: {each.said}"
-
-    def _begins(self, size: int | None, digest_: str) -> bool:
-        """Say whether the session begins with a file that was left with this digest."""
-        return size is not None and hashlib.sha256(self.session[:size]).hexdigest() == digest_
 
     def _before(self, path: str) -> Iterator[tuple[SentenceKind, str]]:
         """Give whether a bundle is the one before, with the head that is named of it."""

@@ -16,7 +16,7 @@ from plantbal.audit.said import SentenceKind
 from plantbal.book.forms import MEASURED as OF_BOOK
 from plantbal.faults import InputFault, Place, decoded, read_bytes
 from plantbal.limits import SESSION_BYTES
-from plantbal.volumes.trail import Trail, read_trails, text_of
+from plantbal.volumes.trail import Trail, read_trails, trails_text
 
 # A mass is kept with twelve decimals, and so are the figures that it follows from.
 _NEAR = Decimal("0.001")
@@ -39,7 +39,7 @@ def measured_of(book: str | None, session: bytes) -> bytes | None:
         If the book's file can't be read.
     """
     found = trails_of_session(book, session)
-    return text_of(found).encode("utf-8") if found else None
+    return trails_text(found).encode("utf-8") if found else None
 
 
 def trails_of_session(book: str | None, session: bytes) -> list[Trail]:

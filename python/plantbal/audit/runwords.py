@@ -4,7 +4,7 @@ from __future__ import annotations
 
 import re
 
-from plantbal.audit.held import number_of
+from plantbal.audit.held import whole_or_none
 from plantbal.faults import Fault
 from plantbal.program import words_of
 from plantbal.report.output import Output
@@ -38,10 +38,10 @@ def words_shown(output: Output) -> list[str]:
     head = blocks[0].head
     stops = [row for row in output.rows if row["row"] == "stop"]
     # An elimination that ended by itself is the same with more rounds allowed.
-    spent = [number_of(row["rounds"]) for row in stops if row["reason"] == "spent"]
+    spent = [whole_or_none(row["rounds"]) for row in stops if row["reason"] == "spent"]
     return words_of(
         tests=blocks[0].whole is not None,
         eliminate=((spent[0] if spent else 20) or 0) if stops else 0,
-        gap=number_of(head["gap"]) or 0,
-        sweeps=number_of(head["sweeps"]) or 0,
+        gap=whole_or_none(head["gap"]) or 0,
+        sweeps=whole_or_none(head["sweeps"]) or 0,
     )

@@ -14,7 +14,7 @@ from dataclasses import dataclass
 from pathlib import Path
 
 from plantbal.audit.changed import digest
-from plantbal.audit.linked import manifest_of
+from plantbal.audit.linked import bundle_manifest
 from plantbal.audit.said import SentenceKind
 from plantbal.faults import Fault, WordsFault, decoded, read_bytes
 from plantbal.limits import RULES_BYTES, SIGNATURE_BYTES, STAMP_BYTES
@@ -80,7 +80,7 @@ def add_signers(parser: argparse.ArgumentParser) -> None:
     """Add the words by which an audit knows who may sign."""
     signers = "who may sign, as OpenSSH's allowed_signers: the bundle has to be signed by one"
     parser.add_argument("--signers", metavar="FILE", help=signers)
-    by = "the one who has to have signed it"
+    by = "who has to have signed it"
     parser.add_argument("--signed-by", metavar="NAME", help=by)
     revoked = "keys that are revoked"
     parser.add_argument("--revoked", metavar="FILE", help=revoked)
@@ -88,7 +88,7 @@ def add_signers(parser: argparse.ArgumentParser) -> None:
     parser.add_argument("--signature", metavar="FILE", help=signature)
     authority = "the certificate of the time stamps' authority, as PEM"
     parser.add_argument("--authority", metavar="FILE", help=authority)
-    after = "the plant's bundle after this one, which names it"
+    after = "the plant's next bundle, which has to name this one"
     parser.add_argument("--after", metavar="BUNDLE", help=after)
 
 
@@ -165,7 +165,9 @@ class Beside:
 
     def _after(self, path: str) -> tuple[SentenceKind, str]:
         """Return whether a bundle after this one names it."""
-        own, named = digest(read_bytes(self.path)[1]), manifest_of(path).before.get("sha256", "")
+        own, named = digest(read_bytes(self.path)[1]), bundle_manifest(path).before.get(
+            "sha256", ""
+        )
         if named == own:
             return SentenceKind.GOOD, f"{self.path}: {path} names it as the bundle before it"
         what = f"{path} names {named or 'no bundle'} before it, and this one is {own}"

@@ -36,7 +36,7 @@ def blocks_named(output: Output) -> list[tuple[Block, str, bool]]:
     return found
 
 
-def said_of(block: Block) -> str:
+def block_said(block: Block) -> str:
     """Return what a block says of its flows as a whole."""
     said = block.solved["state"] if block.solved else "cut off"
     if block.taken:
@@ -53,7 +53,7 @@ def said_of(block: Block) -> str:
     return f"{said}; {verdicts.get(block.whole['verdict'], block.whole['verdict'])}"
 
 
-def one_line(text: str) -> str:
+def safe_line(text: str) -> str:
     """Return a text in one line, so that none of a stranger's looks like a line of the summary."""
     return "".join(each if each.isprintable() else ascii(each)[1:-1] for each in text)
 
@@ -64,7 +64,7 @@ def _flows(block: Block, has_deviations: bool) -> Iterator[str]:
     rows = [_HEADS, *(_columns(row, found or {}) for row in block.streams)]
     if not found:
         rows = [row[:_DEVIATION] + row[_DEVIATION + 1 :] for row in rows]
-    yield from table(rows)
+    yield from aligned_lines(rows)
     if has_deviations:
         yield ""
         yield _ABOUT[not found]
@@ -82,7 +82,7 @@ def _columns(row: Values, deviations: Mapping[str, float]) -> tuple[str, ...]:
     return (*ends, measured, booked, adjusted, deviation, row["class"])
 
 
-def table(rows: Sequence[tuple[str, ...]]) -> Iterator[str]:
+def aligned_lines(rows: Sequence[tuple[str, ...]]) -> Iterator[str]:
     """Give rows as lines with columns of equal width; numbers stand to the right."""
     widths = [max(map(len, column)) for column in zip(*rows)]
     for row in rows:
@@ -132,9 +132,9 @@ def summary_text(manifest: Manifest, ledger: Ledger, output: Output) -> str:
     for block, name, last in named:
         of = "the period" if block.is_report else "it"
         book = f"the last report of {of}" if last else f"a later report of {of} follows"
-        lines.append(f"{name}: {said_of(block)}; {book}.")
+        lines.append(f"{name}: {block_said(block)}; {book}.")
     for block, name, last in named:
         if last and not block.window and block.period == manifest.period:
             lines += ["", f"The flows of {name}:", ""]
             lines += _flows(block, manifest.has_deviations)
-    return "".join(f"{one_line(line)}\n" for line in lines)
+    return "".join(f"{safe_line(line)}\n" for line in lines)

@@ -9,7 +9,7 @@ from difflib import get_close_matches
 from pathlib import Path
 
 from plantbal.audit.asks import ReportBlock, asked, places_of, some
-from plantbal.explain import ExplainedRow, Explanation, Field, Text, picture, shown
+from plantbal.explain import ExplainedRow, Explanation, Field, Text, marked_line, shown_bytes
 from plantbal.faults import InputFault, Place, read_bytes
 from plantbal.program import call
 from plantbal.records import Record
@@ -114,10 +114,10 @@ def _told(text: Text, verdict: Values, at: _At, head: str, said: str) -> Explain
     begin = places.get(at.first, 0)
     if at.first and begin < len(fields):
         end = min(places.get(at.last or at.first, begin), len(fields) - 1)
-        number, line, mark = picture(text, fields[begin], fields[end])
+        number, line, mark = marked_line(text, fields[begin], fields[end])
     else:
         label = ""
-        number, line, mark = picture(text, Field(fields[0].begin, fields[-1].end))
+        number, line, mark = marked_line(text, Field(fields[0].begin, fields[-1].end))
     value = record.fields[begin] if label and begin < len(record.fields) else ""
     if label and label != "name":
         labels = [name.upper() for name in list(places)[begin - 1 : places.get(at.last, begin)]]
@@ -129,7 +129,7 @@ def _told(text: Text, verdict: Values, at: _At, head: str, said: str) -> Explain
         record=record.number,
         code=code,
         word=verdict["word"],
-        sentence=shown(sentence),
+        sentence=shown_bytes(sentence),
         column=label,
         row=line,
         mark=mark,

@@ -10,6 +10,7 @@ from __future__ import annotations
 import hashlib
 from collections.abc import Iterator, Mapping
 from dataclasses import dataclass
+from types import MappingProxyType
 
 from plantbal.accounts.account import MonthAccount, Rolled
 from plantbal.accounts.month import Month
@@ -20,7 +21,7 @@ from plantbal.book.forms import ACCOUNTS, report_file, year_file
 from plantbal.book.journal import JournalLine
 from plantbal.book.overview import report_state
 from plantbal.book.results import ReportState
-from plantbal.book.said import counted, waiting_said
+from plantbal.book.said import count_said, listed, waiting_said
 from plantbal.book.store import Action, Store
 from plantbal.book.years import Years, periods_of
 from plantbal.faults import Fault, InputFault, Place
@@ -60,7 +61,9 @@ def put_accounts(before: Accounts, new: Accounts, book: Store, action: Action) -
         ) from fault
     action.written[ACCOUNTS] = text
     changed = [name for name, row in rows.items() if before.get(name) != row]
-    return [f"{ACCOUNTS}: {counted(len(changed), 'row')}, new or changed"]
+    said = f"{ACCOUNTS}: {count_said(len(changed), 'row')}, new or changed"
+    old = [name for name in changed if name in before]
+    return [f"{said}; changed: {listed(old)}" if old else said]
 
 
 # ---- the months
@@ -122,7 +125,15 @@ def version_of(book: Store, period: str, year: str, text: str) -> ReportVersion:
     )
 
 
-def months_of(book: Store, versions: Mapping[str, ReportVersion]) -> list[Month]:
+# The last rounds of reports that were read, by the periods, and these by the digests of the reports.
+ReadBlocks = Mapping[str, Mapping[str, Block]]
+
+
+def report_months(
+    book: Store,
+    versions: Mapping[str, ReportVersion],
+    read: ReadBlocks = MappingProxyType({}),
+) -> list[Month]:
     """Return the months of reports, in the order of their days.
 
     Parameters
@@ -131,16 +142,20 @@ def months_of(book: Store, versions: Mapping[str, ReportVersion]) -> list[Month]
         The book.
     versions : mapping of str to ReportVersion
         The reports by their periods.
+    read : mapping
+        What was read of them already.
     """
     found: list[Month] = []
     for year in book.years:
         some = [each for each in versions.values() if each.year == year]
         if some:
-            found += _months_of_year(book, year, some)
+            found += _months_of_year(book, year, some, read)
     return sorted(found, key=lambda month: month.last)
 
 
-def _months_of_year(book: Store, year: str, some: list[ReportVersion]) -> Iterator[Month]:
+def _months_of_year(
+    book: Store, year: str, some: list[ReportVersion], read: ReadBlocks
+) -> Iterator[Month]:
     """Give the months of a year's reports."""
     rows = book.text(year_file(year)).splitlines(keepends=True)
     parts, at = [], 0
@@ -151,10 +166,11 @@ def _months_of_year(book: Store, year: str, some: list[ReportVersion]) -> Iterat
     text = "".join([*parts, *rows[at:]])
     ledger = Ledger(str(book.path(year_file(year))), text.encode("utf-8"))
     for each in ordered:
-        yield Month.of(_block_of(book, each), ledger, ledger.reported[each.period])
+        block = _block_of(book, each, read)
+        yield Month.of(block, ledger, ledger.reported[each.period])
 
 
-def _block_of(book: Store, version: ReportVersion) -> Block:
+def _block_of(book: Store, version: ReportVersion, read: ReadBlocks) -> Block:
     """Return the round of a report that counts.
 
     Raises
@@ -163,7 +179,10 @@ def _block_of(book: Store, version: ReportVersion) -> Block:
         If it has none, such as one of a period that is beyond the limits.
     """
     name = str(book.path(report_file(version.period)))
-    block = last_blocks(blocks_of(parse_rows(name, version.text))).get(version.period)
+    of_text = read.get(version.line.files[report_file(version.period)].digest)
+    if of_text is None:
+        of_text = last_blocks(blocks_of(parse_rows(name, version.text)))
+    block = of_text.get(version.period)
     if block is None or not block.ended:
         remedy = f"look at it: plantbal-desk book report {version.period}"
         what = f"there are no flows of {version.period} to add up"
@@ -179,7 +198,7 @@ def rolled_of(book: Store) -> Rolled:
     Fault
         If it has no report.
     """
-    months = months_of(book, versions_of(book))
+    months = report_months(book, versions_of(book))
     if not months:
         raise Fault("no period has a report yet", remedy="plantbal-desk book report makes it")
     return Rolled(months, accounts_of(book))

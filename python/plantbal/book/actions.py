@@ -51,6 +51,8 @@ class Action:
         The ledgers whose rows it adds.
     anyway : bool
         Whether it is done although something speaks against it.
+    early : bool
+        Whether it hands over what is open.
     estimated : Fraction
         Of a close the greatest part of a stream's flow that is estimated.
     cleared : bool
@@ -70,6 +72,7 @@ class Action:
     gone: list[str] = field(default_factory=list)
     ledgers: list[YearLedger] = field(default_factory=list)
     anyway: bool = False
+    early: bool = False
     estimated: Fraction = Fraction(0)
     cleared: bool = False
 

@@ -9,22 +9,23 @@ from typing import Protocol
 
 from plantbal.accounts.sheet import Accounts
 from plantbal.book.accounting import accounts_of, put_accounts
-from plantbal.book.changes import Changes, compare, gone, strayed
+from plantbal.book.changes import Changes, compare, not_in_workbook, strayed
 from plantbal.book.forms import MEASURES
 from plantbal.book.declaring import put_periods, put_plant
 from plantbal.book.ledger import FACT_KINDS, BookFact, YearLedger, rows_text
 from plantbal.book.measures import (
     density_changes,
     put_measures,
+    put_summed,
     put_trails,
     trails_of,
 )
 from plantbal.book.mapping import mapping_of, put_reading
-from plantbal.book.meters import Meter, meters_of, meters_text, read_meters
+from plantbal.book.meters import Meter, changed_meters, meters_of, meters_text, read_meters
 from plantbal.book.naming import Names
-from plantbal.book.reading import Given, Tabled, converted, name_of, raise_all
+from plantbal.book.reading import Given, Tabled, converted, raise_all, workbook_name
 from plantbal.book.results import Added, YearAdded
-from plantbal.book.said import closed_in, counted, doubts, lacking, odd
+from plantbal.book.said import closed_in, count_said, doubts, lacks_said, odd
 from plantbal.book.store import METERS, PLANT, Act, Action, Store
 from plantbal.book.vanished import PulledSource, lost_of
 from plantbal.book.years import Years
@@ -58,7 +59,7 @@ class Unreasoned(Fault):
 
     def __init__(self, count: int, changes: Sequence[str]) -> None:
         are = "is" if count == 1 else "are"
-        what = f"{counted(count, 'fact')} {are} booked with other values"
+        what = f"{count_said(count, 'fact')} {are} booked with other values"
         super().__init__(what, remedy='say why: --why "typed a digit short"; nothing is booked')
         self.changes = tuple(changes)
 
@@ -126,7 +127,7 @@ def add(
     who: str = "",
 ) -> Added:
     """Add a workbook; the parameters are those of `plantbal.Book.add`."""
-    name = name_of(workbook)
+    name = workbook_name(workbook)
     with book.opened(reading=dry_run):
         read = _read(book, workbook, year, reading)
         plant = put_plant(read.into, read.work)
@@ -164,7 +165,7 @@ def _read(book: Store, workbook: Given, year: str | None, reading: ReadingOption
     before: dict[str, list[Finding]] = {}
     years = Years(book, lambda ledger: before.update({ledger.name: odd(ledger)}))
     into = years.named(year)
-    meters = read_meters(book.path(METERS))
+    meters = read_meters(book)
     wide = any(meter.base for meter in meters.values())
     of_years = years.all() if wide else [into]  # periods are asked only for what they share
     periods = [each for ledger in of_years for each in ledger.periods.values()]
@@ -196,7 +197,7 @@ def _changed(read: _ReadWorkbook, strike: bool, anyway: bool) -> tuple[Changes, 
         changes.gone, changes.asked = lost.struck, lost.asked
         strike = bool(changes.gone)
     if strike and not anyway:
-        check_most(changes, name_of(given))
+        check_most(changes, workbook_name(given))
     return changes, strike
 
 
@@ -212,7 +213,7 @@ def _action(read: _ReadWorkbook, who: str, why: str) -> Action:
     """Return the action that books what was put to the years."""
     source = read.source
     if source is None:
-        action = Action(Act.ADD, what=name_of(read.workbook), why=why, who=who)
+        action = Action(Act.ADD, what=workbook_name(read.workbook), why=why, who=who)
     else:
         action = Action(Act.PULL, source.name, f"{source.first} to {source.last}", why, who)
     for ledger in read.years.used:
@@ -227,12 +228,14 @@ def _put(
     book, work = read.book, read.work
     if meters_text(read.found.values()) != meters_text(read.meters.values()):
         action.written[METERS] = meters_text(read.found.values())
-    told = put_accounts(read.accounts, work.accounts, book, action)
+    told = changed_meters(read.meters, read.found)
+    told += put_accounts(read.accounts, work.accounts, book, action)
     is_told = reading.mapping is not None and not isinstance(read.workbook, Tabled)
     if is_told and put_reading(book, read.how, action):
         told.append("mapping.toml: later workbooks are read by it")
     told += put_measures(book, action, work.measures.found)
     put_trails(book, action, changes, work.measuring.trails)
+    put_summed(book, action, changes, work.readings.summed)
     return told
 
 
@@ -244,7 +247,7 @@ def _year_added(
 ) -> YearAdded:
     """Return what was put to a year, what of it looks wrong, and what is missing beside it."""
     found = doubts(before[ledger.name], ledger)
-    missing = lacking(ledger, facts, meters)
+    missing = lacks_said(ledger, facts, meters)
     return YearAdded(ledger.name, tuple(ledger.added), tuple(found), tuple(missing))
 
 
@@ -259,7 +262,7 @@ def changes_of(years: Years, work: Converter, facts: list[BookFact], strike: boo
     changes = compare(years, facts)
     raise_all(list(strayed(years, changes, facts)))
     if work.sheets["readings"] or strike:
-        changes.gone = gone(years, work, facts)
+        changes.gone = not_in_workbook(years, work, facts)
     return changes
 
 

@@ -12,12 +12,14 @@ from dataclasses import dataclass, field
 
 from plantbal.book.journal import Act, JournalLine
 from plantbal.faults import Fault
-from plantbal.gates import Gate, about
+from plantbal.gates import Gate, Stop, about, said_of_stop
 from plantbal.lint.findings import RULES, Finding
 
 # The word before the gates of a close, and what stands between their reasons.
 ANYWAY = "anyway"
 BETWEEN = " | "
+# How many stops are said in the sentence that something isn't done.
+_MOST = 3
 
 
 @dataclass(frozen=True)
@@ -52,11 +54,11 @@ def reasons_of(texts: Iterable[str]) -> dict[Gate, str]:
             words = ", ".join(gate.value for gate in Gate)
             remedy = f"write GATE=REASON; the gates are {words}"
             raise Fault(f"{word!r} isn't a gate", text=text, remedy=remedy)
-        found[Gate(word)] = checked(reason)
+        found[Gate(word)] = checked_reason(reason)
     return found
 
 
-def checked(reason: str) -> str:
+def checked_reason(reason: str) -> str:
     """Return a reason.
 
     Raises
@@ -71,23 +73,40 @@ def checked(reason: str) -> str:
     return reason.strip()
 
 
-def what_of(reasons: Mapping[Gate, str]) -> tuple[str, str]:
+def reason_cells(reasons: Mapping[Gate, str]) -> tuple[str, str]:
     """Return the cells `what` and `why` of a close with these reasons."""
     if not reasons:
         return "", ""
     return " ".join((ANYWAY, *reasons)), BETWEEN.join(reasons.values())
 
 
+def overruled_gates(line: JournalLine) -> list[Gate]:
+    """Return the gates in spite of which a period was closed, or what it hands over was posted.
+
+    What was posted has its id before them.
+    """
+    before = {Act.CLOSE: 0, Act.POSTED: 1}.get(line.act)
+    words = line.what.split()[before:] if before is not None else []
+    return [Gate(w) for w in words[1:] if w in list(Gate)] if words[:1] == [ANYWAY] else []
+
+
 def answered(journal: Iterable[JournalLine], period: str) -> Answered:
     """Return how a period was closed."""
     found = Answered()
     for line in journal:
-        words = line.what.split()
-        if line.act is Act.CLOSE and line.of == period and words[:1] == [ANYWAY]:
-            gates = [Gate(word) for word in words[1:] if word in list(Gate)]
+        gates = overruled_gates(line)
+        if gates and line.act is Act.CLOSE and line.of == period:
             reasons = dict(zip(gates, line.why.split(BETWEEN)))
             found = Answered(reasons, line.who or line.user, line.when)
     return found
+
+
+def stopped_said(stops: Sequence[Stop], unanswered: Sequence[Gate]) -> tuple[str, str]:
+    """Return what stops an action for which some gates have no reason, and the words that give one."""
+    mine = [stop for stop in stops if stop.gate in unanswered]
+    why = [said_of_stop(stop) for stop in mine[:_MOST]]
+    why += [f"{len(mine) - _MOST:,} more"] if len(mine) > _MOST else []
+    return "; ".join(why), " ".join(f"--anyway '{gate}=REASON'" for gate in unanswered)
 
 
 # ---- quiet

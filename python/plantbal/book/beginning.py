@@ -46,7 +46,7 @@ def begin(
     """Make the book; the parameters are those of `plantbal.Book.begin`."""
     check_year(year)
     reading = reading.kept(None)
-    rows, work = plant_of(workbook, reading)
+    rows, work = plant_rows_of(workbook, reading)
     with book.opened(new=True):
         check_nothing_is_there(book, year)
         action = Action(Act.NEW, year, Path(workbook).name, who=who)
@@ -57,7 +57,7 @@ def begin(
         put_reading(book, reading, action)
         told += put_measures(book, action, work.measures.found)
         action.rows = [f"{year}: 1 to {len(rows)}"]
-        classes = classes_of(rows, program)
+        classes = classes_by_design(rows, program)
         book.do(action)
     return Begun(year, len(rows), classes, (*told, *work.notes))
 
@@ -102,7 +102,7 @@ def check_year(name: str) -> None:
         raise Fault(f"{name!r} isn't a year", text=name, remedy=remedy)
 
 
-def plant_of(
+def plant_rows_of(
     workbook: str | Path, reading: ReadingOptions, accounts: Collection[str] = ()
 ) -> tuple[list[tuple[str, ...]], Converter]:
     """Return the rows of the plant that a workbook has, and what was read of it.
@@ -126,7 +126,9 @@ def plant_of(
     return [row for row in work.session if row[0] in PLANT_KINDS], work
 
 
-def classes_of(rows: Iterable[tuple[str, ...]], program: str | Path | None) -> dict[str, list[str]]:
+def classes_by_design(
+    rows: Iterable[tuple[str, ...]], program: str | Path | None
+) -> dict[str, list[str]]:
     """Return which streams of a plant have each class by its design."""
     text = rows_text(rows) + "design\n"
     _, output = call(["run"], text.encode("ascii"), program=program)

@@ -17,7 +17,21 @@ from collections.abc import Callable, Iterable, Mapping, Sequence
 from dataclasses import dataclass
 from pathlib import Path
 
-from plantbal.book.forms import JOURNAL, REPORTS, is_own, is_year_file
+from plantbal.book.forms import (
+    ACCOUNTS,
+    APPROVALS,
+    JOURNAL,
+    MAPPING,
+    MEASURES,
+    METERS,
+    PLANT,
+    REPORTS,
+    REVOKED,
+    RULES,
+    SIGNERS,
+    is_own,
+    is_year_file,
+)
 from plantbal.book.journal import Act, JournalLine, Kept
 from plantbal.faults import InputFault, Place
 
@@ -52,12 +66,18 @@ class FileDifference:
         What is wrong.
     stood : str
         What stood there, if that is known.
+    acceptable : bool
+        Whether it may be taken as it is.
+    is_unknown : bool
+        Whether no action of the book has written it.
     """
 
     file: str
     line: int | None
     what: str
     stood: str = ""
+    acceptable: bool = True
+    is_unknown: bool = False
 
     def said(self) -> str:
         """Return where it differs and how."""
@@ -66,12 +86,30 @@ class FileDifference:
     def fault(self, folder: Path) -> InputFault:
         """Return it as a fault, with what to do about it."""
         stood = f"; there stood {self.stood}" if self.stood else ""
-        return InputFault(
-            self.what + stood,
-            place=Place(file=str(folder / self.file), line=self.line),
-            remedy="put the file back as it was, from a backup; if it is to stay as it is: "
-            f"plantbal-desk book accept {self.file} --why TEXT, which the journal shows for good",
-        )
+        back = "put the file back as it was, from a backup"
+        remedy = "move it away" if self.is_unknown else back
+        if self.acceptable:
+            stay = f"plantbal-desk book accept {self.file} --why TEXT"
+            remedy += f"; if it is to stay as it is: {stay}, which the journal shows for good"
+        place = Place(file=str(folder / self.file), line=self.line)
+        return InputFault(self.what + stood, place=place, remedy=remedy)
+
+
+# What a person may write into a book's folder, so that it may be taken as it is.
+_WRITTEN = frozenset((PLANT, METERS, ACCOUNTS, MAPPING, MEASURES))
+_RULING = frozenset((JOURNAL, RULES, SIGNERS, REVOKED))
+
+
+def unknown_file(name: str, lines: Iterable[JournalLine]) -> FileDifference:
+    """Return a file that no action of a book has written, as it is now.
+
+    It may be taken as it is if a person may write such a file, or if it was the book's before.
+    """
+    rests = name in _RULING or name.startswith(f"{APPROVALS}/")
+    before = any(name in line.files for line in lines)
+    acceptable = name in _WRITTEN or (before and not rests)
+    what = "no action of this book has written it, so it isn't used"
+    return FileDifference(name, None, what, acceptable=acceptable, is_unknown=True)
 
 
 def checks_of(data: bytes) -> str:

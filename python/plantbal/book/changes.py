@@ -199,7 +199,9 @@ def strayed(years: Years, changes: Changes, facts: list[BookFact]) -> Iterator[F
             )
 
 
-def gone(years: Years, work: Converter, facts: list[BookFact]) -> list[tuple[YearLedger, BookFact]]:
+def not_in_workbook(
+    years: Years, work: Converter, facts: list[BookFact]
+) -> list[tuple[YearLedger, BookFact]]:
     """Return the facts that are booked and might stand in a workbook, and don't.
 
     These are, in the periods of which the workbook has readings (or, if it has none, other facts):

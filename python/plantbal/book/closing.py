@@ -12,20 +12,17 @@ from plantbal.book.approval import submitting as submission
 from plantbal.book.approval.guard import wants_of
 from plantbal.book.approval.rules import Rules, Want
 from plantbal.book.approval.state import rules_of
-from plantbal.book.answers import checked, quieted, what_of
+from plantbal.book.answers import checked_reason, quieted, reason_cells, stopped_said
 from plantbal.book.forms import report_file
 from plantbal.book.meters import read_meters
-from plantbal.book.reporting import keep, report_of, stops_in
+from plantbal.book.reporting import report_of, stops_in, write_and_keep
 from plantbal.book.results import Closed, Reported
 from plantbal.book.said import lacks, unassayed
-from plantbal.book.store import METERS, Act, Action, Store
+from plantbal.book.store import Act, Action, Store
 from plantbal.book.years import Years
 from plantbal.faults import Fault
-from plantbal.gates import Gate, Stop, about, said_of
+from plantbal.gates import Gate, Stop, about
 from plantbal.program import RunSettings
-
-# How many reasons are said in the sentence that a period isn't closed.
-_MOST = 3
 
 
 class NotClosed(Fault):
@@ -40,12 +37,9 @@ class NotClosed(Fault):
     """
 
     def __init__(self, report: Reported, unanswered: Sequence[Gate]) -> None:
-        stops = [stop for stop in report.stops if stop.gate in unanswered]
-        why = [said_of(stop) for stop in stops[:_MOST]]
-        why += [f"{len(stops) - _MOST:,} more"] if len(stops) > _MOST else []
-        words = " ".join(f"--anyway '{gate}=REASON'" for gate in unanswered)
+        why, words = stopped_said(report.stops, unanswered)
         super().__init__(
-            f"{report.period} isn't closed: {'; '.join(why)}",
+            f"{report.period} isn't closed: {why}",
             remedy=f"put that right first, or say why it is closed all the same: {words}",
         )
         self.report = report
@@ -82,7 +76,7 @@ def submit(
         found = prepared(book, name, anyway=anyway, settings=settings, who=who)
         if found is None:
             return Closed(name, None)
-        done = submission.submit(book, *_submitted(book, found), **_about(found, settings))
+        done = submission.submit_action(book, *_submitted(book, found), **_about(found, settings))
         return Closed(name, found.report, done.head, found.reasons)
 
 
@@ -166,7 +160,7 @@ def prepared(
     ledger = Years(book).of_period(name)
     if ledger.periods[name].closed:
         return None
-    missing = lacks(ledger, ledger.periods[name], read_meters(book.path(METERS)))
+    missing = lacks(ledger, ledger.periods[name], read_meters(book))
     owed = unassayed(ledger, ledger.periods[name])
     ledger.put("close", name)
     text = book.text(f"{ledger.name}.csv") + ledger.added_text()
@@ -180,13 +174,13 @@ def prepared(
     unanswered = [gate for gate in gates if gate not in anyway]
     if unanswered:
         raise NotClosed(report, unanswered)
-    reasons = {gate: checked(anyway[gate]) for gate in gates}
-    what, why = what_of(reasons)
+    reasons = {gate: checked_reason(anyway[gate]) for gate in gates}
+    what, why = reason_cells(reasons)
     action = Action(Act.CLOSE, name, what, why, who, program_digest(settings.program))
     action.anyway = any(gate is not Gate.ESTIMATED for gate in gates)
     action.estimated = estimated_part(report)
     action.add(ledger)
-    keep(book, action, ledger, name, written, closed=False)
+    write_and_keep(book, action, ledger, name, written, closed=False)
     return PreparedClose(action, report, reasons, written)
 
 

@@ -17,7 +17,7 @@ _DAY = datetime.timedelta(1)
 _MOST = schema().limits["most_units_and_tanks"]
 
 
-def contents_of(
+def grams_by_program(
     plant: Iterable[tuple[str, ...]], dips: Iterable[BookFact], program: str | Path | None = None
 ) -> dict[str, int]:
     """Return the grams in tanks by their dips, calculated by the program.

@@ -15,20 +15,24 @@ from plantbal.accounts.month import Month
 from plantbal.accounts.posting import (
     Posted,
     PostingChange,
-    changes_of,
+    handed_over,
     id_of,
     parse_posted,
-    posted_text,
-    state_of,
+    posting_changes,
 )
-from plantbal.book.accounting import ReportVersion, accounts_of, months_of, version_of, versions_of
+from plantbal.book.accounting import (
+    ReportVersion,
+    accounts_of,
+    report_months,
+    version_of,
+    versions_of,
+)
 from plantbal.book.causes import DifferingFact, causes_of, with_causes
 from plantbal.book.forms import earlier_file, posted_file, report_file, year_file
 from plantbal.book.journal import JournalLine, Kept
 from plantbal.book.overview import report_state
 from plantbal.book.results import ReportState
-from plantbal.book.said import behind_said
-from plantbal.book.store import Act, Action, Store
+from plantbal.book.store import Act, Store
 from plantbal.book.years import Years
 from plantbal.faults import Fault, InputFault, Place, WordsFault
 
@@ -123,7 +127,7 @@ def difference_of(book: Store, period: str, words: Sequence[str]) -> Difference:
     one, other = words or (_default(book, period), NOW)
     sides = [_side(book, versions, period, word) for word in (one, other)]
     before, after = sides
-    changes = changes_of(before.posted.state, after.posted.state)
+    changes = posting_changes(before.posted.state, after.posted.state)
     causes: list[DifferingFact] = []
     is_first = before.word == POSTED and before.version is None
     if after.version is not None and after.month is not None:
@@ -181,12 +185,12 @@ def _of_version(
     book: Store, versions: dict[str, ReportVersion], version: ReportVersion, word: str
 ) -> Side:
     account = account_by(book, versions | {version.period: version}, version.period)
-    return Side(word, version, Posted("", state_of(account)), account.month)
+    return Side(word, version, Posted("", handed_over(account)), account.month)
 
 
 def account_by(book: Store, versions: dict[str, ReportVersion], period: str) -> MonthAccount:
     """Return the account of a period by some reports."""
-    return Rolled(months_of(book, versions), accounts_of(book)).account(period)
+    return Rolled(report_months(book, versions), accounts_of(book)).account(period)
 
 
 def line_of_posting(journal: Sequence[JournalLine], period: str, number: int) -> JournalLine:
@@ -227,38 +231,9 @@ def _posted_side(book: Store, versions: dict[str, ReportVersion], period: str) -
     return Side(POSTED, version, posted)
 
 
-# ---- the actions
-
-
 def difference(book: Store, period: str, states: Sequence[str] = ()) -> Difference:
     """Say how two states differ; the parameters are those of `plantbal.Book.difference`."""
     with book.opened(reading=True):
         ledger = Years(book).of_period(period)
         state = report_state(book, ledger, book.journal(), period)
         return replace(difference_of(book, period, states), report=state)
-
-
-def post(book: Store, period: str, *, anyway: bool, why: str, who: str) -> Difference:
-    """Record what is handed over; the parameters are those of `plantbal.Book.post`."""
-    with book.opened():
-        ledger = Years(book).of_period(period)
-        behind = behind_said(report_state(book, ledger, book.journal(), period), period)
-        if behind:
-            raise Fault(f"{period} isn't posted: {behind}", remedy="make the report first")
-        if not ledger.periods[period].closed and not anyway:
-            remedy = f"plantbal-desk book close {period}, or use --anyway"
-            raise Fault(f"{period} is open, and isn't posted", remedy=remedy)
-        before = last_posted(book, period)
-        found = difference_of(book, period, (POSTED, NOW))
-        if not found.changes:
-            remedy = "a posting is taken once: there is nothing new to post"
-            raise Fault(f"{period} is posted already, as {before.id}", remedy=remedy)
-        number = posted_numbers(book, period) + 1
-        account = account_by(book, versions_of(book), period)
-        action = Action(Act.POSTED, period, found.id, why, who)
-        action.anyway = not ledger.periods[period].closed
-        text = posted_text(found.id, period, state_of(account))
-        action.written[posted_file(period, number)] = text
-        action.seen = [year_file(ledger.name), report_file(period)]
-        book.do(action)
-    return found

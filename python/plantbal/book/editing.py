@@ -10,11 +10,11 @@ from fractions import Fraction
 from plantbal.book.forms import report_file
 from plantbal.book.ledger import BookFact, YearLedger
 from plantbal.book.measures import check_measured, trails_of
-from plantbal.book.meters import Meter, read_meters, taken
+from plantbal.book.meters import Meter, plant_with_meters, read_meters
 from plantbal.book.naming import Names, cell_of
 from plantbal.book.results import Edited
 from plantbal.book.said import closed_in, touched_by
-from plantbal.book.store import METERS, Act, Action, Store
+from plantbal.book.store import Act, Action, Store
 from plantbal.book.years import Years
 from plantbal.faults import Fault, Refusal
 from plantbal.workbook.base import PeriodDays, share_at
@@ -117,13 +117,13 @@ def amend(
 ) -> Edited:
     """Give a fact other values; the parameters are those of `plantbal.Book.amend`."""
     with book.opened():
-        meters = read_meters(book.path(METERS))
+        meters = read_meters(book)
         named = Names(Years(book), meters).find(name, day)
         fact, places = named.fact, named.places
         if named.struck:
             remedy = "add it anew by a workbook: plantbal-desk book add"
             raise Fault(f"{fact.id} was struck", text=name, remedy=remedy)
-        tanks = {tank.name: tank for tank in taken(places[-1][0].plant, meters)[1]}
+        tanks = {tank.name: tank for tank in plant_with_meters(places[-1][0].plant, meters)[1]}
         meter = meters.get(fact.place, Meter(fact.place))
         is_volume = fact.kind != "dip" and other.is_volume(meter)
         check_measured(trails_of(book), places, is_volume)
@@ -142,7 +142,7 @@ def amend(
 def strike(book: Store, name: str, day: datetime.date | None, *, why: str, who: str = "") -> Edited:
     """Take a fact out; the parameters are those of `plantbal.Book.strike`."""
     with book.opened():
-        meters = read_meters(book.path(METERS))
+        meters = read_meters(book)
         named = Names(Years(book), meters).find(name, day)
         fact = named.fact
         if named.struck:
@@ -163,7 +163,7 @@ def strike(book: Store, name: str, day: datetime.date | None, *, why: str, who: 
 def undo(book: Store, name: str, day: datetime.date | None, *, why: str, who: str = "") -> Edited:
     """Give a fact back what it was; the parameters are those of `plantbal.Book.undo`."""
     with book.opened():
-        meters = read_meters(book.path(METERS))
+        meters = read_meters(book)
         named = Names(Years(book), meters).find(name, day)
         fact = named.fact
         places = [(ledger, there) for ledger, there in named.places if there.slot == fact.slot]
@@ -215,5 +215,5 @@ def _older(book: Store, places: list[tuple[YearLedger, BookFact]]) -> Iterator[s
     """Give the periods with a report that doesn't have the last values of a fact."""
     for ledger, fact in places:
         for name in touched_by(ledger, fact):
-            if book.path(report_file(name)).is_file():
+            if book.has(report_file(name)):
                 yield name

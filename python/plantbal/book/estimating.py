@@ -6,7 +6,7 @@ import datetime
 from collections import defaultdict
 from collections.abc import Iterator
 
-from plantbal.book.answers import checked
+from plantbal.book.answers import checked_reason
 from plantbal.book.editing import born
 from plantbal.book.forms import report_file
 from plantbal.book.ledger import BookFact, YearLedger
@@ -14,7 +14,7 @@ from plantbal.book.meters import Meter, read_meters
 from plantbal.book.naming import cell_of
 from plantbal.book.results import Estimated
 from plantbal.book.said import closed_in, touched_by
-from plantbal.book.store import METERS, Act, Action, Store
+from plantbal.book.store import Act, Action, Store
 from plantbal.book.years import Years
 from plantbal.diagnosis.proposal import Proposal, Proposals
 from plantbal.estimates import estimate_id
@@ -33,10 +33,10 @@ def estimate(
     book: Store, period: str, name: str = "", *, take: bool = False, why: str = "", who: str = ""
 ) -> Estimated:
     """Propose estimates, or book them; the parameters are those of `plantbal.Book.estimate`."""
-    reason = checked(why) if take else ""
+    reason = checked_reason(why) if take else ""
     with book.opened(reading=not take):
         ledger = Years(book).of_period(period)
-        meters = read_meters(book.path(METERS))
+        meters = read_meters(book)
         state = ledger.session.state
         view = view_of(state, state.periods.by_name[period])
         names = [_stream_of(view, meters, name)] if name else list(view.missing)
@@ -53,7 +53,7 @@ def estimate(
         action.add(ledger)
         book.do(action)
         touched = dict.fromkeys(n for fact in facts for n in touched_by(ledger, fact))
-        older = tuple(each for each in touched if book.path(report_file(each)).is_file())
+        older = tuple(each for each in touched if book.has(report_file(each)))
         closed = tuple(closed_in((ledger, fact) for fact in facts))
         return Estimated(period, tuple(some), missing, True, older, closed)
 

@@ -1,4 +1,4 @@
-"""The version of a book that somebody was shown: who acts on an older one is told so."""
+"""The version of a book that somebody was shown: who acts on an older one is refused."""
 
 from __future__ import annotations
 
@@ -60,7 +60,7 @@ class Moved(Fault):
         self.since = tuple(since)
 
 
-def check(lines: Sequence[JournalLine], expected: BookVersion | None) -> None:
+def require_expected(lines: Sequence[JournalLine], expected: BookVersion | None) -> None:
     """Raise if a book isn't as expected.
 
     Raises

@@ -1,7 +1,7 @@
-"""Begins the next year with the plant, the dips of its eve, and whatever else touches both years.
+"""Begins the next year with the plant, the dips on its eve, and whatever else touches both years.
 
-It is refused unless each tank holds the same at the end of one year and as the other begins, to the
-gram.
+It is refused unless each tank holds the same, to the gram, at the end of one year and at the
+beginning of the other.
 """
 
 from __future__ import annotations
@@ -14,9 +14,9 @@ from pathlib import Path
 from plantbal.amounts import tonnes_of
 from plantbal.audit.believed import program_digest
 from plantbal.book.accounting import accounts_of, put_accounts
-from plantbal.book.beginning import check_year, classes_of, plant_of
-from plantbal.book.contents import contents_of
-from plantbal.book.ledger import BookFact, YearLedger, plain, rows_text
+from plantbal.book.beginning import check_year, classes_by_design, plant_rows_of
+from plantbal.book.contents import grams_by_program
+from plantbal.book.ledger import BookFact, YearLedger, number_with_commas, rows_text
 from plantbal.book.mapping import mapping_of, put_reading
 from plantbal.book.measures import keep_measures, put_measures
 from plantbal.book.meters import meters_of, meters_text, read_meters
@@ -106,7 +106,7 @@ def _follow(
         action.program = program_digest(program)
         new, notes = begun(book, action, year, plant, first)
         contents = carry(old, new, first - _DAY, program)
-        classes = classes_of(new.plant, program) if plant.workbook else {}
+        classes = classes_by_design(new.plant, program) if plant.workbook else {}
         action.written[f"{new.name}.csv"] = rows_text(new.session)
         action.rows = [f"{new.name}: 1 to {new.count}"]
         book.do(action)
@@ -166,10 +166,10 @@ def begun(
     elif plant.workbook:
         accounts = accounts_of(book)
         reading = plant.reading.kept(mapping_of(book))
-        rows, work = plant_of(plant.workbook, reading, accounts)
+        rows, work = plant_rows_of(plant.workbook, reading, accounts)
         if plant.reading.mapping is not None:
             put_reading(book, reading, action)
-        kept = read_meters(book.path(METERS)) | {each.name: each for each in meters_of(work.plant)}
+        kept = read_meters(book) | {each.name: each for each in meters_of(work.plant)}
         file, text = str(plant.workbook), rows_text(rows)
         action.what = Path(plant.workbook).name
         action.written |= {PLANT: text, METERS: meters_text(kept.values())}
@@ -239,8 +239,8 @@ def carry(
             # A ticket has its own id again, by which workbooks call it.
             own = old.origin(fact) if fact.kind == "transfer" else fact.id
             _put(new, replace(fact, id=own))
-    closing = contents_of(old.plant, dips, program)
-    opening = contents_of(new.plant, [dip for dip in dips if dip.place in tanks], program)
+    closing = grams_by_program(old.plant, dips, program)
+    opening = grams_by_program(new.plant, [dip for dip in dips if dip.place in tanks], program)
     for name, grams in closing.items():
         if grams != opening.get(name, 0):
             raise _other(old, new, name, grams, opening.get(name))
@@ -258,9 +258,9 @@ def _put(new: YearLedger, fact: BookFact) -> None:
 
 def _other(old: YearLedger, new: YearLedger, name: str, closing: int, opening: int | None) -> Fault:
     """Return what is to be said of a tank whose contents would change."""
-    said = f"{name} holds {plain(tonnes_of(closing))} t as {old.name} ends"
+    said = f"{name} holds {number_with_commas(tonnes_of(closing))} t as {old.name} ends"
     if opening is None:
         what = f"{said}, and isn't in the plant of {new.name}"
         return Fault(what, text=name, remedy="book where it went as a transfer, or keep the tank")
-    what = f"{said}, and by the other table {plain(tonnes_of(opening))} t as {new.name} begins"
+    what = f"{said}, and by the other table {number_with_commas(tonnes_of(opening))} t as {new.name} begins"
     return Fault(what, text=name, remedy="keep its table, or give the tank another name")

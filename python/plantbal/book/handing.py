@@ -18,6 +18,7 @@ from plantbal.accounts.posting import Posted
 from plantbal.book.accounting import rolled_of
 from plantbal.book.difference import last_posted
 from plantbal.book.overview import report_state
+from plantbal.book.posting import check_answered
 from plantbal.book.results import ReportState
 from plantbal.book.store import Act, Store
 from plantbal.book.years import Years
@@ -95,7 +96,8 @@ def handed(book: Store, period: str) -> Handed:
     Raises
     ------
     Fault
-        If there is no such period, or its report is missing or older than its facts.
+        If there is no such period, its report is missing or older than its facts, or it is closed
+        and something about its report has to be looked at first.
     """
     with book.opened(reading=True):
         ledger = Years(book).of_period(period)
@@ -104,6 +106,7 @@ def handed(book: Store, period: str) -> Handed:
         if state is not ReportState.CURRENT:
             what = f"the report of {period} isn't there, or is older than its facts"
             raise Fault(what, text=period, remedy=f"plantbal-desk book report {period}")
+        check_answered(book, ledger, period)
         posted = last_posted(book, period)
         figures = tuple(_figures(rolled_of(book).account(period), posted))
         made = [line.digest for line in journal if line.act in _MADE and line.of == period]

@@ -187,7 +187,7 @@ class JournalLine:
     @property
     def text(self) -> str:
         """It as it stands in the journal, with its line feed."""
-        return csv_text([(*self.cells, self.digest)])
+        return journal_text([(*self.cells, self.digest)])
 
     @property
     def is_chained(self) -> bool:
@@ -209,14 +209,14 @@ class JournalLine:
         return f"action {self.number:,} ({words}; {self.when}{f', {by}' if by else ''})"
 
 
-def csv_text(rows: Sequence[Sequence[str]]) -> str:
+def journal_text(rows: Sequence[Sequence[str]]) -> str:
     """Return rows as CSV."""
     out = io.StringIO()
     csv.writer(out, lineterminator="\n").writerows(rows)
     return out.getvalue()
 
 
-HEAD_TEXT = csv_text([HEADS])
+HEAD_TEXT = journal_text([HEADS])
 _HEAD, _OLD_HEAD = HEAD_TEXT.rstrip("\n"), ",".join(_OLD_HEADS)
 # What the first line of all stands in place of.
 FIRST_BEFORE = hashlib.sha256(HEAD_TEXT.encode("utf-8")).hexdigest()
@@ -227,7 +227,7 @@ def now() -> str:
     return datetime.datetime.now(datetime.timezone.utc).strftime("%Y-%m-%dT%H:%M:%SZ")
 
 
-def printable(text: str) -> str:
+def printable_line(text: str) -> str:
     """Return a text in one line of characters that can be written, and read on a terminal."""
     return "".join(each if each.isprintable() else ascii(each)[1:-1] for each in text)
 
@@ -420,7 +420,7 @@ def _old_lines(file: str, text: str) -> Iterator[JournalLine]:
     for at, row in enumerate(reader, start=1):
         if len(row) != len(_OLD_HEADS):
             raise _no_line(file, at + 1)
-        when, who, said, why, added = map(printable, row)
+        when, who, said, why, added = map(printable_line, row)
         word, _, rest = said.partition(" ")
         if word not in _ACTS:
             raise _no_line(file, at + 1)
@@ -447,7 +447,7 @@ def following(lines: Sequence[JournalLine], line: JournalLine) -> JournalLine:
     """Return a line with its place after others, and bound to the last of them."""
     before = lines[-1].digest if lines else FIRST_BEFORE
     line = replace(line, number=len(lines) + 1, before=before)
-    return replace(line, digest=_digest(csv_text([line.cells]).rstrip("\n")))
+    return replace(line, digest=_digest(journal_text([line.cells]).rstrip("\n")))
 
 
 def _digest(text: str) -> str:

@@ -97,14 +97,14 @@ class BookFact:
     def said(self) -> str:
         """Return what it says: `12,188 t`, or `6,560 mm at 1,250 kg/m3`."""
         if self.kind == "dip":
-            density = plain(Decimal(self.values[1]) / 1000)
+            density = number_with_commas(Decimal(self.values[1]) / 1000)
             return f"{self.values[0]:,} mm at {density} kg/m3"
-        return f"{plain(tonnes_of(self.values[0]))} t"
+        return f"{number_with_commas(tonnes_of(self.values[0]))} t"
 
     def error(self) -> str:
         """Return its standard deviation: `182.82 t`."""
         root = Decimal(isqrt(self.variance * 10**6)).scaleb(-9)
-        return f"{plain(round(root, 3))} t"
+        return f"{number_with_commas(round(root, 3))} t"
 
 
 def rows_text(rows: Iterable[Sequence[str]]) -> str:
@@ -112,7 +112,7 @@ def rows_text(rows: Iterable[Sequence[str]]) -> str:
     return "".join(text_of(tuple(row)) + "\n" for row in rows)
 
 
-def plain(number: Decimal) -> str:
+def number_with_commas(number: Decimal) -> str:
     """Return a number with commas between thousands, and without zeros at its end."""
     text = f"{number:,f}"
     return text.rstrip("0").rstrip(".") if "." in text else text

@@ -6,6 +6,7 @@ Nothing here changes a book. Each call tests the files against the journal, as e
 from __future__ import annotations
 
 import datetime
+import re
 from dataclasses import dataclass
 
 from plantbal.book.answers import Quiet, quieted
@@ -19,13 +20,16 @@ from plantbal.book.overview import report_state, seen_by
 from plantbal.book.reporting import rows_asking
 from plantbal.book.results import ReportState, ShownFact
 from plantbal.book.said import touched_by
-from plantbal.book.store import METERS, Act, Store
+from plantbal.book.store import Act, Store
 from plantbal.book.years import Years
 from plantbal.faults import Fault
 from plantbal.model.periods import period_days
 from plantbal.model.plant import Service
 from plantbal.model.state import State
 from plantbal.workbook.mapping.form import WorkbookMapping
+
+# The row of an output that begins the balance of a component.
+_BALANCE = re.compile(r"^component,([^,\n]*)", re.MULTILINE)
 
 
 @dataclass(frozen=True)
@@ -162,7 +166,7 @@ def contents(book: Store) -> Contents:
     """Return what is there in a book."""
     with book.opened(reading=True):
         years = Years(book)
-        meters = read_meters(book.path(METERS))
+        meters = read_meters(book)
         journal = book.journal()
         months = [
             _month(book, each, journal, name) for each in years.all() for name in each.periods
@@ -226,16 +230,11 @@ def kept(book: Store, period: str, number: int | None = None) -> KeptReport:
         journal = book.journal()
         seen = seen_by(journal, ledger, period, Act.REPORT, Act.CLOSE)
         rows = book.text(year_file(ledger.name)).splitlines(keepends=True)
-        components = sorted({line.split(",")[1] for line in text.splitlines() if _is_balance(line)})
+        components = set(_BALANCE.findall(text))
         names = [name for name in ledger.session.components_in(period) if name in components]
         state = report_state(book, ledger, journal, period)
         seen_rows = "".join(rows[:seen] if seen else rows)
         return KeptReport(period, text, seen_rows, rows_asking(period, names), state)
-
-
-def _is_balance(line: str) -> bool:
-    """Say whether a row of an output begins the balance of a component."""
-    return line.startswith("component,")
 
 
 def _check_there(text: str, what: str) -> None:
@@ -277,13 +276,13 @@ def facts_of(book: Store, period: str) -> MonthFacts:
     return MonthFacts(tuple(found), ledger.session.state, tuple(ledger.plant))
 
 
-def mapping(book: Store) -> WorkbookMapping | None:
+def kept_mapping(book: Store) -> WorkbookMapping | None:
     """Return how the workbooks of a book are read, as it keeps that, or None."""
     with book.opened(reading=True):
         return mapping_of(book)
 
 
-def line_of(lines: tuple[JournalLine, ...], year: str, row: int) -> JournalLine | None:
+def journal_line(lines: tuple[JournalLine, ...], year: str, row: int) -> JournalLine | None:
     """Return the line of a journal that added a row of a year."""
     return next((line for line in lines if row in line.added.get(year, ())), None)
 
@@ -341,12 +340,12 @@ def fact_line(book: Store, year: str, identity: str) -> FactLine:
         there = ledger.session.state.facts.find(identity)
         row = there.booked if there is not None else 0
         edited = ledger.edits.get(identity, [])
-        edits = tuple((line_of(lines, year, number), was) for number, was in edited)
+        edits = tuple((journal_line(lines, year, number), was) for number, was in edited)
         touched = touched_by(ledger, fact)
-        meters = read_meters(book.path(METERS))
+        meters = read_meters(book)
         shown = ShownFact(fact, struck, tuple(was for _, was in edited))
         closed = tuple(name for name, each in touched.items() if each.closed)
-        booked = line_of(lines, year, row)
+        booked = journal_line(lines, year, row)
         return FactLine(
             shown, year, row, tuple(touched), closed, booked, edits, meters.get(fact.place)
         )

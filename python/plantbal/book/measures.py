@@ -3,6 +3,7 @@
 `measures.csv` has the products, factors, gauges and tables of water of its workbooks, so that a
 later workbook needs none of these sheets. `measured.csv` has a row for each fact that was calculated
 by them: what was measured, what was applied, and the row of the session that it is booked in.
+`summed.csv` has one for each reading that is made of hours, or of what a counter showed.
 """
 
 from __future__ import annotations
@@ -13,19 +14,20 @@ from collections.abc import Iterator, Mapping, Sequence
 from decimal import Decimal
 
 from plantbal.book.changes import Change, Changes
-from plantbal.book.forms import MEASURED, MEASURES
-from plantbal.book.meters import Meter, decimal
-from plantbal.book.said import counted
+from plantbal.book.forms import MEASURED, MEASURES, SUMMED
+from plantbal.book.meters import Meter, exact_decimal
+from plantbal.book.said import count_said
 from plantbal.book.store import Action, Store
 from plantbal.book.ledger import BookFact, YearLedger
 from plantbal.faults import Fault, Faults
 from plantbal.volumes.liquid import MeasuredFigure, Product, Sample
-from plantbal.volumes.trail import Trail, plain, read_trails, text_of
+from plantbal.volumes.trail import Trail, read_trails, trail_number, trails_text
 from plantbal.workbook.cells import Reader
 from plantbal.workbook.converter import Converter
 from plantbal.workbook.measurekinds import KEPT
 from plantbal.workbook.measuresheets import Gauge, MeasureReader, Measures
 from plantbal.workbook.sheets import Sheet, Value
+from plantbal.workbook.summed import SummedFact, as_booked, summed_text
 from plantbal.workbook.tables import Tables
 
 _SAID = 5  # periods or streams that are named
@@ -41,40 +43,49 @@ def measures_text(found: Measures) -> str:
         writer.writerow(("products", *_product(product, found.product_densities.get(product.name))))
     for product in found.products.values():
         for temperature, factor in product.table.points if product.table else ():
-            writer.writerow(("factors", product.name, plain(temperature), plain(factor)))
+            writer.writerow(
+                ("factors", product.name, trail_number(temperature), trail_number(factor))
+            )
     for name, gauge in found.gauges.items():
         writer.writerow(("gauges", name, *_gauge(gauge)))
     for name, points in found.waters.items():
         for mm, ml in points:
-            writer.writerow(("waters", name, str(mm), plain(Decimal(ml).scaleb(-6)), "m3"))
+            writer.writerow(("waters", name, str(mm), trail_number(Decimal(ml).scaleb(-6)), "m3"))
     return out.getvalue()
 
 
 def _product(product: Product, sample: Sample | None) -> tuple[str, ...]:
     group = product.group.value if product.group else ""
-    coefficient = plain(product.coefficient) if product.coefficient is not None else ""
+    coefficient = trail_number(product.coefficient) if product.coefficient is not None else ""
     own = product.name, group, coefficient, product.rounding.value
     if sample is None:
         return (*own, "", "", "", "")
-    at = plain(sample.at) if sample.at is not None else ""
+    at = trail_number(sample.at) if sample.at is not None else ""
     by = sample.by.value if sample.by else ""
-    return (*own, plain(sample.density.value), plain(sample.density.sd), at, by)
+    return (*own, trail_number(sample.density.value), trail_number(sample.density.sd), at, by)
 
 
 def _gauge(gauge: Gauge) -> tuple[str, ...]:
     errors = tuple(
-        plain(sd) if sd is not None else "" for sd in (gauge.temperature_sd, gauge.water_sd)
+        trail_number(sd) if sd is not None else "" for sd in (gauge.temperature_sd, gauge.water_sd)
     )
     if gauge.roof is None:
         return (gauge.product, *errors, "", "", "", "", "")
     roof = gauge.roof
     masses = _kilograms(roof.mass), _kilograms(MeasuredFigure(roof.mass.sd))
     zone = _kilograms(MeasuredFigure(roof.zone)) if roof.zone is not None else ""
-    return (gauge.product, *errors, *masses, plain(roof.rests), plain(roof.floats), zone)
+    return (
+        gauge.product,
+        *errors,
+        *masses,
+        trail_number(roof.rests),
+        trail_number(roof.floats),
+        zone,
+    )
 
 
 def _kilograms(mass: MeasuredFigure) -> str:
-    return f"{plain(mass.value)} kg"
+    return f"{trail_number(mass.value)} kg"
 
 
 def take_measures(work: Converter, file: str, text: str, into: Measures | None = None) -> None:
@@ -126,7 +137,7 @@ def put_measures(book: Store, action: Action, found: Measures) -> list[str]:
         return []
     action.written[MEASURES] = text
     new = set(text.splitlines()) - set(before.splitlines())
-    return [f"{MEASURES}: {counted(len(new), 'row')}, new or changed"]
+    return [f"{MEASURES}: {count_said(len(new), 'row')}, new or changed"]
 
 
 # ---- how masses were calculated
@@ -168,7 +179,19 @@ def put_trails(book: Store, action: Action, changes: Changes, trails: Sequence[T
         if own in by_fact
     ]
     if found:
-        action.appended[MEASURED] = text_of(found, heads=not book.has(MEASURED))
+        action.appended[MEASURED] = trails_text(found, heads=not book.has(MEASURED))
+
+
+def put_summed(book: Store, action: Action, changes: Changes, summed: Sequence[SummedFact]) -> None:
+    """Have an action write of what hours, or of what counter, the facts are made that it books."""
+    by_fact = {each.fact: each for each in summed}
+    found = [
+        as_booked(by_fact[own], ledger.name, number, fact)
+        for ledger, number, own, fact in changes.rows
+        if own in by_fact
+    ]
+    if found:
+        action.appended[SUMMED] = summed_text(found, heads=not book.has(SUMMED))
 
 
 def density_changes(
@@ -211,7 +234,7 @@ def _density_of(trail: Trail | None, meter: Meter | None) -> str:
         return trail.figures["density"]
     if meter is None or meter.density is None:
         return ""
-    return decimal(meter.density / 1000)
+    return exact_decimal(meter.density / 1000)
 
 
 def _periods_of(changes: Sequence[Change]) -> str:
@@ -225,4 +248,4 @@ def _periods_of(changes: Sequence[Change]) -> str:
     said = [f"{name} (closed)" if closed else name for name, closed in names.items()]
     more = f" and {len(said) - _SAID} more" if len(said) > _SAID else ""
     of = f" of {', '.join(said[:_SAID])}{more}" if said else ""
-    return f"{counted(len(changes), 'fact')}{of}"
+    return f"{count_said(len(changes), 'fact')}{of}"

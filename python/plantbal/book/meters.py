@@ -7,14 +7,15 @@ from __future__ import annotations
 
 import csv
 import io
-from collections.abc import Iterable
+from collections.abc import Iterable, Mapping
 from dataclasses import dataclass
 from fractions import Fraction
-from pathlib import Path
 
+from plantbal.book.forms import METERS
+from plantbal.book.store import Store
 from plantbal.workbook.cells import Error, Reader
 from plantbal.workbook.plant import PlantReader, StreamRow, TankRow
-from plantbal.workbook.sheets import Cell, Sheet, read_csv
+from plantbal.workbook.sheets import Cell, Sheet, csv_sheet
 from plantbal.workbook.units import AMOUNTS, DENSITIES, GRAMS
 
 HEADS = ("name", "tag", "unit", "density", "error")
@@ -53,7 +54,7 @@ class Meter:
         """Return it as a row of the file."""
         density = ""
         if self.density is not None:
-            density = decimal(self.density / DENSITIES["kg/m3"]) + " kg/m3"
+            density = exact_decimal(self.density / DENSITIES["kg/m3"]) + " kg/m3"
         return self.name, self.tag, self.unit, density, error_text(self.error)
 
     def stream(self, kind: str, cell: Cell) -> StreamRow:
@@ -70,7 +71,7 @@ class Meter:
         )
 
 
-def decimal(number: Fraction) -> str:
+def exact_decimal(number: Fraction) -> str:
     """Return a fraction that has an end as a decimal number, exactly."""
     places = 0
     while number.denominator != 1 and places < _LONGEST:
@@ -88,11 +89,11 @@ def error_text(error: Error | None) -> str:
         return ""
     parts = []
     if error.share:
-        parts.append(f"{decimal(error.share * 100)} %")
+        parts.append(f"{exact_decimal(error.share * 100)} %")
     if error.mm:
-        parts.append(f"{decimal(error.mm)} mm")
+        parts.append(f"{exact_decimal(error.mm)} mm")
     if error.grams or not parts:
-        parts.append(f"{decimal(error.grams / GRAMS['t'])} t")
+        parts.append(f"{exact_decimal(error.grams / GRAMS['t'])} t")
     return " or ".join(parts)
 
 
@@ -118,7 +119,22 @@ def meters_text(meters: Iterable[Meter]) -> str:
     return out.getvalue()
 
 
-def read_meters(path: Path) -> dict[str, Meter]:
+def changed_meters(before: Mapping[str, Meter], now: Mapping[str, Meter]) -> list[str]:
+    """Return how the meters of a book change, a line each: later figures are read by them."""
+    lines = []
+    for name, was in before.items():
+        meter = now.get(name, was)
+        pairs = zip((*was.row(), error_text(was.base)), (*meter.row(), error_text(meter.base)))
+        parts = [
+            f"{head} {old or 'none'} becomes {new or 'none'}"
+            for head, (old, new) in zip((*HEADS, BASE), pairs)
+            if old != new
+        ]
+        lines += [f"{METERS}: {name}: {', '.join(parts)}"] if parts else []
+    return lines
+
+
+def read_meters(book: Store) -> dict[str, Meter]:
     """Return the meters of a book by the names of their streams and tanks.
 
     Raises
@@ -126,7 +142,8 @@ def read_meters(path: Path) -> dict[str, Meter]:
     Fault
         If a cell can't be read.
     """
-    sheet = read_csv(path) if path.is_file() else Sheet(str(path), path.stem, [])
+    file, data = str(book.path(METERS)), book.data(METERS)
+    sheet = Sheet(file, "meters", []) if data is None else csv_sheet(file, "meters", data)
     reader = Reader("en")
     found = {}
     for cells in list(sheet.rows())[1:]:
@@ -146,7 +163,7 @@ def read_meters(path: Path) -> dict[str, Meter]:
     return found
 
 
-def taken(
+def plant_with_meters(
     plant: Iterable[tuple[str, ...]], meters: dict[str, Meter]
 ) -> tuple[list[StreamRow], list[TankRow]]:
     """Return the streams and tanks of a plant's rows, with what `meters.csv` has of them."""

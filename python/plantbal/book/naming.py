@@ -29,7 +29,7 @@ def cell_of(text: str) -> Cell:
     return Cell(_Words("", "", []), 0, 0, text.strip() or None)
 
 
-def day_of(text: str | None, locale: str) -> datetime.date | None:
+def day_named(text: str | None, locale: str) -> datetime.date | None:
     """Return the day that a command names, or None if it names none."""
     return None if text is None else Reader(check_locale(locale)).day(cell_of(text))
 

@@ -1,4 +1,4 @@
-"""How a book stands: what is open or missing, which report is old."""
+"""The state of a book: what is open or missing, and which report is out of date."""
 
 from __future__ import annotations
 
@@ -10,7 +10,7 @@ from plantbal.book.ledger import YearLedger
 from plantbal.book.meters import Meter, read_meters
 from plantbal.book.results import BookStatus, PeriodStatus, ReportState, TankApart, YearStatus
 from plantbal.book.said import lacks, unassayed, waiting_said
-from plantbal.book.store import METERS, Act, JournalLine, Store
+from plantbal.book.store import Act, JournalLine, Store
 from plantbal.book.years import Years
 from plantbal.session import Period
 
@@ -21,11 +21,11 @@ def status(book: Store) -> BookStatus:
     """Return how the book stands."""
     with book.opened(reading=True):
         years = Years(book)
-        meters = read_meters(book.path(METERS))
+        meters = read_meters(book)
         waiting = waiting_said(book)
         found = [_year(book, ledger, book.journal(), meters) for ledger in years.all()]
         ends = zip(years.all(), years.all()[1:])
-        between = [each for old, new in ends for each in apart(old, new)]
+        between = [each for old, new in ends for each in tanks_apart(old, new)]
     return BookStatus(tuple(waiting), tuple(found), tuple(between))
 
 
@@ -97,7 +97,7 @@ def report_state(
     return ReportState.OLDER if is_older else ReportState.CURRENT
 
 
-def apart(old: YearLedger, new: YearLedger) -> Iterator[TankApart]:
+def tanks_apart(old: YearLedger, new: YearLedger) -> Iterator[TankApart]:
     """Give the dips of the eve of a year that aren't the same in both years."""
     eve = new.first - _DAY
     for name, kind in new.session.nodes.items():

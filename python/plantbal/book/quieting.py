@@ -4,7 +4,7 @@ from __future__ import annotations
 
 from collections.abc import Sequence
 
-from plantbal.book.answers import Quiet, checked, checked_rule, quieted
+from plantbal.book.answers import Quiet, checked_reason, checked_rule, quieted
 from plantbal.book.store import Act, Action, Store
 from plantbal.faults import Fault
 
@@ -13,7 +13,7 @@ def quiet(book: Store, code: str, names: Sequence[str], *, why: str, who: str) -
     """Quiet a rule; the parameters are those of `plantbal.Book.quiet`."""
     checked_rule(code, names)
     with book.opened():
-        book.do(Action(Act.QUIET, code, " ".join(names), checked(why), who))
+        book.do(Action(Act.QUIET, code, " ".join(names), checked_reason(why), who))
 
 
 def heed(book: Store, code: str, names: Sequence[str], *, why: str, who: str) -> None:
@@ -23,10 +23,10 @@ def heed(book: Store, code: str, names: Sequence[str], *, why: str, who: str) ->
         if set(names) not in there:
             remedy = "plantbal-desk book quiet lists what is quieted"
             raise Fault(f"{code} isn't quieted for {' '.join(names)}", text=code, remedy=remedy)
-        book.do(Action(Act.HEED, code, " ".join(names), checked(why), who))
+        book.do(Action(Act.HEED, code, " ".join(names), checked_reason(why), who))
 
 
-def listed(book: Store) -> list[Quiet]:
+def quieted_rules(book: Store) -> list[Quiet]:
     """Return which rules are quieted."""
     with book.opened(reading=True):
         return quieted(book.journal())

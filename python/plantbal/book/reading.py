@@ -10,8 +10,8 @@ from pathlib import Path
 
 from plantbal.book.forms import MEASURES
 from plantbal.book.measures import take_measures
-from plantbal.book.meters import Meter, taken
-from plantbal.book.said import counted, listed
+from plantbal.book.meters import Meter, plant_with_meters
+from plantbal.book.said import count_said, listed
 from plantbal.book.vanished import PulledSource
 from plantbal.faults import Fault, Faults, InputFault, Refusal
 from plantbal.memory import uncollected
@@ -61,7 +61,7 @@ class Tabled:
 Given = str | Path | Tabled
 
 
-def name_of(workbook: Given) -> str:
+def workbook_name(workbook: Given) -> str:
     """Return what the journal calls a workbook."""
     return workbook.name if isinstance(workbook, Tabled) else Path(workbook).name
 
@@ -163,7 +163,7 @@ def converted(
         work.say_rounded()
     work.faults.extend([*work.session.refused, *edits])
     if work.faults:
-        work.faults[:0] = _left_out(work, *taken(plant, meters))
+        work.faults[:0] = _left_out(work, *plant_with_meters(plant, meters))
     found = Conversion(work.session, work.faults, work.notes)
     check_faults(found, "nothing is booked")
     return work
@@ -174,7 +174,7 @@ def _read_plant(work: Converter, plant: list[tuple[str, ...]], meters: dict[str,
 
     Without tanks or tables these are the book's.
     """
-    streams, tanks = taken(plant, meters)
+    streams, tanks = plant_with_meters(plant, meters)
     if not work.sheets["streams"]:
         work.plant.take_plant(plant, streams, tanks)
         for sheet in [each for kind in _PLANT for each in work.sheets[kind]]:
@@ -211,7 +211,7 @@ def _left_out(work: Converter, streams: list[StreamRow], tanks: list[TankRow]) -
         if names and work.sheets[kind]:
             are = "isn't" if len(names) == 1 else "aren't"
             yield InputFault(
-                f"{counted(len(names), what)} of the book {are} here: {listed(names)}",
+                f"{count_said(len(names), what)} of the book {are} here: {listed(names)}",
                 place=work.sheets[kind][0].place(),
                 remedy="write the whole plant into this sheet, with what is new",
             )

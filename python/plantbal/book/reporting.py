@@ -6,16 +6,16 @@ from collections.abc import Iterator, Mapping, Sequence
 from decimal import Decimal
 
 from plantbal.accounts.sheet import SalesUnit, sales_units
-from plantbal.audit.believed import judge, program_digest
+from plantbal.audit.believed import program_digest, require_believed
 from plantbal.book.accounting import accounts_of
 from plantbal.book.answers import Quiet, quieted
 from plantbal.book.forms import earlier_file, old_earlier_file, report_file, year_file
 from plantbal.book.journal import Kept
-from plantbal.book.ledger import YearLedger, plain
+from plantbal.book.ledger import YearLedger, number_with_commas
 from plantbal.book.meters import read_meters
 from plantbal.book.results import Reported
 from plantbal.book.said import lacks
-from plantbal.book.store import METERS, Act, Action, Store
+from plantbal.book.store import Act, Action, Store
 from plantbal.book.years import Years
 from plantbal.diagnosis.diagnose import diagnosis_of
 from plantbal.diagnosis.rounds import one_of_said, suspects_by_set, taken_by_set
@@ -26,6 +26,7 @@ from plantbal.model import ledger as model
 from plantbal.program import RunSettings, call
 from plantbal.report.blocks import Block, last_blocks
 from plantbal.report.output import Output, parse_report
+from plantbal.sentence import Figure, Joined, Sentence
 
 _MOST = 5  # suspects that are named
 
@@ -62,7 +63,7 @@ def written_of(settings: RunSettings, asked: str, what: str) -> tuple[str, Outpu
         What it asks for, in what is said.
     """
     status, output = call(settings.words, asked.encode("ascii"), program=settings.program)
-    judge(output, f"the report of {what}", settings.program)
+    require_believed(output, f"the report of {what}", settings.program)
     written = output.decode("ascii")
     return written, parse_report(written, f"the report of {what}", status)
 
@@ -92,7 +93,7 @@ def rows_asking(period: str, components: Sequence[str] = ()) -> str:
     return f"report,{period}\n{balances}history,{period}\n"
 
 
-def state_of(output: Output, period: str) -> str:
+def report_state_line(output: Output, period: str) -> str:
     """Return what a report says as a whole, in a line."""
     block = output.reports[-1] if output.reports else None
     if block is None or block.solved is None:
@@ -113,7 +114,7 @@ def state_of_block(block: Block) -> str:
     if block.solved and block.whole and block.whole["critical"]:
         low = Decimal(block.solved["low"]) / 1000
         critical = Decimal(block.whole["critical"]) / 1000
-        said += f": {plain(low)} (critical value {plain(critical)})"
+        said += f": {number_with_commas(low)} (critical value {number_with_commas(critical)})"
     return said
 
 
@@ -128,17 +129,24 @@ def suspects_of_block(block: Block) -> list[str]:
         return []
     if not block.measure:
         count = sum(row["class"] == "redundant" for row in block.streams)
-        what = f"{block.subject}: suspects aren't tested for: there is no critical value measure"
-        return [f"{what}; plantbal-desk critical 0.05 --measure {count} gives one"]
+        form = (
+            "{subject}: suspects aren't tested for: there is no critical value measure; "
+            "plantbal-desk critical 0.05 --measure {count} gives one"
+        )
+        return [Sentence(form, subject=block.subject, count=count)]
     low = {row["stream"]: Decimal(row["low"]) / 1000 for row in block.measure}
     names = []
     for equals in suspects_by_set(block):
         tested = next(name for name in equals if name in low)
-        names.append(f"{one_of_said(equals, block)} {plain(low[tested])}")
+        statistic = Figure(number_with_commas(low[tested]))
+        form = "{names} {statistic}"
+        names.append(Sentence(form, names=one_of_said(equals, block), statistic=statistic))
     if not names:
         return []
-    more = f" and {len(names) - _MOST:,} more" if len(names) > _MOST else ""
-    return [f"{block.subject}: suspects: {', '.join(names[:_MOST])}{more}"]
+    some: str = Joined(", ", names[:_MOST])
+    if len(names) > _MOST:
+        some = Sentence("{names} and {count:,} more", names=some, count=len(names) - _MOST)
+    return [Sentence("{subject}: suspects: {names}", subject=block.subject, names=some)]
 
 
 def holes_said(
@@ -164,11 +172,13 @@ def holes_said(
     said = list(lines_said(diagnosis_of(first[0], read, seen).sold_in(units or {})))
     for names in taken_by_set(blocks, blocks[-1]):
         if len(names) > 1:
-            said.append(f"taken out is one of {one_of_said(names, blocks[-1])}")
-    return [f"{first[0].subject}: {line}" for line in said]
+            one_of = one_of_said(names, blocks[-1])
+            said.append(Sentence("taken out is one of {names}", names=one_of))
+    subject = first[0].subject
+    return [Sentence("{subject}: {said}", subject=subject, said=line) for line in said]
 
 
-def keep(
+def write_and_keep(
     book: Store, action: Action, ledger: YearLedger, period: str, text: str, closed: bool
 ) -> bool:
     """Have an action write a report, and keep the one before it if it has gone out.
@@ -238,7 +248,7 @@ def reports(
     """
     with book.opened():
         years = Years(book)
-        meters = read_meters(book.path(METERS))
+        meters = read_meters(book)
         periods = list(names) or years.open_periods()
         if not periods:
             raise Fault("no period is open", remedy="name the periods to report")
@@ -248,7 +258,7 @@ def reports(
             text, output = report_of(settings, book.text(f"{ledger.name}.csv"), name, components)
             action = Action(Act.REPORT, name, who=who)
             action.program = program_digest(settings.program)
-            new = keep(book, action, ledger, name, text, ledger.periods[name].closed)
+            new = write_and_keep(book, action, ledger, name, text, ledger.periods[name].closed)
             if new:
                 book.do(action)
             missing = lacks(ledger, ledger.periods[name], meters)

@@ -1,4 +1,4 @@
-"""What became of an action on a book, and how a book stands: what `Book` returns."""
+"""What `Book` returns: what became of an action on a book, and the state of a book."""
 
 from __future__ import annotations
 
@@ -84,7 +84,8 @@ class Added:
     years : tuple of YearAdded
         What it adds to each year.
     accounts : tuple of str
-        What it adds to the sheet of accounts, in sentences.
+        What it adds to what the book keeps beside its years, in sentences: how it changes meters,
+        the sheet of accounts, products, the mapping.
     changes : Changes
         The facts that are new in it, changed, moved or gone.
     struck : bool

@@ -14,10 +14,11 @@ from plantbal.book.results import ReportState, YearAdded
 from plantbal.book.store import Store
 from plantbal.lint import SEVERITIES, Finding
 from plantbal.lint.plant import near_names
-from plantbal.lint.values import densities, deviations, magnitudes
+from plantbal.lint.values import densities, magnitudes, odd_deviations
 from plantbal.model import ledger as model
+from plantbal.sentence import Joined, Sentence
 from plantbal.session import Period, day_of_number, in_service, is_served, period_days
-from plantbal.workbook.base import days_of
+from plantbal.workbook.base import days_between
 from plantbal.workbook.missing import spans, tank_days
 
 FIRST = 12  # things of which each is shown; the others are counted
@@ -28,11 +29,11 @@ _NEW = {
     "dip": "dip",
     "assay": "assay",
 }
-_ODD = (near_names, magnitudes, deviations, densities)
+_ODD = (near_names, magnitudes, odd_deviations, densities)
 _EDITED = {"amend": "amended", "strike": "struck", "close": "closed"}
 
 
-def counted(count: int, word: str) -> str:
+def count_said(count: int, word: str) -> str:
     """Return how many of something there are: `1 fact`, `1,200 facts`."""
     return f"{count:,} {word}{'' if count == 1 else 's'}"
 
@@ -62,12 +63,20 @@ def listed(names: list[str]) -> str:
     return ", ".join(names[:FIRST]) + more
 
 
+def _listed(names: list[str]) -> str:
+    """Return names with commas, of many the first, for a sentence."""
+    first = Joined(", ", names[:FIRST])
+    if len(names) <= FIRST:
+        return first
+    return Sentence("{names} and {count:,} more", names=first, count=len(names) - FIRST)
+
+
 def added(year: YearAdded) -> str:
     """Return what was added to a year, in a line."""
     counts = Counter(row[1] if row[0] == "late" else row[0] for row in year.rows)
-    new = [counted(counts[kind], word) for kind, word in _NEW.items() if counts[kind]]
+    new = [count_said(counts[kind], word) for kind, word in _NEW.items() if counts[kind]]
     plant = sum(counts[kind] for kind in PLANT_KINDS)
-    new += [counted(plant, "row") + " of the plant"] if plant else []
+    new += [count_said(plant, "row") + " of the plant"] if plant else []
     late = sum(row[0] == "late" for row in year.rows)
     parts = [f"new: {', '.join(new)}"] if new else []
     parts += [f"late: {late:,} of them"] if late else []
@@ -78,7 +87,7 @@ def added(year: YearAdded) -> str:
 _ASKED = "is booked, and is no longer in {}: plantbal-desk book strike takes it out"
 
 
-def changed(
+def changes_said(
     changes: Changes, name: str, struck: bool, when: Callable[[BookFact], str] = lambda fact: ""
 ) -> list[str]:
     """Return what a workbook changes, a line each, and what it leaves.
@@ -102,18 +111,18 @@ def changed(
         lines.append(f"{len(every) - FIRST:,} more are changed")
     if changes.same:
         are = "is" if changes.same == 1 else "are"
-        lines.append(f"{counted(changes.same, 'fact')} {are} booked already")
+        lines.append(f"{count_said(changes.same, 'fact')} {are} booked already")
     for change in changes.stale[:FIRST]:
         old = change.old
         booked = f"amended to {old.said()}" if old.id in change.ledger.facts else "struck"
-        lines.append(f"{old.id}: it stays {booked}; {name} has {change.new.said()} still")
+        lines.append(f"{old.id}: it stays {booked}; {name} still has {change.new.said()}")
     if len(changes.stale) > FIRST:
         lines.append(f"{len(changes.stale) - FIRST:,} more are kept as they were amended")
     if changes.gone:
         ids = ", ".join(fact.id for _, fact in changes.gone[:3])
         ids += ", .." if len(changes.gone) > 3 else ""
         are = "is" if len(changes.gone) == 1 else "are"
-        what = f"{counted(len(changes.gone), 'fact')} {are} booked and not in {name}: {ids}"
+        what = f"{count_said(len(changes.gone), 'fact')} {are} booked and not in {name}: {ids}"
         lines.append(f"{what}; struck" if struck else f"{what}; kept, and --strike takes them out")
     lines += [
         f"{fact.id}: {fact.said()} {_ASKED.format(name)}" for _, fact in changes.asked[:FIRST]
@@ -161,7 +170,9 @@ def doubts(before: Iterable[Finding], ledger: YearLedger) -> list[Finding]:
     return [each for each in odd(ledger) if (each.text, each.remedy) not in known]
 
 
-def lacking(ledger: YearLedger, facts: Iterable[BookFact], meters: dict[str, Meter]) -> list[str]:
+def lacks_said(
+    ledger: YearLedger, facts: Iterable[BookFact], meters: dict[str, Meter]
+) -> list[str]:
     """Return what is missing in the periods in which some facts are."""
     days = {fact.first.toordinal() for fact in facts}
     periods = ledger.periods.values()
@@ -169,11 +180,15 @@ def lacking(ledger: YearLedger, facts: Iterable[BookFact], meters: dict[str, Met
     return [line for period in found for line in lacks(ledger, period, meters)]
 
 
+_NO_READING = "{period}: no reading of {names} on {days}"
+_NO_DIP = "{period}: no dip of {names} on {days}"
+
+
 def lacks(ledger: YearLedger, period: Period, meters: dict[str, Meter]) -> list[str]:
     """Return which readings and dips of a period are missing, those of the same days in a line."""
     first, last = period_days(period)
-    days = days_of(first, last)
-    groups: dict[tuple[str, str], list[str]] = {}
+    days = days_between(first, last)
+    groups: dict[tuple[str, str], list[str]] = {}  # by the form and the days
     for name, kind in ledger.session.streams.items():
         if kind == "metered":
             service = ledger.session.service(name)
@@ -182,19 +197,20 @@ def lacks(ledger: YearLedger, period: Period, meters: dict[str, Meter]) -> list[
             if missing:
                 tag = meters[name].tag if name in meters else ""
                 said = f"{tag} ({name})" if tag else name
-                groups.setdefault(("reading", spans(missing)), []).append(said)
+                groups.setdefault((_NO_READING, spans(missing)), []).append(said)
     for name, kind in ledger.session.nodes.items():
         if kind == "tank":
             service = ledger.session.service(name)
             missing = [d for d in tank_days(service, first, last) if ledger.on(name, d) is None]
             if missing:
-                when = spans(missing) + _by_window(ledger, name, period, missing)
+                when = _by_window(ledger, name, period, missing, spans(missing))
                 if service is not None and missing == [day_of_number(service[0] - 1)]:
-                    when += ", the evening before it is in service"
-                groups.setdefault(("dip", when), []).append(name)
-    lines = [
-        f"{period.name}: no {kind} of {listed(names)} on {when}"
-        for (kind, when), names in groups.items()
+                    form = "{days}, the evening before it is in service"
+                    when = Sentence(form, days=when)
+                groups.setdefault((_NO_DIP, when), []).append(name)
+    lines: list[str] = [
+        Sentence(form, period=period.name, names=_listed(names), days=when)
+        for (form, when), names in groups.items()
     ]
     return lines + unassayed(ledger, period)
 
@@ -215,7 +231,7 @@ def unassayed(ledger: YearLedger, period: Period, none: bool = False) -> list[st
     if ledger.periods[period.name].closed or not before:
         return []
     last = max(before, key=lambda each: each.last)
-    lines = []
+    lines: list[str] = []
     for component in dict.fromkeys(of for of, _, when in ledger.assays if when == last.name):
         here = {name for of, name, when in ledger.assays if (of, when) == (component, period.name)}
         names = [
@@ -226,19 +242,24 @@ def unassayed(ledger: YearLedger, period: Period, none: bool = False) -> list[st
             and is_served(ledger.session.service(name), period.first, period.last)
         ]
         if names and (here or none):
-            what = f"{period.name}: no assay of {component} in {listed(names)}, which {last.name}"
-            lines.append(f"{what} has: enter it before the close")
+            form = (
+                "{period}: no assay of {component} in {names}, which {before} has: enter it before "
+                "the close"
+            )
+            words = {"component": component, "names": _listed(names), "before": last.name}
+            lines.append(Sentence(form, period=period.name, **words))
     return lines
 
 
 def _by_window(
-    ledger: YearLedger, tank: str, period: Period, missing: Collection[datetime.date]
+    ledger: YearLedger, tank: str, period: Period, missing: Collection[datetime.date], days: str
 ) -> str:
-    """Return which window has what a tank held on a day without a dip, or nothing."""
+    """Return days without a dip, and which window has what the tank held on one of them."""
     service = ledger.session.service(tank)
     for other in ledger.session.periods:
         one, next_ = sorted((period, other), key=lambda each: each.first)
         served = all(is_served(service, each.first, each.last) for each in (one, next_))
         if served and one.last + 1 == next_.first and day_of_number(one.last) in missing:
-            return f"; if nobody took it: plantbal-desk book window {one.name} {next_.name}"
-    return ""
+            form = "{days}; if nobody took it: plantbal-desk book window {one} {after}"
+            return Sentence(form, days=days, one=one.name, after=next_.name)
+    return days

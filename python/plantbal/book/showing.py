@@ -9,7 +9,7 @@ from plantbal.book.meters import Meter, read_meters
 from plantbal.book.naming import Names
 from plantbal.book.results import ShownFact
 from plantbal.book.said import waiting_said
-from plantbal.book.store import METERS, Store
+from plantbal.book.store import Store
 from plantbal.book.years import Years
 from plantbal.faults import Fault
 
@@ -27,7 +27,7 @@ def show(
     first, last = first or datetime.date.min, last or datetime.date.max
     with book.opened(reading=True):
         years = Years(book)
-        meters = read_meters(book.path(METERS))
+        meters = read_meters(book)
         place = Names(years, meters).place(name)
         ledgers = [years[span.name] for span in years.spans if span.last >= first]
         waiting = waiting_said(book)

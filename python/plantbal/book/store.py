@@ -14,6 +14,7 @@ is one more writing of the year's file, at most some 20 MB.
 
 from __future__ import annotations
 
+import hashlib
 from collections.abc import Iterator
 from contextlib import contextmanager
 from pathlib import Path
@@ -21,7 +22,15 @@ from pathlib import Path
 from plantbal import limits
 from plantbal.book import expected as expecting
 from plantbal.book.actions import Action, Head, Withheld
-from plantbal.book.chain import Chain, checks_of, checks_text, read_checks, state_of
+from plantbal.book.chain import (
+    Chain,
+    FileDifference,
+    checks_of,
+    checks_text,
+    read_checks,
+    state_of,
+    unknown_file,
+)
 from plantbal.book.forms import (
     APPROVALS,
     CHECKS,
@@ -44,7 +53,7 @@ from plantbal.book.journal import (
     Kept,
     following,
     now,
-    printable,
+    printable_line,
     read_journal,
 )
 from plantbal.book.lock import locked
@@ -102,6 +111,8 @@ class Store:
         self.withheld = withheld
         self.waits: list[PendingFile] = []
         self._journal: list[JournalLine] | None = None
+        self._known: frozenset[str] = frozenset()
+        self._seen: dict[str, bytes] = {}  # the digests of files as they were read first
         self._is_old = False
 
     # ---- opening
@@ -137,7 +148,7 @@ class Store:
         if not reading:
             check_folder(self.folder)
         with locked(self.folder / LOCK, self.seconds, shared=reading):
-            self._journal = None
+            self._forget()
             self.waits = read_pending(self.folder)
             if not reading:
                 self._tidy()
@@ -146,9 +157,9 @@ class Store:
                 what = "there is no journal.csv"
                 raise InputFault(what, place=Place(file=str(self.folder)), remedy=_LOST)
             if tested:
-                self.test()
+                self.test(reading)
             if not reading:
-                expecting.check(self.journal(), self.expected)
+                expecting.require_expected(self.journal(), self.expected)
             yield
 
     def _check_is_there(self) -> None:
@@ -185,8 +196,8 @@ class Store:
                 if is_begun(inner, path.name) and (path.is_file() or path.is_symlink()):
                     path.unlink(missing_ok=True)
 
-    def test(self) -> None:
-        """Raise at the first file that isn't as the journal says.
+    def test(self, reading: bool = False) -> None:
+        """Raise at the first file that isn't as the journal says, or that isn't used if it writes.
 
         Raises
         ------
@@ -195,12 +206,27 @@ class Store:
         """
         if self._bytes(JOURNAL) is None:
             return
-        for difference in self.chain().differences():
+        unknown = () if reading else self.unknown()
+        for difference in (*self.chain().differences(), *unknown):
             raise difference.fault(self.folder)
 
     def chain(self) -> Chain:
         """Return what the journal says of the book's files."""
         return Chain(self.journal(), self._bytes, self._checks, self.folder)
+
+    def unknown(self, years: bool = False) -> Iterator[FileDifference]:
+        """Give the files that no action has written; those called like a year may be workbooks."""
+        lines = self.journal()
+        for name in there(self.folder):
+            if not self.knows(name) and (years or not is_year_file(name)):
+                yield unknown_file(name, lines)
+
+    def knows(self, name: str) -> bool:
+        """Say whether an action has written a file, so that it is used.
+
+        A book of an older version doesn't say which these are, and one that is begun has none yet.
+        """
+        return name == JOURNAL or not self.journal() or self._is_old or name in self._known
 
     def _checks(self) -> str:
         """Return the digits of the lines of files, or nothing if they can't be read."""
@@ -239,16 +265,20 @@ class Store:
         return self.folder / name
 
     def text(self, name: str) -> str:
-        """Return the text of a file, which is empty if it isn't there."""
-        data = self._bytes(name)
+        """Return the text of a file, which is empty if the book has none."""
+        data = self.data(name)
         return decoded(str(self.path(name)), data) if data is not None else ""
 
     def has(self, name: str) -> bool:
-        """Say whether a file is there."""
-        return self._bytes(name) is not None
+        """Say whether the book has a file."""
+        return self.data(name) is not None
+
+    def data(self, name: str) -> bytes | None:
+        """Return the bytes of a file; None if it isn't there, or no action has written it."""
+        return self._bytes(name) if self.knows(name) else None
 
     def kept(self, name: str) -> Kept:
-        """Return what is kept of a file: its lines, bytes and digest."""
+        """Return what is kept of a file: its lines, bytes and digest, whoever has written it."""
         return Kept.of(self._bytes(name))
 
     def journal(self) -> list[JournalLine]:
@@ -270,17 +300,33 @@ class Store:
                 what = "this isn't UTF-8 text"
                 raise InputFault(what, place=place, remedy="put it back, from a backup") from error
             self._journal, self._is_old = read_journal(str(self.path(JOURNAL)), text)
+            self._known = frozenset(state_of(self._journal))
         return self._journal
 
     def _bytes(self, name: str) -> bytes | None:
-        """Return the bytes of a file, as they are once what waits is done."""
+        """Return the bytes of a file, as they are once what waits is done.
+
+        Raises
+        ------
+        InputFault
+            If they can't be read, or are other ones than when the book was opened.
+        """
         path = self.folder / name
         most = limits.SESSION_BYTES if is_year_file(name) else limits.INPUT_BYTES
         data = read_bytes(path, most)[1] if path.is_file() else None
+        digest = hashlib.sha256(data).digest() if data is not None else b""
+        if self._seen.setdefault(name, digest) != digest:
+            what = "it was changed by other means while this command was at work"
+            raise InputFault(what, place=Place(file=str(path)), remedy="find out by what")
         for entry in self.waits:
             if entry.file == name:
                 data = entry.whole(data or b"", path)
         return data
+
+    def _forget(self) -> None:
+        """Read the files anew from here on, whatever they are."""
+        self._journal = None
+        self._seen.clear()
 
     # ---- actions
 
@@ -302,9 +348,9 @@ class Store:
             If it can't be done. The fault says whether it is going to be.
         """
         if self.journal():
-            from plantbal.book.approval.guard import check
+            from plantbal.book.approval.guard import pass_or_submit
 
-            check(self, action)
+            pass_or_submit(self, action)
         entries = self._entries_of(action)
         check_links(self.folder, [entry.file for entry in entries])
         self._check_known(entries)
@@ -344,8 +390,8 @@ class Store:
         if self._is_old and not is_new:
             lines += self._beginning(lines)
         texts = (action.of, action.what, action.why, "; ".join(action.rows), action.program)
-        of, what, why, rows, program = map(printable, texts)
-        who = printable(action.who)
+        of, what, why, rows, program = map(printable_line, texts)
+        who = printable_line(action.who)
         last = JournalLine(
             0, now(), user_said(), who, action.act, of, what, why, rows, program, files
         )
@@ -377,11 +423,8 @@ class Store:
         InputFault
             If one is there.
         """
-        known = state_of(self.journal())
-        if self._is_old or not known:
-            return
         for entry in entries:
-            if entry.file != JOURNAL and entry.file not in known and self.has(entry.file):
+            if not self.knows(entry.file) and self._bytes(entry.file) is not None:
                 raise InputFault(
                     "no action of this book has written it, and it isn't overwritten",
                     place=Place(file=str(self.path(entry.file))),
@@ -418,7 +461,7 @@ class Store:
         Fault
             If one can't; the fault says what becomes of the action.
         """
-        self._journal = None
+        self._forget()
         try:
             writing.place()
         except Fault as fault:

@@ -8,13 +8,13 @@ from collections.abc import Iterator, Sequence
 from pathlib import Path
 
 from plantbal.audit.changed import digest
-from plantbal.audit.linked import manifest_of
+from plantbal.audit.linked import bundle_manifest
 from plantbal.book.chain import state_of
-from plantbal.book.forms import JOURNAL, there
+from plantbal.book.forms import JOURNAL
 from plantbal.book.results import AcceptedFile, Verified
 from plantbal.book.said import waiting_said
 from plantbal.book.store import Act, Action, Head, Store
-from plantbal.faults import Fault, read_bytes
+from plantbal.faults import Fault, InputFault, read_bytes
 
 _DIGEST = re.compile(r"(?:([0-9]{1,9}) )?([0-9a-f]{64})")
 
@@ -48,23 +48,34 @@ def verify(book: Store, bundles: Sequence[str] = (), heads: Sequence[str] = ()) 
             wrong += missing_head(book, "--head", text)
         for path in bundles:
             wrong += wrong_bundle(book, path)
-        wrong += apart(bundles)
+        wrong += unlinked_bundles(bundles)
         files = len(state_of(book.journal()))
     return Verified(head, files, tuple(wrong), tuple(waiting), tuple(notes))
 
 
 def unknown(book: Store) -> Iterator[str]:
     """Give what is to be said of files that no action has written, and of what came before."""
-    known = state_of(book.journal())
-    for name in there(book.folder):
-        if name not in known and name != JOURNAL:
-            yield f"note: {book.path(name)}: no action of this book has written it"
+    for each in book.unknown(years=True):
+        yield f"note: {each.fault(book.folder)}"
     begun = [line for line in book.journal() if line.act == Act.BEGIN]
     if begun:
         yield f"note: {begun[0].said()}: what was changed before it can't be known"
     for line in book.journal():
         if line.act == Act.ACCEPT:
             yield f"note: {line.said()}: a file was taken as it was: {line.why}"
+
+
+def unknown_in(folder: str | Path) -> list[InputFault]:
+    """Return what is to be said of files of a book's forms that no action has written.
+
+    That is nothing if there is no book, or its journal can't be read: then a command says that.
+    """
+    book = Store(folder)
+    try:
+        with book.opened(reading=True, tested=False):
+            return [each.fault(book.folder) for each in book.unknown()]
+    except Fault:
+        return []
 
 
 def missing_head(book: Store, source: str, text: str) -> list[str]:
@@ -100,16 +111,16 @@ def missing_head(book: Store, source: str, text: str) -> list[str]:
 
 def wrong_bundle(book: Store, path: str) -> list[str]:
     """Return what is wrong with what a bundle says of a book, in lines."""
-    named = manifest_of(path).book
+    named = bundle_manifest(path).book
     if not named:
         return [f"{path}: it names no head of a book: plantbal-desk archive --book names it"]
     return missing_head(book, path, f"{named['number']} {named['head']}")
 
 
-def apart(paths: Sequence[str]) -> Iterator[str]:
+def unlinked_bundles(paths: Sequence[str]) -> Iterator[str]:
     """Give the bundles that don't name the one before them, of bundles in their order."""
     for before, path in zip(paths, paths[1:]):
-        named = manifest_of(path).before
+        named = bundle_manifest(path).before
         if named.get("sha256") != digest(read_bytes(before)[1]):
             yield f"{path}: it doesn't name {before} as the bundle before it"
 
@@ -118,7 +129,8 @@ def accept(book: Store, file: str, *, why: str, who: str = "") -> AcceptedFile:
     """Take a file as it is; the parameters are those of `plantbal.Book.accept`."""
     with book.opened(tested=False):
         name = file.removeprefix("./")
-        found = {each.file: each for each in book.chain().differences()}
+        every = [*book.chain().differences(), *book.unknown()]
+        found = {each.file: each for each in every if each.acceptable}
         if name not in found:
             if name in state_of(book.journal()):
                 return AcceptedFile(name, "")
@@ -128,7 +140,7 @@ def accept(book: Store, file: str, *, why: str, who: str = "") -> AcceptedFile:
         action = Action(Act.ACCEPT, name, found[name].said(), why, who)
         if name == JOURNAL:
             pass  # its line is the one that is written now
-        elif book.has(name):
+        elif book.path(name).is_file():
             action.seen = [name]
         else:
             action.gone = [name]

@@ -5,7 +5,7 @@ from __future__ import annotations
 from plantbal.gates.find import by_report, by_session, stops_of
 from plantbal.gates.flows import negative_flows
 from plantbal.gates.gate import Gate, Stop, unsaid
-from plantbal.gates.words import about, line_of, remedy_of, said_of
+from plantbal.gates.words import about, line_of_stop, remedy_of_stop, said_of_stop
 
 __all__ = [
     "Gate",
@@ -13,10 +13,10 @@ __all__ = [
     "about",
     "by_report",
     "by_session",
-    "line_of",
+    "line_of_stop",
     "negative_flows",
-    "remedy_of",
-    "said_of",
+    "remedy_of_stop",
+    "said_of_stop",
     "stops_of",
     "unsaid",
 ]

@@ -6,7 +6,7 @@ from collections import defaultdict
 from collections.abc import Iterable, Iterator, Sequence
 from math import isqrt
 
-from plantbal.estimates import is_estimate
+from plantbal.estimates import MARK, is_estimate
 from plantbal.gates.flows import negative_by_facts, negative_flows
 from plantbal.gates.gate import Gate, Stop
 from plantbal.gates.look import Look, LookFacts
@@ -99,7 +99,7 @@ def missing(look: Look) -> Iterator[Stop]:
 def estimated(look: Look) -> Iterator[Stop]:
     """Give the days of each meter for which an estimate is booked."""
     for name in look.metered:
-        facts = [fact for fact in look.view.facts[name] if is_estimate(fact)]
+        facts = [fact for fact in look.view.facts[name] if MARK in fact.id and is_estimate(fact)]
         if facts:
             grams = sum(share(fact.grams, fact, look.period) for fact in facts)
             error = isqrt(sum(fact.variance for fact in facts))

@@ -15,7 +15,7 @@ from plantbal.model.ledger import Seen
 from plantbal.model.state import State
 from plantbal.report.blocks import Block, last_blocks
 from plantbal.report.rows import Values
-from plantbal.model.studies import MeasuredStream, study_of
+from plantbal.model.studies import StreamMeasurement, study_of
 from plantbal.model.topology import classes_of
 
 # A flow below zero by more standard deviations than this can't be.
@@ -32,7 +32,7 @@ def negative_flows(blocks: Iterable[Block]) -> Iterator[Stop]:
     blocks : iterable of Block
         The blocks of an output.
     """
-    from plantbal.study.uncertainty import uncertainty_of
+    from plantbal.study.uncertainty import flows_known
 
     for block in last_blocks(blocks).values():
         if not (block.is_report and block.ended and block.solved):
@@ -40,7 +40,7 @@ def negative_flows(blocks: Iterable[Block]) -> Iterator[Stop]:
         below = [row for row in block.streams if _is_below(row)]
         if not below:
             continue
-        deviation = dict(uncertainty_of(block)[["name", "sd"]].itertuples(index=False))
+        deviation = {each.name: each.sd for each in flows_known([block])}
         for row in below:
             error = round(deviation[row["name"]])
             if int(row["hi"]) < -DEVIATIONS * error:
@@ -98,7 +98,7 @@ def negative_by_facts(state: State, seen: Seen) -> Iterator[Stop]:
 
 
 def _block_of(
-    nodes: list[str], streams: Mapping[str, MeasuredStream]
+    nodes: list[str], streams: Mapping[str, StreamMeasurement]
 ) -> tuple[Block, dict[str, int]]:
     """Return a study as a block without flows, and what the readings alone make of its flows.
 

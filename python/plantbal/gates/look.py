@@ -2,6 +2,7 @@
 
 from __future__ import annotations
 
+from bisect import bisect_left
 from collections import defaultdict
 from collections.abc import Mapping
 from dataclasses import dataclass
@@ -37,6 +38,17 @@ class LookFacts:
         for by_name in found.values():
             for facts in by_name.values():
                 facts.sort(key=lambda fact: fact.first)
+        return found
+
+    @cached_property
+    def beside(self) -> Mapping[str, list[Stream]]:
+        """The streams at each tank, without the gains of tanks."""
+        plant = self.state.plant
+        found: dict[str, list[Stream]] = {tank: [] for tank in plant.tables}
+        for stream in plant.streams.values():
+            if stream.kind != "tank":
+                for end in {stream.arc.from_, stream.arc.to} & found.keys():
+                    found[end].append(stream)
         return found
 
     @property
@@ -106,4 +118,4 @@ class Look:
     def earlier(self, stream: str) -> list[Fact]:
         """Return the readings of a stream before the period."""
         facts = self.facts.readings.get(stream, [])
-        return [fact for fact in facts if fact.first < self.period.first]
+        return facts[: bisect_left(facts, self.period.first, key=lambda fact: fact.first)]

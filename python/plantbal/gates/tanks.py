@@ -130,9 +130,8 @@ def _step(look: Look, one: Fact, other: Fact) -> _Step:
     """Return the step from a dip of a tank to a later one."""
     state, span = look.state, Period("", one.first + 1, other.first)
     measured, variance, whole = 0, one.variance + other.variance, True
-    for stream in state.plant.streams.values():
-        ends = stream.arc.from_, stream.arc.to
-        if one.of not in ends or stream.kind == "tank" or not stream.is_in(span):
+    for stream in look.facts.beside[one.of]:
+        if not stream.is_in(span):
             continue
         sign = 1 if stream.arc.to == one.of else -1
         if stream.kind == "metered":

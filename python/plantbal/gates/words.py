@@ -10,24 +10,25 @@ from collections.abc import Callable, Sequence
 from plantbal.amounts import tonnes_text
 from plantbal.gates.gate import Gate, Stop
 from plantbal.model.forms import day_text
+from plantbal.sentence import Day, Figure, Joined, Sentence, counted
 
 # How many names or days are said one by one.
 MOST = 4
 
 
-def said_of(stop: Stop) -> str:
+def said_of_stop(stop: Stop) -> str:
     """Return what is there, as a sentence without its full stop."""
     return _SAID[stop.gate](stop)
 
 
-def remedy_of(stop: Stop) -> str:
+def remedy_of_stop(stop: Stop) -> str:
     """Return what to do about it."""
     return _REMEDIES[stop.gate](stop)
 
 
-def line_of(stop: Stop) -> str:
+def line_of_stop(stop: Stop) -> str:
     """Return a line on it: the period, what is there, what to do, and the gate."""
-    return f"{stop.period}: {said_of(stop)}: {remedy_of(stop)} [{stop.gate}]"
+    return f"{stop.period}: {said_of_stop(stop)}: {remedy_of_stop(stop)} [{stop.gate}]"
 
 
 def about(gate: Gate) -> str:
@@ -38,8 +39,9 @@ def about(gate: Gate) -> str:
 def named(names: Sequence[str]) -> str:
     """Return names with commas, of many the first."""
     if len(names) <= MOST:
-        return ", ".join(names)
-    return f"{', '.join(names[: MOST - 1])} and {len(names) - MOST + 1} more"
+        return Joined(", ", names)
+    first, count = Joined(", ", names[: MOST - 1]), len(names) - MOST + 1
+    return Sentence("{names} and {count} more", names=first, count=count)
 
 
 def days_said(days: Sequence[int]) -> str:
@@ -50,22 +52,24 @@ def days_said(days: Sequence[int]) -> str:
             spans[-1].append(day)
         else:
             spans.append([day])
-    texts = []
+    texts: list[str] = []
     for span in spans:
         if len(span) > 2:
-            texts.append(f"{day_text(span[0])} to {day_text(span[-1])}")
+            ends = {"first": _day(span[0]), "last": _day(span[-1])}
+            texts.append(Sentence("{first} to {last}", **ends))
         else:
-            texts += map(day_text, span)
+            texts += map(_day, span)
     return named(texts)
 
 
-def _tonnes(grams: int) -> str:
+def _day(number: int) -> Day:
+    return Day(day_text(number))
+
+
+def _tonnes(grams: int) -> Figure:
     """Return grams in tonnes, or as they are if they are few."""
-    return f"{grams:,} g" if 0 < abs(grams) < 1_000_000 else f"{tonnes_text(grams)} t"
-
-
-def _count(number: int, one: str, many: str = "") -> str:
-    return f"1 {one}" if number == 1 else f"{number:,} {many or one + 's'}"
+    few = 0 < abs(grams) < 1_000_000
+    return Figure(f"{grams:,} g" if few else f"{tonnes_text(grams)} t")
 
 
 # ---- what is there
@@ -73,77 +77,110 @@ def _count(number: int, one: str, many: str = "") -> str:
 
 def _untested(stop: Stop) -> str:
     if not stop.values:
-        return f"no test of {stop.period} was made"
-    degrees = _count(stop.values["dof"], "degree")
-    return f"{stop.period} has {degrees} of freedom, and there is no critical value for them"
+        return Sentence("no test of {period} was made", period=stop.period)
+    return counted(
+        stop.values["dof"],
+        "{period} has 1 degree of freedom, and there is no critical value for them",
+        "{period} has {count:,} degrees of freedom, and there is no critical value for them",
+        period=stop.period,
+    )
 
 
 def _missing(stop: Stop) -> str:
-    what = "dip" if stop.values["is_tank"] else "reading"
-    return f"no {what} of {named(stop.names)} on {days_said(stop.days)}"
+    what = "no dip of {names} on {days}" if stop.values["is_tank"] else ""
+    what = what or "no reading of {names} on {days}"
+    return Sentence(what, names=named(stop.names), days=days_said(stop.days))
 
 
 def _negative_flow(stop: Stop) -> str:
     name, start, end = stop.names
     flow, error = (_tonnes(stop.values[each]) for each in ("grams", "error"))
-    return f"{name} from {start} to {end} is booked as {flow} ± {error}: it would run backward"
+    what = "{name} from {start} to {end} is booked as {flow} ± {error}: it would run backward"
+    return Sentence(what, name=name, start=start, end=end, flow=flow, error=error)
 
 
 def _tank_jump(stop: Stop) -> str:
     values = stop.values
-    side = "after" if values["opens"] else "up to"
-    beside = day_text(values["beside"])
-    return (
-        f"the dip of {stop.names[0]} on {days_said(stop.days)} asks for a change of "
-        f"{_tonnes(values['change'])} {side} {beside}; booked flows and its other days give "
-        f"{_tonnes(values['measured'] + values['expected'])}"
+    after = (
+        "the dip of {tank} on {day} asks for a change of {change} after {beside}; booked flows and "
+        "its other days give {given}"
+    )
+    upto = (
+        "the dip of {tank} on {day} asks for a change of {change} up to {beside}; booked flows and "
+        "its other days give {given}"
+    )
+    return Sentence(
+        after if values["opens"] else upto,
+        tank=stop.names[0],
+        day=days_said(stop.days),
+        change=_tonnes(values["change"]),
+        beside=_day(values["beside"]),
+        given=_tonnes(values["measured"] + values["expected"]),
     )
 
 
 def _tank_range(stop: Stop) -> str:
-    values = stop.values
-    return (
-        f"{stop.names[0]} has {values['mm']:,} mm on {days_said(stop.days)}, and "
-        f"{values['low']:,} to {values['high']:,} mm in its {values['dips']:,} other dips"
-    )
+    what = "{tank} has {mm:,} mm on {days}, and {low:,} to {high:,} mm in its {dips:,} other dips"
+    values = {name: stop.values[name] for name in ("mm", "low", "high", "dips")}
+    return Sentence(what, tank=stop.names[0], days=days_said(stop.days), **values)
 
 
 def _zero(stop: Stop) -> str:
-    days = "each day" if len(stop.days) == stop.values["readings"] else days_said(stop.days)
-    return f"{stop.names[0]} reads 0 on {days}, though the unit that it serves goes on"
+    is_each = len(stop.days) == stop.values["readings"]
+    days = Sentence("each day") if is_each else days_said(stop.days)
+    what = "{name} reads 0 on {days}, though the unit that it serves keeps running"
+    return Sentence(what, name=stop.names[0], days=days)
 
 
 def _frozen(stop: Stop) -> str:
+    days = days_said(stop.days)
     if not stop.names:
-        copied, meters = stop.values["copied"], stop.values["meters"]
-        return f"{copied:,} of {meters:,} meters have on {days_said(stop.days)} the figures of the day before"
+        what = "{copied:,} of {meters:,} meters have on {days} the figures of the day before"
+        values = {name: stop.values[name] for name in ("copied", "meters")}
+        return Sentence(what, days=days, **values)
+    what = "{name} has the same figure, {figure}, on {count} days, {days}"
     figure = _tonnes(stop.values["grams"])
-    return f"{stop.names[0]} has the same figure, {figure}, on {len(stop.days)} days, {days_said(stop.days)}"
+    return Sentence(what, name=stop.names[0], figure=figure, count=len(stop.days), days=days)
 
 
 def _negative(stop: Stop) -> str:
-    what = _count(len(stop.days), "reading")
-    of = f"{what} of {stop.values['readings']:,}"
-    return f"{stop.names[0]} is below 0 on {days_said(stop.days)}, {of}, at least {_tonnes(stop.values['grams'])}"
+    return counted(
+        len(stop.days),
+        "{name} is below 0 on {days}, 1 reading of {readings:,}, at least {figure}",
+        "{name} is below 0 on {days}, {count:,} readings of {readings:,}, at least {figure}",
+        name=stop.names[0],
+        days=days_said(stop.days),
+        readings=stop.values["readings"],
+        figure=_tonnes(stop.values["grams"]),
+    )
 
 
 def _copy(stop: Stop) -> str:
-    have = "have" if len(stop.names) == 2 else "all have"
-    return f"{named(stop.names)} {have} the same figures on each of {len(stop.days)} days"
+    two = "{names} have the same figures on each of {count} days"
+    more = "{names} all have the same figures on each of {count} days"
+    what = two if len(stop.names) == 2 else more
+    return Sentence(what, names=named(stop.names), count=len(stop.days))
 
 
 def _estimated(stop: Stop) -> str:
-    values = stop.values
-    amount = f"{_tonnes(values['grams'])} ± {_tonnes(values['error'])}"
-    count = _count(len(stop.days), "day")
-    return f"{stop.names[0]} is estimated on {days_said(stop.days)}, {count}: {amount}"
+    return counted(
+        len(stop.days),
+        "{name} is estimated on {days}, 1 day: {amount} ± {error}",
+        "{name} is estimated on {days}, {count:,} days: {amount} ± {error}",
+        name=stop.names[0],
+        days=days_said(stop.days),
+        amount=_tonnes(stop.values["grams"]),
+        error=_tonnes(stop.values["error"]),
+    )
 
 
 _SAID: dict[Gate, Callable[[Stop], str]] = {
-    Gate.NO_REPORT: lambda stop: f"there is no report of {stop.subject or stop.period}",
-    Gate.UNCONVERGED: lambda stop: f"{stop.subject} isn't converged",
-    Gate.REJECTED: lambda stop: f"{stop.subject} is rejected by the global test",
-    Gate.UNDECIDED: lambda stop: f"the global test of {stop.subject} is undecided",
+    Gate.NO_REPORT: lambda stop: Sentence(
+        "there is no report of {of}", of=stop.subject or stop.period
+    ),
+    Gate.UNCONVERGED: lambda stop: Sentence("{of} isn't converged", of=stop.subject),
+    Gate.REJECTED: lambda stop: Sentence("{of} is rejected by the global test", of=stop.subject),
+    Gate.UNDECIDED: lambda stop: Sentence("the global test of {of} is undecided", of=stop.subject),
     Gate.UNTESTED: _untested,
     Gate.MISSING: _missing,
     Gate.UNASSAYED: lambda stop: stop.subject,
@@ -166,28 +203,30 @@ def _close_level(stop: Stop) -> str:
     """Return what to write for a level that is outside the range of the others."""
     values = stop.values
     if values["mm"] and values["low"] <= values["mm"] * 1000 <= values["top"]:
-        return f"if it is in metres, write {values['mm'] * 1000} mm; else look at its digits"
+        what = "if it is in metres, write {mm} mm; else look at its digits"
+        return Sentence(what, mm=values["mm"] * 1000)
     return "look at its digits and its unit"
 
 
 def _turn(stop: Stop) -> str:
-    name, start, end = stop.names
+    words = dict(zip(("name", "start", "end"), stop.names))
     if stop.values["measured"]:
-        return f"look at the sign of its readings, and at what is missing at {start} and {end}"
-    return (
-        f"exchange the ends of {name} if it runs from {end} to {start}; else a stream, a ticket or "
-        f"a meter is missing or wrong at {start} or {end}"
-    )
+        what = "look at the sign of its readings, and at what is missing at {start} and {end}"
+    else:
+        what = (
+            "exchange the ends of {name} if it runs from {end} to {start}; else a stream, a ticket "
+            "or a meter is missing or wrong at {start} or {end}"
+        )
+    return Sentence(what, **words)
 
 
-_LOOK = "look at its transmitter and its export"
 _REMEDIES: dict[Gate, Callable[[Stop], str]] = {
     Gate.NO_REPORT: lambda stop: "look for a digit too many in its facts",
     Gate.UNCONVERGED: lambda stop: "allow more sweeps: --sweeps 50000, or plantbal-desk solve",
     Gate.REJECTED: lambda stop: "find what is wrong, and correct it",
     Gate.UNDECIDED: lambda stop: "ask for a smaller gap: --gap 1",
     Gate.UNTESTED: lambda stop: (
-        f"`plantbal-desk critical 0.05 {stop.values['dof']}` gives one"
+        Sentence("`plantbal-desk critical 0.05 {dof}` gives one", dof=stop.values["dof"])
         if stop.values
         else "leave --no-tests out"
     ),
@@ -197,9 +236,11 @@ _REMEDIES: dict[Gate, Callable[[Stop], str]] = {
     Gate.NEGATIVE_FLOW: _turn,
     Gate.TANK_JUMP: lambda stop: "look at the dip, and for a flow that isn't booked",
     Gate.TANK_RANGE: _close_level,
-    Gate.ZERO: lambda stop: f"if the meter is dead, estimate these days; {_LOOK}",
+    Gate.ZERO: lambda stop: (
+        "if the meter is dead, estimate these days; look at its transmitter and its export"
+    ),
     Gate.FROZEN: lambda stop: (
-        f"if it stuck, estimate these days; {_LOOK}"
+        "if it stuck, estimate these days; look at its transmitter and its export"
         if stop.names
         else "was a row copied down? Enter the readings of that day"
     ),
@@ -216,11 +257,11 @@ _ABOUT: dict[Gate, str] = {
     Gate.UNTESTED: "no critical value for a report's degrees of freedom",
     Gate.MISSING: "a meter has no reading, or a tank no dip",
     Gate.UNASSAYED: "an assay that the period before has is missing",
-    Gate.IMPOSSIBLE: "a stream carries more of a component than there is of it",
+    Gate.IMPOSSIBLE: "a stream carries more of a component than its whole mass",
     Gate.NEGATIVE_FLOW: "a flow is below 0 by more than two standard deviations",
     Gate.TANK_JUMP: "a dip at an end of a period doesn't follow from the booked flows",
     Gate.TANK_RANGE: "a level is ten times outside the range of the tank's other dips",
-    Gate.ZERO: "a meter reads 0 while the unit that it serves goes on",
+    Gate.ZERO: "a meter reads 0 while the unit that it serves keeps running",
     Gate.FROZEN: "a meter has the same figure for days, or all have those of the day before",
     Gate.NEGATIVE: "a meter is below 0 on a few days",
     Gate.COPY: "two meters have the same figures on all days",

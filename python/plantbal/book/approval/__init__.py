@@ -1,1 +1,1 @@
-"""Four eyes: what a book wants to be approved, by whom, and who has signed it."""
+"""Four eyes: what a book requires to be approved, by whom, and who has signed it."""

@@ -99,7 +99,7 @@ class Approved:
     lacking: int
 
 
-def find(book: Store, head: str) -> Waiting:
+def waiting_of(book: Store, head: str) -> Waiting:
     """Return what waits by the head that an approval names.
 
     Raises
@@ -186,9 +186,9 @@ def _opened(book: Store, head: str) -> Iterator[tuple[Waiting, Rules]]:
     """
     with book.opened(tested=False):
         rules = rules_of(book)
-        waiting = find(book, head)
+        waiting = waiting_of(book, head)
         taken = waiting.proposal.of if waiting.proposal.act == Act.ACCEPT else ""
-        for difference in book.chain().differences():
+        for difference in [*book.chain().differences(), *book.unknown()]:
             if difference.file != taken:
                 raise difference.fault(book.folder)
         assert rules is not None, "what waits was submitted by rules"

@@ -7,7 +7,7 @@ from pathlib import Path
 
 from plantbal.book.approval.changers import changers
 from plantbal.book.approval.rules import Rules, read_rules
-from plantbal.book.approval.state import proposal_of, record_of
+from plantbal.book.approval.state import record_of, submitted_month
 from plantbal.book.forms import APPROVALS, REVOKED, RULES, SIGNERS, year_file
 from plantbal.book.journal import Act, Kept, JournalLine
 from plantbal.book.store import Store
@@ -94,6 +94,6 @@ def _texts(book: Store, name: str) -> Iterator[str]:
         record = record_of(book, line) if line.act is Act.RULES else None
         if record is not None:
             number = record.submission[0] if record.submission is not None else line.number
-            text = proposal_of(book, number).written.get(name)
+            text = submitted_month(book, number).written.get(name)
             if text is not None:
                 yield text

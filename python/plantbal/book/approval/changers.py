@@ -42,7 +42,7 @@ def changers(
     upto : int, optional
         The last row of the year that counts.
     """
-    rows = {row for row in rows_of(ledger, period) if upto is None or row <= upto}
+    rows = {row for row in changing_rows(ledger, period) if upto is None or row <= upto}
     last = max(rows, default=0)
     wanted = {last} if changed is Changers.LAST else rows
     found = [line for line in book.journal() if _is_of(line, ledger.name, wanted)]
@@ -58,7 +58,7 @@ def _is_of(line: JournalLine, year: str, rows: set[int]) -> bool:
     return added is not None and any(row in added for row in rows)
 
 
-def rows_of(ledger: YearLedger, period: str) -> set[int]:
+def changing_rows(ledger: YearLedger, period: str) -> set[int]:
     """Return the rows of a year on which the figures of a period depend, but for the plant's."""
     span = ledger.periods[period]
     found = {ledger.touched(span)}

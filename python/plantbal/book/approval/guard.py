@@ -13,7 +13,7 @@ from typing import TYPE_CHECKING
 from plantbal.book.approval.changers import reopened
 from plantbal.book.approval.rules import Rules, Want
 from plantbal.book.approval.state import rules_of
-from plantbal.book.approval.submitting import Submitted, Unsigned, submission_to_sign, submit
+from plantbal.book.approval.submitting import Submitted, Unsigned, submission_to_sign, submit_action
 from plantbal.book.actions import Withheld
 from plantbal.book.chain import state_of
 from plantbal.book.forms import ACCOUNTS, APPROVALS, JOURNAL, RULES, SIGNERS, REVOKED
@@ -26,7 +26,7 @@ if TYPE_CHECKING:
 _OWN = (Act.SUBMIT, Act.APPROVE, Act.REJECT)
 
 
-def check(book: Store, action: Action) -> None:
+def pass_or_submit(book: Store, action: Action) -> None:
     """Let an action pass, or submit it and say so.
 
     Raises
@@ -56,13 +56,14 @@ def check(book: Store, action: Action) -> None:
             f"by the rules of this book, closing {action.of} needs an approval ({said})",
             remedy=f"plantbal-desk book submit {action.of}",
         )
-    if action.act is Act.POSTED:
+    if action.early:
         remedy = "close it first: what is open isn't handed over"
         raise Fault(f"by the rules of this book {action.of} isn't posted yet", remedy=remedy)
     periods = [name for ledger in action.ledgers for name in reopened(ledger)]
+    periods += [action.of] if action.act is Act.POSTED else []
     if book.withheld is Withheld.TO_SIGN:
         raise Unsigned(submission_to_sign(book, action, wants, periods=periods))
-    raise Submitted(submit(book, action, wants, periods=periods))
+    raise Submitted(submit_action(book, action, wants, periods=periods))
 
 
 def wants_of(book: Store, action: Action, rules: Rules) -> Iterator[Want]:
@@ -71,7 +72,7 @@ def wants_of(book: Store, action: Action, rules: Rules) -> Iterator[Want]:
         yield Want.RULES
     if action.act is Act.ACCEPT:
         yield Want.ACCEPT
-    if Want.CLOSE in rules.wants and (action.act is Act.CLOSE or _is_early(action)):
+    if Want.CLOSE in rules.wants and (action.act is Act.CLOSE or action.early):
         yield Want.CLOSE
     if Want.AMEND in rules.wants and _changes_closed(book, action):
         yield Want.AMEND
@@ -79,11 +80,6 @@ def wants_of(book: Store, action: Action, rules: Rules) -> Iterator[Want]:
         yield Want.ANYWAY
     if rules.estimates is not None and action.estimated > rules.estimates:
         yield Want.ESTIMATES
-
-
-def _is_early(action: Action) -> bool:
-    """Say whether an action hands over what is open."""
-    return action.act is Act.POSTED and action.anyway
 
 
 def _changes_closed(book: Store, action: Action) -> bool:

@@ -12,15 +12,15 @@ from collections.abc import Iterator
 from dataclasses import dataclass
 
 from plantbal.audit.said import SentenceKind
-from plantbal.book.answers import ANYWAY
+from plantbal.book.answers import overruled_gates
 from plantbal.book.approval.changers import changers, marks_of_doer
 from plantbal.book.approval.identity import marks_of
 from plantbal.book.approval.proposal import SubmittedMonth
 from plantbal.book.approval.record import ApprovalDeed, ApprovalRecord
 from plantbal.book.approval.rules import May, Rules, Want, read_rules
-from plantbal.book.approval.state import keys_of, proposal_of, record_of, rules_of, signed_of
+from plantbal.book.approval.state import keys_of, record_of, rules_of, signed_of, submitted_month
 from plantbal.book.forms import ACCOUNTS, APPROVALS, RULES, approval_file, year_file
-from plantbal.book.journal import Act, JournalLine, Kept, printable
+from plantbal.book.journal import Act, JournalLine, Kept, printable_line
 from plantbal.book.ledger import BookFact
 from plantbal.book.said import touched_by
 from plantbal.book.store import Store
@@ -97,7 +97,7 @@ class _Look:
         number = line.number
         if record is not None and record.submission is not None:
             number = record.submission[0]
-        proposal = proposal_of(self.book, number)
+        proposal = submitted_month(self.book, number)
         if RULES in proposal.written:
             self.rules = read_rules(RULES, proposal.written[RULES])
 
@@ -189,14 +189,14 @@ class _Look:
         if number in self.used:
             raise Fault(f"action {number} was done already, or rejected")
         self.used.add(number)
-        return _Approval(line, record, there, proposal_of(self.book, number))
+        return _Approval(line, record, there, submitted_month(self.book, number))
 
     def _against(self, found: _Approval, rules: Rules) -> Iterator[str]:
         """Give what speaks against an approval."""
         line, proposal = found.line, found.proposal
         if (proposal.act, proposal.of) != (line.act.value, line.of):
             yield f"{proposal.act} {proposal.of} was submitted"
-        if (printable(proposal.what), printable(proposal.why)) != (line.what, line.why):
+        if (printable_line(proposal.what), printable_line(proposal.why)) != (line.what, line.why):
             yield "it says something else, or another reason, than was submitted"
         yield from self._other_rows(found)
         some = [each for each in self.lines if self._approves(each, found.submission)]
@@ -265,8 +265,7 @@ class _Look:
             yield Want.RULES
         if line.act is Act.ACCEPT:
             yield Want.ACCEPT
-        words = line.what.split()
-        gates = words[1:] if line.act is Act.CLOSE and words[:1] == [ANYWAY] else []
+        gates = overruled_gates(line)
         if line.act is Act.CLOSE and Want.CLOSE in rules.wants:
             yield Want.CLOSE
         early = line.act is Act.QUIET or any(gate != Gate.ESTIMATED for gate in gates)

@@ -21,7 +21,7 @@ def number_of(user: str) -> int | None:
     return int(found[1]) if found else None
 
 
-def name_of(user: str, who: str, rules: Rules) -> str:
+def person_named(user: str, who: str, rules: Rules) -> str:
     """Return the person who acts as a user; nothing if neither the rules nor a voucher says it.
 
     Parameters
@@ -42,7 +42,7 @@ def name_of(user: str, who: str, rules: Rules) -> str:
 def marks_of(user: str, who: str, rules: Rules, signed: str = "") -> Marks:
     """Return the marks of an act; the parameters are those of `name_of`, and who has signed it."""
     number = number_of(user)
-    name = name_of(user, who, rules)
+    name = person_named(user, who, rules)
     found = {f"name {each}" for each in (name, signed) if each}
     if not name or number not in rules.vouching:
         found.add(f"user {number if number is not None else user}")

@@ -77,7 +77,7 @@ def record_of(book: Store, line: JournalLine) -> ApprovalRecord | None:
     return ApprovalRecord.read(str(book.path(name)), book.text(name))
 
 
-def proposal_of(book: Store, number: int) -> SubmittedMonth:
+def submitted_month(book: Store, number: int) -> SubmittedMonth:
     """Return the action that a line of the journal has submitted.
 
     Raises
@@ -144,5 +144,5 @@ def waiting_in(book: Store, lines: Sequence[JournalLine] | None = None) -> list[
         record = record_of(book, line)
         if record is not None:
             some = tuple(approvals.get(number, ()))
-            found.append(Waiting(line, record, proposal_of(book, number), some))
+            found.append(Waiting(line, record, submitted_month(book, number), some))
     return found

@@ -89,7 +89,7 @@ class Submission:
         self.wants = tuple(wants)
 
 
-def submit(
+def submit_action(
     book: Store,
     action: Action,
     wants: Sequence[Want],

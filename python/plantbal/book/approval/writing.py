@@ -5,7 +5,7 @@ from __future__ import annotations
 from collections.abc import Mapping
 from typing import TYPE_CHECKING
 
-from plantbal.book.approval.identity import Marks, marks_of, name_of
+from plantbal.book.approval.identity import Marks, marks_of, person_named
 from plantbal.book.approval.record import ApprovalDeed, ApprovalRecord
 from plantbal.book.approval.rules import May, Rules
 from plantbal.book.approval.state import keys_of
@@ -44,7 +44,7 @@ def record_for(
         of,
         (head.number, head.digest),
         submission,
-        name_of(user, who, rules),
+        person_named(user, who, rules),
         user,
         now(),
         files or {},

@@ -1,4 +1,4 @@
-"""What a book wants to be approved: its rules, submissions, approvals, and who has signed what."""
+"""What a book requires to be approved: its rules, submissions, approvals, and who has signed what."""
 
 from __future__ import annotations
 

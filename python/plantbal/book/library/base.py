@@ -7,7 +7,7 @@ from pathlib import Path
 
 from plantbal.book.actions import Withheld
 from plantbal.book.expected import BookVersion
-from plantbal.book.naming import day_of
+from plantbal.book.naming import day_named
 from plantbal.book.store import Store
 from plantbal.program import RunSettings
 
@@ -54,4 +54,4 @@ class Base:
 
 def day_or_none(day: Day, locale: str = "") -> datetime.date | None:
     """Return a day, which may be a text."""
-    return day_of(day, locale) if isinstance(day, str) else day
+    return day_named(day, locale) if isinstance(day, str) else day

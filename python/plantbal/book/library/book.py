@@ -1,4 +1,4 @@
-"""A plant's book: its years, what it quiets, how it stands, and its chain."""
+"""A plant's book: its years, what it quiets, its state, and its chain."""
 
 from __future__ import annotations
 
@@ -172,7 +172,7 @@ class Book(BookFacts, Reports, Looking, Approvals):
 
     def quieted(self) -> list[Quiet]:
         """Return which rules are quieted, for which names and why."""
-        return quieting.listed(self._store())
+        return quieting.quieted_rules(self._store())
 
     # ---- the book
 

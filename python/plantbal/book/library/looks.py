@@ -72,7 +72,7 @@ class Looking(Base):
 
     def mapping(self) -> WorkbookMapping | None:
         """Return how its workbooks are read, as it keeps that, or None if it keeps nothing."""
-        return looking.mapping(self._store())
+        return looking.kept_mapping(self._store())
 
     @contextmanager
     def trial(self) -> Iterator[Book]:

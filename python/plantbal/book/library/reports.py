@@ -5,11 +5,12 @@ from __future__ import annotations
 from collections.abc import Iterator, Mapping
 
 from plantbal.book import accounting, closing, handing, reporting, window
-from plantbal.book.difference import Difference, difference, post
+from plantbal.book.difference import Difference, difference
 from plantbal.book.handing import Handed
 from plantbal.book.library.base import Base
+from plantbal.book.posting import post, unanswered
 from plantbal.book.results import Closed, Reported, Windowed
-from plantbal.gates import Gate
+from plantbal.gates import Gate, Stop
 from plantbal.program import RunSettings
 
 
@@ -126,7 +127,14 @@ class Reports(Base):
         """
         return difference(self._store(), period, states)
 
-    def post(self, period: str, *, anyway: bool = False, why: str = "") -> Difference:
+    def post(
+        self,
+        period: str,
+        *,
+        anyway: bool = False,
+        reasons: Mapping[Gate, str] | None = None,
+        why: str = "",
+    ) -> Difference:
         """Record what is handed over of a closed period, with an id that is given once.
 
         Parameters
@@ -135,12 +143,28 @@ class Reports(Base):
             The period.
         anyway : bool
             Whether it may be open.
+        reasons : mapping of Gate to str, optional
+            Why it is posted although its report stops it: a reason for each gate for which its
+            close has none.
         why : str
             What there is to say of it.
 
         Raises
         ------
+        NotPosted
+            If there is no reason for a gate.
         Fault
             If its report is old, it is open, or the same is posted already.
         """
-        return post(self._store(), period, anyway=anyway, why=why, who=self.who)
+        given = reasons or {}
+        return post(self._store(), period, anyway=anyway, reasons=given, why=why, who=self.who)
+
+    def unanswered(self, period: str) -> list[Stop]:
+        """Return for what of a period's report `post` needs a reason, since its close has none.
+
+        Raises
+        ------
+        Fault
+            If there is no such period, or it has no report.
+        """
+        return unanswered(self._store(), period)

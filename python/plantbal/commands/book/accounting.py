@@ -8,14 +8,15 @@ from types import SimpleNamespace
 from plantbal.accounts.account import AccountTable, Level, MonthAccount
 from plantbal.accounts.posting import posting_rows, postings_of
 from plantbal.accounts.sheet import NOBODY
-from plantbal.accounts.tables import HEADS, rows_of, stock_text, text_of
+from plantbal.accounts.tables import HEADS, account_rows, account_tables_text, stock_text
 from plantbal.accounts.trend import Unusual
 from plantbal.amounts import tonnes_text
 from plantbal.book.accounting import PeriodAccount
+from plantbal.book.answers import reasons_of
 from plantbal.book.causes import change_row
 from plantbal.book.difference import Difference
 from plantbal.book.library import Book
-from plantbal.book.said import behind_said, counted
+from plantbal.book.said import behind_said, count_said
 from plantbal.faults import Fault, WordsFault
 from plantbal.files import write_text
 from plantbal.inert import csv_text
@@ -53,17 +54,17 @@ def _account(options: argparse.Namespace) -> int:
     found = book.account(options.period)
     options.found = found
     account = found.account
-    tables = chosen(account, options.by, options.owner)
+    tables = chosen_accounts(account, options.by, options.owner)
     for line in found.waiting:
         print(line)
     if options.csv:
-        print(csv_text([HEADS, *(row for table in tables for row in rows_of(table))]), end="")
+        print(csv_text([HEADS, *(row for table in tables for row in account_rows(table))]), end="")
     elif not (options.xlsx or options.page):
-        print(text_of(account, tables), end="")
+        print(account_tables_text(account, tables), end="")
         if options.tanks:
             print(stock_text(account.tanks), end="")
     since = book.difference(options.period) if options.page else None
-    write(options, found, tables, since)
+    write_accounts(options, found, tables, since)
     behind = behind_said(found.report, options.period)
     said = [*account.said, *map(unusual_said, found.unusual), *([behind] if behind else [])]
     if not options.csv:
@@ -78,7 +79,7 @@ def unusual_said(odd: Unusual) -> str:
     return f"unusual: {odd.account}, {odd.line}: {tonnes_text(odd.now)} t, usually {usual} t{ago}"
 
 
-def write(
+def write_accounts(
     options: argparse.Namespace,
     found: PeriodAccount,
     tables: list[AccountTable],
@@ -87,9 +88,9 @@ def write(
     """Write the workbook and the page, if they are wanted."""
     account = found.account
     if options.xlsx:
-        from plantbal.accounts.workbook import write_workbook
+        from plantbal.accounts.workbook import write_accounts_workbook
 
-        write_workbook(options.xlsx, account, tables if options.owner else account.tables)
+        write_accounts_workbook(options.xlsx, account, tables if options.owner else account.tables)
     if options.page:
         from plantbal.page.accounts import page_of
 
@@ -98,7 +99,7 @@ def write(
         write_text(options.page, page_of(account, options.title, owner, found.unusual, changed))
 
 
-def chosen(account: MonthAccount, by: str | None, owner: str | None) -> list[AccountTable]:
+def chosen_accounts(account: MonthAccount, by: str | None, owner: str | None) -> list[AccountTable]:
     """Return the accounts that are asked for.
 
     Raises
@@ -139,7 +140,7 @@ def _difference(options: argparse.Namespace) -> int:
         raise WordsFault("there are more than two states", remedy="give FROM and TO")
     found = Book(options.book).difference(options.period, *options.states)
     options.found = found
-    for line in said(found):
+    for line in difference_lines(found):
         print(line)
     behind = behind_said(found.report, options.period)
     if behind:
@@ -148,7 +149,7 @@ def _difference(options: argparse.Namespace) -> int:
     return ExitStatus.GOOD
 
 
-def said(found: Difference) -> list[str]:
+def difference_lines(found: Difference) -> list[str]:
     """Return a difference as lines of text: the changes, and the facts that caused them."""
     one, other = found.sides
     if not found.changes:
@@ -165,7 +166,7 @@ def said(found: Difference) -> list[str]:
         ]
         lines.append("  ".join(cells).rstrip())
     postings = postings_of(found.changes)
-    lines.append(f"{counted(len(postings), 'posting')}, which add up to 0 t")
+    lines.append(f"{count_said(len(postings), 'posting')}, which add up to 0 t")
     causes = [str(cause) for cause in found.causes]
     causes = causes or [change.cause for change in found.changes if change.cause]
     lines += [f"cause: {cause}" for cause in dict.fromkeys(causes)]
@@ -192,7 +193,16 @@ def _postings_text(found: Difference) -> str:
 
 def _add_posted(parser: argparse.ArgumentParser) -> None:
     parser.add_argument("period", metavar="PERIOD", help="the period")
-    parser.add_argument("--anyway", action="store_true", help="even if the period is open")
+    anyway = "even if the period is open; with a gate even if that stops it, with the reason"
+    parser.add_argument(
+        "--anyway",
+        metavar="GATE=REASON",
+        nargs="?",
+        const="",
+        action="append",
+        default=[],
+        help=anyway,
+    )
     parser.add_argument("--why", metavar="TEXT", default="", help="a remark on it")
     parser.add_argument("--postings", metavar="FILE", help="write the postings too")
 
@@ -200,10 +210,13 @@ def _add_posted(parser: argparse.ArgumentParser) -> None:
 def _posted(options: argparse.Namespace) -> int:
     """Record what is handed over."""
     book, period = Book(options.book, who=options.who, key=options.key), options.period
-    options.found = found = book.post(period, anyway=options.anyway, why=options.why)
+    reasons = reasons_of(filter(None, options.anyway))
+    options.found = found = book.post(
+        period, anyway="" in options.anyway, reasons=reasons, why=options.why
+    )
     if options.postings:
         write_text(options.postings, _postings_text(found))
-    count = counted(len(postings_of(found.changes)), "posting")
+    count = count_said(len(postings_of(found.changes)), "posting")
     print(f"{period}: posted as {found.id}, {count}")
     return ExitStatus.GOOD
 
@@ -211,23 +224,23 @@ def _posted(options: argparse.Namespace) -> int:
 ACCOUNT = SimpleNamespace(
     __doc__="Shows the accounts of a period: stock rolled forward, receipts, shipments, losses, "
     "shares.\n\n"
-    "They are made of the reports of the book, from its first on: each period opens with the "
+    "They are made from the reports of the book, from its first one on: each period opens with the "
     "closing stock that the one before it booked. No report is changed.",
     add_arguments=_add_account,
     run=_account,
 )
 DIFFERENCE = SimpleNamespace(
     __doc__="Says how two reports of a period, or a report and what was posted, differ, and "
-    "why.\n\n"
-    "FROM and TO are a number of an earlier report, `posted` for what was handed over last, "
-    "or `now` for the report that the book has. Without them it is what was posted against "
-    "now, or, if nothing was, the last earlier report against now.",
+    "why.\n\nFROM and TO are each the number of an earlier report, `posted` for what was handed "
+    "over last, or `now` for the report that the book has. Without them what was posted is "
+    "compared with now, or, if nothing was posted, the last earlier report is.",
     add_arguments=_add_difference,
     run=_difference,
 )
 POST = SimpleNamespace(
-    __doc__="Records what is handed over of a closed period, with an id that is given once: the "
-    "next difference is against that. The same is never posted twice.",
+    __doc__="Records what is handed over for a closed period, with an id that is given only once: "
+    "the next difference is taken from there. Nothing is posted twice. What would stop a close of "
+    "its report stops it too, unless the close has a reason for it or --anyway gives one.",
     add_arguments=_add_posted,
     run=_posted,
 )

@@ -10,7 +10,7 @@ from plantbal.book.adding import Unreasoned
 from plantbal.book.ledger import BookFact
 from plantbal.book.library import Book
 from plantbal.book.results import Added
-from plantbal.book.said import FIRST, added, changed, reopened_said
+from plantbal.book.said import FIRST, added, changes_said, reopened_said
 from plantbal.commands.options import add_reading, reading_of
 from plantbal.faults import WordsFault
 from plantbal.statuses import ExitStatus
@@ -19,7 +19,7 @@ from plantbal.statuses import ExitStatus
 def add_arguments(parser: argparse.ArgumentParser) -> None:
     """Add the words of the command."""
     parser.add_argument("workbook", metavar="WORKBOOK")
-    parser.add_argument("--why", metavar="TEXT", help="the reason of what is changed or struck")
+    parser.add_argument("--why", metavar="TEXT", help="the reason for what is changed or struck")
     parser.add_argument(
         "--strike", action="store_true", help="strike facts that are no longer in the workbook"
     )
@@ -50,16 +50,16 @@ def run(options: argparse.Namespace) -> int:
         print("\n".join(fault.changes[:FIRST]))
         raise
     options.found = found
-    print("\n".join(lines_of(found)))
+    print("\n".join(added_lines(found)))
     if options.dry_run:
         print("nothing is booked, as --dry-run says")
     return ExitStatus.GOOD
 
 
-def lines_of(found: Added, when: Callable[[BookFact], str] = lambda fact: "") -> list[str]:
+def added_lines(found: Added, when: Callable[[BookFact], str] = lambda fact: "") -> list[str]:
     """Return what was added, changed and is missing, a line each; `when` the source changed it."""
     lines = [*(added(year) for year in found.years), *found.accounts, *found.causes[:FIRST]]
-    lines += changed(found.changes, found.workbook, found.struck, when)
+    lines += changes_said(found.changes, found.workbook, found.struck, when)
     lines += map(reopened_said, found.closed)
     for year in found.years:
         lines += [f"look at it: {each.text}: {each.remedy}" for each in year.doubts[:FIRST]]

@@ -11,7 +11,7 @@ from plantbal.book.approval.state import Waiting
 from plantbal.book.closing import NotClosed, unneeded
 from plantbal.book.forms import report_file
 from plantbal.book.library import Book
-from plantbal.book.said import counted
+from plantbal.book.said import count_said
 from plantbal.commands.book.closing import add_anyway, say_report
 from plantbal.commands.options import add_program, add_run, settings_of
 from plantbal.faults import Fault
@@ -37,7 +37,7 @@ def _add_head(parser: argparse.ArgumentParser) -> None:
 
 def _add_rules(parser: argparse.ArgumentParser) -> None:
     parser.add_argument("rules", metavar="FILE", nargs="?", help="the rules, as TOML")
-    signers = "who may sign: a file of OpenSSH's form allowed_signers"
+    signers = "who may sign: a file in the form of OpenSSH's allowed_signers"
     parser.add_argument("--signers", metavar="FILE", help=signers)
     parser.add_argument("--revoked", metavar="FILE", help="keys that are revoked")
     parser.add_argument("--why", metavar="TEXT", default="", help="a remark on it")
@@ -53,7 +53,7 @@ def _rules(options: argparse.Namespace) -> int:
             return ExitStatus.GOOD
         wants = [*rules.wants, *(["estimates"] if rules.estimates is not None else [])]
         print(f"needs an approval: {', '.join(sorted(wants)) or 'the rules alone'}")
-        print(f"by {counted(rules.approvers, 'person')}{', signed' if rules.keys else ''}")
+        print(f"by {count_said(rules.approvers, 'person')}{', signed' if rules.keys else ''}")
         for person in rules.people.values():
             print(f"{person.name}: may {', '.join(sorted(person.may)) or 'do neither'}")
         return ExitStatus.GOOD
@@ -181,7 +181,7 @@ def _approve(options: argparse.Namespace) -> int:
     options.found = found
     said = f"{found.act} {found.of}".rstrip()
     if found.lacking:
-        print(f"{said} is approved by {found.by}; {counted(found.lacking, 'approval')} to come")
+        print(f"{said} is approved by {found.by}; {count_said(found.lacking, 'approval')} to come")
     else:
         print(f"{said} is approved by {found.by}, and done")
     print(f"head {found.head}")
@@ -217,7 +217,7 @@ def _signed(options: argparse.Namespace) -> int:
         print(f"{each.kind}: {each.said}")
     wrong = sum(each.kind is SentenceKind.WRONG for each in found)
     if wrong:
-        raise Fault(f"{counted(wrong, 'thing')} isn't as the rules of the book require")
+        raise Fault(f"{count_said(wrong, 'thing')} isn't as the rules of the book require")
     return ExitStatus.GOOD
 
 
@@ -241,19 +241,19 @@ SUBMITTED = SimpleNamespace(
 )
 APPROVE = SimpleNamespace(
     __doc__="Approves what was submitted, by the head that was shown. It is done if that is still "
-    "what would be done now: if a figure was changed since, the approval is void. Whoever has "
-    "submitted it or was the last to change a figure of it can't approve it.",
+    "what would be done now: if a figure was changed since, the approval is void. Whoever "
+    "submitted it, or was the last to change one of its figures, can't approve it.",
     add_arguments=_add_approve,
     run=_approve,
 )
 REJECT = SimpleNamespace(
-    __doc__="Rejects what was submitted, with a reason; or takes back what one has submitted.",
+    __doc__="Rejects what was submitted, with a reason; or withdraws what you submitted yourself.",
     add_arguments=_add_reject,
     run=_reject,
 )
 SIGNED = SimpleNamespace(
-    __doc__="Says of each action that was signed or approved by whom, with which key and since when "
-    "that is allowed, and what isn't signed; and judges all approvals once more by the rules.",
+    __doc__="Says who signed or approved each action, with which key, and since when that is "
+    "allowed, and which actions aren't signed; and judges all approvals again by the rules.",
     add_arguments=_add_signed,
     run=_signed,
 )

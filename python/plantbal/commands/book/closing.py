@@ -8,10 +8,10 @@ from types import SimpleNamespace
 from plantbal.book.answers import reasons_of
 from plantbal.book.closing import NotClosed, unneeded
 from plantbal.book.library import Book
-from plantbal.book.reporting import balances_said, state_of, suspects_of
+from plantbal.book.reporting import balances_said, report_state_line, suspects_of
 from plantbal.book.results import Reported
 from plantbal.commands.options import add_run, settings_of
-from plantbal.gates import line_of, unsaid
+from plantbal.gates import line_of_stop, unsaid
 from plantbal.statuses import ExitStatus
 
 
@@ -59,8 +59,8 @@ def _close(options: argparse.Namespace) -> int:
 def say_report(report: Reported) -> None:
     """Say what the report says as a whole, and what is missing."""
     output = report.output
-    said = [state_of(output, report.period), *suspects_of(output), *balances_said(output)]
-    for line in [*said, *report.missing, *map(line_of, unsaid(report.stops))]:
+    said = [report_state_line(output, report.period), *suspects_of(output), *balances_said(output)]
+    for line in [*said, *report.missing, *map(line_of_stop, unsaid(report.stops))]:
         print(line)
 
 

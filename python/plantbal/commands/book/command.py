@@ -10,7 +10,9 @@ from collections.abc import Sequence
 from dataclasses import dataclass
 from typing import Protocol, cast
 
+from plantbal.book.verifying import unknown_in
 from plantbal.commands.data import add_json, answer_with_json
+from plantbal.faults import InputFault
 
 HELP = """
 The book is the current folder, or that of --book. It has
@@ -20,7 +22,7 @@ The book is the current folder, or that of --book. It has
   2024.csv      the session of a year; rows are added to it, and never changed
   reports/      the last report of each period, with its history, and of each window; those that
                 went out before are in reports/earlier/
-  posted/       what was handed over of each period
+  posted/       what was handed over for each period
   rules.toml    what needs an approval, by whom; allowed_signers and revoked_keys: who may sign
   approvals/    what was submitted and approved, with signatures
   journal.csv   a line for each action: when, who, what, why, which rows it added, and the digests
@@ -28,13 +30,15 @@ The book is the current folder, or that of --book. It has
 
 A command is carried out as a whole or not at all, at whatever moment it is stopped; the next one
 that writes finishes what was begun. Two commands at the same time wait for each other. Each command
-first tests the files against the journal, and stops if one was changed by other means.
+first tests the files against the journal, and stops if one was changed by other means. A file of
+these that no command has written isn't used: commands that read say so, and those that write stop.
 
 With --json a command writes one object, of one shape for all: `command`, `status`, `found` (what it
-did or found), `said` (the lines without this word) and `fault` (what stopped it, or null).
+did or found), `said` (the lines that it writes without --json) and `fault` (what stopped it, or
+null).
 
 A command writes into a folder of its user, into one that a group shares, or into one that
-PLANTBAL_TRUST names (several with colons between them).
+PLANTBAL_TRUST names (several are separated by colons).
 
 examples:
   plantbal-desk book new 2024 plant.xlsx
@@ -46,6 +50,9 @@ examples:
   plantbal-desk book close 2024-04
   plantbal-desk book next 2025
 """
+
+# The commands that say themselves which files no action has written.
+_SAYING = ("new", "verify", "accept")
 
 # The variable that names the key with which a user signs.
 KEY = "PLANTBAL_KEY"
@@ -79,10 +86,10 @@ class Inner:
 COMMANDS: Sequence[Inner] = (
     Inner("new", "years:NEW", "make a book of a plant's workbook"),
     Inner("add", "adding", "add a workbook: what is new, and what is changed, with its reason"),
-    Inner("show", "showing:SHOW", "show what is booked of a stream or tank"),
+    Inner("show", "showing:SHOW", "show what is booked for a stream or tank"),
     Inner("amend", "editing:AMEND", "give a fact another value, with a reason"),
     Inner("strike", "editing:STRIKE", "take a fact out, with a reason"),
-    Inner("undo", "editing:UNDO", "take the last change of a fact back, with a reason"),
+    Inner("undo", "editing:UNDO", "undo the last change of a fact, with a reason"),
     Inner(
         "estimate",
         "estimating:ESTIMATE",
@@ -98,12 +105,12 @@ COMMANDS: Sequence[Inner] = (
     Inner("submit", "approving:SUBMIT", "submit the close of a period, to be approved"),
     Inner("submitted", "approving:SUBMITTED", "show what waits for an approval"),
     Inner("approve", "approving:APPROVE", "approve what was submitted, by the head that was shown"),
-    Inner("reject", "approving:REJECT", "reject what was submitted, or take it back"),
+    Inner("reject", "approving:REJECT", "reject what was submitted, or withdraw it"),
     Inner("rules", "approving:RULES", "show what needs an approval, by whom, and who may sign"),
     Inner("signed", "approving:SIGNED", "show who has signed and approved what"),
     Inner("quiet", "quieting:QUIET", "quiet a rule of lint for good, with a reason"),
     Inner("difference", "accounting:DIFFERENCE", "show how two reports differ, and why"),
-    Inner("posted", "accounting:POST", "record what is handed over of a period, once"),
+    Inner("posted", "accounting:POST", "record what is handed over for a period, once"),
     Inner(
         "account",
         "accounting:ACCOUNT",
@@ -142,8 +149,17 @@ def add_arguments(parser: argparse.ArgumentParser) -> None:
 
 def run(options: argparse.Namespace) -> int:
     """Do what the inner word says."""
+    prog = options.prog
     options.prog = f"{options.prog} {options.word}" if options.json else options.prog
+    named = ""
     try:
         return answer_with_json(options.inner, options)
+    except InputFault as fault:
+        named = fault.place.file
+        raise
     finally:
         sys.stdout.flush()  # before what is said of a fault
+        if options.word not in _SAYING:
+            for each in unknown_in(options.book):
+                if each.place.file != named:
+                    print(f"{prog}: note: {each}", file=sys.stderr)

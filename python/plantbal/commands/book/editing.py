@@ -6,7 +6,7 @@ import argparse
 from types import SimpleNamespace
 
 from plantbal.book.library import Book
-from plantbal.book.naming import day_of
+from plantbal.book.naming import day_named
 from plantbal.book.results import Edited
 from plantbal.book.said import reopened_said
 from plantbal.statuses import ExitStatus
@@ -31,7 +31,7 @@ def _amend(options: argparse.Namespace) -> int:
     """Give a fact other values."""
     found = Book(options.book, who=options.who, key=options.key).amend(
         options.name,
-        day_of(options.day, options.locale),
+        day_named(options.day, options.locale),
         options.amount,
         why=options.why,
         density=options.density,
@@ -67,7 +67,7 @@ def _add_strike(parser: argparse.ArgumentParser) -> None:
 
 def _strike(options: argparse.Namespace) -> int:
     """Take a fact out."""
-    day = day_of(options.day, options.locale)
+    day = day_named(options.day, options.locale)
     found = Book(options.book, who=options.who, key=options.key).strike(
         options.name, day, why=options.why
     )
@@ -82,7 +82,7 @@ def _strike(options: argparse.Namespace) -> int:
 
 def _undo(options: argparse.Namespace) -> int:
     """Give a fact back what it was."""
-    day = day_of(options.day, options.locale)
+    day = day_named(options.day, options.locale)
     found = Book(options.book, who=options.who, key=options.key).undo(
         options.name, day, why=options.why
     )
@@ -108,7 +108,7 @@ STRIKE = SimpleNamespace(
     run=_strike,
 )
 UNDO = SimpleNamespace(
-    __doc__="Gives a reading, a dip or a ticket back what it was before its last change, with a "
+    __doc__="Restores a reading, a dip or a ticket to what it was before its last change, with a "
     "reason, while its period is open: by another amendment, or by booking again what was struck.",
     add_arguments=_add_strike,
     run=_undo,

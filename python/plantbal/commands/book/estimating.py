@@ -8,7 +8,7 @@ from types import SimpleNamespace
 from plantbal.book.library import Book
 from plantbal.book.said import reopened_said
 from plantbal.diagnosis.proposal import Proposal, ProposalBasis
-from plantbal.diagnosis.words import tonnes
+from plantbal.diagnosis.words import amount_said
 from plantbal.faults import WordsFault
 from plantbal.gates.words import days_said
 from plantbal.lint.findings import some_of
@@ -32,7 +32,7 @@ def _estimate(options: argparse.Namespace) -> int:
     found = book.estimate(period, stream, take=options.take, why=options.why)
     options.found = found
     for each in found.proposals:
-        print(said_of(each))
+        print(proposal_said(each))
     for name in found.missing:
         if not any(each.stream == name for each in found.proposals):
             print(
@@ -60,12 +60,12 @@ def _estimate(options: argparse.Namespace) -> int:
     return ExitStatus.GOOD
 
 
-def said_of(proposal: Proposal) -> str:
+def proposal_said(proposal: Proposal) -> str:
     """Return a proposal in a line."""
     count = len(proposal.days)
-    amount = f"{_signed(proposal.grams)} ± {tonnes(proposal.error)}"
+    amount = f"{_signed(proposal.grams)} ± {amount_said(proposal.error)}"
     if count > 1:
-        total = f"{_signed(count * proposal.grams)} ± {tonnes(count * proposal.error)}"
+        total = f"{_signed(count * proposal.grams)} ± {amount_said(count * proposal.error)}"
         amount = f"{amount} each, {total} on {count} days"
     line = f"{proposal.stream} {days_said(proposal.days)}: {amount}, {_basis_said(proposal)}"
     if not proposal.is_needed:
@@ -74,7 +74,7 @@ def said_of(proposal: Proposal) -> str:
 
 
 def _signed(grams: int) -> str:
-    return f"{'-' if grams < 0 else ''}{tonnes(grams)}"
+    return f"{'-' if grams < 0 else ''}{amount_said(grams)}"
 
 
 def _basis_said(proposal: Proposal) -> str:

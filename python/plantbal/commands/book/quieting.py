@@ -34,13 +34,14 @@ def _quiet(options: argparse.Namespace) -> int:
     else:
         book.quiet(rule, *names, why=options.why)
     options.found = {"rule": rule, "names": names, "is_quiet": not options.off}
-    print(f"{rule} {'speaks again' if options.off else 'is quieted'} for {' '.join(names)}")
+    print(f"{rule} {'is reported again' if options.off else 'is quieted'} for {' '.join(names)}")
     return ExitStatus.GOOD
 
 
 QUIET = SimpleNamespace(
     __doc__="Quiets a rule of lint for good, for the names that it reports, with a reason that "
-    "the journal keeps. Without a rule it lists what is quieted. What is quieted stops no close.",
+    "the journal keeps. Without a rule it lists what is quieted. What is quieted doesn't stop a "
+    "close.",
     add_arguments=_add_quiet,
     run=_quiet,
 )

@@ -8,17 +8,17 @@ from types import SimpleNamespace
 from plantbal.book.library import Book
 from plantbal.book.reporting import (
     balances_said,
-    state_of,
+    report_state_line,
     state_of_block,
     suspects_of,
     suspects_of_block,
 )
 from plantbal.book.results import Reported
-from plantbal.book.said import counted
+from plantbal.book.said import count_said
 from plantbal.book.window import undipped
 from plantbal.commands.options import add_run, settings_of
 from plantbal.files import write_text
-from plantbal.gates import line_of, unsaid
+from plantbal.gates import line_of_stop, unsaid
 from plantbal.statuses import looks
 
 
@@ -27,7 +27,7 @@ def _add_report(parser: argparse.ArgumentParser) -> None:
         "periods", metavar="PERIOD", nargs="*", help="the periods (default: all open ones)"
     )
     parser.add_argument(
-        "--session", metavar="FILE", help="write the session that asks for the reports too"
+        "--session", metavar="FILE", help="also write the session that asks for the reports"
     )
     add_run(parser)
 
@@ -39,11 +39,11 @@ def _report(options: argparse.Namespace) -> int:
     for found in book.reports(*options.periods, settings=settings_of(options)):
         output, name = found.output, found.period
         options.found.append(_row_of(found))
-        print(state_of(output, name))
+        print(report_state_line(output, name))
         said = [*suspects_of(output), *found.holes, *balances_said(output), *found.missing]
-        for line in [*said, *map(line_of, unsaid(found.stops))]:
+        for line in [*said, *map(line_of_stop, unsaid(found.stops))]:
             print(line)
-        history = f", with {counted(found.edits, 'edit')}" if found.edits else ""
+        history = f", with {count_said(found.edits, 'edit')}" if found.edits else ""
         print(f"{name}: {found.path}{history}" + ("" if found.is_new else ", as it was"))
         wants = wants or not output.ok
     if options.session:
@@ -56,12 +56,12 @@ def _row_of(found: Reported) -> dict[str, object]:
     return {
         "period": found.period,
         "ok": found.output.ok,
-        "state": state_of(found.output, found.period),
+        "state": report_state_line(found.output, found.period),
         "why": found.output.why,
         "suspects": suspects_of(found.output),
         "balances": balances_said(found.output),
         "missing": found.missing,
-        "stops": [line_of(stop) for stop in unsaid(found.stops)],
+        "stops": [line_of_stop(stop) for stop in unsaid(found.stops)],
         "edits": found.edits,
         "path": found.path,
         "is_new": found.is_new,
@@ -72,7 +72,7 @@ def _add_window(parser: argparse.ArgumentParser) -> None:
     parser.add_argument("first", metavar="FIRST", help="the first period")
     parser.add_argument("last", metavar="LAST", help="the last period")
     parser.add_argument(
-        "--session", metavar="FILE", help="write the session that asks for the window too"
+        "--session", metavar="FILE", help="also write the session that asks for the window"
     )
     add_run(parser)
 

@@ -1,4 +1,4 @@
-"""Shows what is booked of a stream or tank, and how a book stands."""
+"""Shows what is booked for a stream or tank, and the state of a book."""
 
 from __future__ import annotations
 
@@ -6,12 +6,12 @@ import argparse
 from decimal import Decimal
 from types import SimpleNamespace
 
-from plantbal.book.ledger import BookFact, plain
+from plantbal.book.ledger import BookFact, number_with_commas
 from plantbal.book.library import Book
 from plantbal.book.meters import Meter
-from plantbal.book.naming import day_of
+from plantbal.book.naming import day_named
 from plantbal.book.results import ReportState, ShownFact, TankApart, YearStatus
-from plantbal.book.said import behind_said, counted
+from plantbal.book.said import behind_said, count_said
 from plantbal.schema import schema
 from plantbal.statuses import ExitStatus
 from plantbal.workbook.units import GRAMS, VOLUMES, WET
@@ -31,15 +31,15 @@ def _add_show(parser: argparse.ArgumentParser) -> None:
 
 def _show(options: argparse.Namespace) -> int:
     """Show it."""
-    first, last = day_of(options.first, options.locale), day_of(options.last, options.locale)
+    first, last = day_named(options.first, options.locale), day_named(options.last, options.locale)
     found, meter, waiting = Book(options.book).show(options.name, first, last)
     options.found = {"waiting": waiting, "shown": found}
-    for line in [*waiting, *(line_of(shown, meter) for shown in found)]:
+    for line in [*waiting, *(booked_fact_line(shown, meter) for shown in found)]:
         print(line)
     return ExitStatus.GOOD
 
 
-def line_of(shown: ShownFact, meter: Meter | None = None) -> str:
+def booked_fact_line(shown: ShownFact, meter: Meter | None = None) -> str:
     """Return what is booked of a fact, also in the unit of its meter."""
     fact = shown.fact
     line = f"{fact.id}: {fact.said()}{in_unit(fact, meter)}, error {fact.error()}"
@@ -60,7 +60,7 @@ def in_unit(fact: BookFact, meter: Meter | None) -> str:
         return ""
     number = fact.values[0] / unit
     found = round(Decimal(number.numerator) / Decimal(number.denominator), 3)
-    return f" ({plain(found)} {meter.unit})"
+    return f" ({number_with_commas(found)} {meter.unit})"
 
 
 # ---- status
@@ -84,7 +84,7 @@ def _status(options: argparse.Namespace) -> int:
 def year_lines(year: YearStatus, every: bool) -> list[str]:
     """Return what is to be said of a year."""
     closed = sum(period.closed for period in year.periods)
-    counts = f"{counted(closed, 'period')} closed, {len(year.periods) - closed} open"
+    counts = f"{count_said(closed, 'period')} closed, {len(year.periods) - closed} open"
     lines = [f"{year.name}: {counts}; {fullness(year)}"]
     for period in year.periods:
         if period.closed and not every and period.report is ReportState.CURRENT:
@@ -127,7 +127,7 @@ def _apart(found: TankApart) -> str:
 
 
 SHOW = SimpleNamespace(
-    __doc__="Shows what is booked of a stream or tank: each figure, its error, and what it was "
+    __doc__="Shows what is booked for a stream or tank: each figure, its error, and what it was "
     "before.",
     add_arguments=_add_show,
     run=_show,

@@ -6,7 +6,7 @@ import argparse
 from types import SimpleNamespace
 
 from plantbal.book.library import Book
-from plantbal.book.said import counted
+from plantbal.book.said import count_said
 from plantbal.commands.data import data_of
 from plantbal.faults import Fault
 from plantbal.statuses import ExitStatus
@@ -30,10 +30,10 @@ def _verify(options: argparse.Namespace) -> int:
     for line in [*found.waiting, *(f"wrong: {each}" for each in found.wrong), *found.notes]:
         print(line)
     if not found.ok:
-        things = counted(len(found.wrong), "thing")
+        things = count_said(len(found.wrong), "thing")
         raise Fault(f"{things} in {book.folder} isn't as its journal says")
-    files = counted(found.files, "file")
-    print(f"{files} as {counted(found.head.number, 'action')} left them")
+    files = count_said(found.files, "file")
+    print(f"{files} as {count_said(found.head.number, 'action')} left them")
     print(f"head {found.head}")
     return ExitStatus.GOOD
 
@@ -75,8 +75,8 @@ def _accept(options: argparse.Namespace) -> int:
 
 VERIFY = SimpleNamespace(
     __doc__="Tests every file of the book against its journal, up to each place that the journal "
-    "names, and says all that is wrong. An older copy of the whole folder is detected by a head "
-    "that was kept elsewhere, or by a bundle.",
+    "names, and says everything that is wrong. An older copy of the whole folder is detected by a "
+    "head that was kept elsewhere, or by a bundle.",
     add_arguments=_add_verify,
     run=_verify,
 )
@@ -87,8 +87,8 @@ HEAD = SimpleNamespace(
     run=_head,
 )
 ACCEPT = SimpleNamespace(
-    __doc__="Takes a file that was changed by other means as it is now, or its loss, with a "
-    "reason. The journal shows that for good.",
+    __doc__="Accepts a file that was changed by other means as it is now, or that it is gone, "
+    "with a reason. The journal shows that for good.",
     add_arguments=_add_accept,
     run=_accept,
 )

@@ -8,11 +8,11 @@ from collections.abc import Mapping
 from types import SimpleNamespace
 
 from plantbal.amounts import tonnes_of
-from plantbal.book.ledger import plain
+from plantbal.book.ledger import number_with_commas
 from plantbal.book.library import Book
-from plantbal.book.naming import day_of
+from plantbal.book.naming import day_named
 from plantbal.book.results import Begun
-from plantbal.book.said import counted, listed
+from plantbal.book.said import count_said, listed
 from plantbal.commands.options import add_program, add_reading, reading_of
 from plantbal.statuses import ExitStatus
 
@@ -36,7 +36,7 @@ def _new(options: argparse.Namespace) -> int:
     book = Book(options.book, who=options.who, program=options.program)
     found = book.begin(options.year, options.workbook, reading=reading_of(options))
     options.found = found
-    first = f"{found.year}.csv: {counted(found.rows, 'row')} of the plant"
+    first = f"{found.year}.csv: {count_said(found.rows, 'row')} of the plant"
     print("\n".join([first, *_classes(found.classes), *found.notes]))
     return ExitStatus.GOOD
 
@@ -54,7 +54,7 @@ def _next(options: argparse.Namespace) -> int:
     found = Book(options.book, who=options.who, program=options.program).next(
         options.year,
         plant=options.plant,
-        first=day_of(options.first, options.locale),
+        first=day_named(options.first, options.locale),
         reading=reading_of(options),
     )
     options.found = found
@@ -72,7 +72,7 @@ def _add_retire(parser: argparse.ArgumentParser) -> None:
 
 def _retire(options: argparse.Namespace) -> int:
     """End the service of a tank or stream."""
-    day = day_of(options.day, options.locale)
+    day = day_named(options.day, options.locale)
     book = Book(options.book, who=options.who, program=options.program)
     options.found = book.retire(options.name, day, year=options.year)
     return _say_begun(options.found)
@@ -84,12 +84,12 @@ def _say_begun(found: Begun) -> int:
         print(f"{found.year}.csv already exists")
         return ExitStatus.GOOD
     assert found.first is not None and found.contents is not None
-    rows = counted(found.rows, "row")
+    rows = count_said(found.rows, "row")
     lines = [f"{found.year}.csv: from {found.first} on; {rows} of the plant"]
     lines += _classes(found.classes)
     eve = found.first - _DAY
     lines += [
-        f"{name}: {plain(tonnes_of(grams))} t at the end of {eve} and as the opening"
+        f"{name}: {number_with_commas(tonnes_of(grams))} t at the end of {eve} and as the opening"
         for name, grams in found.contents.items()
     ]
     lines += [f"{name}: no dip of {eve}, so it has no opening yet" for name in found.unopened]
@@ -104,16 +104,16 @@ NEW = SimpleNamespace(
     run=_new,
 )
 NEXT = SimpleNamespace(
-    __doc__="Begins the next year with the plant, the dips of its eve, and whatever else touches "
-    "both years.\n\nIt is refused unless each tank holds the same at the end of one year and as the "
-    "other begins, to the gram.",
+    __doc__="Begins the next year with the plant, the dips on its eve, and whatever else touches "
+    "both years.\n\nIt is refused unless each tank holds the same, to the gram, at the end of one "
+    "year and at the beginning of the other.",
     add_arguments=_add_next,
     run=_next,
 )
 RETIRE = SimpleNamespace(
-    __doc__="Ends the service of a tank, with the streams that come in or go out, or of a stream, "
-    "that is booked already: begins a new part of the year, after the last period, in which it has "
-    "its last day. All that touches both parts goes over, as with `next`.",
+    __doc__="Ends the service of a booked stream, or of a booked tank with the streams into and out "
+    "of it: begins a new part of the year, after the last period, in which it has its last day. "
+    "Whatever touches both parts is carried over, as with `next`.",
     add_arguments=_add_retire,
     run=_retire,
 )
